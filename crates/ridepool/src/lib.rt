@@ -32,6 +32,7 @@ mod reading;
 mod run;
 mod status;
 mod text;
+mod ways;
 mod words;
 mod writing;
 

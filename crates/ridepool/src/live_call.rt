@@ -16,19 +16,19 @@ ghost use Rattle.ridepool.specs.work.Live.{status_of_end, status_of_start};
 
 use crate::reading::{fleet_from, network_from};
 use crate::status::RunStatus;
+use crate::ways::ways_by;
 use crate::words::live_settings;
 use crate::writing::status_of;
 use batch_snapshot::Fleet;
 use dispatch_engine::{Setup, opened_book};
 use dispatch_report::write_head;
-use hub_labels::{LabelWays, Labels};
 use live_dispatch::{Dispatched, LiveFault, dispatch};
 use live_rows::{LineStream, LiveRows, RefusalListener, StartFault, read_start};
 use plan_drafts::RelaxationDrafter;
 use pool_base::Which;
 use pool_io::{Input, RowFault, Sink, Source};
 use request_book::Book;
-use rider_limits::{Settings, TimesWay};
+use rider_limits::Settings;
 use rider_notices::Notifier;
 use road_network::Network;
 use row_tables::Drafter;
@@ -36,7 +36,7 @@ use script_rows::ScriptVersion;
 use std::alloc::Global;
 use std::sync::Wait;
 use std::thread::Threads;
-use travel_times::{NetworkWays, Ways};
+use travel_times::Ways;
 use worker_gate::Gate;
 
 /// What a call gives back, and how it ended.
@@ -183,43 +183,24 @@ fn live_in<
       };
     }) result.status }
 {
-    match settings.times {
-        TimesWay::Rows => {
-            let ways = NetworkWays {
-                network,
-                workers: settings.workers,
-            };
-            let setup = Setup {
-                network,
-                ways: &ways,
-                drafter: &RelaxationDrafter,
-                settings,
-                gate,
-            };
-            live_by(rt, alloc, out, fleet, script, &setup, notifiers, listener)
-        }
-        TimesWay::Labels => {
-            let Ok(labels) = Labels::build_watched(alloc, network, gate) else {
-                drop(fleet);
-                drop(listener);
-                return LiveEnd {
-                    script,
-                    out,
-                    notifiers,
-                    status: RunStatus::OutOfMemory,
-                };
-            };
-            let ways = LabelWays::of(network, labels, settings.workers);
-            let setup = Setup {
-                network,
-                ways: &ways,
-                drafter: &RelaxationDrafter,
-                settings,
-                gate,
-            };
-            live_by(rt, alloc, out, fleet, script, &setup, notifiers, listener)
-        }
-    }
+    let Ok(ways) = ways_by(alloc, network, settings, gate) else {
+        drop(fleet);
+        drop(listener);
+        return LiveEnd {
+            script,
+            out,
+            notifiers,
+            status: RunStatus::OutOfMemory,
+        };
+    };
+    let setup = Setup {
+        network,
+        ways: &ways,
+        drafter: &RelaxationDrafter,
+        settings,
+        gate,
+    };
+    live_by(rt, alloc, out, fleet, script, &setup, notifiers, listener)
 }
 
 /// The same, with what its batches share together.

@@ -13,18 +13,18 @@ ghost use Rattle.ridepool.specs.work.Writing.{BeginsRounds, EndsRounds, IsWritin
 use crate::held_day::{HeldDay, write_held};
 use crate::inputs::ReadInputs;
 use crate::status::RunStatus;
+use crate::ways::ways_by;
 use batch_snapshot::Fleet;
 use dispatch_engine::{Setup, opened_book, run_round};
 use dispatch_report::{
     DayCounts, ReportFault, write_day_end, write_end, write_head, write_load, write_round,
     write_summary,
 };
-use hub_labels::{LabelWays, Labels};
 use plan_drafts::RelaxationDrafter;
 use pool_base::OutOfMemory;
 use pool_io::Sink;
 use request_book::Book;
-use rider_limits::{Mode, Settings, TimesWay};
+use rider_limits::{Mode, Settings};
 use rider_notices::{Notifier, tell_journal};
 use road_network::Network;
 use route_drive::{DayRound, DriveFault, drive_day};
@@ -33,7 +33,7 @@ use script_rows::{Round, Script};
 use std::alloc::Global;
 use std::sync::Wait;
 use std::thread::Threads;
-use travel_times::{NetworkWays, Ways};
+use travel_times::Ways;
 use worker_gate::Gate;
 
 /// Runs the script, or drives the vehicles through its day, and writes the report, or a made workload's summary;
@@ -96,36 +96,17 @@ fn write_in<K: Sink, G: Gate>(
         (IsWritingFault i (K.written out.old) (K.written out.new) all left (K.faults out.old) (K.faults out.new)) }
     ensures never_falls { K.faults out.old ≤ K.faults out.new }
 {
-    match settings.times {
-        TimesWay::Rows => {
-            let ways = NetworkWays {
-                network,
-                workers: settings.workers,
-            };
-            let setup = Setup {
-                network,
-                ways: &ways,
-                drafter: &RelaxationDrafter,
-                settings,
-                gate,
-            };
-            write_by(rt, alloc, out, fleet, script, &setup, notifiers)
-        }
-        TimesWay::Labels => {
-            let Ok(labels) = Labels::build_watched(alloc, network, gate) else {
-                return Err(RunStatus::OutOfMemory);
-            };
-            let ways = LabelWays::of(network, labels, settings.workers);
-            let setup = Setup {
-                network,
-                ways: &ways,
-                drafter: &RelaxationDrafter,
-                settings,
-                gate,
-            };
-            write_by(rt, alloc, out, fleet, script, &setup, notifiers)
-        }
-    }
+    let Ok(ways) = ways_by(alloc, network, settings, gate) else {
+        return Err(RunStatus::OutOfMemory);
+    };
+    let setup = Setup {
+        network,
+        ways: &ways,
+        drafter: &RelaxationDrafter,
+        settings,
+        gate,
+    };
+    write_by(rt, alloc, out, fleet, script, &setup, notifiers)
 }
 
 /// The same, with what its rounds share together.

@@ -1,0 +1,69 @@
+//! Travel times in the way that the settings name.
+ghost use Rattle.std.specs.Prelude.{◌≡◌, IfOk};
+
+use hub_labels::{LabelWays, Labels};
+use pool_base::{NodeId, OutOfMemory, Times};
+use rider_limits::{Settings, TimesWay};
+use road_network::Network;
+use std::alloc::Global;
+use std::marker::Model;
+use std::thread::Threads;
+use travel_times::{NetworkWays, Ways};
+use worker_gate::Gate;
+
+/// The travel times of a network, by labels where there are any, and else by searches. Contracts see it as the network.
+#[derive(Drop)]
+pub(crate) struct NamedWays<'a> {
+    rows: NetworkWays<'a>,
+    labels: Option<LabelWays<'a>>,
+}
+
+impl<'a> Model for NamedWays<'a> {
+    ghost use Rattle.std.specs.Prelude.{◌≡◌, IfSome};
+    ghost use Rattle.road_network.specs.Roads.{Roads};
+
+    ghost Value = { Roads };
+
+    ghost view = { λ ways. ways.rows.network.now };
+
+    ghost invariant = { λ ways. IfSome ways.labels (λ labels. labels ≡ ways.rows.network.now) };
+}
+
+impl Ways for NamedWays<'_> {
+    ghost roads = { λ ways. ways };
+
+    fn table<R: Threads + Sync>(
+        &self,
+        rt: &R,
+        alloc: Global,
+        nodes: &[NodeId],
+    ) -> Result<Times, OutOfMemory> {
+        match &self.labels {
+            Some(labels) => labels.table(rt, alloc, nodes),
+            None => self.rows.table(rt, alloc, nodes),
+        }
+    }
+}
+
+/// The ways that the settings name. Labels are made here, and the gate hears of it.
+pub(crate) fn ways_by<'a, G: Gate>(
+    alloc: Global,
+    network: &'a Network,
+    settings: &Settings,
+    gate: &G,
+) -> Result<NamedWays<'a>, OutOfMemory>
+    ensures { IfOk result (λ ways. ways ≡ network.entry.now) }
+{
+    let rows = NetworkWays {
+        network,
+        workers: settings.workers,
+    };
+    let labels = match settings.times {
+        TimesWay::Rows => None,
+        TimesWay::Labels => {
+            let labels = Labels::build_watched(alloc, network, gate)?;
+            Some(LabelWays::of(network, labels, settings.workers))
+        }
+    };
+    Ok(NamedWays { rows, labels })
+}
