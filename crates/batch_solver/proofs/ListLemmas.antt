@@ -5,7 +5,7 @@ use Rattle.assignment_search.specs.declared.found.Found.{Found}
 use Rattle.plan_rules.specs.declared.node.Node.{Node}
 use Rattle.request_book.specs.declared.outcome.Planned.{Planned}
 use Rattle.rider_limits.specs.declared.settings.Settings.{Settings}
-use Rattle.batch_solver.specs.work.Outcome.{IsGoodPlan}
+use Rattle.batch_solver.specs.Outcome.{IsGoodPlan}
 use Rattle.batch_solver.specs.Points.{Posed}
 use Rattle.batch_solver.specs.declared.point.Point.TheVariants as point
 use Rattle.batch_solver.specs.work.Lists.{AreLists}

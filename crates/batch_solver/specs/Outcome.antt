@@ -10,7 +10,6 @@ use Rattle.pool_base.specs.Times.{travel_time}
 use Rattle.pool_base.specs.declared.times.Times.{Times}
 use Rattle.promise_check.specs.Settling.{IsSettled}
 use Rattle.request_book.specs.declared.outcome.Answer.{Answer}
-use Rattle.request_book.specs.declared.outcome.Answer.TheVariants as answer
 use Rattle.request_book.specs.declared.outcome.Outcome.{Outcome}
 use Rattle.request_book.specs.declared.outcome.Planned.{Planned}
 use Rattle.rider_limits.specs.declared.settings.Settings.{Settings}
@@ -20,6 +19,7 @@ use Rattle.travel_times.specs.Table.{AreTravelTimes}
 use Rattle.trip_graph.specs.Answer.{IsTripGraphOf, HasMoreRows}
 use Rattle.batch_solver.specs.Points.{Posed, Holds}
 use Rattle.batch_solver.specs.declared.point.Point.{Point}
+use Rattle.request_book.specs.declared.outcome.Answer.TheVariants as answer
 
 -- these limits have a trip graph and edges, and this holds of what is so posed
 pub record HasGraphsWith (settings : Settings) (points : List ℕ) (tau : ℕ → ℕ → ℕ) (settled : Settled) (P : Posed → Type 0) : Type 0 where
@@ -52,3 +52,7 @@ pub record IsOutcomeWith (settings : Settings) (roads : Roads) (batch : Batch) (
 -- lawful plan, shown by a tree, and best moves of idle vehicles
 abbrev pub IsGoodOutcome : Settings → Roads → Batch → Outcome → Type 0
 IsGoodOutcome settings roads batch outcome = IsOutcomeWith settings roads batch (λ planned p. (q : Point) → Holds settings q planned p) outcome
+
+-- each point holds of the plan
+abbrev pub IsGoodPlan : Settings → Planned → Posed → Type 0
+IsGoodPlan settings planned p = (q : Point) → Holds settings q planned p

@@ -1,14 +1,15 @@
 -- The trips that a plan gives, and the orders of late vehicles.
-use Rattle.std.specs.Prelude.{◌≡◌, ℕ, ◌≤◌, List, [], Option, Some, MatchOption}
+use Rattle.std.specs.Prelude.{◌≡◌, ℕ, ◌≤◌, List, [], Option, Some, MatchOption, not, length, filter}
 use Rattle.plan_rules.specs.Graph.{Graph, choice_at, riders_at, cost_at}
 use Rattle.request_book.specs.declared.outcome.ChosenTrip.{ChosenTrip}
 use Rattle.request_book.specs.declared.outcome.LateVehicle.{LateVehicle}
 use Rattle.request_book.specs.declared.outcome.PlannedStop.{PlannedStop}
-use Rattle.stop_orders.specs.Settled.{trip_task}
+use Rattle.stop_orders.specs.Settled.{trip_task, vehicle_at}
 use Rattle.stop_orders.specs.Task.{Serves, IsOrderOf, ReachesAll, order_delay}
 use Rattle.stop_orders.specs.declared.settled.Settled.{Settled}
 use Rattle.stop_orders.specs.declared.stop.Stop.{Stop}
 use Rattle.batch_solver.specs.Told.{vehicle_id, told_stops}
+use Rattle.std.specs.List.{AllZip, range_with_len}
 
 -- the vehicle's trip is that of its chosen row, with an order of stops that serves it and whose delay is the row's cost
 pub record IsTripOf (points : List ℕ) (tau : ℕ → ℕ → ℕ) (settled : Settled) (graph : Graph) (chosen : List (Option ℕ)) (v : ℕ) (trip : ChosenTrip) : Type 0 where
@@ -37,3 +38,12 @@ pub record IsLate (points : List ℕ) (tau : ℕ → ℕ → ℕ) (settled : Set
   pub stops : MatchOption late.stops
       (((others : List Stop) → IsOrderOf (trip_task settled v []) others → ReachesAll tau (trip_task settled v []) others → ⊥) × (late.delay ≡ 0))
       (λ lines. IsLateOrder points tau settled v late.delay lines.items)
+
+-- one trip for each vehicle that isn't late, by rising id
+abbrev pub AreTrips : List ℕ → (ℕ → ℕ → ℕ) → Settled → Graph → List (Option ℕ) → List ChosenTrip → Type 0
+AreTrips points tau settled graph chosen trips =
+    AllZip (IsTripOf points tau settled graph chosen) (filter (λ v. not (vehicle_at settled v).late) (range_with_len 0 (length settled.vehicles))) trips
+
+-- one for each late vehicle
+abbrev pub AreLate : List ℕ → (ℕ → ℕ → ℕ) → Settled → List LateVehicle → Type 0
+AreLate points tau settled late = AllZip (IsLate points tau settled) (filter (λ v. (vehicle_at settled v).late) (range_with_len 0 (length settled.vehicles))) late

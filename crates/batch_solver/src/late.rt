@@ -1,8 +1,7 @@
 ghost use Rattle.std.specs.Prelude.{◌≡◌, ◌<◌, ℕ, IfOk, length};
 ghost use Rattle.pool_base.specs.Times.{point_count, travel_time};
 ghost use Rattle.stop_orders.specs.Sound.{IsSound};
-ghost use Rattle.batch_solver.specs.Trips.{IsLate};
-ghost use Rattle.batch_solver.specs.work.Trips.{AreLate};
+ghost use Rattle.batch_solver.specs.Trips.{IsLate, AreLate};
 
 use crate::told::tell_stops;
 use batch_snapshot::Points;

@@ -5,8 +5,7 @@ ghost use Rattle.plan_rules.specs.Plan.{IsPlan};
 ghost use Rattle.pool_base.specs.Times.{point_count, travel_time};
 ghost use Rattle.stop_orders.specs.Settled.{rider_at, vehicle_at};
 ghost use Rattle.stop_orders.specs.Sound.{IsSound};
-ghost use Rattle.batch_solver.specs.Moves.{AreMoves, idle_vehicles};
-ghost use Rattle.batch_solver.specs.work.Moves.{is_idle, move_line, HasPlaces, move_from_to};
+ghost use Rattle.batch_solver.specs.Moves.{AreMoves, idle_vehicles, is_idle, move_line, HasPlaces, move_from_to};
 ghost use Rattle.batch_solver.specs.Told.{left_riders};
 
 use plan_rules::TripGraph;

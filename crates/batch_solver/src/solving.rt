@@ -7,8 +7,7 @@ ghost use Rattle.pool_base.specs.Times.{point_count, travel_time};
 ghost use Rattle.stop_orders.specs.Sound.{IsSound};
 ghost use Rattle.trip_graph.specs.Answer.{IsTripGraphOf};
 ghost use Rattle.rider_limits.specs.declared.settings.Settings.{Settings as SettingsValue};
-ghost use Rattle.batch_solver.specs.Outcome.{AnswersWith, HasGraphsWith, IsGoodOutcome};
-ghost use Rattle.batch_solver.specs.work.Outcome.{IsGoodPlan};
+ghost use Rattle.batch_solver.specs.Outcome.{AnswersWith, HasGraphsWith, IsGoodOutcome, IsGoodPlan};
 ghost use Rattle.batch_solver.specs.work.Lists.{AreLists};
 
 use crate::late::late_lines;

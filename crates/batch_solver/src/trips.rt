@@ -5,8 +5,7 @@ ghost use Rattle.rider_limits.specs.declared.settings.Settings.{Settings};
 ghost use Rattle.stop_orders.specs.Settled.{vehicle_at};
 ghost use Rattle.stop_orders.specs.Sound.{IsSound};
 ghost use Rattle.trip_graph.specs.Answer.{IsTripGraphOf};
-ghost use Rattle.batch_solver.specs.Trips.{IsTripOf};
-ghost use Rattle.batch_solver.specs.work.Trips.{AreTrips};
+ghost use Rattle.batch_solver.specs.Trips.{IsTripOf, AreTrips};
 
 use crate::told::tell_stops;
 use batch_snapshot::Points;

@@ -10,8 +10,7 @@ use Rattle.std.proofs.lemmas.Option.{slice_get-get_or, slice_get-map}
 use Rattle.batch_snapshot.specs.Batch.{Batch}
 use Rattle.batch_snapshot.specs.Kept.{IsKept}
 use Rattle.batch_snapshot.specs.declared.vehicle.Vehicle.{Vehicle}
-use Rattle.batch_solver.specs.Outcome.{AnswersWith, HasGraphsWith, IsGoodOutcome}
-use Rattle.batch_solver.specs.work.Outcome.{IsGoodPlan}
+use Rattle.batch_solver.specs.Outcome.{AnswersWith, HasGraphsWith, IsGoodOutcome, IsGoodPlan}
 use Rattle.batch_solver.specs.declared.point.Point.TheVariants as point
 use Rattle.batch_solver.specs.Told.{vehicle_id, rider_id, row_line}
 use Rattle.block_audit.specs.Judged.{HasTrips, number_among}

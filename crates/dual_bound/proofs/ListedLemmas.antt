@@ -10,7 +10,7 @@ use Rattle.plan_rules.specs.Graph.{Graph, riders_at, has_rider}
 use Rattle.plan_rules.specs.Multipliers.{Usable, room_at}
 use Rattle.plan_rules.proofs.lemmas.SumLemmas.{least_below_some, least_below_found, lesser-le_right, lesser-le_left}
 use Rattle.dual_bound.specs.declared.rider_index.RiderIndex.{RiderIndex}
-use Rattle.dual_bound.specs.Index.{start_at, end_at, IsListed, IsIndexOf}
+use Rattle.dual_bound.specs.Index.{list_start, list_end, IsListed, IsIndexOf}
 
 -- the least of f at the numbers below n that pass and stand at these places of a list, where there is one
 pub record IsLeastListed (n : ℕ) (p : ℕ → Bool) (f : ℕ → ℤ) (listed : List ℕ) (from to : ℕ) (least : Option ℤ) : Type 0 where
@@ -100,8 +100,8 @@ at_of P (x ∷ xs) r all e =
     (cases_eq x r)
 
 -- the least over a rider's list is the least over all rows
-pub listed_done : (g : Graph) (usable : Usable) (ms : List ℤ) (index : RiderIndex) (r to : ℕ) (o : Option ℤ) → IsIndexOf g index → end_at index r ≤ to
-    → IsLeastListed (length g.rows) (λ k. usable k && has_rider g k r) (room_at g usable ms) index.rows.items (start_at index r) to o
+pub listed_done : (g : Graph) (usable : Usable) (ms : List ℤ) (index : RiderIndex) (r to : ℕ) (o : Option ℤ) → IsIndexOf g index → list_end index r ≤ to
+    → IsLeastListed (length g.rows) (λ k. usable k && has_rider g k r) (room_at g usable ms) index.rows.items (list_start index r) to o
     → o ≡ least_below (length g.rows) (λ k. usable k && has_rider g k r) (room_at g usable ms)
 listed_done g usable ms index r to o all ended least =
     let n = length g.rows in
@@ -110,8 +110,8 @@ listed_done g usable ms index r to o all ended least =
     least_is n p f o
     (λ k l yes.
     let has : has_rider g k r ≡ true = (and_parts (usable k) (has_rider g k r) yes).1 in
-    let here : IsListed index.rows.items (start_at index r) (end_at index r) k =
-    at_of (λ (q : ℕ). IsListed index.rows.items (start_at index q) (end_at index q) k) (riders_at g k) r (λ i low. all k i l low) has in
+    let here : IsListed index.rows.items (list_start index r) (list_end index r) k =
+    at_of (λ (q : ℕ). IsListed index.rows.items (list_start index q) (list_end index q) k) (riders_at g k) r (λ i low. all k i l low) has in
     let w = least.covers here.place here.from_on (omega (arith, here.before, ended)) here.within (subst (λ (j : ℕ). j < n) (sym here.row) l) (subst (λ (j : ℕ). p j ≡ true) (sym here.row) yes) in
     (w.0, w.1, subst (λ (j : ℕ). w.0 ≤ℤ f j) here.row (w.2)))
     least.reached (least_below n p f) refl

@@ -1,7 +1,7 @@
 //! The rows of each rider.
 ghost use Rattle.std.specs.Prelude.{◌≡◌, ◌<◌, ◌≤◌, ℕ, suc, true, IfOk, length, slice_index_or};
 ghost use Rattle.plan_rules.specs.Graph.{riders_at};
-ghost use Rattle.dual_bound.specs.Index.{IsIndexOf, IsListed, start_at, end_at};
+ghost use Rattle.dual_bound.specs.Index.{IsIndexOf, IsListed, list_start, list_end};
 ghost use Rattle.dual_bound.specs.work.Index.{ListsAll};
 
 use plan_rules::TripGraph;
@@ -51,7 +51,7 @@ impl RiderIndex {
 
     /// Where the rider's list starts.
     pub fn start(&self, rider: usize) -> usize
-        ensures { result ≡ start_at self.now rider }
+        ensures { result ≡ list_start self.now rider }
     {
         if self.is_whole && rider < self.starts.len() {
             self.starts[rider] as usize
@@ -62,7 +62,7 @@ impl RiderIndex {
 
     /// Where the rider's list ends.
     pub fn end(&self, rider: usize) -> usize
-        ensures { result ≡ end_at self.now rider }
+        ensures { result ≡ list_end self.now rider }
     {
         if !self.is_whole {
             return self.rows.len();

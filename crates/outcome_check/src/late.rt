@@ -1,7 +1,6 @@
 //! Late vehicles.
 ghost use Rattle.std.specs.Prelude.{◌≡◌, ◌↔◌, ◌<◌, ℕ, [], IfOk, IsTrue, length};
-ghost use Rattle.batch_solver.specs.Trips.{IsLate, IsLateOrder};
-ghost use Rattle.batch_solver.specs.work.Trips.{AreLate};
+ghost use Rattle.batch_solver.specs.Trips.{IsLate, IsLateOrder, AreLate};
 ghost use Rattle.pool_base.specs.Times.{point_count, travel_time};
 ghost use Rattle.stop_orders.specs.Settled.{trip_task};
 ghost use Rattle.stop_orders.specs.Sound.{IsSound};

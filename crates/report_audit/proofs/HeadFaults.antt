@@ -1,7 +1,7 @@
 -- A head fails in one way.
 use Rattle.std.proofs.Common.{◌≡◌, ℕ, ◌+◌, ◌<◌, ◌^◌, true, List, [], ◌∷◌, inl, inr, sym, ap, ◌∙◌, subst}
 use Rattle.report_lines.specs.Cut.{is_one_line}
-use Rattle.report_lines.specs.HeadFault.{HeadLine, HasForm, Fits, HeadFails, LineFails, LinesFail, head_lines, sizes_of}
+use Rattle.report_lines.specs.HeadFault.{HeadLine, HasForm, FitsLine, HeadFails, LineFails, LinesFail, head_lines, sizes_of}
 use Rattle.report_lines.specs.HeadLines.{AreSizes}
 use Rattle.report_lines.specs.Line.{IsFirstLine}
 use Rattle.report_lines.specs.declared.head_fault.HeadFault.{HeadFault}
@@ -20,7 +20,7 @@ abbrev AreLow : List HeadLine → Type 0
 AreLow [] = Unit {0}
 AreLow (form ∷ forms) = IsLow form × AreLow forms
 
-has_form : (form : HeadLine) → IsLow form → (line : List ℕ) → Fits form line → HasForm form line
+has_form : (form : HeadLine) → IsLow form → (line : List ℕ) → FitsLine form line → HasForm form line
 has_form HeadLine.name low line fits = fits
 has_form HeadLine.settings low line fits = (fits.0, fits.1, fits.3)
 has_form (HeadLine.sizes own) low line fits = (own, low, fits)

@@ -26,24 +26,24 @@ HasForm (HeadLine.sizes own) line = (told : ℕ × ℕ) × AreSizes told × (lin
 HasForm (HeadLine.fleet own) line = (told : ℕ) × (told < 2 ^ 64) × (line ≡ numbered (codes "fleet vehicles=") told)
 
 -- a line tells what it must: of settings lawful ones, of a network and a fleet its own numbers
-abbrev pub Fits : HeadLine → List ℕ → Type 0
-Fits HeadLine.name line = line ≡ codes "ridepool report 1"
-Fits HeadLine.settings line = (s : SettingsText) × AreSettings s × AreLawful s × (line ≡ settings_text s)
-Fits (HeadLine.sizes own) line = line ≡ sizes_text own
-Fits (HeadLine.fleet own) line = line ≡ numbered (codes "fleet vehicles=") own
+abbrev pub FitsLine : HeadLine → List ℕ → Type 0
+FitsLine HeadLine.name line = line ≡ codes "ridepool report 1"
+FitsLine HeadLine.settings line = (s : SettingsText) × AreSettings s × AreLawful s × (line ≡ settings_text s)
+FitsLine (HeadLine.sizes own) line = line ≡ sizes_text own
+FitsLine (HeadLine.fleet own) line = line ≡ numbered (codes "fleet vehicles=") own
 
 -- the first line of a text, which is the report's line of this number, fails: no line feed stands any more, or the line
 -- isn't of its form, or it is of its form and doesn't fit
 abbrev pub LineFails : HeadLine → ℕ → List ℕ → HeadFault → Type 0
 LineFails form number text (Cut line) = (line ≡ number) × (is_one_line text ≡ true)
 LineFails form number text (Form line) = (line ≡ number) × (first rest : List ℕ) × IsFirstLine text first rest × (HasForm form first → ⊥)
-LineFails form number text (Head line) = (line ≡ number) × (first rest : List ℕ) × IsFirstLine text first rest × HasForm form first × (Fits form first → ⊥)
+LineFails form number text (Head line) = (line ≡ number) × (first rest : List ℕ) × IsFirstLine text first rest × HasForm form first × (FitsLine form first → ⊥)
 
 -- one of these lines fails, of which the first has this number, and those before it fit
 abbrev pub LinesFail : List HeadLine → ℕ → List ℕ → HeadFault → Type 0
 LinesFail [] number text fault = ⊥
 LinesFail (form ∷ forms) number text fault =
-    LineFails form number text fault ⊎ ((rest : List ℕ) × Passes (Fits form) text rest × LinesFail forms (number + 1) rest fault)
+    LineFails form number text fault ⊎ ((rest : List ℕ) × Passes (FitsLine form) text rest × LinesFail forms (number + 1) rest fault)
 
 -- how many nodes and arcs a network has
 abbrev pub sizes_of : Roads → ℕ × ℕ

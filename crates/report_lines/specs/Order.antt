@@ -3,10 +3,11 @@ use Rattle.std.specs.Prelude.{ℕ, ◌==◌, Bool, true, ◌&&◌, List, [], ◌
 use Rattle.report_lines.specs.declared.block_line.BlockLine.{BlockLine}
 use Rattle.report_lines.specs.declared.block_line.BlockLine.TheVariants.{Batch, Expired, Overflow, Lapsed, Late, Alone, Shared, Row, Trip, Out, Move, Cost, Bound, Nodes, Branch, Leaf, Dead, End}
 
--- a number that is this one, and one from one to another
+-- a number that is this one
 abbrev pub is_at : ℕ → ℕ → Bool
 is_at one n = n == one
 
+-- a number from one to another
 abbrev pub is_between : ℕ → ℕ → ℕ → Bool
 is_between low high n = nat_le low n && nat_le n high
 
@@ -33,9 +34,11 @@ order_of Dead = (is_between 13 14, 14)
 order_of Overflow = (is_between 1 2, 15)
 order_of End = (is_between 13 15, 16)
 
+-- the place of a line's kind
 abbrev pub kind_place : BlockLine → ℕ
 kind_place line = (order_of line).1
 
+-- whether a line may follow one of the kind at this place
 abbrev pub may_follow_at : ℕ → BlockLine → Bool
 may_follow_at place line = (order_of line).0 place
 

@@ -1,5 +1,5 @@
 ghost use Rattle.std.specs.Prelude.{◌≡◌, ◌≢◌, ℕ, ◌≤◌, ◌<◌, ◌^◌, List, MatchResult, codes, true};
-ghost use Rattle.report_lines.specs.HeadFault.{HeadLine, Fits, LineFails};
+ghost use Rattle.report_lines.specs.HeadFault.{HeadLine, FitsLine, LineFails};
 ghost use Rattle.report_lines.specs.Line.{IsFirstLine, Passes};
 ghost use Rattle.report_lines.specs.Settings.{AreLawful};
 ghost use Rattle.report_lines.specs.HeadLines.{settings_text, AreSettings};
@@ -12,7 +12,7 @@ use crate::words::{is_words, read_numbered};
 
 /// What follows the name of a report.
 pub(crate) fn name_behind(text: &[u8]) -> Result<&[u8], HeadFault>
-    ensures { MatchResult result (λ rest. Passes (Fits HeadLine.name) text.now rest.now) (λ fault. LineFails HeadLine.name 1 text.now fault) }
+    ensures { MatchResult result (λ rest. Passes (FitsLine HeadLine.name) text.now rest.now) (λ fault. LineFails HeadLine.name 1 text.now fault) }
 {
     let Some((line, rest)) = line_first(text) else {
         return Err(HeadFault::Cut { line: 1 });
@@ -46,7 +46,7 @@ pub(crate) fn settings_first(text: &[u8]) -> Result<(SettingsText, &[u8]), HeadF
 /// What follows the line of a network of these sizes.
 pub(crate) fn sizes_behind(text: &[u8], nodes: u64, arcs: u64) -> Result<&[u8], HeadFault>
     ensures { MatchResult result
-        (λ rest. Passes (Fits (HeadLine.sizes (nodes, arcs))) text.now rest.now)
+        (λ rest. Passes (FitsLine (HeadLine.sizes (nodes, arcs))) text.now rest.now)
         (λ fault. LineFails (HeadLine.sizes (nodes, arcs)) 3 text.now fault) }
 {
     let Some((line, rest)) = line_first(text) else {
@@ -67,7 +67,7 @@ pub(crate) fn sizes_behind(text: &[u8], nodes: u64, arcs: u64) -> Result<&[u8], 
 /// What follows the line of the number of vehicles.
 pub(crate) fn fleet_behind(text: &[u8], vehicles: u64) -> Result<&[u8], HeadFault>
     ensures { MatchResult result
-        (λ rest. Passes (Fits (HeadLine.fleet vehicles)) text.now rest.now)
+        (λ rest. Passes (FitsLine (HeadLine.fleet vehicles)) text.now rest.now)
         (λ fault. LineFails (HeadLine.fleet vehicles) 4 text.now fault) }
 {
     let Some((line, rest)) = line_first(text) else {

@@ -6,7 +6,7 @@ use Rattle.road_network.specs.declared.arc.Arc.{Arc}
 use Rattle.road_network.specs.declared.hop.Hop.{Hop}
 use Rattle.road_network.specs.Roads.{hop_of, leaving}
 use Rattle.road_network.specs.Storage.{start_at}
-use Rattle.travel_times.specs.work.Arcs.{AreArcsOf}
+use Rattle.travel_times.specs.Arcs.{AreArcsOf}
 
 -- a part of a list is a part of a longer one
 slice_range-append : {X : Type 0} (xs ys : List X) (a b : ℕ) → a ≤ b → b ≤ length xs → slice_range (xs ++ ys) a b ≡ slice_range xs a b

@@ -1,3 +1,4 @@
+pub mod Arcs
 pub mod Table
 pub mod Near
 pub mod Search

@@ -1,7 +1,7 @@
 ghost use Rattle.std.specs.Prelude.{◌≡◌, ℕ, ◌<◌, ◌≤◌, ◌++◌, All, IfOk, OnOk, length, map, slice_index, slice_range};
 ghost use Rattle.road_network.specs.Roads.{hop_of, leaving};
 ghost use Rattle.road_network.specs.Storage.{start_at};
-ghost use Rattle.travel_times.specs.work.Arcs.{AreArcsOf};
+ghost use Rattle.travel_times.specs.Arcs.{AreArcsOf};
 
 use crate::short_hop::ShortHop;
 use pool_base::OutOfMemory;

@@ -9,8 +9,7 @@ use Rattle.stop_orders.specs.Settled.{IsTrip, vehicle_at, rider_at}
 use Rattle.stop_orders.specs.Sound.{IsSound}
 use Rattle.stop_orders.specs.Task.{no_leg}
 use Rattle.stop_orders.specs.declared.settled.Settled.{Settled}
-use Rattle.batch_solver.specs.Moves.{AreMoves}
-use Rattle.batch_solver.specs.work.Moves.{move_line, HasPlaces, origins_of, starts_of}
+use Rattle.batch_solver.specs.Moves.{AreMoves, move_line, HasPlaces, origins_of, starts_of}
 
 -- the places of a sound batch that has vehicles
 pub has_places : (k points : ℕ) (tau : ℕ → ℕ → ℕ) (settled : Settled) → IsSound k points tau settled → 0 < length settled.vehicles → HasPlaces points settled

@@ -4,7 +4,7 @@ use Rattle.plan_rules.specs.Graph.{Graph}
 use Rattle.request_book.specs.declared.outcome.Planned.{Planned}
 use Rattle.stop_orders.specs.declared.settled.Settled.{Settled}
 use Rattle.batch_solver.specs.Told.{rider_id, left_riders}
-use Rattle.batch_solver.specs.work.Trips.{AreTrips, AreLate}
+use Rattle.batch_solver.specs.Trips.{AreTrips, AreLate}
 use Rattle.batch_solver.specs.Points.{TellsGraphs}
 use Rattle.batch_solver.specs.Moves.{AreMoves, idle_vehicles}
 

@@ -11,8 +11,7 @@ use Rattle.stop_orders.specs.declared.settled_rider.SettledRider.{SettledRider}
 use Rattle.stop_orders.specs.declared.settled_vehicle.SettledVehicle.{SettledVehicle}
 use Rattle.stop_orders.specs.Settled.{rider_at, no_rider, no_vehicle}
 use Rattle.stop_orders.specs.Sound.{IsSound}
-use Rattle.batch_solver.specs.Moves.{AreMoves}
-use Rattle.batch_solver.specs.work.Moves.{move_line}
+use Rattle.batch_solver.specs.Moves.{AreMoves, move_line}
 use Rattle.batch_solver.specs.Told.{rider_id, vehicle_id}
 use Rattle.batch_solver.proofs.lemmas.MoveLemmas.{has_places, none_matched}
 use Rattle.outcome_check.specs.work.Moves.{HaveOwnPlaces}

@@ -10,8 +10,7 @@ use Rattle.rebalancing.specs.Matching.{IsMatching, IsBestMatching, pair_seconds,
 use Rattle.request_book.specs.declared.outcome.MoveLine.{MoveLine}
 use Rattle.stop_orders.specs.declared.settled.Settled.{Settled}
 use Rattle.stop_orders.specs.Settled.{rider_at, vehicle_at}
-use Rattle.batch_solver.specs.Moves.{AreMoves}
-use Rattle.batch_solver.specs.work.Moves.{move_line}
+use Rattle.batch_solver.specs.Moves.{AreMoves, move_line}
 use Rattle.outcome_check.specs.work.Moves.{HaveOwnPlaces, IsRisingMatching, IsWithin, TellsMoves}
 
 no_move : MoveLine

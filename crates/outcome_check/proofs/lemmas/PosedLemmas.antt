@@ -7,8 +7,7 @@ use Rattle.batch_laws.proofs.lemmas.GraphLemmas.{one_trip_graph}
 use Rattle.batch_laws.proofs.lemmas.SettledLemmas.{one_settling}
 use Rattle.batch_laws.proofs.lemmas.SortedLemmas.{same_rising}
 use Rattle.batch_laws.proofs.lemmas.TableLemmas.{one_table}
-use Rattle.batch_solver.specs.Outcome.{AnswersWith, HasGraphsWith, IsGoodOutcome, IsOutcomeWith}
-use Rattle.batch_solver.specs.work.Outcome.{IsGoodPlan}
+use Rattle.batch_solver.specs.Outcome.{AnswersWith, HasGraphsWith, IsGoodOutcome, IsOutcomeWith, IsGoodPlan}
 use Rattle.batch_solver.specs.Points.{Holds, Posed}
 use Rattle.batch_solver.specs.declared.point.Point.{Point}
 use Rattle.batch_solver.specs.declared.point.Point.TheVariants as point

@@ -1,7 +1,7 @@
 -- The row of which a trip tells.
 use Rattle.std.specs.Prelude.{◌≡◌, ℕ, ◌<◌, ◌≤◌, List, [], Option, length, slice_index, slice_index_or}
 use Rattle.batch_solver.specs.Told.{vehicle_id, told_stops}
-use Rattle.batch_solver.specs.work.Trips.{AreTrips}
+use Rattle.batch_solver.specs.Trips.{AreTrips}
 use Rattle.plan_rules.specs.Graph.{Graph, IsRowOf, riders_at, cost_at}
 use Rattle.plan_rules.specs.Plan.{IsPlan}
 use Rattle.request_book.specs.declared.outcome.ChosenTrip.{ChosenTrip}

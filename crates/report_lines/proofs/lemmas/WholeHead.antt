@@ -7,7 +7,7 @@ use Rattle.dispatch_report.specs.Lines.{lines_text}
 use Rattle.dispatch_report.specs.Words.{numbered}
 use Rattle.report_lines.specs.Cut.{is_one_line}
 use Rattle.report_lines.specs.Head.{BeginsWithHead}
-use Rattle.report_lines.specs.HeadFault.{HeadLine, HasForm, Fits, HeadFails, LinesFail, head_lines, sizes_of}
+use Rattle.report_lines.specs.HeadFault.{HeadLine, HasForm, FitsLine, HeadFails, LinesFail, head_lines, sizes_of}
 use Rattle.report_lines.specs.HeadLines.{settings_text, AreSettings, sizes_text, AreSizes}
 use Rattle.report_lines.specs.Line.{IsFirstLine, Passes}
 use Rattle.report_lines.specs.Settings.{AreOf, AreLawful}
@@ -48,14 +48,14 @@ lines_once (l ∷ ls) (m ∷ ms) text r s long (after, is, more) (behind, has, o
 pub passed : {l text rest : List ℕ} → Passes (λ line. line ≡ l) text rest → IsFirstLine text l rest
 passed {l} {text} {rest} (line, is, same) = subst (λ x. IsFirstLine text x rest) same is
 
-pub settled : {told : SettingsText} {text rest : List ℕ} → IsFirstLine text (settings_text told) rest → AreSettings told → AreLawful told → Passes (Fits HeadLine.settings) text rest
+pub settled : {told : SettingsText} {text rest : List ℕ} → IsFirstLine text (settings_text told) rest → AreSettings told → AreLawful told → Passes (FitsLine HeadLine.settings) text rest
 settled {told} is short lawful = (settings_text told, is, (told, short, lawful, refl))
 
 -- each line has its form, and fits
 abbrev AllFit : List HeadLine → List (List ℕ) → Type 0
 AllFit [] ls = Unit {0}
 AllFit (form ∷ forms) [] = ⊥
-AllFit (form ∷ forms) (l ∷ ls) = HasForm form l × Fits form l × AllFit forms ls
+AllFit (form ∷ forms) (l ∷ ls) = HasForm form l × FitsLine form l × AllFit forms ls
 
 no_fault : (forms : List HeadLine) (ls : List (List ℕ)) (number : ℕ) (text rest : List ℕ) (fault : HeadFault) → AllFit forms ls → LinesThen ls text rest → LinesFail forms number text fault → ⊥
 no_fault [] ls number text rest fault fit is fails = fails

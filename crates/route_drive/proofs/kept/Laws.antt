@@ -1,8 +1,7 @@
 -- The laws of driven days.
 use Rattle.std.proofs.Common.{[], arith, ◌≡◌, ◌+◌, ◌<◌, Bool, true, false, cond, map, None, refl, sym, ap, ◌∙◌, subst}
 use Rattle.pool_base.specs.Times.{travel_time}
-use Rattle.batch_solver.specs.Outcome.{AnswersWith}
-use Rattle.batch_solver.specs.work.Outcome.{IsGoodPlan}
+use Rattle.batch_solver.specs.Outcome.{AnswersWith, IsGoodPlan}
 use Rattle.request_book.specs.Closing.{after_answer, after_plan, picks}
 use Rattle.request_book.specs.Consistent.{IsConsistent, NamesNodes}
 use Rattle.request_book.specs.Step.{step}

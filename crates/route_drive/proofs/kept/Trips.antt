@@ -10,8 +10,7 @@ use Rattle.pool_base.specs.declared.times.Times.{Times}
 use Rattle.batch_snapshot.specs.Batch.{Batch}
 use Rattle.batch_snapshot.specs.declared.rider.Rider.{Rider}
 use Rattle.batch_snapshot.specs.declared.vehicle.Vehicle.{Vehicle}
-use Rattle.batch_solver.specs.Outcome.{HasGraphsWith}
-use Rattle.batch_solver.specs.work.Outcome.{IsGoodPlan}
+use Rattle.batch_solver.specs.Outcome.{HasGraphsWith, IsGoodPlan}
 use Rattle.batch_solver.specs.declared.point.Point.TheVariants as point
 use Rattle.promise_check.specs.Requests.{request_at}
 use Rattle.promise_check.specs.Settling.{IsSettled}

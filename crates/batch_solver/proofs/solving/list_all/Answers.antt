@@ -5,7 +5,7 @@ use Rattle.request_book.specs.declared.outcome.ChosenTrip.{ChosenTrip}
 use Rattle.request_book.specs.declared.outcome.LateVehicle.{LateVehicle}
 use Rattle.request_book.specs.declared.outcome.MoveLine.{MoveLine}
 use Rattle.batch_solver.specs.Told.{rider_id, rr_line, row_line, left_riders}
-use Rattle.batch_solver.specs.work.Trips.{AreTrips, AreLate}
+use Rattle.batch_solver.specs.Trips.{AreTrips, AreLate}
 use Rattle.batch_solver.specs.Moves.{AreMoves, idle_vehicles}
 use Rattle.batch_solver.proofs.GraphLemmas.{rows_of_riders, rows_are_few}
 use Rattle.batch_solver.proofs.solving.list_all.Goals as goal

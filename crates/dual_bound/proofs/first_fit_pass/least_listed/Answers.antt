@@ -3,7 +3,7 @@ use Rattle.std.proofs.lemmas.Int.{to_z-of_z}
 use Rattle.plan_rules.specs.Sums.{lesser}
 use Rattle.plan_rules.specs.Graph.{has_rider}
 use Rattle.plan_rules.specs.Multipliers.{usable_of, room_at}
-use Rattle.dual_bound.specs.Index.{start_at}
+use Rattle.dual_bound.specs.Index.{list_start}
 use Rattle.dual_bound.specs.work.Index.{IsRowListed}
 use Rattle.dual_bound.proofs.ListedLemmas.{IsLeastListed, listed_take, listed_pass, listed_done}
 use Rattle.dual_bound.proofs.first_fit_pass.least_listed.Goals as goal
@@ -18,7 +18,7 @@ loop-place-preserved c =
     let p : ℕ → Bool = λ k. u k && has_rider g k r in
     let f : ℕ → ℤ = room_at g u c.args.multipliers.now in
     let listed : List ℕ = c.args.index.now.rows.items in
-    let from = start_at c.args.index.now r in
+    let from = list_start c.args.index.now r in
     let place = c.loop-place.place in
     elim c.match-row_listed.branch [
       | in-Some w ↦

@@ -6,8 +6,7 @@ use Rattle.std.proofs.lemmas.Result.{IfOk-weaker}
 use Rattle.plan_rules.specs.lemmas.Plan.{times_chosen}
 use Rattle.pool_base.specs.Times.{point_count, travel_time}
 use Rattle.request_book.specs.declared.outcome.MoveLine.{MoveLine}
-use Rattle.batch_solver.specs.Moves.{AreMoves, idle_vehicles}
-use Rattle.batch_solver.specs.work.Moves.{is_idle}
+use Rattle.batch_solver.specs.Moves.{AreMoves, idle_vehicles, is_idle}
 use Rattle.batch_solver.proofs.lemmas.MoveLemmas.{no_moves}
 use Rattle.outcome_check.proofs.lemmas.IdleLemmas.{own_places, kept_few, none_move}
 use Rattle.outcome_check.proofs.lemmas.TripLemmas.{kept_below, kept_rises}
