@@ -72,7 +72,7 @@ For `run`, `live`, `drive` and `load`:
   times=WAY      travel times by `rows`, searches in each batch, or by `labels`, made once (rows)
 
 For all:
-  workers=N      workers that look for trips, 1 to 64 (4)
+  workers=N      threads that share the work, 1 to 64 (4)
 
   --help, -h     this text
   --version      the version
