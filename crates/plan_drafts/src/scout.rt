@@ -14,9 +14,6 @@ use std::alloc::Global;
 /// Of so many scouts who may anneal one dives.
 const TURNS: u64 = 4;
 
-/// The seed of the scout of number 0.
-const FIRST_SEED: u64 = 100;
-
 /// After so many neighbourhoods in a row without a gain a plan is left, and how far each is searched.
 const IDLE: u32 = 1000;
 
@@ -68,8 +65,7 @@ impl Scout {
         let plan = match start.beside {
             Some(beside) if self.number % TURNS > 0 => {
                 let plan = start.tree.draft.plan.as_slice();
-                let seed = self.number.wrapping_add(FIRST_SEED);
-                Some(anneal(alloc, start.regrets, beside, plan, seed)?)
+                Some(anneal(alloc, start.regrets, beside, plan, self.number)?)
             }
             _ => {
                 let basis = start.tree.root_basis();
