@@ -1,30 +1,11 @@
 -- What a search finds.
 use Rattle.std.proofs.Common.{◌≡◌, ℕ, suc, ◌+◌, ◌*◌, ◌<◌, ◌≤◌, Bool, true, List, [], ◌∷◌, ◌++◌, length, get_or, set, take, drop, Option, Result, Ok, Err, ℤ, pos, negsuc, ◌≤ℤ◌, ◌<ℤ◌, FitsSigned, to_z, of_z, All, refl, sym, ap, ◌∙◌, subst, arith}
-use mir.Syntax.{w128}
+use Rattle.assignment_search.proofs.Common.{w128, ints, Graph, IsGoodGraph, IsBound, IsLawful, cost_of, IsGreedy, Usable, usable_of, leaf_value, first_fit_value, every_row, only_row, without_row, CanBranch, IsDeadEnd, Place, rounded_up, places, places_read, ReadsTo, Node, Branch, Leaf, Dead, held_is_lawful, within_every_row, dead_end_holds_none, tree_value_bounds, Agree, agree_back, leaf_value_agrees, first_fit_value_agrees, dead_end_agrees, may_use_agrees, can_branch_agrees, both_ways, IsSmallSum, IsWorthBranching, IsGoodLeaf, IsGoodNode, IsGrown, HasUsable, IsFixed, IsSolePlan, IsLowest, HasLeaf, IsNewEnd, IsJudged, choice_count, IsBestNear, IsFairNode, IsSearchAnswer, IsTreeSoFar, IsParting, IsPartedAt}
 use Rattle.std.specs.Result.{IfOk}
-use Rattle.std.proofs.lemmas.Int.{ints, to_z-of_z}
+use Rattle.std.proofs.lemmas.Int.{to_z-of_z}
 use Rattle.std.proofs.lemmas.List.Elements.{All-from_recursion}
-use Rattle.plan_rules.specs.Graph.{Graph, IsGoodGraph}
-use Rattle.plan_rules.specs.Plan.{IsBound, IsLawful, cost_of}
-use Rattle.plan_rules.specs.Greedy.{IsGreedy}
-use Rattle.plan_rules.specs.Multipliers.{Usable, usable_of, leaf_value, first_fit_value}
-use Rattle.plan_rules.specs.Tree.{every_row, only_row, without_row, CanBranch, IsDeadEnd, Place, rounded_up}
-use Rattle.plan_rules.specs.lemmas.Tree.{places, places_read}
-use Rattle.plan_rules.specs.Reading.{ReadsTo}
-use Rattle.plan_rules.specs.declared.node.Node.{Node}
-use Rattle.plan_rules.specs.declared.node.Node.TheVariants.{Branch, Leaf, Dead}
-use Rattle.plan_rules.proofs.lemmas.PlanLemmas.{held_is_lawful}
-use Rattle.plan_rules.proofs.lemmas.TreeLemmas.{within_every_row, dead_end_holds_none, tree_value_bounds}
 use Rattle.plan_rules.proofs.lemmas.SearchTreeLemmas.{tree_of_reads, places_are, value_is_read}
-use Rattle.plan_rules.proofs.lemmas.UsableLemmas.{Agree, agree_back, leaf_value_agrees, first_fit_value_agrees, dead_end_agrees, may_use_agrees, can_branch_agrees}
-use Rattle.std.proofs.lemmas.Bool.{both_ways}
-use Rattle.plan_rules.specs.Size.{IsSmallSum}
-use Rattle.assignment_search.specs.work.Growth.{IsWorthBranching, IsGoodLeaf, IsGoodNode, IsGrown, HasUsable, IsFixed, IsSolePlan, IsLowest, HasLeaf, IsNewEnd, IsJudged}
-use Rattle.assignment_search.specs.Growth.{choice_count}
 use Rattle.assignment_search.specs.declared.found.Found.{Found}
-use Rattle.assignment_search.specs.Found.{IsBestNear, IsFairNode, IsSearchAnswer}
-use Rattle.assignment_search.specs.work.Found.{IsTreeSoFar}
-use Rattle.assignment_search.specs.work.Next.{IsParting, IsPartedAt}
 use Rattle.assignment_search.specs.declared.parting.Ends.{Ends}
 use Rattle.assignment_search.proofs.GrowthLemmas.{IsSplit, grown_split, grown_reads, grown_length, branched, raised, lowest_above, lowest_floor, value_is, nodes_fair, usable_here, usable_only, usable_without, reads_unique, rounded_up_mono}
 use Rattle.assignment_search.proofs.RiseLemmas.{value_rises, only_fewer, without_fewer}

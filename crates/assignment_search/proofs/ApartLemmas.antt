@@ -1,16 +1,7 @@
 -- Leaf values where the usable rows of one vehicle alone changed.
-use Rattle.std.proofs.Common.{◌≡◌, ◌≢◌, ◌==◌, ◌&&◌, ◌||◌, not, ℕ, zero, suc, ◌<◌, Bool, true, false, List, length, Option, ℤ, pos, negsuc, ◌+ℤ◌, ◌-ℤ◌, FitsSigned, to_z, of_z, refl, sym, ap, ◌∙◌, ⊎_elim, arith, ne_eqb}
-use Rattle.std.specs.Prelude.{unwrap_or}
-use mir.Syntax.{w128}
-use Rattle.std.proofs.lemmas.Int.{ints, to_z-of_z}
-use Rattle.std.proofs.lemmas.Bool.{cases_eq, and_left, false≢true}
-use Rattle.plan_rules.specs.Sums.{int_sum_below}
-use Rattle.plan_rules.specs.Graph.{Graph, row_vehicle}
-use Rattle.plan_rules.specs.Multipliers.{Usable, is_usable_by, reduced_cost, vehicle_term, leaf_value}
-use Rattle.plan_rules.specs.Size.{IsSmall, IsSmallSum}
-use Rattle.plan_rules.specs.Tree.{only_row, without_row}
-use Rattle.plan_rules.proofs.lemmas.SumLemmas.{int_sum_same}
-use Rattle.plan_rules.proofs.lemmas.UsableLemmas.{least_below_agrees}
+use Rattle.std.proofs.Common.{◌≡◌, ◌≢◌, ◌==◌, ◌&&◌, ◌||◌, not, ℕ, zero, suc, ◌<◌, Bool, true, false, List, length, Option, ℤ, pos, negsuc, ◌+ℤ◌, ◌-ℤ◌, FitsSigned, to_z, of_z, refl, sym, ap, ◌∙◌, ⊎_elim, arith, ne_eqb, unwrap_or}
+use Rattle.assignment_search.proofs.Common.{w128, ints, cases_eq, and_left, false≢true, int_sum_below, Graph, row_vehicle, Usable, is_usable_by, reduced_cost, vehicle_term, leaf_value, IsSmall, IsSmallSum, only_row, without_row, int_sum_same, least_below_agrees}
+use Rattle.std.proofs.lemmas.Int.{to_z-of_z}
 use Rattle.assignment_search.specs.work.Apart.{AgreeApart}
 
 -- two sums whose terms differ at one number alone

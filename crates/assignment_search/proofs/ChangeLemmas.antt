@@ -1,15 +1,7 @@
 -- What it costs to give one vehicle another row.
 use Rattle.std.proofs.Common.{◌≡◌, ◌==◌, ℕ, zero, suc, ◌+◌, ◌*◌, ◌<◌, ◌≤◌, Bool, true, false, ◌||◌, IsTrue, List, [], ◌∷◌, length, get_or, set, Option, Some, None, MatchOption, refl, sym, ap, ◌∙◌, subst, ⊎_elim, arith, eq-eqb, ne_eqb}
-use Rattle.std.specs.List.Sorted.{IsStrictlyIncreasing}
-use Rattle.std.proofs.lemmas.Bool.{cases_eq}
+use Rattle.assignment_search.proofs.Common.{IsStrictlyIncreasing, cases_eq, sum_below, count_below, Graph, IsGoodGraph, IsRowOf, HasNoRow, riders_at, cost_at, has_rider, choice_at, is_in, must_be_served, IsLawful, choice_cost, cost_of, left_out, times_chosen, flag, flag-true, flag-false, sum_below_same, sum_below_plus, count_below_none, has, tail_rises, head_apart, times_served_as_count, BettersNothing}
 use Rattle.std.proofs.lemmas.List.{get_or-set_same, get_or-set_other}
-use Rattle.plan_rules.specs.Sums.{sum_below, count_below}
-use Rattle.plan_rules.specs.Graph.{Graph, IsGoodGraph, IsRowOf, HasNoRow, riders_at, cost_at, has_rider, choice_at, is_in, must_be_served}
-use Rattle.plan_rules.specs.Plan.{IsLawful, choice_cost, cost_of}
-use Rattle.plan_rules.specs.lemmas.Plan.{left_out, times_chosen}
-use Rattle.plan_rules.proofs.lemmas.SumLemmas.{flag, flag-true, flag-false, sum_below_same, sum_below_plus, count_below_none}
-use Rattle.plan_rules.proofs.lemmas.GraphLemmas.{has, tail_rises, head_apart, times_served_as_count}
-use Rattle.assignment_search.specs.work.Change.{BettersNothing}
 
 -- how many riders a choice serves
 abbrev pub size_of : Graph → Option ℕ → ℕ

@@ -1,17 +1,7 @@
 -- How many choices there are, and how long a tree can be.
 use Rattle.std.proofs.Common.{◌≡◌, ◌==◌, ◌&&◌, ◌||◌, not, ℕ, zero, suc, ◌+◌, ◌*◌, ◌<◌, ◌≤◌, max, Bool, true, false, List, [], ◌∷◌, length, take, drop, get_or, ℤ, refl, sym, ap, ◌∙◌, subst, ⊎_elim, arith, eq-eqb, eqb-true, ne_eqb}
+use Rattle.assignment_search.proofs.Common.{cases_eq, and_from, or_right, count_below, Graph, IsRowOf, row_vehicle, Usable, is_usable_by, every_row, only_row, without_row, CanBranch, coming_after, ReadsTo, Node, Branch, Leaf, Dead, flag, sum_below_same, sum_below_plus, count_below_same, count_below_some, product_below, choice_count, IsGrown}
 use Rattle.std.proofs.Math.Nat.{add-mul, mul-add, le-max_left, le-max_right, max-le}
-use Rattle.std.proofs.lemmas.Bool.{cases_eq, and_from, or_right}
-use Rattle.plan_rules.specs.Sums.{count_below}
-use Rattle.plan_rules.specs.Graph.{Graph, IsRowOf, row_vehicle}
-use Rattle.plan_rules.specs.Multipliers.{Usable, is_usable_by}
-use Rattle.plan_rules.specs.Tree.{every_row, only_row, without_row, CanBranch}
-use Rattle.plan_rules.specs.Reading.{coming_after, ReadsTo}
-use Rattle.plan_rules.specs.declared.node.Node.{Node}
-use Rattle.plan_rules.specs.declared.node.Node.TheVariants.{Branch, Leaf, Dead}
-use Rattle.plan_rules.proofs.lemmas.SumLemmas.{flag, sum_below_same, sum_below_plus, count_below_same, count_below_some}
-use Rattle.assignment_search.specs.Growth.{product_below, choice_count}
-use Rattle.assignment_search.specs.work.Growth.{IsGrown}
 use Rattle.assignment_search.proofs.GrowthLemmas.{IsSplit, grown_reads}
 
 -- ---- products

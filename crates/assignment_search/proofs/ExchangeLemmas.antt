@@ -1,14 +1,8 @@
 -- One vehicle's row in place of another.
 use Rattle.std.proofs.Common.{◌≡◌, ◌⊎◌, ℕ, ◌<◌, ◌≤◌, true, List, length, set, Option, Some, None, MatchOption, refl, sym, ap, ◌∙◌, subst, inl, inr, arith}
-use Rattle.std.proofs.lemmas.Bool.{cases_lt}
-use Rattle.std.proofs.lemmas.List.{set-get_or, set_past, get_or-set_same, get_or-set_other}
-use Rattle.plan_rules.specs.Sums.{count_below}
-use Rattle.plan_rules.specs.Graph.{Graph, IsRowOf, HasNoRow, choice_at, is_in}
-use Rattle.plan_rules.specs.Plan.{IsLawful, cost_of}
-use Rattle.plan_rules.proofs.lemmas.SumLemmas.{count_below_two}
-use Rattle.plan_rules.proofs.lemmas.GraphLemmas.{times_served_as_count}
+use Rattle.assignment_search.proofs.Common.{cases_lt, set-get_or, set_past, count_below, Graph, IsRowOf, HasNoRow, choice_at, is_in, IsLawful, cost_of, count_below_two, times_served_as_count, BettersNothing, IsShared}
+use Rattle.std.proofs.lemmas.List.{get_or-set_same, get_or-set_other}
 use Rattle.assignment_search.specs.Change.{HasNoBetterChange}
-use Rattle.assignment_search.specs.work.Change.{BettersNothing, IsShared}
 
 none_some : (k : ℕ) → ◌≡◌ {A = Option ℕ} None (Some k) → ⊥
 none_some k e = cc

@@ -1,22 +1,9 @@
 -- A leaf where no vehicle has a choice holds one plan, whose cost is the first-fit value.
-use Rattle.std.proofs.Common.{◌≡◌, ◌==◌, ◌&&◌, ℕ, zero, suc, ◌+◌, ◌*◌, ◌/◌, ◌<◌, ◌≤◌, Bool, true, false, ltb, List, [], ◌∷◌, length, Option, Some, None, MatchOption, ℤ, pos, negsuc, ◌+ℤ◌, ◌-ℤ◌, ◌≤ℤ◌, refl, sym, ap, ◌∙◌, subst, inl, inr, ⊎_elim, arith, eq-eqb, eqb-true, ne_eqb, lt-ltb, le-ltb}
-use Rattle.std.specs.Prelude.{unwrap_or}
-use Rattle.std.proofs.lemmas.Int.{ints}
-use Rattle.std.proofs.lemmas.Bool.{cases_eq, cases_lt, cases_Bool, and_from, and_parts, cond-true, cond-false}
-use Rattle.std.proofs.lemmas.List.{get_or_push, get_or_append_left}
-use Rattle.plan_rules.specs.Sums.{sum_below, count_below, int_sum_below, least_below, lesser}
-use Rattle.plan_rules.specs.Graph.{Graph, IsRowOf, HasNoRow, riders_at, row_vehicle, has_rider, choice_at, is_in, must_be_served, IsGoodGraph}
-use Rattle.plan_rules.specs.Plan.{IsPlan, IsLawful, choice_cost, cost_of}
-use Rattle.plan_rules.specs.lemmas.Plan.{times_chosen, left_out}
-use Rattle.plan_rules.specs.Multipliers.{Usable, multiplier_at, multiplier_sum, is_usable_by, reduced_cost, vehicle_term, rider_term, leaf_value, room_at, first_fit_of, first_fit_below, first_fit, first_fit_value}
-use Rattle.plan_rules.specs.Tree.{MayUse, IsSoleRow, IsDeadEnd, rounded_up}
-use Rattle.plan_rules.proofs.lemmas.SumLemmas.{flag, flag-true, flag-false, part, sum_below_scale, int_sum_same, int_sum_le, int_sum_plus, int_sum_minus, int_sum_pos, int_sum_zero, int_sum_swap, int_sum_once, least_below_some, least_below_none, least_below_found, count_below_found}
-use Rattle.plan_rules.proofs.lemmas.GraphLemmas.{times_served_as_count, times_served_some, in_choice}
-use Rattle.plan_rules.proofs.lemmas.PlanLemmas.{has_choice}
+use Rattle.std.proofs.Common.{◌≡◌, ◌==◌, ◌&&◌, ℕ, zero, suc, ◌+◌, ◌*◌, ◌/◌, ◌<◌, ◌≤◌, Bool, true, false, ltb, List, [], ◌∷◌, length, Option, Some, None, MatchOption, ℤ, pos, negsuc, ◌+ℤ◌, ◌-ℤ◌, ◌≤ℤ◌, refl, sym, ap, ◌∙◌, subst, inl, inr, ⊎_elim, arith, eq-eqb, eqb-true, ne_eqb, lt-ltb, le-ltb, unwrap_or}
+use Rattle.assignment_search.proofs.Common.{ints, cases_eq, cases_lt, cases_Bool, and_from, and_parts, cond-true, cond-false, get_or_push, get_or_append_left, sum_below, count_below, int_sum_below, least_below, lesser, Graph, IsRowOf, HasNoRow, riders_at, row_vehicle, has_rider, choice_at, is_in, must_be_served, IsGoodGraph, IsPlan, IsLawful, choice_cost, cost_of, times_chosen, left_out, Usable, multiplier_at, multiplier_sum, is_usable_by, reduced_cost, vehicle_term, rider_term, leaf_value, room_at, first_fit_of, first_fit_below, first_fit, first_fit_value, MayUse, IsSoleRow, IsDeadEnd, rounded_up, flag, flag-true, flag-false, part, sum_below_scale, int_sum_same, int_sum_le, int_sum_plus, int_sum_minus, int_sum_pos, int_sum_zero, int_sum_swap, int_sum_once, least_below_some, least_below_none, least_below_found, count_below_found, times_served_as_count, times_served_some, in_choice, has_choice, HasUsable, IsFixed, IsSolePlan}
 use Rattle.plan_rules.proofs.lemmas.DualityLemmas.{multiplier_sum_is}
 use Rattle.dual_bound.proofs.lemmas.FirstFitLemmas.{length-first_fit}
 use Rattle.dual_bound.proofs.lemmas.FirstFitValueLemmas.{first_fit_leaves_room, rider_term_is}
-use Rattle.assignment_search.specs.work.Growth.{HasUsable, IsFixed, IsSolePlan}
 
 same_some : (j k : ℕ) → Some j ≡ Some k → j ≡ k
 same_some j k e = cc

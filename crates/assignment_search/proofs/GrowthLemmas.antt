@@ -1,21 +1,7 @@
 -- Trees that grow.
-use Rattle.std.proofs.Common.{◌≡◌, ◌==◌, ◌||◌, not, ℕ, zero, suc, ◌+◌, ◌/◌, ◌<◌, ◌≤◌, true, List, [], ◌∷◌, ◌++◌, length, get_or, take, drop, Option, Some, None, ℤ, pos, negsuc, ◌≤ℤ◌, ◌<ℤ◌, refl, sym, ap, ◌∙◌, subst, ⊎_elim, arith, eq-eqb, ne_eqb}
-use Rattle.std.specs.Prelude.{unwrap_or}
+use Rattle.std.proofs.Common.{◌≡◌, ◌==◌, ◌||◌, not, ℕ, zero, suc, ◌+◌, ◌/◌, ◌<◌, ◌≤◌, true, List, [], ◌∷◌, ◌++◌, length, get_or, take, drop, Option, Some, None, ℤ, pos, negsuc, ◌≤ℤ◌, ◌<ℤ◌, refl, sym, ap, ◌∙◌, subst, ⊎_elim, arith, eq-eqb, ne_eqb, unwrap_or}
+use Rattle.assignment_search.proofs.Common.{ints, int_min_is, cases_eq, and_from, or_left, or_right, lesser, Graph, IsRowOf, row_vehicle, Usable, leaf_value, first_fit_value, every_row, only_row, without_row, CanBranch, rounded_up, least_leaf, IsSoundNode, coming_after, ReadsTo, places_from, value_read, IsLawful, cost_of, IsGreedy, Node, Branch, Leaf, Dead, IsWorthBranching, IsGoodLeaf, IsGoodNode, IsGrown, HasUsable, IsLowest, IsNewEnd, IsFairNode}
 use Rattle.std.specs.List.{AllByRecursion as ByRecursion}
-use Rattle.std.proofs.lemmas.Int.{ints, int_min_is}
-use Rattle.std.proofs.lemmas.Bool.{cases_eq, and_from, or_left, or_right}
-use Rattle.plan_rules.specs.Sums.{lesser}
-use Rattle.plan_rules.specs.Graph.{Graph, IsRowOf, row_vehicle}
-use Rattle.plan_rules.specs.Multipliers.{Usable, leaf_value, first_fit_value}
-use Rattle.plan_rules.specs.Tree.{every_row, only_row, without_row, CanBranch, rounded_up, least_leaf}
-use Rattle.plan_rules.specs.Reading.{IsSoundNode, coming_after, ReadsTo, places_from}
-use Rattle.plan_rules.specs.lemmas.Tree.{value_read}
-use Rattle.plan_rules.specs.Plan.{IsLawful, cost_of}
-use Rattle.plan_rules.specs.Greedy.{IsGreedy}
-use Rattle.plan_rules.specs.declared.node.Node.{Node}
-use Rattle.plan_rules.specs.declared.node.Node.TheVariants.{Branch, Leaf, Dead}
-use Rattle.assignment_search.specs.work.Growth.{IsWorthBranching, IsGoodLeaf, IsGoodNode, IsGrown, HasUsable, IsLowest, IsNewEnd}
-use Rattle.assignment_search.specs.Found.{IsFairNode}
 
 -- ---- grown trees are sound
 

@@ -1,17 +1,6 @@
 -- A sound tree has a leaf.
 use Rattle.std.proofs.Common.{◌≡◌, ℕ, suc, ◌+◌, ◌≤◌, Bool, cond, List, [], ◌∷◌, Option, count_by, refl, arith}
-use Rattle.std.proofs.lemmas.List.Sums.{sum_by-cons}
-use Rattle.plan_rules.specs.Graph.{Graph, IsGoodGraph}
-use Rattle.plan_rules.specs.Multipliers.{Usable}
-use Rattle.plan_rules.specs.Tree.{every_row, only_row, without_row, Place, belongs_to_end, belongs_to_dead_end, is_within}
-use Rattle.plan_rules.specs.Reading.{places_from}
-use Rattle.plan_rules.specs.lemmas.Tree.{IsWholeTree}
-use Rattle.plan_rules.specs.declared.node.Node.{Node}
-use Rattle.plan_rules.specs.declared.node.Node.TheVariants.{Branch, Leaf, Dead}
-use Rattle.plan_rules.proofs.lemmas.SumLemmas.{flag}
-use Rattle.plan_rules.proofs.lemmas.PlanLemmas.{held_is_lawful}
-use Rattle.plan_rules.proofs.lemmas.TreeLemmas.{each_plan_at_one_end, no_plan_at_dead_ends}
-use Rattle.assignment_search.specs.work.Growth.{HasLeaf}
+use Rattle.assignment_search.proofs.Common.{sum_by-cons, Graph, IsGoodGraph, Usable, every_row, only_row, without_row, Place, belongs_to_end, belongs_to_dead_end, is_within, places_from, IsWholeTree, Node, Branch, Leaf, Dead, flag, held_is_lawful, each_plan_at_one_end, no_plan_at_dead_ends, HasLeaf}
 
 count-cons : {X : Type 0} (p : X → Bool) (x : X) (xs : List X) → count_by p (x ∷ xs) ≡ flag (p x) + count_by p xs
 count-cons p x xs = sum_by-cons (λ y. cond (p y) 1 0) x xs

@@ -11,3 +11,4 @@ pub mod EditLemmas
 pub mod AnswerLemmas
 pub mod ApartLemmas
 pub mod OpenLemmas
+pub mod Common

@@ -1,26 +1,14 @@
 -- The heap of a tree's open leaves.
-use Rattle.std.proofs.Common.{◌≡◌, ◌==◌, ℕ, zero, suc, ◌+◌, ◌<◌, ◌≤◌, Bool, true, false, cond, List, [], ◌∷◌, ◌++◌, length, take, drop, get_or, ℤ, pos, ◌≤ℤ◌, refl, sym, ap, ◌∙◌, subst, ⊎_elim, arith, eq-eqb, eqb-true}
-use Rattle.std.specs.Prelude.{int_lt}
-use Rattle.std.specs.List.{sum_by, AllByRecursion}
+use Rattle.std.proofs.Common.{◌≡◌, ◌==◌, ℕ, zero, suc, ◌+◌, ◌<◌, ◌≤◌, Bool, true, false, cond, List, [], ◌∷◌, ◌++◌, length, take, drop, get_or, ℤ, pos, ◌≤ℤ◌, refl, sym, ap, ◌∙◌, subst, ⊎_elim, arith, eq-eqb, eqb-true, int_lt}
+use Rattle.assignment_search.proofs.Common.{AllByRecursion, IsHeap, Reverse, ints, cases_eq, both_ways, sum_by-cons, sum_by_popped, Graph, IsGoodGraph, Node, Branch, Leaf, Dead, IsLowest, HasLeaf, IsTreeSoFar, OpenLeaf, leaf_cmp, leaf_sum, AreOpen}
+use Rattle.std.specs.List.{sum_by}
 use Rattle.std.specs.List.Sorted.{IsPermutation}
 use Rattle.std.specs.Ordering.{ordering_then, int_cmp, is_lt}
-use Rattle.std.specs.BinaryHeap.{IsHeap, heap_items}
+use Rattle.std.specs.BinaryHeap.{heap_items}
 use Rattle.std.specs.declared.cmp.Ordering.{Ordering}
 use Rattle.std.specs.declared.cmp.Ordering.TheVariants.{Less, Equal, Greater}
-use Rattle.std.specs.declared.cmp.Reverse.{Reverse}
-use Rattle.std.proofs.lemmas.Int.{ints}
-use Rattle.std.proofs.lemmas.Bool.{cases_eq, both_ways}
-use Rattle.std.proofs.lemmas.List.Sums.{sum_by-cons}
-use Rattle.std.proofs.lemmas.List.Sorted.{sum_by_popped}
-use Rattle.plan_rules.specs.Graph.{Graph, IsGoodGraph}
-use Rattle.plan_rules.specs.declared.node.Node.{Node}
-use Rattle.plan_rules.specs.declared.node.Node.TheVariants.{Branch, Leaf, Dead}
-use Rattle.assignment_search.specs.work.Growth.{IsLowest, HasLeaf}
-use Rattle.assignment_search.specs.work.Found.{IsTreeSoFar}
 use Rattle.assignment_search.proofs.AnswerLemmas.{so_far_leaf}
-use Rattle.assignment_search.specs.declared.open_leaves.OpenLeaf.{OpenLeaf}
 use Rattle.assignment_search.specs.declared.open_leaves.OpenLeaves.{OpenLeaves}
-use Rattle.assignment_search.specs.work.OpenLeaves.{leaf_cmp, leaf_sum, AreOpen}
 use Rattle.assignment_search.proofs.EditLemmas.{edit_length, edit_origin, moved}
 
 -- ---- sums over leaves

@@ -1,14 +1,6 @@
 -- The fewer rows are usable, the greater is a leaf's value.
-use Rattle.std.proofs.Common.{◌≡◌, ◌==◌, ◌||◌, not, ℕ, ◌<◌, Bool, true, false, List, length, Option, Some, None, ℤ, pos, ◌≤ℤ◌, refl, sym, ap, ◌∙◌, arith, eq-eqb, eqb-true}
-use Rattle.std.specs.Prelude.{unwrap_or}
-use Rattle.std.proofs.lemmas.Int.{ints}
-use Rattle.std.proofs.lemmas.Bool.{and_from, and_parts}
-use Rattle.plan_rules.specs.Sums.{int_sum_below, least_below}
-use Rattle.plan_rules.specs.Graph.{Graph, IsRowOf, row_vehicle}
-use Rattle.plan_rules.specs.Multipliers.{Usable, is_usable_by, reduced_cost, vehicle_term, leaf_value}
-use Rattle.plan_rules.specs.Tree.{MayUse, only_row, without_row}
-use Rattle.plan_rules.proofs.lemmas.SumLemmas.{int_sum_le, least_below_some, least_below_none, least_below_found}
-use Rattle.assignment_search.specs.work.Growth.{HasUsable}
+use Rattle.std.proofs.Common.{◌≡◌, ◌==◌, ◌||◌, not, ℕ, ◌<◌, Bool, true, false, List, length, Option, Some, None, ℤ, pos, ◌≤ℤ◌, refl, sym, ap, ◌∙◌, arith, eq-eqb, eqb-true, unwrap_or}
+use Rattle.assignment_search.proofs.Common.{ints, and_from, and_parts, int_sum_below, least_below, Graph, IsRowOf, row_vehicle, Usable, is_usable_by, reduced_cost, vehicle_term, leaf_value, MayUse, only_row, without_row, int_sum_le, least_below_some, least_below_none, least_below_found, HasUsable}
 
 not_some : (z : ℤ) → ◌≡◌ {A = Option ℤ} None (Some z) → ⊥
 not_some z e = cc

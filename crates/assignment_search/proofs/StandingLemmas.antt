@@ -1,14 +1,6 @@
 -- Where a walk stands.
 use Rattle.std.proofs.Common.{◌≡◌, ℕ, zero, suc, ◌<◌, Bool, true, false, List, [], ◌∷◌, ◌++◌, length, get_or, take, MatchBool, refl, sym, ap, ◌∙◌, subst, ⊎_elim, arith}
-use Rattle.std.proofs.lemmas.Bool.{cases_eq}
-use Rattle.std.proofs.lemmas.List.{get_or_push, get_or_append_left, length_push}
-use Rattle.plan_rules.specs.Graph.{Graph, IsRowOf}
-use Rattle.plan_rules.specs.Multipliers.{Usable}
-use Rattle.plan_rules.specs.Tree.{every_row}
-use Rattle.plan_rules.specs.Reading.{ReadsTo, IsSoundNode, coming_after}
-use Rattle.plan_rules.specs.Path.{Standing, standing_of, IsPathOf}
-use Rattle.plan_rules.specs.declared.node.Node.{Node}
-use Rattle.plan_rules.specs.declared.node.Node.TheVariants.{Branch, Dead}
+use Rattle.assignment_search.proofs.Common.{cases_eq, get_or_push, get_or_append_left, length_push, Graph, IsRowOf, Usable, every_row, ReadsTo, IsSoundNode, coming_after, Standing, standing_of, IsPathOf, Node, Branch, Dead}
 use Rattle.plan_rules.specs.declared.path.Decision.{Decision}
 use Rattle.plan_rules.proofs.lemmas.PathLemmas.{standing_start, standing_push}
 

@@ -1,8 +1,6 @@
 -- The rows of a good graph name vehicles and riders that exist.
 use Rattle.std.proofs.Common.{◌≡◌, ℕ, ◌<◌, ◌≤◌, length, get_or, All, subst}
-use Rattle.std.proofs.lemmas.List.{get_or_default}
-use Rattle.plan_rules.specs.declared.row.TripRow.{TripRow}
-use Rattle.plan_rules.specs.Graph.{Graph, IsGoodGraph, IsGraphRow, no_row}
+use Rattle.batch_solver.proofs.Common.{get_or_default, TripRow, Graph, IsGoodGraph, IsGraphRow, no_row}
 
 -- the row read with whatever stands where there is none
 row_is : (g : Graph) → IsGoodGraph g → (k : ℕ) (d : TripRow) → k < length g.rows → IsGraphRow g.vehicles g.riders (get_or g.rows k d)

@@ -1,16 +1,10 @@
 -- Marks of the riders in chosen rows.
 use Rattle.std.proofs.Common.{◌≡◌, ◌==◌, ◌||◌, ℕ, ◌+◌, ◌<◌, ◌≤◌, Bool, true, false, not, List, [], ◌∷◌, ◌++◌, length, get_or, replicate, nat_lt, Option, None, refl, sym, ap, ◌∙◌, arith, lt-ltb, le-ltb}
-use Rattle.std.specs.List.{All, filter, range_with_len}
-use Rattle.std.proofs.lemmas.List.{get_or-replicate, length-replicate, get_or_read}
-use Rattle.std.proofs.lemmas.List.Elements.{All-filter, All-from_get_or}
+use Rattle.batch_solver.proofs.Common.{range_with_len, get_or-replicate, length-replicate, get_or_read, All-filter, All-from_get_or, Graph, choice_at, is_in, times_served, times_chosen, times_served_more, times_served_none, filter_range_takes, filter_range_skips, MarksChosen}
+use Rattle.std.specs.List.{All, filter}
 use Rattle.std.proofs.lemmas.List.Sums.{length-filter, count_by-le-length}
 use Rattle.std.proofs.lemmas.List.FromFn.{length-range_with_len, get_or-range_with_len}
-use Rattle.plan_rules.specs.Graph.{Graph, choice_at, is_in, times_served}
-use Rattle.plan_rules.specs.lemmas.Plan.{times_chosen}
 use Rattle.plan_rules.proofs.lemmas.SumLemmas.{flag}
-use Rattle.plan_rules.proofs.lemmas.GraphLemmas.{times_served_more, times_served_none}
-use Rattle.promise_check.proofs.lemmas.Promises.{filter_range_takes, filter_range_skips}
-use Rattle.batch_solver.specs.work.Left.{MarksChosen}
 
 pub marks_none : (g : Graph) (chosen : List (Option ℕ)) → MarksChosen g chosen 0 (replicate g.riders false)
 marks_none g chosen = record {

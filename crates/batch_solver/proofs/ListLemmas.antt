@@ -1,14 +1,12 @@
 -- A plan's parts make it good.
 use Rattle.std.proofs.Common.{◌≡◌, ℕ, List, ℤ, sym, subst}
+use Rattle.batch_solver.proofs.Common.{Settings, Posed, AreLists}
 use Rattle.assignment_search.specs.Found.{IsSearchAnswer}
 use Rattle.assignment_search.specs.declared.found.Found.{Found}
 use Rattle.plan_rules.specs.declared.node.Node.{Node}
 use Rattle.request_book.specs.declared.outcome.Planned.{Planned}
-use Rattle.rider_limits.specs.declared.settings.Settings.{Settings}
 use Rattle.batch_solver.specs.Outcome.{IsGoodPlan}
-use Rattle.batch_solver.specs.Points.{Posed}
 use Rattle.batch_solver.specs.declared.point.Point.TheVariants as point
-use Rattle.batch_solver.specs.work.Lists.{AreLists}
 
 -- a found plan with the lists that belong to it
 pub good_plan : (settings : Settings) (p : Posed) (found : Found) (planned : Planned) → IsSearchAnswer p.graph settings.budget found → planned.cost ≡ found.cost → planned.bound ≡ found.bound → planned.tree ≡ found.tree

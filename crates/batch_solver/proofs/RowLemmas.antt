@@ -1,18 +1,7 @@
 use Rattle.std.proofs.Common.{◌≡◌, ℕ, ◌<◌, ◌≤◌, List, length, get_or, Option, Some, None, MatchOption, sym, ap, ◌∙◌, subst, arith}
-use Rattle.std.proofs.lemmas.List.{get_or_default}
-use Rattle.plan_rules.specs.declared.row.TripRow.{TripRow}
-use Rattle.plan_rules.specs.Graph.{Graph, IsRowOf, HasNoRow, choice_at, riders_at, cost_at, no_row}
+use Rattle.batch_solver.proofs.Common.{get_or_default, TripRow, Graph, IsRowOf, HasNoRow, choice_at, riders_at, cost_at, no_row, ChosenTrip, Settings, Settled, Stop, Task, IsTrip, trip_task, IsLeastDelay, Serves, order_delay, vehicle_id, told_stops, IsTripOf}
 use Rattle.plan_rules.specs.Plan.{IsLawful}
-use Rattle.request_book.specs.declared.outcome.ChosenTrip.{ChosenTrip}
-use Rattle.rider_limits.specs.declared.settings.Settings.{Settings}
-use Rattle.stop_orders.specs.declared.settled.Settled.{Settled}
-use Rattle.stop_orders.specs.declared.stop.Stop.{Stop}
-use Rattle.stop_orders.specs.declared.task.Task.{Task}
-use Rattle.stop_orders.specs.Settled.{IsTrip, trip_task}
-use Rattle.stop_orders.specs.Task.{IsLeastDelay, Serves, order_delay}
 use Rattle.trip_graph.specs.Answer.{IsTripGraphOf}
-use Rattle.batch_solver.specs.Told.{vehicle_id, told_stops}
-use Rattle.batch_solver.specs.Trips.{IsTripOf}
 
 -- a row of the trip graph: its trip, and the least delay of an order of the vehicle that serves it
 pub record IsServedRow (tau : ℕ → ℕ → ℕ) (settled : Settled) (graph : Graph) (v row : ℕ) : Type 0 where

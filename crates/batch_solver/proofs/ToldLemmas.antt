@@ -1,18 +1,9 @@
 use Rattle.std.proofs.Common.{◌≡◌, ℕ, ◌+◌, ◌*◌, ◌<◌, ◌≤◌, List, [], ◌∷◌, ◌++◌, length, map, zip, sym, ap, ◌∙◌, subst, arith}
-use Rattle.std.specs.List.{AllByRecursion}
-use Rattle.std.proofs.lemmas.List.{append_assoc, length_push}
+use Rattle.batch_solver.proofs.Common.{AllByRecursion, length_push, PlannedStop, Settled, Stop, Task, trip_task, IsTask, IsOrderOf, visit_at, visits_of, seconds_of, place_of, seconds_from, visit_place, told_stop, told_stops}
+use Rattle.std.proofs.lemmas.List.{append_assoc}
 use Rattle.pool_base.specs.TravelTime.{never}
-use Rattle.request_book.specs.declared.outcome.PlannedStop.{PlannedStop}
-use Rattle.stop_orders.specs.declared.settled.Settled.{Settled}
-use Rattle.stop_orders.specs.declared.stop.Stop.{Stop}
-use Rattle.stop_orders.specs.declared.task.Task.{Task}
 use Rattle.stop_orders.specs.Order.{IsKnown}
-use Rattle.stop_orders.specs.Settled.{trip_task}
-use Rattle.stop_orders.specs.Task.{IsTask, IsOrderOf, visit_at, visits_of, seconds_of}
-use Rattle.stop_orders.specs.Visit.{place_of, seconds_from}
 use Rattle.stop_orders.proofs.lemmas.ScanLemmas.{order_short}
-use Rattle.stop_orders.proofs.lemmas.VisitLemmas.{visit_place}
-use Rattle.batch_solver.specs.Told.{told_stop, told_stops}
 
 -- what was told of an order and what is still to tell are all of it
 pub record ToldScan (points : ℕ) (nodes : List ℕ) (tau : ℕ → ℕ → ℕ) (settled : Settled) (v : ℕ) (trip : List ℕ) (task : Task) (room : ℕ) (stops rest : List Stop) (place free : ℕ) (told : List PlannedStop) : Type 0 where

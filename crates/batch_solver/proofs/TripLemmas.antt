@@ -1,16 +1,6 @@
 use Rattle.std.proofs.Common.{◌≡◌, ℕ, ◌<◌, ◌≤◌, List, [], ◌∷◌, ◌++◌, length, get_or, ap, ◌∙◌, subst, arith}
-use Rattle.std.proofs.lemmas.List.{get_or_default}
-use Rattle.std.specs.List.{AllZip}
-use Rattle.request_book.specs.declared.outcome.PlannedStop.{PlannedStop}
-use Rattle.stop_orders.specs.declared.settled.Settled.{Settled}
-use Rattle.stop_orders.specs.declared.stop.Stop.{Stop}
-use Rattle.stop_orders.specs.declared.task.Task.{Task}
-use Rattle.stop_orders.specs.declared.settled_vehicle.SettledVehicle.{SettledVehicle}
-use Rattle.stop_orders.specs.Settled.{IsTrip, no_vehicle, trip_task, vehicle_at}
-use Rattle.stop_orders.specs.Task.{IsTask, IsOrderOf, ReachesAll, order_delay}
+use Rattle.batch_solver.proofs.Common.{get_or_default, AllZip, PlannedStop, Settled, Stop, Task, SettledVehicle, IsTrip, no_vehicle, trip_task, vehicle_at, IsTask, IsOrderOf, ReachesAll, order_delay, told_stops, IsLateOrder}
 use Rattle.stop_orders.proofs.lemmas.DoneLemmas.{length-IsOrder}
-use Rattle.batch_solver.specs.Told.{told_stops}
-use Rattle.batch_solver.specs.Trips.{IsLateOrder}
 
 pub all_zip_push : {A B : Type 0} (R : A → B → Type 0) (xs : List A) (ys : List B) (x : A) (y : B) → AllZip R xs ys → R x y → AllZip R (xs ++ x ∷ []) (ys ++ y ∷ [])
 all_zip_push R [] [] x y h r = (r, tt)

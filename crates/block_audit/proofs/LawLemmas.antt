@@ -1,27 +1,11 @@
 -- By which point lines fail that tell what no outcome can.
 use Rattle.std.proofs.Common.{◌≡◌, ◌≢◌, ℕ, ◌<◌, ◌≤◌, List, Contains, length, IfSome, ⊎_elim, subst, sym, arith}
+use Rattle.block_audit.proofs.Common.{cases_lt, All-contains, Batch, point_place, Point, lines_of, BlockLine, Row, Trip, Late, LateText, RowText, TripText, Outcome, Settings, Roads, BeginsWithWrong, CanBeTold, HasTrips, judged_outcome, told_by}
 use Rattle.std.specs.List.{All}
-use Rattle.std.proofs.lemmas.Bool.{cases_lt}
-use Rattle.std.proofs.lemmas.List.Elements.{All-contains}
-use Rattle.batch_snapshot.specs.Batch.{Batch}
-use Rattle.outcome_check.specs.Verdict.{point_place}
-use Rattle.batch_solver.specs.declared.point.Point.{Point}
-use Rattle.batch_solver.specs.declared.point.Point.TheVariants as point
-use Rattle.report_lines.specs.Outcome.{lines_of}
-use Rattle.report_lines.specs.declared.block_line.BlockLine.{BlockLine}
-use Rattle.report_lines.specs.declared.block_line.BlockLine.TheVariants.{Row, Trip, Late}
-use Rattle.report_lines.specs.declared.late.LateText.{LateText}
-use Rattle.report_lines.specs.declared.row.RowText.{RowText}
-use Rattle.report_lines.specs.declared.trip.TripText.{TripText}
-use Rattle.request_book.specs.declared.outcome.Outcome.{Outcome}
-use Rattle.rider_limits.specs.declared.settings.Settings.{Settings}
-use Rattle.road_network.specs.Roads.{Roads}
-use Rattle.block_audit.specs.Block.{BeginsWithWrong}
-use Rattle.block_audit.specs.Judged.{CanBeTold, HasTrips, judged_outcome}
-use Rattle.block_audit.specs.Told.{told_by}
 use Rattle.block_audit.proofs.NumberedLemmas.{vehicle_ids}
 use Rattle.block_audit.proofs.OutcomeLemmas.{judged_few, lines_are}
 use Rattle.block_audit.proofs.ToldLemmas.{OfRow, OfTrip, OfLate, all_rows, all_trips, all_lates}
+use Rattle.batch_solver.specs.declared.point.Point.TheVariants as point
 
 module _ (settings : Settings) (roads : Roads) (batch : Batch) (text : List ℕ) (place : ℕ) (wrong : BeginsWithWrong settings roads batch text place) where
   -- what the points before the one that fails ask for can be told

@@ -5,3 +5,4 @@ pub mod NumberedLemmas
 pub mod OutcomeLemmas
 pub mod LawLemmas
 pub mod TellingLemmas
+pub mod Common

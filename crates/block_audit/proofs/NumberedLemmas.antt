@@ -1,38 +1,21 @@
 -- A good outcome's branches tell vehicles by their numbers among the batch's, and its rows are trips.
 use Rattle.std.proofs.Common.{◌≡◌, ◌==◌, ℕ, zero, suc, ◌+◌, ◌<◌, ◌≤◌, ne_eqb, eq-eqb, List, [], ◌++◌, All, length, get_or, map, slice_get, unwrap_or, option_map, Some, Option, ⊎_elim, sym, ap, ◌∙◌, subst, arith}
-use Rattle.std.specs.List.{position_or_len}
+use Rattle.block_audit.proofs.Common.{position_or_len, cases_lt, get_or-map, length-map, position_or_len_is, All-append, All-cons, All-map, All-from_get_or, slice_get-get_or, slice_get-map, Batch, IsKept, Vehicle, AnswersWith, HasGraphsWith, IsGoodOutcome, IsGoodPlan, HasTrips, number_among, Node, Answer, Outcome, Planned, RowLine, Settings, Roads}
 use Rattle.std.specs.List.Sorted.{IsStrictlyIncreasing}
-use Rattle.std.proofs.lemmas.Bool.{cases_lt}
-use Rattle.std.proofs.lemmas.List.{get_or-map, length-map}
-use Rattle.std.proofs.lemmas.List.Sums.{position_or_len_is}
-use Rattle.std.proofs.lemmas.List.Elements.{All-append, All-cons, All-map, All-from_get_or}
-use Rattle.std.proofs.lemmas.Option.{slice_get-get_or, slice_get-map}
-use Rattle.batch_snapshot.specs.Batch.{Batch}
-use Rattle.batch_snapshot.specs.Kept.{IsKept}
-use Rattle.batch_snapshot.specs.declared.vehicle.Vehicle.{Vehicle}
-use Rattle.batch_solver.specs.Outcome.{AnswersWith, HasGraphsWith, IsGoodOutcome, IsGoodPlan}
-use Rattle.batch_solver.specs.declared.point.Point.TheVariants as point
 use Rattle.batch_solver.specs.Told.{vehicle_id, rider_id, row_line}
-use Rattle.block_audit.specs.Judged.{HasTrips, number_among}
 use Rattle.plan_rules.specs.Graph.{Graph, IsGoodGraph, IsRowOf, row_at, row_vehicle, no_row}
 use Rattle.plan_rules.specs.Multipliers.{Usable}
 use Rattle.plan_rules.specs.Tree.{SearchTree, IsSoundTree, every_row, only_row, without_row}
 use Rattle.plan_rules.specs.lemmas.Tree.{preorder}
 use Rattle.plan_rules.proofs.lemmas.SearchTreeLemmas.{nodes_are}
 use Rattle.plan_rules.specs.Tree.SearchTree.{Parted, Bounded, Closed}
-use Rattle.plan_rules.specs.declared.node.Node.{Node}
 use Rattle.plan_rules.specs.declared.node.Node.TheVariants.{Branch, Leaf, Dead}
 use Rattle.plan_rules.specs.declared.row.TripRow.{TripRow}
 use Rattle.pool_base.specs.Times.{travel_time}
 use Rattle.promise_check.specs.Settling.{IsSettled}
-use Rattle.request_book.specs.declared.outcome.Answer.{Answer}
 use Rattle.request_book.specs.declared.outcome.Answer.TheVariants.{Overflow, Planned as Plan}
-use Rattle.request_book.specs.declared.outcome.Outcome.{Outcome}
-use Rattle.request_book.specs.declared.outcome.Planned.{Planned}
-use Rattle.request_book.specs.declared.outcome.RowLine.{RowLine}
-use Rattle.rider_limits.specs.declared.settings.Settings.{Settings}
-use Rattle.road_network.specs.Roads.{Roads}
 use Rattle.stop_orders.specs.declared.settled.Settled.{Settled}
+use Rattle.batch_solver.specs.declared.point.Point.TheVariants as point
 
 -- a branch names a row of the vehicle whose number it has in the order of these ids
 abbrev pub IsNumbered : List ℕ → List RowLine → Node → Type 0

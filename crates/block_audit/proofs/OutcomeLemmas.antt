@@ -1,37 +1,20 @@
 -- An outcome is judged as itself, and lines that can be told are those of the outcome as which they are judged.
 use Rattle.std.proofs.Common.{◌≡◌, ℕ, ◌<◌, ◌≤◌, ◌+◌, Bool, true, false, cond, nat_le, IfSome, List, [], ◌∷◌, ◌++◌, length, get_or, map, slice_get, unwrap_or, option_map, Option, Some, None, append_assoc, refl, sym, ap, ◌∙◌, subst, arith}
+use Rattle.block_audit.proofs.Common.{cond-true, cond_both, length-map, All-cons, All-head, All-tail, All-map, slice_get-map, Point, Node, follow_on, last_place, row_as_line, trip_as_line, late_as_line, tree_line, lines_of_answer, lines_of, BlockLine, Expired, Lapsed, Late, Alone, Shared, Row, Trip, Out, Move, Cost, Bound, Nodes, Branch, Leaf, Dead, End, LateText, RowText, TripText, Answer, Outcome, Planned, RowLine, at_most, row_of, trip_of, late_of, node_of, number_among, judged_plan, judged_outcome, NamesRow, CanBeTold, HasTrips, stops_of, Told, told_by}
 use Rattle.std.specs.List.{All}
-use Rattle.std.proofs.lemmas.Bool.{cond-true, cond_both, le-leb, leb-true}
-use Rattle.std.proofs.lemmas.List.{length-map}
-use Rattle.std.proofs.lemmas.List.Elements.{All-cons, All-head, All-tail, All-map}
-use Rattle.std.proofs.lemmas.Option.{slice_get-map}
+use Rattle.std.proofs.lemmas.Bool.{le-leb, leb-true}
 use Rattle.arrayvec.specs.ArrayVec.{ArrayVec}
-use Rattle.batch_solver.specs.declared.point.Point.{Point}
-use Rattle.batch_solver.specs.declared.point.Point.TheVariants as point
-use Rattle.plan_rules.specs.declared.node.Node.{Node}
-use Rattle.plan_rules.specs.declared.node.Node.TheVariants as node
-use Rattle.report_lines.specs.Order.{follow_on, last_place}
-use Rattle.report_lines.specs.Outcome.{row_as_line, trip_as_line, late_as_line, tree_line, lines_of_answer, lines_of}
-use Rattle.report_lines.specs.declared.block_line.BlockLine.{BlockLine}
-use Rattle.report_lines.specs.declared.block_line.BlockLine.TheVariants.{Batch, Expired, Lapsed, Late, Alone, Shared, Row, Trip, Out, Move, Cost, Bound, Nodes, Branch, Leaf, Dead, End}
-use Rattle.report_lines.specs.declared.late.LateText.{LateText}
-use Rattle.report_lines.specs.declared.row.RowText.{RowText}
-use Rattle.report_lines.specs.declared.trip.TripText.{TripText}
-use Rattle.request_book.specs.declared.outcome.Answer.{Answer}
+use Rattle.report_lines.specs.declared.block_line.BlockLine.TheVariants.{Batch}
 use Rattle.request_book.specs.declared.outcome.Answer.TheVariants.{Overflow as TooMany, Planned as Plan}
 use Rattle.request_book.specs.declared.outcome.ChosenTrip.{ChosenTrip}
 use Rattle.request_book.specs.declared.outcome.LateVehicle.{LateVehicle}
-use Rattle.request_book.specs.declared.outcome.Outcome.{Outcome}
-use Rattle.request_book.specs.declared.outcome.Planned.{Planned}
 use Rattle.request_book.specs.declared.outcome.PlannedStop.{PlannedStop}
-use Rattle.request_book.specs.declared.outcome.RowLine.{RowLine}
 use Rattle.block_audit.specs.Fits.{HasFewStops}
-use Rattle.block_audit.specs.Judged.{at_most, row_of, trip_of, late_of, node_of, number_among, judged_plan, judged_outcome, NamesRow, CanBeTold, HasTrips}
-use Rattle.block_audit.specs.work.Judged.{stops_of}
-use Rattle.block_audit.specs.Told.{Told, told_by}
 use Rattle.block_audit.proofs.NumberedLemmas.{AreNumbered, IsNumbered}
 use Rattle.block_audit.proofs.ShapeLemmas.{HasShape, IsNodeLine, Parts, has_shape, nest, overflow_block, plan_block}
 use Rattle.block_audit.proofs.ToldLemmas.{overflow_told, plan_told, overflow_is_told, plan_is_told}
+use Rattle.batch_solver.specs.declared.point.Point.TheVariants as point
+use Rattle.plan_rules.specs.declared.node.Node.TheVariants as node
 
 -- what lines tell of the parts of a plan
 abbrev row_text : RowLine → RowText

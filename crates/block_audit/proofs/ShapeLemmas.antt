@@ -1,15 +1,10 @@
 -- A block in form has its parts one behind the other.
 use Rattle.std.proofs.Common.{◌≡◌, ℕ, zero, suc, ◌+◌, ◌==◌, ◌<◌, ◌≤◌, ℤ, Bool, true, ◌&&◌, nat_le, List, [], ◌∷◌, ◌++◌, map, ◌⊎◌, inl, inr, ⊎_elim, refl, ap, ◌∙◌, subst, arith}
+use Rattle.block_audit.proofs.Common.{and_parts, cases_lt, All-cons, is_between, follow_on, last_place, LateText, RowText, TripText, BlockLine, Expired, Overflow, Lapsed, Late, Alone, Shared, Row, Trip, Out, Move, Cost, Bound, Nodes, Branch, Leaf, Dead, End}
 use Rattle.std.specs.List.{All}
-use Rattle.std.proofs.lemmas.Bool.{and_parts, leb-true, eqb-true, cases_lt}
-use Rattle.std.proofs.lemmas.List.Elements.{All-cons}
-use Rattle.report_lines.specs.Order.{is_between, follow_on, last_place}
-use Rattle.report_lines.specs.declared.late.LateText.{LateText}
-use Rattle.report_lines.specs.declared.row.RowText.{RowText}
-use Rattle.report_lines.specs.declared.trip.TripText.{TripText}
+use Rattle.std.proofs.lemmas.Bool.{leb-true, eqb-true}
 use Rattle.request_book.specs.declared.outcome.MoveLine.{MoveLine}
-use Rattle.report_lines.specs.declared.block_line.BlockLine.{BlockLine}
-use Rattle.report_lines.specs.declared.block_line.BlockLine.TheVariants.{Batch, Expired, Overflow, Lapsed, Late, Alone, Shared, Row, Trip, Out, Move, Cost, Bound, Nodes, Branch, Leaf, Dead, End}
+use Rattle.report_lines.specs.declared.block_line.BlockLine.TheVariants.{Batch}
 
 -- items of one kind stand first, and of the lines behind them this holds
 record Section {X : Type 0} (K : X → BlockLine) (Behind : List BlockLine → Type 0) (lines : List BlockLine) : Type 0 where

@@ -1,16 +1,10 @@
 -- What can be told, looked at item by item, and point by point.
 use Rattle.std.proofs.Common.{◌≡◌, ℕ, ◌+◌, ◌<◌, ◌≤◌, add-one, List, [], ◌∷◌, ◌++◌, length, get_or, take, refl, sym, ap, ◌∙◌, subst, arith}
+use Rattle.block_audit.proofs.Common.{All-append, All-cons, point_place, HoldBelow, hold_none, hold_more, Point, CanBeTold, Told, HoldUpTo}
 use Rattle.std.specs.List.{All}
 use Rattle.std.proofs.Math.Seq.{take-suc}
 use Rattle.std.proofs.lemmas.List.{take_all}
-use Rattle.std.proofs.lemmas.List.Elements.{All-append, All-cons}
-use Rattle.outcome_check.specs.Verdict.{point_place}
-use Rattle.outcome_check.proofs.lemmas.VerdictLemmas.{HoldBelow, hold_none, hold_more}
-use Rattle.batch_solver.specs.declared.point.Point.{Point}
 use Rattle.batch_solver.specs.declared.point.Point.TheVariants as point
-use Rattle.block_audit.specs.Judged.{CanBeTold}
-use Rattle.block_audit.specs.Told.{Told}
-use Rattle.block_audit.specs.work.Judged.{HoldUpTo}
 
 module _ {X : Type 0} (P : X → Type 0) (xs : List X) where
   pub all_more : (i : ℕ) (x : X) → i < length xs → x ≡ get_or xs i x → All P (take i xs) → P x → All P (take (i + 1) xs)

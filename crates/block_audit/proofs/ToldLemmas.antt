@@ -1,14 +1,8 @@
 -- What the lines of a block tell is what it is made of.
-use Rattle.std.proofs.Common.{◌≡◌, ℕ, ◌<◌, ◌≤◌, true, false, List, [], ◌∷◌, ◌++◌, map, append_assoc, append-nil, refl, sym, ap, ◌∙◌, arith}
-use Rattle.std.specs.Prelude.{fold}
+use Rattle.std.proofs.Common.{◌≡◌, ℕ, ◌<◌, ◌≤◌, true, false, List, [], ◌∷◌, ◌++◌, map, append_assoc, append-nil, refl, sym, ap, ◌∙◌, arith, fold}
+use Rattle.block_audit.proofs.Common.{All-cons, All-head, All-tail, BlockLine, Expired, Overflow, Lapsed, Late, Alone, Shared, Row, Trip, Out, Move, Cost, Bound, Nodes, Branch, Leaf, Dead, End, LateText, RowText, TripText, Told, nothing_told, told_by, with_line}
 use Rattle.std.specs.List.{All}
-use Rattle.std.proofs.lemmas.List.Elements.{All-cons, All-head, All-tail}
-use Rattle.report_lines.specs.declared.block_line.BlockLine.{BlockLine}
-use Rattle.report_lines.specs.declared.block_line.BlockLine.TheVariants.{Batch, Expired, Overflow, Lapsed, Late, Alone, Shared, Row, Trip, Out, Move, Cost, Bound, Nodes, Branch, Leaf, Dead, End}
-use Rattle.report_lines.specs.declared.late.LateText.{LateText}
-use Rattle.report_lines.specs.declared.row.RowText.{RowText}
-use Rattle.report_lines.specs.declared.trip.TripText.{TripText}
-use Rattle.block_audit.specs.Told.{Told, nothing_told, told_by, with_line}
+use Rattle.report_lines.specs.declared.block_line.BlockLine.TheVariants.{Batch}
 use Rattle.block_audit.proofs.ShapeLemmas.{IsNodeLine, Parts, nest, overflow_block, plan_block}
 
 -- the lines of a list add its items

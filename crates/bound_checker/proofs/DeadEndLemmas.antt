@@ -1,13 +1,8 @@
 -- Sole rows of vehicles, and riders who stand in usable rows.
 use Rattle.std.proofs.Common.{◌≡◌, ◌↔◌, ℕ, ◌<◌, ◌≤◌, Bool, true, false, IsTrue, MatchBool, MatchOption, List, length, get_or, Option, Some, None, sym, ap, ◌∙◌, subst, inr, ⊎_elim, arith}
-use Rattle.std.proofs.lemmas.Bool.{false≢true, cases_eq, cases_lt, both_ways, ltb-true}
-use Rattle.std.proofs.lemmas.List.{get_or_past}
-use Rattle.plan_rules.specs.Graph.{Graph, riders_at, row_vehicle, has_rider, choice_at, must_be_served, times_served, IsGoodGraph}
-use Rattle.plan_rules.specs.Multipliers.{Usable}
-use Rattle.plan_rules.specs.Tree.{IsSoleRow, IsClash, IsStranded, IsDeadEnd}
-use Rattle.plan_rules.proofs.lemmas.GraphLemmas.{rider_below, in_choice, times_served_found}
+use Rattle.bound_checker.proofs.Common.{false≢true, cases_eq, cases_lt, both_ways, get_or_past, Graph, riders_at, row_vehicle, has_rider, choice_at, must_be_served, times_served, IsGoodGraph, Usable, IsSoleRow, IsClash, IsStranded, IsDeadEnd, rider_below, in_choice, times_served_found, AreSoleRows, ShareARider, IsApart, StandsInSome, StandsInNone, MarksStanding}
+use Rattle.std.proofs.lemmas.Bool.{ltb-true}
 use Rattle.plan_rules.proofs.lemmas.PlanLemmas.{own_row, held_own}
-use Rattle.bound_checker.specs.work.DeadEnd.{AreSoleRows, ShareARider, IsApart, StandsInSome, StandsInNone, MarksStanding}
 
 pub when_true : (b : Bool) (A B : Type 0) → b ≡ true → MatchBool b A B → A
 when_true true A B e a = a

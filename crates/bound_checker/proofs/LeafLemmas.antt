@@ -1,17 +1,8 @@
 -- The least costs of vehicles, row by row.
-use Rattle.std.proofs.Common.{◌≡◌, ◌==◌, ℕ, ◌+◌, ◌<◌, true, false, List, length, get_or, set, Option, Some, None, IfSome, ℤ, pos, negsuc, SFits, refl, sym, ap, ◌∙◌, subst, ⊎_elim, arith, ne_eqb}
-use Rattle.std.specs.Prelude.{unwrap_or}
-use mir.Syntax.{w128}
-use Rattle.std.proofs.lemmas.Int.{ints, int_min_is}
-use Rattle.std.proofs.lemmas.Bool.{cases_eq, and_left, cond-false}
+use Rattle.std.proofs.Common.{◌≡◌, ◌==◌, ℕ, ◌+◌, ◌<◌, true, false, List, length, get_or, set, Option, Some, None, IfSome, ℤ, pos, negsuc, SFits, refl, sym, ap, ◌∙◌, subst, ⊎_elim, arith, ne_eqb, unwrap_or}
+use Rattle.bound_checker.proofs.Common.{w128, ints, int_min_is, cases_eq, and_left, cond-false, int_sum_below, least_below, lesser, Graph, row_vehicle, Usable, is_usable_by, reduced_cost, vehicle_term, IsSmall, IsSmallSum, int_sum_same, least_below_more, AreLeast}
 use Rattle.std.proofs.lemmas.List.{get_or-set_same, get_or-set_other, length-set}
-use Rattle.plan_rules.specs.Sums.{int_sum_below, least_below, lesser}
-use Rattle.plan_rules.specs.Graph.{Graph, row_vehicle}
-use Rattle.plan_rules.specs.Multipliers.{Usable, is_usable_by, reduced_cost, vehicle_term}
-use Rattle.plan_rules.specs.Size.{IsSmall, IsSmallSum}
-use Rattle.plan_rules.proofs.lemmas.SumLemmas.{int_sum_same, least_below_more}
 use Rattle.plan_rules.proofs.lemmas.ValueLemmas.{least_taken, least_passed}
-use Rattle.bound_checker.specs.work.Leaf.{AreLeast}
 
 -- what is missing counts as 0, and is small too
 pub small_or : (o : Option ℤ) → IfSome o IsSmall → IsSmall (unwrap_or o (pos 0))

@@ -1,12 +1,6 @@
 -- Decisions taken back.
 use Rattle.std.proofs.Common.{◌≡◌, ℕ, ◌<◌, false, List, [], ◌∷◌, ◌++◌, length, refl, sym, ap, ◌∙◌, subst, arith}
-use Rattle.std.proofs.lemmas.Bool.{cond-false}
-use Rattle.std.proofs.lemmas.List.{get_or_push, get_or_append_left, length_push}
-use Rattle.plan_rules.specs.Graph.{Graph, IsRowOf}
-use Rattle.plan_rules.specs.Tree.{only_row, without_row}
-use Rattle.plan_rules.specs.Path.{Standing, standing_of, IsPathOf}
-use Rattle.plan_rules.specs.declared.path.Decision.{Decision}
-use Rattle.plan_rules.proofs.lemmas.PathLemmas.{standing_push}
+use Rattle.bound_checker.proofs.Common.{cond-false, get_or_push, get_or_append_left, length_push, Graph, IsRowOf, only_row, without_row, Standing, standing_of, IsPathOf, Decision, standing_push}
 use Rattle.bound_checker.proofs.lemmas.WalkLemmas.{path_push}
 
 pub none_left : (path : List Decision) → length path ≡ 0 → path ≡ []

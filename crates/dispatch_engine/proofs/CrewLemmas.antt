@@ -1,18 +1,8 @@
 -- From passes to lanes at work, and back.
 use Rattle.std.proofs.Common.{◌≡◌, ℕ, ◌<◌, ◌≤◌, true, List, [], length, map, get_or, All, Result, Ok, Err, sym, ap, subst, ◌∙◌, arith}
+use Rattle.dispatch_engine.proofs.Common.{get_or-map, length-map, BookView, Command, Settings, Roads, NumberedLanes, lane_at, AreAllPasses, IsNew, IsPassOf, LockValue, BookPass, HasRun, at_rest, AreInOrder, HasRunLane, HasWorked, HaveRunLanes, IsToWork, LaneWork}
 use Rattle.std.specs.Result.{is_ok, OnOk}
-use Rattle.std.proofs.lemmas.List.{get_or-map, length-map}
-use Rattle.request_book.specs.Book.{BookView}
-use Rattle.request_book.specs.declared.command.Command.{Command}
-use Rattle.rider_limits.specs.declared.settings.Settings.{Settings}
-use Rattle.road_network.specs.Roads.{Roads}
-use Rattle.script_rows.specs.Round.{NumberedLanes, lane_at}
-use Rattle.seat_lock.specs.Values.{AreAllPasses, IsNew, IsPassOf, LockValue}
-use Rattle.shared_book.specs.Shared.{BookPass}
-use Rattle.dispatch_engine.specs.Lane.{HasRun}
 use Rattle.dispatch_engine.proofs.PassLemmas.{ran-fresh}
-use Rattle.dispatch_engine.specs.work.Crew.{at_rest, AreInOrder, HasRunLane, HasWorked, HaveRunLanes, IsToWork}
-use Rattle.dispatch_engine.specs.declared.crew.LaneWork.{LaneWork}
 
 pub when-ok : {T E : Type 0} (r : Result T E) (P : Type 0) → is_ok r ≡ true → OnOk r P → P
 when-ok (Ok x) P is p = p

@@ -3,3 +3,4 @@ pub mod PassLemmas
 pub mod CrewLemmas
 pub mod RoundLemmas
 pub mod SameLemmas
+pub mod Common

@@ -1,27 +1,10 @@
 -- How a pass runs its lane's commands, piece by piece.
 use Rattle.std.proofs.Common.{◌≡◌, ℕ, ◌≤◌, true, List, [], ◌∷◌, ◌++◌, map, Option, Some, None, refl, sym, ap, subst, ◌∙◌, append_assoc, append-nil, true≢false, arith}
-use Rattle.std.proofs.lemmas.List.{map-append}
-use Rattle.std.proofs.lemmas.List.Elements.{All-nil, All-cons, All-append, All-weaker}
-use Rattle.batch_snapshot.specs.Batch.{Batch}
-use Rattle.batch_solver.specs.Outcome.{IsGoodOutcome}
-use Rattle.request_book.specs.declared.command.Command.{Command}
-use Rattle.request_book.specs.declared.command.Command.TheVariants.{Submit, Cancel, Report, Pickup, Dropoff, Seal, Close}
-use Rattle.request_book.specs.declared.journal.Entry.{Entry}
+use Rattle.dispatch_engine.proofs.Common.{map-append, All-nil, All-cons, All-append, All-weaker, Batch, IsGoodOutcome, Command, Submit, Cancel, Report, Pickup, Dropoff, Seal, Close, Entry, Reply, Accepted, Settings, Roads, entry, LoggedCall, LockedReply, entry_of, is_light, sealed_by, BookPass, with_snapshot, HasCalled, HasCalledSome, IsSamePass, IsLaneRunFrom, IsLaneRun, IsLaneBeginning, last_sealed, IsGoodFor, LaneClosesAreGood, HasGained, HasRun, HasBegun, IsPlain, calls_of_pass}
 use Rattle.request_book.specs.declared.outcome.Answer.TheVariants.{Overflow}
 use Rattle.request_book.specs.declared.outcome.Outcome.{Outcome}
-use Rattle.request_book.specs.declared.reply.Reply.{Reply}
-use Rattle.request_book.specs.declared.reply.Reply.TheVariants.{Accepted}
-use Rattle.rider_limits.specs.declared.settings.Settings.{Settings}
-use Rattle.road_network.specs.Roads.{Roads}
-use Rattle.seat_lock.specs.Values.{entry}
-use Rattle.seat_lock.specs.declared.logged.LoggedCall.{LoggedCall}
-use Rattle.shared_book.specs.declared.locked.LockedReply.{LockedReply}
 use Rattle.shared_book.specs.declared.shared.Receipt.{Receipt}
-use Rattle.shared_book.specs.Locked.{entry_of, is_light, sealed_by, Fits}
-use Rattle.shared_book.specs.Shared.{BookPass, with_snapshot, HasCalled, HasCalledSome, IsSamePass}
-use Rattle.dispatch_engine.specs.Lane.{IsLaneRunFrom, IsLaneRun, IsLaneBeginning, last_sealed, IsGoodFor, LaneClosesAreGood, HasGained, HasRun, HasBegun}
-use Rattle.dispatch_engine.specs.lemmas.Lanes.{IsPlain}
-use Rattle.dispatch_engine.specs.work.Lanes.{calls_of_pass}
+use Rattle.shared_book.specs.Locked.{Fits}
 
 -- a run, and one more
 run-append : (pending : Option ℕ) (cs ds : List Command) (es fs : List Entry) → IsLaneRunFrom pending cs es → IsLaneRun ds fs → IsLaneRunFrom pending (cs ++ ds) (es ++ fs)

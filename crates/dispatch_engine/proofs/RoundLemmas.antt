@@ -1,28 +1,13 @@
 -- From the lanes of a round to its journal.
-use Rattle.std.proofs.Common.{◌≡◌, ◌≢◌, ℕ, suc, ◌+◌, ◌<◌, ◌≤◌, eqb, List, [], ◌∷◌, ◌++◌, length, get_or, Some, refl, sym, ap, subst, ◌∙◌, take, add-one, arith}
-use Rattle.std.specs.Prelude.{Contains, Result, Ok, Err, OnErr}
+use Rattle.std.proofs.Common.{◌≡◌, ◌≢◌, ℕ, suc, ◌+◌, ◌<◌, ◌≤◌, eqb, List, [], ◌∷◌, ◌++◌, length, get_or, Some, refl, sym, ap, subst, ◌∙◌, take, add-one, arith, Contains, Result, Ok, Err, OnErr}
+use Rattle.dispatch_engine.proofs.Common.{Batch, BookView, IsBook, IsSameBook, state_after, RepliesAreSteps, Command, Entry, Reply, State, Settings, Roads, IsRound, MayStand, NumberedLanes, lane_at, BookPass, with_snapshot, IsFinished, of_lane, ClosesAreGood, IsLaneRun, IsReady, IsRoundRun, IsSameRun, journal_of, HaveRunLanes, ArePlain, HaveRun, IsJointRun}
 use Rattle.std.specs.List.{All}
 use Rattle.std.proofs.Math.Seq.{take-suc}
 use Rattle.std.proofs.lemmas.Bool.{eqb-true}
 use Rattle.std.proofs.lemmas.Map.Views.{Contains-from_any}
-use Rattle.batch_snapshot.specs.Batch.{Batch}
 use Rattle.batch_snapshot.specs.Points.{named_nodes}
-use Rattle.request_book.specs.Book.{BookView, IsBook, IsSameBook}
 use Rattle.request_book.specs.Consistent.{IsNode}
-use Rattle.request_book.specs.Replay.{state_after, RepliesAreSteps}
-use Rattle.request_book.specs.declared.command.Command.{Command}
-use Rattle.request_book.specs.declared.journal.Entry.{Entry}
-use Rattle.request_book.specs.declared.reply.Reply.{Reply}
-use Rattle.request_book.specs.declared.state.State.{State}
-use Rattle.rider_limits.specs.declared.settings.Settings.{Settings}
-use Rattle.road_network.specs.Roads.{Roads}
-use Rattle.script_rows.specs.Round.{IsRound, MayStand, NumberedLanes, lane_at}
 use Rattle.shared_book.specs.Locked.{Fits}
-use Rattle.shared_book.specs.Shared.{BookPass, with_snapshot, IsFinished}
-use Rattle.dispatch_engine.specs.Lane.{of_lane, ClosesAreGood, IsLaneRun}
-use Rattle.dispatch_engine.specs.Run.{IsReady, IsRoundRun, IsSameRun, journal_of}
-use Rattle.dispatch_engine.specs.work.Crew.{HaveRunLanes}
-use Rattle.dispatch_engine.specs.work.Lanes.{ArePlain, HaveRun, IsJointRun}
 use Rattle.dispatch_engine.proofs.lemmas.LaneLemmas.{joined}
 use Rattle.dispatch_engine.proofs.lemmas.StandLemmas.{stands-plain}
 

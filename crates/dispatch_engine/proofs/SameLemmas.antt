@@ -1,36 +1,9 @@
 -- Of two runs of the same commands in one lane: which seals are answered with which batch doesn't depend on what batches gave.
-use Rattle.std.proofs.Common.{◌≡◌, ◌≢◌, ℕ, suc, Bool, true, false, cond, eqb, List, [], ◌∷◌, Option, Some, None, refl, sym, ap, subst, ◌∙◌, inl, inr, arith}
-use Rattle.std.specs.Prelude.{All, ◌⊎◌, option_map}
-use Rattle.std.specs.List.{AllZip}
-use Rattle.std.proofs.lemmas.Bool.{cases_eq, eq-eqb}
-use Rattle.batch_snapshot.specs.Batch.{Batch}
-use Rattle.request_book.specs.Book.{next_position}
-use Rattle.request_book.specs.lemmas.Closing.{closed_state}
-use Rattle.request_book.specs.lemmas.Refusals.{first_of, batch_open, clock_back, not_this_batch}
-use Rattle.request_book.specs.Replay.{state_after, RepliesAreSteps}
-use Rattle.request_book.specs.Sealing.{batch_of, sealed_state}
-use Rattle.pool_io.specs.Faults.{one_more}
-use Rattle.request_book.specs.Step.{step}
-use Rattle.request_book.specs.lemmas.Table.{answer, seal_refusal, seal_step, close_step, table_step}
-use Rattle.request_book.proofs.lemmas.StepTable.{by-table}
-use Rattle.request_book.specs.declared.command.Command.{Command}
-use Rattle.request_book.specs.declared.command.Command.TheVariants.{Submit, Cancel, Report, Pickup, Dropoff, Seal, Close}
-use Rattle.request_book.specs.declared.journal.Entry.{Entry}
-use Rattle.request_book.specs.declared.journal.Journal.{Journal}
-use Rattle.request_book.specs.declared.outcome.Answer.{Answer}
-use Rattle.request_book.specs.declared.reply.BookRefusal.{BookRefusal}
+use Rattle.std.proofs.Common.{◌≡◌, ◌≢◌, ℕ, suc, Bool, true, false, cond, eqb, List, [], ◌∷◌, Option, Some, None, refl, sym, ap, subst, ◌∙◌, inl, inr, arith, All, ◌⊎◌, option_map}
+use Rattle.dispatch_engine.proofs.Common.{AllZip, cases_eq, Batch, next_position, closed_state, first_of, batch_open, clock_back, not_this_batch, state_after, RepliesAreSteps, batch_of, sealed_state, one_more, step, answer, seal_refusal, seal_step, close_step, table_step, by-table, Command, Submit, Cancel, Report, Pickup, Dropoff, Seal, Close, Entry, Journal, Answer, BookRefusal, Reply, Sealed, Closed, State, Settings, Roads, NumberedLanes, lane_at, sealed_by, of_lane, IsCloseOf, IsLaneRunFrom, IsLaneRun, IsRoundRun, IsRun, IsPlain}
+use Rattle.std.proofs.lemmas.Bool.{eq-eqb}
 use Rattle.request_book.specs.declared.reply.BookRefusal.TheVariants.{BatchOpen, NotThisBatch}
-use Rattle.request_book.specs.declared.reply.Reply.{Reply}
-use Rattle.request_book.specs.declared.reply.Reply.TheVariants.{Sealed, Closed}
-use Rattle.request_book.specs.declared.state.State.{State}
-use Rattle.rider_limits.specs.declared.settings.Settings.{Settings}
-use Rattle.road_network.specs.Roads.{Roads}
-use Rattle.script_rows.specs.Round.{NumberedLanes, lane_at}
-use Rattle.shared_book.specs.Locked.{sealed_by}
-use Rattle.dispatch_engine.specs.Lane.{of_lane, IsCloseOf, IsLaneRunFrom, IsLaneRun}
-use Rattle.dispatch_engine.specs.Run.{IsRoundRun, IsRun}
 use Rattle.dispatch_engine.specs.Same.{IsInLaneZero, IsSameCommand, HaveSameCommands}
-use Rattle.dispatch_engine.specs.lemmas.Lanes.{IsPlain}
 use Rattle.dispatch_engine.proofs.lemmas.LaneLemmas.{IsQuiet, plain-quiet}
 
 -- what answers a seal or a close looks at: the last seal, the number of the batch that stands sealed, and how many there were

@@ -1,16 +1,7 @@
 -- The lines of entries, one after the other.
 use Rattle.std.proofs.Common.{◌≡◌, ℕ, suc, ◌<◌, ◌≤◌, Bool, List, [], ◌∷◌, ◌++◌, length, get_or, drop, refl, sym, ◌∙◌, ap}
+use Rattle.dispatch_report.proofs.Common.{drop_all, entry_line, entry_block, entries_lines, one_more, Command, Close, Entry, Outcome, Reply, Closed}
 use Rattle.std.proofs.Math.Seq.{drop-cons}
-use Rattle.std.proofs.lemmas.List.{drop_all}
-use Rattle.dispatch_report.specs.Entry.{entry_line}
-use Rattle.dispatch_report.specs.Round.{entry_block, entries_lines}
-use Rattle.pool_io.specs.Faults.{one_more}
-use Rattle.request_book.specs.declared.command.Command.{Command}
-use Rattle.request_book.specs.declared.command.Command.TheVariants.{Close}
-use Rattle.request_book.specs.declared.journal.Entry.{Entry}
-use Rattle.request_book.specs.declared.outcome.Outcome.{Outcome}
-use Rattle.request_book.specs.declared.reply.Reply.{Reply}
-use Rattle.request_book.specs.declared.reply.Reply.TheVariants.{Closed}
 
 -- the lines of one entry
 abbrev pub entry_lines : Bool → ℕ → Entry → List (List ℕ)

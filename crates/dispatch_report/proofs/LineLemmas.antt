@@ -1,21 +1,16 @@
 -- Lines that are written one after the other, and what stands where one of them isn't written whole.
 use Rattle.std.proofs.Common.{◌≡◌, ℕ, ◌+◌, ◌<◌, ◌≤◌, List, [], ◌∷◌, ◌++◌, length, take, Option, Result, Ok, Err, MatchResult, OnOk, arith, refl, sym, ◌∙◌, ap, subst, length-append, append-nil, append_assoc, add-one, map, drop, get_or, suc}
-use Rattle.std.specs.Io.KnownBytes.{Appends}
+use Rattle.dispatch_report.proofs.Common.{Appends, take-append-le, take-append-add, map-append, Rose, AppendsPart, Change, SinkView, WritesText, AppendsFirst, WritesBytes, WritesLines}
 use Rattle.std.specs.List.{flat_map}
 use Rattle.std.proofs.KnownBytes.{Appends-nil, Appends-trans}
 use Rattle.std.proofs.lemmas.Grind.{flat_map-append}
-use Rattle.std.proofs.lemmas.List.{take-append-le}
-use Rattle.std.proofs.Math.Seq.{take-append-add, take-suc, drop-cons}
-use Rattle.std.proofs.lemmas.List.{map-append, take-append-drop}
-use Rattle.pool_io.specs.Faults.{Rose}
-use Rattle.pool_io.specs.Sink.{AppendsPart}
+use Rattle.std.proofs.Math.Seq.{take-suc, drop-cons}
+use Rattle.std.proofs.lemmas.List.{take-append-drop}
 use Rattle.pool_io.specs.declared.writing.WriteAll.{WriteAll}
-use Rattle.pool_io.specs.declared.writing.WriteAll.TheVariants as of_write
 use Rattle.dispatch_report.specs.Lines.{lines_text}
-use Rattle.dispatch_report.specs.Written.{Change, SinkView, WritesText}
 use Rattle.dispatch_report.specs.declared.fault.ReportFault.{ReportFault}
 use Rattle.dispatch_report.specs.declared.fault.ReportFault.TheVariants.{WriteFault, OutOfMemory}
-use Rattle.dispatch_report.specs.work.Lines.{AppendsFirst, WritesBytes, WritesLines}
+use Rattle.pool_io.specs.declared.writing.WriteAll.TheVariants as of_write
 
 lines_text-append : (xs ys : List (List ℕ)) → lines_text (xs ++ ys) ≡ lines_text xs ++ lines_text ys
 unfolding lines_text

@@ -1,12 +1,6 @@
 -- The lines of batches.
 use Rattle.std.proofs.Common.{◌≡◌, ℕ, List, [], refl}
-use Rattle.dispatch_report.specs.Summary.{batch_lines}
-use Rattle.request_book.specs.declared.command.Command.{Command}
-use Rattle.request_book.specs.declared.command.Command.TheVariants.{Close}
-use Rattle.request_book.specs.declared.journal.Entry.{Entry}
-use Rattle.request_book.specs.declared.outcome.Outcome.{Outcome}
-use Rattle.request_book.specs.declared.reply.Reply.{Reply}
-use Rattle.request_book.specs.declared.reply.Reply.TheVariants.{Closed}
+use Rattle.dispatch_report.proofs.Common.{batch_lines, Command, Close, Entry, Outcome, Reply, Closed}
 
 -- the lines that an entry adds
 abbrev pub entry_summary : Entry → List (List ℕ)

@@ -1,14 +1,7 @@
 -- What lowers a ceiling of the first-fit multipliers keeps it one.
 use Rattle.std.proofs.Common.{◌≡◌, ℕ, zero, suc, ◌*◌, ◌<◌, ◌≤◌, true, List, [], ◌∷◌, length, get_or, set, ℤ, pos, ◌+ℤ◌, ◌-ℤ◌, ◌*ℤ◌, ◌≤ℤ◌, All, refl, sym, ap, ◌∙◌, subst, ⊎_elim, arith}
-use Rattle.std.proofs.lemmas.Int.{ints}
-use Rattle.std.proofs.lemmas.Bool.{cases_eq, cases_lt}
-use Rattle.std.proofs.lemmas.List.{get_or-set_same, get_or-set_other, get_or_past, length-set}
-use Rattle.plan_rules.specs.Sums.{int_sum_below}
-use Rattle.plan_rules.specs.Graph.{Graph, riders_at, row_vehicle, cost_at, IsGoodGraph}
-use Rattle.plan_rules.specs.Multipliers.{Usable, multiplier_at, multiplier_sum, least_cost, room_at, first_fit, first_fit_value}
-use Rattle.plan_rules.proofs.lemmas.SumLemmas.{int_sum_same, int_sum_le}
-use Rattle.dual_bound.specs.work.Size.{IsModest, HasLeastCosts}
-use Rattle.dual_bound.specs.work.Ceiling.{AreCeilings}
+use Rattle.dual_bound.proofs.Common.{ints, cases_eq, cases_lt, get_or_past, int_sum_below, Graph, riders_at, row_vehicle, cost_at, IsGoodGraph, Usable, multiplier_at, multiplier_sum, least_cost, room_at, first_fit, first_fit_value, int_sum_same, int_sum_le, IsModest, HasLeastCosts, AreCeilings}
+use Rattle.std.proofs.lemmas.List.{get_or-set_same, get_or-set_other, length-set}
 use Rattle.dual_bound.proofs.lemmas.FirstFitValueLemmas.{positive_sum, first_fit_leaves_room, first_fit_value_is}
 
 -- where multipliers aren't negative, each is at most what they come to

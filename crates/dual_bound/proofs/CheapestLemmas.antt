@@ -1,13 +1,7 @@
 -- The cheapest of all rows is the cheapest of the usable ones where it is one of them.
-use Rattle.std.proofs.Common.{◌≡◌, ◌==◌, ℕ, ◌≤◌, true, List, length, get_or, ℤ, pos, ◌≤ℤ◌, Option, sym, ap, ◌∙◌, subst, arith, eq-eqb, eqb-true}
-use Rattle.std.specs.Prelude.{unwrap_or}
-use Rattle.std.proofs.lemmas.Int.{ints}
-use Rattle.std.proofs.lemmas.Bool.{and_from, and_parts}
-use Rattle.plan_rules.specs.Graph.{Graph, row_vehicle, cost_at}
-use Rattle.plan_rules.specs.Multipliers.{Usable, is_usable_by, least_cost}
+use Rattle.std.proofs.Common.{◌≡◌, ◌==◌, ℕ, ◌≤◌, true, List, length, get_or, ℤ, pos, ◌≤ℤ◌, Option, sym, ap, ◌∙◌, subst, arith, eq-eqb, eqb-true, unwrap_or}
+use Rattle.dual_bound.proofs.Common.{ints, and_from, and_parts, Graph, row_vehicle, cost_at, Usable, is_usable_by, least_cost, least_below_some, least_below_found, AreCheapest}
 use Rattle.plan_rules.specs.Tree.{MayUse}
-use Rattle.plan_rules.proofs.lemmas.SumLemmas.{least_below_some, least_below_found}
-use Rattle.dual_bound.specs.Cheapest.{AreCheapest}
 
 pub cheapest_is_least : (g : Graph) (u : Usable) (listed : List ℕ) (v k : ℕ) → AreCheapest g listed → k ≡ get_or listed v 0 → MayUse g u v k → pos (cost_at g k) ≡ least_cost g u v
 cheapest_is_least g u listed v k cheapest here may =

@@ -2,3 +2,4 @@ pub mod lemmas
 pub mod ListedLemmas
 pub mod CeilingLemmas
 pub mod CheapestLemmas
+pub mod Common

@@ -1,16 +1,8 @@
 -- The first-fit pass over a list of the rider's rows.
-use Rattle.std.proofs.Common.{◌≡◌, ◌==◌, ◌⊎◌, ◌&&◌, ◌||◌, ℕ, suc, ◌+◌, ◌<◌, ◌≤◌, Bool, true, false, List, [], ◌∷◌, length, get_or, Option, Some, None, ℤ, ◌≤ℤ◌, refl, sym, ap, ◌∙◌, subst, ⊎_elim, inl, inr, arith, eqb-true}
+use Rattle.std.proofs.Common.{◌≡◌, ◌==◌, ◌⊎◌, ◌&&◌, ◌||◌, ℕ, suc, ◌+◌, ◌<◌, ◌≤◌, Bool, true, false, List, [], ◌∷◌, length, get_or, Option, Some, None, ℤ, ◌≤ℤ◌, refl, sym, ap, ◌∙◌, subst, ⊎_elim, inl, inr, arith, eqb-true, int_lt}
+use Rattle.dual_bound.proofs.Common.{int_min, ints, cases_eq, cases_Bool, cond_both, both_ways, and_parts, least_below, lesser, Graph, riders_at, has_rider, Usable, room_at, least_below_some, least_below_found, lesser-le_right, lesser-le_left, list_start, list_end, IsListed, IsIndexOf}
 use Rattle.std.specs.List.{list_any}
-use Rattle.std.specs.Int.{int_min}
-use Rattle.std.specs.Prelude.{int_lt}
-use Rattle.std.proofs.lemmas.Int.{ints}
-use Rattle.std.proofs.lemmas.Bool.{cases_eq, cases_Bool, cond_both, both_ways, and_parts}
-use Rattle.plan_rules.specs.Sums.{least_below, lesser}
-use Rattle.plan_rules.specs.Graph.{Graph, riders_at, has_rider}
-use Rattle.plan_rules.specs.Multipliers.{Usable, room_at}
-use Rattle.plan_rules.proofs.lemmas.SumLemmas.{least_below_some, least_below_found, lesser-le_right, lesser-le_left}
 use Rattle.dual_bound.specs.declared.rider_index.RiderIndex.{RiderIndex}
-use Rattle.dual_bound.specs.Index.{list_start, list_end, IsListed, IsIndexOf}
 
 -- the least of f at the numbers below n that pass and stand at these places of a list, where there is one
 pub record IsLeastListed (n : ℕ) (p : ℕ → Bool) (f : ℕ → ℤ) (listed : List ℕ) (from to : ℕ) (least : Option ℤ) : Type 0 where

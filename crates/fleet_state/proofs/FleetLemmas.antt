@@ -1,20 +1,10 @@
 -- A fleet, row by row.
 use Rattle.std.proofs.Common.{◌≡◌, ◌↔◌, ℕ, ◌+◌, ◌<◌, ◌≤◌, Bool, true, false, ◌||◌, cond, eqb, List, [], ◌∷◌, ◌++◌, length, get_or, take, drop, Contains, Ok, Err, refl, sym, ap, subst, ◌∙◌, ◌⊎◌, inl, inr, arith}
-use Rattle.std.specs.List.{insert, list_any}
+use Rattle.fleet_state.proofs.Common.{list_any, take_more, Contains-append_left, Contains-append_right, Contains-append_cases, Contains-push, Contains-push_cases, list_any-append, ◌>>=◌, refused_where, all_or_first, number_at, all_or_first-err, Vehicle, TooManyVehicles, Duplicate, vehicle_in, vehicle_of_row, vehicles_of, is_repeated, has_vehicle}
+use Rattle.std.specs.List.{insert}
 use Rattle.std.proofs.lemmas.Bool.{le-ltb}
-use Rattle.std.proofs.lemmas.List.{take-append-drop, take_more}
-use Rattle.std.proofs.lemmas.List.Elements.{Contains-append_left, Contains-append_right, Contains-append_cases, Contains-push, Contains-push_cases}
-use Rattle.std.proofs.lemmas.List.Folds.{list_any-append}
-use Rattle.pool_base.specs.InOrder.{◌>>=◌, refused_where, all_or_first}
-use Rattle.pool_base.specs.Numeral.{number_at}
-use Rattle.pool_base.proofs.lemmas.InOrderLemmas.{all_or_first-err}
-use Rattle.batch_snapshot.specs.declared.vehicle.Vehicle.{Vehicle}
+use Rattle.std.proofs.lemmas.List.{take-append-drop}
 use Rattle.fleet_state.specs.declared.fault.FleetFault.{FleetFault}
-use Rattle.fleet_state.specs.declared.fault.FleetFault.TheVariants.{TooManyVehicles, Duplicate}
-use Rattle.fleet_state.specs.Vehicle.{vehicle_in}
-use Rattle.fleet_state.specs.Fleet.{vehicle_of_row, vehicles_of}
-use Rattle.fleet_state.specs.lemmas.Named.{is_repeated}
-use Rattle.fleet_state.specs.work.Place.{has_vehicle}
 use Rattle.fleet_state.proofs.PlaceLemmas.{list_any-insert}
 
 -- a list with one more element has that element and its own

@@ -1,16 +1,9 @@
 use Rattle.std.proofs.Common.{◌≡◌, ◌≢◌, ℕ, zero, suc, ◌+◌, ◌-◌, ◌<◌, ◌≤◌, Bool, true, false, ◌||◌, ◌&&◌, eqb, nat_lt, List, [], ◌∷◌, ◌++◌, map, length, get_or, take, drop, refl, sym, ap, subst, ◌∙◌, inl, inr, arith}
-use Rattle.std.specs.List.{All, AllWithin, insert, list_any, prefix_len}
+use Rattle.fleet_state.proofs.Common.{AllWithin, list_any, prefix_len, cases_order, cases_lt, cases_eq, cond-true, cond-false, and_parts, and_from, both_ways, map-append, take-map, drop-map, get_or-map, get_or_default, length-map, length-insert, get_or-insert_below, get_or-insert_at, get_or-insert_above, All-append, All-cons, All-take, All-drop, list_any-append, list_any_none, list_any_at, Vehicle, HasSeats, IsFleet, empty_vehicle, has_vehicle, has_id_at, IsPlaceOf}
+use Rattle.std.specs.List.{All, insert}
 use Rattle.std.specs.List.Sorted.{IsStrictlyIncreasing, IsNonDecreasingBy, IsPartitionPoint}
-use Rattle.std.proofs.lemmas.Bool.{cases_order, cases_lt, cases_eq, cond-true, cond-false, ltb-true, ltb-false, lt-ltb, eq-eqb, ne_eqb, and_parts, and_from, both_ways}
-use Rattle.std.proofs.lemmas.List.{map-append, take-map, drop-map, take-append-drop, get_or-map, get_or_default, length-map}
-use Rattle.std.proofs.lemmas.List.Edits.{length-insert, get_or-insert_below, get_or-insert_at, get_or-insert_above}
-use Rattle.std.proofs.lemmas.List.Elements.{All-append, All-cons, All-take, All-drop}
-use Rattle.std.proofs.lemmas.List.Folds.{list_any-append, list_any_none, list_any_at}
-use Rattle.batch_snapshot.specs.declared.vehicle.Vehicle.{Vehicle}
-use Rattle.batch_snapshot.specs.Vehicle.{HasSeats}
-use Rattle.batch_snapshot.specs.Kept.{IsFleet}
-use Rattle.fleet_state.specs.lemmas.Named.{empty_vehicle}
-use Rattle.fleet_state.specs.work.Place.{has_vehicle, has_id_at, IsPlaceOf}
+use Rattle.std.proofs.lemmas.Bool.{ltb-true, ltb-false, lt-ltb, eq-eqb, ne_eqb}
+use Rattle.std.proofs.lemmas.List.{take-append-drop}
 
 swapped : (a b c : Bool) → (a || (b || c)) ≡ (b || (a || c))
 swapped true true c = refl

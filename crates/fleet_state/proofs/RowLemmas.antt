@@ -1,18 +1,8 @@
 use Rattle.std.proofs.Common.{◌≡◌, ℕ, ◌≤◌, true, not, ◌&&◌, nat_le, List, Ok, Contains, eqb, length, get_or, refl, subst, ◌∙◌, arith}
+use Rattle.fleet_state.proofs.Common.{not-false, and_parts, get_or_default, Any-from_list_any, list_any_at, Vehicle, HasSeats, Number, Seats, UnknownNode, refused_where, number_in, number_at, then_ok, refused_where-passed, vehicle_in, empty_vehicle, has_node}
 use Rattle.std.specs.Bool.{Decides}
-use Rattle.std.proofs.lemmas.Bool.{not-false, and_parts, leb-true, eqb-true, eq-eqb}
-use Rattle.std.proofs.lemmas.List.{get_or_default}
-use Rattle.std.proofs.lemmas.List.Folds.{Any-from_list_any, list_any_at}
-use Rattle.batch_snapshot.specs.declared.vehicle.Vehicle.{Vehicle}
-use Rattle.batch_snapshot.specs.Vehicle.{HasSeats}
-use Rattle.fleet_state.specs.declared.fault.FleetFault.TheVariants.{Number, Seats, UnknownNode}
-use Rattle.pool_base.specs.InOrder.{refused_where}
-use Rattle.pool_base.specs.Numeral.{number_in, number_at}
-use Rattle.pool_base.proofs.lemmas.InOrderLemmas.{then_ok, refused_where-passed}
+use Rattle.std.proofs.lemmas.Bool.{leb-true, eqb-true, eq-eqb}
 use Rattle.pool_base.proofs.lemmas.NumeralLemmas.{number_in-at}
-use Rattle.fleet_state.specs.Vehicle.{vehicle_in}
-use Rattle.fleet_state.specs.lemmas.Named.{empty_vehicle}
-use Rattle.road_network.specs.Roads.{has_node}
 
 -- what is known of a vehicle that a row gives
 pub record IsNewVehicle (nodes : List ℕ) (fields : List (List ℕ)) (vehicle : Vehicle) : Type 0 where

@@ -1,15 +1,6 @@
 -- After a node's search, labels have the hubs of one rank more.
 use Rattle.std.proofs.Common.{◌≡◌, ℕ, ◌+◌, ◌<◌, ◌≤◌, ◌⊎◌, List, [], ◌∷◌, ◌++◌, length, get_or, slice_index, All, Contains, sym, ap, ◌∙◌, subst, ⊎_elim, arith}
-use Rattle.std.proofs.lemmas.Bool.{cases_lt}
-use Rattle.std.proofs.lemmas.List.{get_or_append_left, get_or_push, length_push}
-use Rattle.std.proofs.lemmas.List.Elements.{All-push, All-weaker, Contains-append_left, Contains-push}
-use Rattle.pool_base.specs.TravelTime.{never, longest}
-use Rattle.road_network.specs.declared.arc.Arc.{Arc}
-use Rattle.road_network.specs.Roads.{IsArcAmong}
-use Rattle.hub_labels.specs.declared.hub.Hub.{Hub}
-use Rattle.hub_labels.specs.work.Ranked.{IsRankedHub, IsLabelBelow, AreLabelsBelow}
-use Rattle.hub_labels.specs.work.Pruned.{IsToldAt, IsPruned}
-use Rattle.hub_labels.specs.work.Drafts.{IsSpread, GainsHub}
+use Rattle.hub_labels.proofs.Common.{cases_lt, get_or_append_left, get_or_push, length_push, All-push, All-weaker, Contains-append_left, Contains-push, never, longest, Arc, IsArcAmong, Hub, IsRankedHub, IsLabelBelow, AreLabelsBelow, IsToldAt, IsPruned, IsSpread, GainsHub}
 use Rattle.hub_labels.proofs.Times.{AreTimes, start_within}
 use Rattle.hub_labels.proofs.Found.{IsOwnLabel, hub_found, found_hub}
 

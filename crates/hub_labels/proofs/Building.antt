@@ -1,14 +1,7 @@
 -- One node after the other becomes a hub, in both directions.
 use Rattle.std.proofs.Common.{◌≡◌, ℕ, ◌+◌, ◌<◌, ◌≤◌, true, List, ◌++◌, length, slice_index, take, drop, map, All, sym, ap, ◌∙◌, subst, arith}
+use Rattle.hub_labels.proofs.Common.{Arc, Hop, Roads, IsNetwork, IsArcAmong, Hub, turned, AreNodeHops, key_of, IsNodeOrder, IsRanking, AreLabelsBelow, AreHopsBothWays, AddsHub}
 use Rattle.std.proofs.lemmas.List.{take_at}
-use Rattle.road_network.specs.declared.arc.Arc.{Arc}
-use Rattle.road_network.specs.declared.hop.Hop.{Hop}
-use Rattle.road_network.specs.Roads.{Roads, IsNetwork, IsArcAmong}
-use Rattle.hub_labels.specs.declared.hub.Hub.{Hub}
-use Rattle.hub_labels.specs.work.Hops.{turned, AreNodeHops}
-use Rattle.hub_labels.specs.work.Order.{key_of, IsNodeOrder}
-use Rattle.hub_labels.specs.work.Ranked.{IsRanking, AreLabelsBelow}
-use Rattle.hub_labels.specs.work.Adding.{AreHopsBothWays, AddsHub}
 use Rattle.hub_labels.proofs.Turned.{turn_there, turn_back, among_directed}
 use Rattle.hub_labels.proofs.Order.{ranking}
 

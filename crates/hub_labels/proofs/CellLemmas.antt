@@ -1,11 +1,8 @@
 -- Cells of a table, row by row.
 use Rattle.std.proofs.Common.{◌≡◌, ℕ, ◌+◌, ◌*◌, ◌/◌, ◌%◌, ◌<◌, ◌≤◌, List, length, slice_index, ap, ◌∙◌, subst, ⊎_elim, arith}
+use Rattle.hub_labels.proofs.Common.{cases_lt, Arc, IsTimeBetween, AreCells}
 use Rattle.std.proofs.Math.Nat.{mul-le-mul_right, div-mul-le_self}
-use Rattle.std.proofs.lemmas.Bool.{cases_lt}
 use Rattle.std.proofs.lemmas.Nat.{mul-add-lt, div-mul-add, mod-mul-add}
-use Rattle.road_network.specs.declared.arc.Arc.{Arc}
-use Rattle.road_network.specs.Walk.{IsTimeBetween}
-use Rattle.hub_labels.specs.work.Cells.{AreCells}
 
 -- a cell stands in one of the rows
 pub row_within : (n cell : ℕ) → cell < n * n → cell / n < n

@@ -1,14 +1,7 @@
 -- Degrees, counted node by node.
 use Rattle.std.proofs.Common.{◌≡◌, ℕ, ◌+◌, ◌<◌, ◌≤◌, ◌&&◌, Bool, true, false, cond, eqb, ltb, List, [], ◌∷◌, length, map, count_by, All, refl, arith}
+use Rattle.hub_labels.proofs.Common.{nat_tests, All-head, All-tail, sum_by-cons, length-filter, count_by-le-length, Arc, Hop, IsArcAmong, hop_of, leaving, degree, reaching_before}
 use Rattle.std.proofs.lemmas.Bool.{lt-ltb, le-ltb}
-use Rattle.std.proofs.lemmas.Bool.Decides.{nat_tests}
-use Rattle.std.proofs.lemmas.List.Elements.{All-head, All-tail}
-use Rattle.std.proofs.lemmas.List.Sums.{sum_by-cons, length-filter, count_by-le-length}
-use Rattle.road_network.specs.declared.arc.Arc.{Arc}
-use Rattle.road_network.specs.declared.hop.Hop.{Hop}
-use Rattle.road_network.specs.Roads.{IsArcAmong, hop_of, leaving}
-use Rattle.hub_labels.specs.Rank.{degree}
-use Rattle.hub_labels.specs.work.Order.{reaching_before}
 
 -- 1 where a test passes
 abbrev one_if : Bool → ℕ

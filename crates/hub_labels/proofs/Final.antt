@@ -1,17 +1,6 @@
 -- When every node had its searches, the labels are those of the network.
 use Rattle.std.proofs.Common.{◌≡◌, ℕ, ◌+◌, ◌<◌, ◌≤◌, true, List, [], length, get_or, slice_index, map, All, subst, arith}
-use Rattle.std.proofs.lemmas.List.{get_or_default}
-use Rattle.pool_base.specs.TravelTime.{longest}
-use Rattle.road_network.specs.declared.arc.Arc.{Arc}
-use Rattle.road_network.specs.Walk.{IsLeastTime}
-use Rattle.road_network.specs.Roads.{Roads, IsNetwork, IsArcAmong}
-use Rattle.travel_times.proofs.lemmas.WalkLemmas.{goal_within}
-use Rattle.hub_labels.specs.declared.hub.Hub.{Hub}
-use Rattle.hub_labels.specs.Label.{IsForwardHub, IsBackwardHub, IsLabel}
-use Rattle.hub_labels.specs.Labels.{AreLabelsOf}
-use Rattle.hub_labels.specs.work.Hops.{turned}
-use Rattle.hub_labels.specs.work.Ranked.{IsRanking, IsRankedHub, IsLabelBelow, AreLabelsBelow}
-use Rattle.hub_labels.specs.work.Common.{IsRising}
+use Rattle.hub_labels.proofs.Common.{get_or_default, longest, Arc, IsLeastTime, Roads, IsNetwork, IsArcAmong, goal_within, Hub, IsForwardHub, IsBackwardHub, IsLabel, AreLabelsOf, turned, IsRanking, IsRankedHub, IsLabelBelow, AreLabelsBelow, IsRising}
 use Rattle.hub_labels.proofs.Times.{times_of, start_within, time_is}
 use Rattle.hub_labels.proofs.Turned.{turn_there, turn_back, IsLeastTime-turned, among_directed}
 

@@ -1,18 +1,6 @@
 -- A pruned search from a node finds exactly the nodes that the node is a hub of.
 use Rattle.std.proofs.Common.{◌≡◌, ℕ, suc, ◌+◌, ◌<◌, ◌≤◌, ◌⊎◌, List, [], ◌∷◌, get_or, slice_index, All, Contains, sym, ◌∙◌, subst, inl, inr, ⊎_elim, arith}
-use Rattle.std.proofs.lemmas.List.{get_or_default}
-use Rattle.std.proofs.lemmas.List.Elements.{All-contains}
-use Rattle.std.proofs.lemmas.List.Sums.{sum_by-cons}
-use Rattle.pool_base.specs.TravelTime.{never, longest}
-use Rattle.road_network.specs.declared.arc.Arc.{Arc}
-use Rattle.road_network.specs.Walk.{IsWalk, walk_seconds}
-use Rattle.road_network.specs.Roads.{IsArcAmong}
-use Rattle.travel_times.specs.lemmas.Search.{HasWalkOf}
-use Rattle.travel_times.proofs.lemmas.WalkLemmas.{goal_within}
-use Rattle.hub_labels.specs.declared.hub.Hub.{Hub}
-use Rattle.hub_labels.specs.work.Ranked.{IsRankedHub, AreLabelsBelow}
-use Rattle.hub_labels.specs.work.Pruned.{IsToldAt, IsPruned}
-use Rattle.hub_labels.specs.work.Drafts.{IsSpread}
+use Rattle.hub_labels.proofs.Common.{get_or_default, All-contains, sum_by-cons, never, longest, Arc, IsWalk, walk_seconds, IsArcAmong, HasWalkOf, goal_within, Hub, IsRankedHub, AreLabelsBelow, IsToldAt, IsPruned, IsSpread}
 use Rattle.hub_labels.proofs.Times.{AreTimes, metric_of, start_within, time_is, time_least, least_is}
 use Rattle.hub_labels.proofs.Cover.{IsClear, cover}
 

@@ -1,13 +1,7 @@
 -- Hops of a network's arcs, ahead and back.
 use Rattle.std.proofs.Common.{◌≡◌, ◌≢◌, ℕ, ◌+◌, ◌<◌, ◌≤◌, ◌⊎◌, List, [], ◌∷◌, ◌++◌, length, get_or, set, map, All, Contains, sym, ap, ◌∙◌, subst, inl, inr, ⊎_elim, arith}
-use Rattle.std.proofs.lemmas.Bool.{cases_eq, cases_lt}
-use Rattle.std.proofs.lemmas.List.{length-set, get_or-set_same, get_or-set_other, get_or_default}
-use Rattle.std.proofs.lemmas.List.Elements.{All-contains, Contains-get_or, Contains-append_left, Contains-push, Contains-push_cases}
-use Rattle.road_network.specs.declared.arc.Arc.{Arc}
-use Rattle.road_network.specs.declared.hop.Hop.{Hop}
-use Rattle.road_network.specs.Roads.{IsArcAmong, hop_of, leaving}
-use Rattle.travel_times.proofs.lemmas.SearchLemmas.{arc_of_hop, hop_of_arc, hops_among}
-use Rattle.hub_labels.specs.work.Hops.{turned, arc_from, AreHopsOf, AreNodeHops, TurnsHops, AreTurnedBefore}
+use Rattle.hub_labels.proofs.Common.{cases_eq, cases_lt, get_or_default, All-contains, Contains-get_or, Contains-append_left, Contains-push, Contains-push_cases, Arc, Hop, IsArcAmong, hop_of, leaving, arc_of_hop, hop_of_arc, hops_among, turned, arc_from, AreHopsOf, AreNodeHops, TurnsHops, AreTurnedBefore}
+use Rattle.std.proofs.lemmas.List.{length-set, get_or-set_same, get_or-set_other}
 use Rattle.hub_labels.proofs.Turned.{turn_there, turn_back}
 
 abbrev pub none : Hop

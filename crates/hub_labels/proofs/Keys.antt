@@ -1,11 +1,7 @@
 -- Rank as a number.
 use Rattle.std.proofs.Common.{◌≡◌, ◌≢◌, ℕ, ◌+◌, ◌-◌, ◌*◌, ◌<◌, ◌≤◌, ◌↔◌, eqb, List, length, count_by, ap, inl, inr, ⊎_elim, arith}
+use Rattle.hub_labels.proofs.Common.{cases_eq, cases_lt, count_by-le-length, Arc, degree, IsOfLowerRank, key_of}
 use Rattle.std.proofs.Math.Nat.{mul-le-mul_right}
-use Rattle.std.proofs.lemmas.Bool.{cases_eq, cases_lt}
-use Rattle.std.proofs.lemmas.List.Sums.{count_by-le-length}
-use Rattle.road_network.specs.declared.arc.Arc.{Arc}
-use Rattle.hub_labels.specs.Rank.{degree, IsOfLowerRank}
-use Rattle.hub_labels.specs.work.Order.{key_of}
 
 -- no degree is above twice the number of arcs
 pub degree_most : (arcs : List Arc) (node : ℕ) → length arcs ≤ 400000 → degree arcs node ≤ 800000

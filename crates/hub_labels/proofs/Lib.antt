@@ -15,3 +15,4 @@ pub mod Adding
 pub mod Building
 pub mod Unique
 pub mod CellLemmas
+pub mod Common

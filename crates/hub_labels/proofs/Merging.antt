@@ -1,10 +1,6 @@
 -- A merge of two labels by rank.
 use Rattle.std.proofs.Common.{◌≡◌, ◌≢◌, ℕ, ◌+◌, ◌<◌, ◌≤◌, ◌⊎◌, min, List, length, get_or, slice_index, ap, subst, inl, inr, ⊎_elim, arith}
-use Rattle.std.proofs.lemmas.Bool.{cases_eq, cases_lt}
-use Rattle.std.proofs.lemmas.List.{get_or_default}
-use Rattle.pool_base.specs.TravelTime.{never}
-use Rattle.hub_labels.specs.declared.hub.Hub.{Hub}
-use Rattle.hub_labels.specs.work.Common.{IsRising, IsLeastInCommon}
+use Rattle.hub_labels.proofs.Common.{cases_eq, cases_lt, get_or_default, never, Hub, IsRising, IsLeastInCommon}
 
 abbrev pub no_hub : Hub
 no_hub = record { node = 0; seconds = 0 }

@@ -1,18 +1,13 @@
 -- Nodes in the order of their keys.
 use Rattle.std.proofs.Common.{◌≡◌, ◌≢◌, ℕ, ◌+◌, ◌-◌, ◌*◌, ◌%◌, ◌<◌, ◌≤◌, ◌⊎◌, false, eqb, List, length, get_or, slice_index, map, All, sym, ap, ◌∙◌, subst, inl, inr, ⊎_elim, arith}
+use Rattle.hub_labels.proofs.Common.{cases_eq, cases_lt, nat_tests, length-map, get_or-map, get_or_default, Contains-get_or, Arc, degree, key_of, IsNodeOrder, IsRanking}
 use Rattle.std.specs.List.{IsDistinct}
 use Rattle.std.specs.List.Sorted.{IsPermutation, IsStrictlyIncreasing, IsSorted}
 use Rattle.std.specs.Ordering.{nat_cmp, ordering_then, is_lt}
-use Rattle.std.proofs.lemmas.Bool.{cases_eq, cases_lt, ne_eqb}
-use Rattle.std.proofs.lemmas.Bool.Decides.{nat_tests}
-use Rattle.std.proofs.lemmas.List.{length-map, get_or-map, get_or_default, ext_get_or}
-use Rattle.std.proofs.lemmas.List.Elements.{Contains-get_or}
+use Rattle.std.proofs.lemmas.Bool.{ne_eqb}
+use Rattle.std.proofs.lemmas.List.{ext_get_or}
 use Rattle.std.proofs.lemmas.List.Sorted.{IsNonDecreasingBy-from_sort, IsPermutation-sym, IsPermutation-map, All-permutation, Contains-permutation, length_permutation}
 use Rattle.std.proofs.lemmas.Map.Keys.{IsDistinct-from_apart, IsDistinct-IsPermutation, IsStrictlyIncreasing-from_distinct, sorted_from_strictly_increasing, below_from_sorted}
-use Rattle.road_network.specs.declared.arc.Arc.{Arc}
-use Rattle.hub_labels.specs.Rank.{degree}
-use Rattle.hub_labels.specs.work.Order.{key_of, IsNodeOrder}
-use Rattle.hub_labels.specs.work.Ranked.{IsRanking}
 use Rattle.hub_labels.proofs.Keys.{key_lower}
 
 -- the node of a key

@@ -1,17 +1,6 @@
 -- What two labels have in common is the travel time.
 use Rattle.std.proofs.Common.{◌≡◌, ℕ, suc, ◌+◌, ◌<◌, ◌≤◌, ◌⊎◌, List, ◌++◌, length, get_or, All, sym, ap, ◌∙◌, inl, inr, ⊎_elim, arith}
-use Rattle.std.proofs.lemmas.List.{get_or_default}
-use Rattle.std.proofs.lemmas.List.Elements.{Contains-get_or}
-use Rattle.pool_base.specs.TravelTime.{never, longest}
-use Rattle.road_network.specs.declared.arc.Arc.{Arc}
-use Rattle.road_network.specs.Walk.{IsWalk, walk_seconds, IsLeastTime, IsTimeBetween, HasNoWalk}
-use Rattle.road_network.specs.Roads.{Roads, IsNetwork, IsArcAmong}
-use Rattle.travel_times.proofs.lemmas.WalkLemmas.{IsWalk-append, walk_seconds-append, short_walk, goal_within}
-use Rattle.hub_labels.specs.declared.hub.Hub.{Hub}
-use Rattle.hub_labels.specs.Label.{IsForwardHub, IsBackwardHub, IsLabel}
-use Rattle.hub_labels.specs.Labels.{NodeLabels, AreLabelsOf, label_at}
-use Rattle.hub_labels.specs.work.Order.{key_of}
-use Rattle.hub_labels.specs.work.Common.{IsLeastInCommon}
+use Rattle.hub_labels.proofs.Common.{get_or_default, Contains-get_or, never, longest, Arc, IsWalk, walk_seconds, IsLeastTime, IsTimeBetween, HasNoWalk, Roads, IsNetwork, IsArcAmong, IsWalk-append, walk_seconds-append, short_walk, goal_within, Hub, IsForwardHub, IsBackwardHub, IsLabel, NodeLabels, AreLabelsOf, label_at, key_of, IsLeastInCommon}
 use Rattle.hub_labels.proofs.Times.{AreTimes, times_of, metric_of, time_is, least_is}
 use Rattle.hub_labels.proofs.Cover.{IsClear, cover}
 use Rattle.hub_labels.proofs.Keys.{key_lower}

@@ -1,18 +1,7 @@
 -- Steps of a pruned search.
 use Rattle.std.proofs.Common.{◌≡◌, ◌≢◌, ℕ, ◌+◌, ◌<◌, ◌≤◌, ◌⊎◌, Bool, true, List, [], ◌∷◌, ◌++◌, length, get_or, slice_index, All, Contains, refl, sym, ap, ◌∙◌, subst, inl, inr, ⊎_elim, arith}
-use Rattle.std.proofs.lemmas.Bool.{cases_eq, true≢false}
-use Rattle.std.proofs.lemmas.List.Elements.{All-contains, Contains-append_left, Contains-push}
-use Rattle.pool_base.specs.TravelTime.{never, longest}
-use Rattle.road_network.specs.declared.arc.Arc.{Arc}
-use Rattle.road_network.specs.declared.hop.Hop.{Hop}
-use Rattle.road_network.specs.Walk.{IsWalk, walk_seconds}
-use Rattle.road_network.specs.Roads.{IsArcAmong, hop_of}
-use Rattle.travel_times.specs.Search.{waits, IsNextTaken, IsHopRelaxed, RelaxesHops}
-use Rattle.travel_times.specs.lemmas.Search.{HasWalkOf}
-use Rattle.travel_times.proofs.lemmas.WalkLemmas.{IsWalk-push, walk_seconds-push}
-use Rattle.hub_labels.specs.declared.hub.Hub.{Hub}
-use Rattle.hub_labels.specs.work.Hops.{arc_from, AreHopsOf}
-use Rattle.hub_labels.specs.work.Pruned.{IsToldAt, IsPruning}
+use Rattle.hub_labels.proofs.Common.{cases_eq, All-contains, Contains-append_left, Contains-push, never, longest, Arc, Hop, IsWalk, walk_seconds, IsArcAmong, hop_of, waits, IsNextTaken, IsHopRelaxed, RelaxesHops, HasWalkOf, IsWalk-push, walk_seconds-push, Hub, arc_from, AreHopsOf, IsToldAt, IsPruning}
+use Rattle.std.proofs.lemmas.Bool.{true≢false}
 
 -- hops of a network's arcs lead to its nodes, in at most the longest arc's seconds
 pub hops_within : (arcs : List Arc) (n node : ℕ) (hops : List Hop) → All (IsArcAmong n) arcs → AreHopsOf arcs node hops → All (λ (hop : Hop). (hop.to < n) × (hop.seconds ≤ 10000)) hops

@@ -1,17 +1,7 @@
 -- Travel times exist: a search that ends gives them. So a lemma may speak of the travel time between any two nodes.
 use Rattle.std.proofs.Common.{◌≡◌, ℕ, zero, suc, ◌+◌, ◌<◌, ◌≤◌, ◌⊎◌, Bool, true, false, List, [], ◌∷◌, ◌++◌, length, get_or, slice_index, set, replicate, map, count_by, All, refl, sym, subst, inl, inr, ⊎_elim, arith}
-use Rattle.std.proofs.lemmas.Bool.{cases_lt}
-use Rattle.std.proofs.lemmas.List.Elements.{All-contains}
-use Rattle.std.proofs.lemmas.List.{length-set, get_or_default, get_or-replicate, length-replicate}
-use Rattle.pool_base.specs.TravelTime.{never, longest}
-use Rattle.road_network.specs.declared.arc.Arc.{Arc}
-use Rattle.road_network.specs.declared.hop.Hop.{Hop}
-use Rattle.road_network.specs.Walk.{IsWalk, walk_seconds, IsLeastTime, IsTimeBetween}
-use Rattle.road_network.specs.Roads.{IsArcAmong, hop_of, leaving}
-use Rattle.travel_times.specs.Search.{waits, work_left, IsNextTaken, RelaxesHops}
-use Rattle.travel_times.specs.lemmas.Search.{IsSearching}
-use Rattle.travel_times.proofs.lemmas.WalkLemmas.{IsWalk-append, walk_seconds-append, short_walk}
-use Rattle.travel_times.proofs.lemmas.SearchLemmas.{RelaxesHops-take, RelaxesHops-skip, IsSearching-start, IsSearching-step, IsNextTaken-set, IsTimeBetween-settled, hops_among, none_waits}
+use Rattle.hub_labels.proofs.Common.{cases_lt, All-contains, get_or_default, get_or-replicate, length-replicate, never, longest, Arc, Hop, IsWalk, walk_seconds, IsLeastTime, IsTimeBetween, IsArcAmong, hop_of, leaving, waits, work_left, IsNextTaken, RelaxesHops, IsSearching, IsWalk-append, walk_seconds-append, short_walk, RelaxesHops-take, RelaxesHops-skip, IsSearching-start, IsSearching-step, IsNextTaken-set, IsTimeBetween-settled, hops_among, none_waits}
+use Rattle.std.proofs.lemmas.List.{length-set}
 
 -- a node waits, or none does
 first_waiting : (waiting : List Bool) → ((node : ℕ) × (node < length waiting) × (waits waiting node ≡ true)) ⊎ ((node : ℕ) → waits waiting node ≡ false)

@@ -1,15 +1,6 @@
 -- Arcs the other way round: walks lead back, in the same time.
 use Rattle.std.proofs.Common.{◌≡◌, ℕ, ◌+◌, ◌<◌, ◌≤◌, Bool, true, false, List, [], ◌∷◌, ◌++◌, length, get_or, slice_index, map, All, Contains, refl, sym, ap, ◌∙◌, subst, arith}
-use Rattle.std.proofs.lemmas.List.{length-map, get_or-map}
-use Rattle.std.proofs.lemmas.List.Elements.{All-map}
-use Rattle.std.proofs.lemmas.List.Sums.{sum_by-cons}
-use Rattle.road_network.specs.declared.arc.Arc.{Arc}
-use Rattle.road_network.specs.Walk.{IsWalk, walk_seconds, IsLeastTime}
-use Rattle.road_network.specs.Roads.{IsArcAmong}
-use Rattle.travel_times.proofs.lemmas.WalkLemmas.{IsWalk-push, walk_seconds-push}
-use Rattle.hub_labels.specs.declared.hub.Hub.{Hub}
-use Rattle.hub_labels.specs.work.Hops.{turned, directed}
-use Rattle.hub_labels.specs.work.Ranked.{IsRankedHub, AreLabelsBelow}
+use Rattle.hub_labels.proofs.Common.{length-map, get_or-map, All-map, sum_by-cons, Arc, IsWalk, walk_seconds, IsLeastTime, IsArcAmong, IsWalk-push, walk_seconds-push, Hub, turned, directed, IsRankedHub, AreLabelsBelow}
 use Rattle.hub_labels.proofs.Times.{AreTimes, start_within, time_is, least_is}
 use Rattle.hub_labels.proofs.Found.{IsOwnLabel}
 

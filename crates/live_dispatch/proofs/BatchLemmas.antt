@@ -1,36 +1,14 @@
 -- The entries that a row gave, or a batch from its seal to its close.
-use Rattle.std.proofs.Common.{◌≡◌, ◌≢◌, ℕ, Bool, true, false, cond, eqb, List, [], ◌∷◌, ◌++◌, map, Option, None, Some, refl, sym, ap, subst, ◌∙◌, append-nil}
-use Rattle.std.specs.Prelude.{All, filter, option_map}
-use Rattle.std.proofs.lemmas.Bool.{eq-eqb, ne_eqb, eqb-true, eqb-false}
-use Rattle.std.proofs.lemmas.List.Elements.{All-head, All-tail}
-use Rattle.batch_snapshot.specs.Batch.{Batch}
+use Rattle.std.proofs.Common.{◌≡◌, ◌≢◌, ℕ, Bool, true, false, cond, eqb, List, [], ◌∷◌, ◌++◌, map, Option, None, Some, refl, sym, ap, subst, ◌∙◌, append-nil, All, filter, option_map}
+use Rattle.live_dispatch.proofs.Common.{eqb-false, All-head, All-tail, Batch, of_lane, IsCloseOf, IsLaneRunFrom, IsLaneRun, IsLaneBeginning, IsGoodClose, IsGoodFor, LaneClosesAreGood, ClosesAreGood, plain-quiet, closes-join, ends-closed, stands-plain, GoesOn, commands_of_pass, entry_command, row_command, pass_of, LaneCommand, state_after, RepliesAreSteps, step, Command, Submit, Cancel, Report, Pickup, Dropoff, Seal, Close, Entry, Reply, State, Settings, entry_notices, Roads, MayStand, Line, calls_from, sealed_by, snapshot_after, in_lane}
+use Rattle.std.proofs.lemmas.Bool.{eq-eqb, ne_eqb, eqb-true}
 use Rattle.batch_solver.specs.Outcome.{IsGoodOutcome}
-use Rattle.dispatch_engine.specs.Lane.{of_lane, IsCloseOf, IsLaneRunFrom, IsLaneRun, IsLaneBeginning, IsGoodClose, IsGoodFor, LaneClosesAreGood, ClosesAreGood}
 use Rattle.dispatch_engine.specs.lemmas.Lanes.{IsPlain}
-use Rattle.dispatch_engine.proofs.lemmas.LaneLemmas.{plain-quiet, closes-join, ends-closed}
-use Rattle.dispatch_engine.proofs.lemmas.StandLemmas.{stands-plain}
-use Rattle.live_batch.specs.Phase.{GoesOn, commands_of_pass, entry_command, row_command}
-use Rattle.live_desk.specs.Desk.{pass_of}
-use Rattle.live_desk.specs.declared.desk.LaneCommand.{LaneCommand}
-use Rattle.request_book.specs.Replay.{state_after, RepliesAreSteps}
-use Rattle.request_book.specs.Step.{step}
-use Rattle.request_book.specs.declared.command.Command.{Command}
-use Rattle.request_book.specs.declared.command.Command.TheVariants.{Submit, Cancel, Report, Pickup, Dropoff, Seal, Close}
-use Rattle.request_book.specs.declared.journal.Entry.{Entry}
 use Rattle.request_book.specs.declared.outcome.Answer.TheVariants.{Overflow}
 use Rattle.request_book.specs.declared.outcome.Outcome.{Outcome}
-use Rattle.request_book.specs.declared.reply.Reply.{Reply}
 use Rattle.request_book.specs.declared.reply.Reply.TheVariants.{Accepted}
-use Rattle.request_book.specs.declared.state.State.{State}
-use Rattle.rider_limits.specs.declared.settings.Settings.{Settings}
-use Rattle.rider_notices.specs.Notices.{entry_notices}
-use Rattle.road_network.specs.Roads.{Roads}
-use Rattle.script_rows.specs.Round.{MayStand}
-use Rattle.script_rows.specs.declared.line.Line.{Line}
 use Rattle.seat_lock.specs.declared.logged.LoggedCall.{LoggedCall}
-use Rattle.shared_book.specs.Locked.{calls_from, sealed_by, snapshot_after}
 use Rattle.shared_book.specs.declared.locked.LockedReply.{LockedReply}
-use Rattle.live_dispatch.specs.work.Rows.{in_lane}
 use Rattle.live_dispatch.proofs.RowLemmas.{AreOf}
 
 -- a row's command is no close

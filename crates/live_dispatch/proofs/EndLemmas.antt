@@ -1,30 +1,12 @@
 -- How a run ends.
 use Rattle.std.proofs.Common.{◌≡◌, ℕ, ◌≤◌, Bool, List, ◌∷◌, ◌++◌, Option, Some, Result, Ok, Err, IfOk, IfErr, refl, sym, ap, subst, arith}
-use Rattle.std.proofs.KnownBytes.{Appends-trans}
-use Rattle.batch_snapshot.specs.Batch.{Batch}
-use Rattle.dispatch_engine.specs.Run.{position_after_run}
-use Rattle.dispatch_report.specs.Round.{end_text}
-use Rattle.dispatch_report.specs.Written.{SinkView, WritesText}
-use Rattle.dispatch_report.specs.declared.fault.ReportFault.{ReportFault}
-use Rattle.dispatch_report.specs.declared.fault.ReportFault.TheVariants as report
-use Rattle.live_batch.specs.Phase.{AreRows, BeginWithRows, FaultsFrom, TakesRun}
-use Rattle.live_batch.proofs.lemmas.RowLemmas.{all-begin}
-use Rattle.live_batch.specs.declared.read_on.Halt.{Halt}
-use Rattle.live_batch.specs.declared.read_on.Halt.TheVariants as stop
-use Rattle.live_desk.specs.Desk.{IsPassedOn, Outputs}
-use Rattle.pool_io.specs.Faults.{Rose}
-use Rattle.request_book.specs.Book.{BookView, next_position}
-use Rattle.rider_limits.specs.declared.settings.Settings.{Settings}
-use Rattle.road_network.specs.Roads.{Roads}
-use Rattle.script_rows.specs.declared.line.Line.{Line}
-use Rattle.script_rows.specs.lemmas.Named.{rounds_of}
-use Rattle.live_dispatch.specs.Live.{BeginsRows, journals_text}
-use Rattle.live_dispatch.specs.declared.fault.LiveFault.{LiveFault}
-use Rattle.live_dispatch.specs.declared.fault.LiveFault.TheVariants as live
-use Rattle.live_dispatch.specs.work.Standing.{HasCut, HasEnded, HasRunOn, HaveCome, Moment, Opens, Stands, ended_by, of_report, outputs_of, row_text}
+use Rattle.live_dispatch.proofs.Common.{Appends-trans, Batch, position_after_run, end_text, SinkView, WritesText, ReportFault, AreRows, BeginWithRows, FaultsFrom, TakesRun, all-begin, Halt, IsPassedOn, Outputs, Rose, BookView, next_position, Settings, Roads, Line, rounds_of, BeginsRows, journals_text, LiveFault, HasCut, HasEnded, HasRunOn, HaveCome, Moment, Opens, Stands, ended_by, of_report, outputs_of, row_text}
 use Rattle.live_dispatch.proofs.StandLemmas.{begins-here, begins-last}
 use Rattle.live_dispatch.proofs.StepLemmas.{batch-begins, batch-stands, lines-behind, row-begins}
 use Rattle.live_dispatch.proofs.WriteLemmas.{whole-some}
+use Rattle.dispatch_report.specs.declared.fault.ReportFault.TheVariants as report
+use Rattle.live_batch.specs.declared.read_on.Halt.TheVariants as stop
+use Rattle.live_dispatch.specs.declared.fault.LiveFault.TheVariants as live
 
 pub if-ok : {T E : Type 0} (P Q : T → Type 0) (r : Result T E) → ((x : T) → P x → Q x) → IfOk r P → IfOk r Q
 if-ok P Q (Ok x) more p = more x p

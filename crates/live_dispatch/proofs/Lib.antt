@@ -6,3 +6,4 @@ pub mod StandLemmas
 pub mod StepLemmas
 pub mod EndLemmas
 pub mod TurnLemmas
+pub mod Common

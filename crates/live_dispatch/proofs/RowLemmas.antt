@@ -1,19 +1,11 @@
 -- The rounds of rows with some more rows of one round.
 use Rattle.std.proofs.Common.{◌≡◌, ◌≢◌, ℕ, ◌<◌, ◌≤◌, Bool, true, false, ◌&&◌, cond, eqb, List, [], ◌∷◌, ◌++◌, map, Option, None, Some, refl, sym, ap, subst, ◌∙◌, append_assoc, append-nil, inl, inr, arith}
+use Rattle.live_dispatch.proofs.Common.{cases_lt, cases_order, and_left, map-append, get_or_past, All-head, All-tail, All-nil, All-push, All-weaker, All-same, filter-append, round_line, Command, Line, NumberedLanes, lane_at, round_of, rounds_of, round_numbers, in_lane, EndsIn, last_of, start_text}
 use Rattle.std.specs.List.{All, filter, list_any, range_with_len}
-use Rattle.std.proofs.lemmas.Bool.{cases_lt, cases_order, eq-eqb, ne_eqb, and_left}
-use Rattle.std.proofs.lemmas.List.{map-append, get_or_past}
+use Rattle.std.proofs.lemmas.Bool.{eq-eqb, ne_eqb}
 use Rattle.std.proofs.lemmas.List.FromFn.{length-map-range_with_len, get_or-map-range_with_len}
-use Rattle.std.proofs.lemmas.List.Elements.{All-head, All-tail, All-nil, All-push, All-weaker, All-same, filter-append}
 use Rattle.pool_base.specs.Distinct.{distinct}
 use Rattle.pool_base.proofs.lemmas.DistinctLemmas.{any-more, distinct-push_new, distinct-push_old}
-use Rattle.dispatch_report.specs.Round.{round_line}
-use Rattle.request_book.specs.declared.command.Command.{Command}
-use Rattle.script_rows.specs.declared.line.Line.{Line}
-use Rattle.script_rows.specs.Round.{NumberedLanes, lane_at}
-use Rattle.script_rows.specs.Script.{round_of}
-use Rattle.script_rows.specs.lemmas.Named.{rounds_of}
-use Rattle.live_dispatch.specs.work.Rows.{round_numbers, in_lane, EndsIn, last_of, start_text}
 
 -- each row is of this round, and of one of the sixteen lanes
 abbrev pub AreOf : ℕ → List Line → Type 0

@@ -1,33 +1,7 @@
 -- A run of the rounds of rows, with some more rows of one round and the entries that they gave.
 use Rattle.std.proofs.Common.{◌≡◌, ℕ, ◌<◌, ◌^◌, Bool, List, [], ◌∷◌, ◌++◌, map, Option, None, Some, codes, refl, sym, ap, subst, ◌∙◌, append_assoc, append-nil}
+use Rattle.live_dispatch.proofs.Common.{map-append, filter-append, of_lane, IsLaneRunFrom, IsLaneRun, IsLaneBeginning, ClosesAreGood, IsRoundRun, IsRun, position_after_run, state_after_run, position-more, state-more, lines_text, entries_lines, round_line, round_text, numbered, next_position, state_after, RepliesAreSteps, step, Command, Entry, Journal, State, Settings, notices_from, Notice, Roads, NumberedLanes, lane_at, round_of, Line, rounds_of, sealed_by, ButLast, IsBegunRun, IsRoundBeginning, journals_notices, journals_text, EndsIn, in_lane, start_text, entries-append, lines-append, next-append, next-low, notices-append, state-append}
 use Rattle.std.proofs.lemmas.Grind.{flat_map-append}
-use Rattle.std.proofs.lemmas.List.{map-append}
-use Rattle.std.proofs.lemmas.List.Elements.{filter-append}
-use Rattle.dispatch_engine.specs.Lane.{of_lane, IsLaneRunFrom, IsLaneRun, IsLaneBeginning, ClosesAreGood}
-use Rattle.dispatch_engine.specs.Run.{IsRoundRun, IsRun, position_after_run, state_after_run}
-use Rattle.dispatch_engine.proofs.lemmas.RunLemmas.{position-more, state-more}
-use Rattle.dispatch_report.specs.Lines.{lines_text}
-use Rattle.dispatch_report.specs.Round.{entries_lines, round_line, round_text}
-use Rattle.dispatch_report.specs.Words.{numbered}
-use Rattle.request_book.specs.Book.{next_position}
-use Rattle.request_book.specs.Replay.{state_after, RepliesAreSteps}
-use Rattle.request_book.specs.Step.{step}
-use Rattle.request_book.specs.declared.command.Command.{Command}
-use Rattle.request_book.specs.declared.journal.Entry.{Entry}
-use Rattle.request_book.specs.declared.journal.Journal.{Journal}
-use Rattle.request_book.specs.declared.state.State.{State}
-use Rattle.rider_limits.specs.declared.settings.Settings.{Settings}
-use Rattle.rider_notices.specs.Notices.{notices_from}
-use Rattle.rider_notices.specs.declared.notice.Notice.{Notice}
-use Rattle.road_network.specs.Roads.{Roads}
-use Rattle.script_rows.specs.Round.{NumberedLanes, lane_at}
-use Rattle.script_rows.specs.Script.{round_of}
-use Rattle.script_rows.specs.declared.line.Line.{Line}
-use Rattle.script_rows.specs.lemmas.Named.{rounds_of}
-use Rattle.shared_book.specs.Locked.{sealed_by}
-use Rattle.live_dispatch.specs.Live.{ButLast, IsBegunRun, IsRoundBeginning, journals_notices, journals_text}
-use Rattle.live_dispatch.specs.work.Rows.{EndsIn, in_lane, start_text}
-use Rattle.live_desk.proofs.lemmas.EntryLemmas.{entries-append, lines-append, next-append, next-low, notices-append, state-append}
 use Rattle.live_dispatch.proofs.RowLemmas.{AreOf, RoundsGrow, lane-grows}
 
 -- a lane's run, and one more

@@ -1,36 +1,7 @@
 -- What stands of a run after more rows.
 use Rattle.std.proofs.Common.{◌≡◌, ℕ, ◌+◌, ◌<◌, ◌≤◌, List, [], ◌∷◌, ◌++◌, codes, length, take, drop, Option, Some, refl, sym, ap, subst, ◌∙◌, append_assoc, append-nil, take-append-drop, length-append, inl, inr, arith}
-use Rattle.std.specs.Io.KnownBytes.{Appends}
-use Rattle.std.proofs.KnownBytes.{Appends-trans}
-use Rattle.std.proofs.Math.Seq.{take-append-add}
-use Rattle.dispatch_engine.specs.Lane.{of_lane, IsLaneRun, IsLaneBeginning, ClosesAreGood}
-use Rattle.dispatch_engine.specs.Run.{IsReady, IsRun, position_after_run}
-use Rattle.dispatch_engine.proofs.lemmas.RunLemmas.{run-more}
-use Rattle.dispatch_report.specs.Lines.{lines_text}
-use Rattle.dispatch_report.specs.Round.{end_text, entries_lines, entry_text}
-use Rattle.dispatch_report.specs.Written.{Change, SinkView}
-use Rattle.dispatch_report.specs.Words.{numbered}
-use Rattle.pool_io.specs.Sink.{AppendsPart}
-use Rattle.request_book.specs.Book.{next_position}
-use Rattle.request_book.specs.Replay.{state_after, RepliesAreSteps}
-use Rattle.request_book.specs.declared.journal.Entry.{Entry}
-use Rattle.request_book.specs.declared.journal.Journal.{Journal}
-use Rattle.request_book.specs.declared.state.State.{State}
-use Rattle.rider_limits.specs.declared.settings.Settings.{Settings}
-use Rattle.rider_notices.specs.Notices.{notices_from}
-use Rattle.rider_notices.specs.Told.{HaveHeard, NotifierView}
-use Rattle.rider_notices.specs.declared.notice.Notice.{Notice}
-use Rattle.rider_notices.proofs.lemmas.HeardLemmas.{all-heard-more}
-use Rattle.road_network.specs.Roads.{Roads}
-use Rattle.script_rows.specs.Script.{round_of}
-use Rattle.script_rows.specs.declared.line.Line.{Line}
-use Rattle.script_rows.specs.lemmas.Named.{rounds_of}
-use Rattle.live_batch.specs.Phase.{BeginWithRows}
-use Rattle.live_dispatch.specs.Live.{AreWhole, BeginsRows, ButLast, HasAppended, IsBegunRun, journals_notices, journals_text, rows_text}
-use Rattle.live_dispatch.specs.work.Rows.{EndsIn, in_lane, last_of, start_text}
-use Rattle.live_dispatch.specs.work.Standing.{Moment, Stands}
+use Rattle.live_dispatch.proofs.Common.{Appends, Appends-trans, take-append-add, of_lane, IsLaneRun, IsLaneBeginning, ClosesAreGood, IsReady, IsRun, position_after_run, run-more, lines_text, end_text, entries_lines, entry_text, Change, SinkView, numbered, AppendsPart, next_position, state_after, RepliesAreSteps, Entry, Journal, State, Settings, notices_from, HaveHeard, NotifierView, Notice, all-heard-more, Roads, round_of, Line, rounds_of, BeginWithRows, AreWhole, BeginsRows, ButLast, HasAppended, IsBegunRun, journals_notices, journals_text, rows_text, EndsIn, in_lane, last_of, start_text, Moment, Stands, entries-append, next-low, one-text}
 use Rattle.live_dispatch.proofs.RowLemmas.{AreMore, AreOf, rows-more}
-use Rattle.live_desk.proofs.lemmas.EntryLemmas.{entries-append, next-low, one-text}
 use Rattle.live_dispatch.proofs.RunLemmas.{HasGrown, has-grown, run-begins, with_more}
 
 -- bytes that were written are a part of them and some more

@@ -1,54 +1,15 @@
 -- What stands after a row, and after an open batch.
-use Rattle.std.proofs.Common.{◌≡◌, ◌≢◌, ℕ, ◌<◌, ◌≤◌, Bool, true, false, cond, eqb, List, [], ◌∷◌, ◌++◌, get_or, length, map, take, Option, None, Some, refl, sym, ap, subst, ◌∙◌, append_assoc, append-nil, arith}
-use Rattle.std.specs.Prelude.{All, Contains, option_map}
-use Rattle.std.specs.Io.KnownBytes.{Appends}
-use Rattle.std.proofs.KnownBytes.{Appends-trans}
+use Rattle.std.proofs.Common.{◌≡◌, ◌≢◌, ℕ, ◌<◌, ◌≤◌, Bool, true, false, cond, eqb, List, [], ◌∷◌, ◌++◌, get_or, length, map, take, Option, None, Some, refl, sym, ap, subst, ◌∙◌, append_assoc, append-nil, arith, All, Contains, option_map}
+use Rattle.live_dispatch.proofs.Common.{Appends, Appends-trans, Batch, of_lane, IsLaneRunFrom, IsLaneRun, IsLaneBeginning, ClosesAreGood, IsReady, ends-closed, stands-plain, lines_text, entries_lines, entry_text, ReportFault, BeginWithRows, ClosesBatch, TakesRun, commands_of_pass, desk_after, runs-begin, runs-more, takes-start, Halt, IsPassedOn, Outputs, desk_of, desk_root, entries_text, notices_in, text_of, LaneCommand, TakesRows, BookView, next_position, state_after, RepliesAreSteps, step, Command, Submit, Cancel, Report, Pickup, Dropoff, Seal, Close, Entry, Reply, State, Settings, notices_from, HaveHeard, Notice, all-heard-nothing, Roads, IsBehind, MayStand, Line, is_light, sealed_by, step-seals, BeginsRows, in_lane, last_of, start_text, AppendsSome, HasRunOn, HasTaken, HaveCome, Moment, Stands, entry_for, outputs_of, row_text, entries-append, next-append, next-low, one-text}
 use Rattle.std.proofs.lemmas.Bool.{eqb-true}
 use Rattle.std.proofs.lemmas.Map.Views.{Contains-from_any}
-use Rattle.batch_snapshot.specs.Batch.{Batch}
 use Rattle.batch_snapshot.specs.Points.{named_nodes}
-use Rattle.dispatch_engine.specs.Lane.{of_lane, IsLaneRunFrom, IsLaneRun, IsLaneBeginning, ClosesAreGood}
-use Rattle.dispatch_engine.specs.Run.{IsReady}
-use Rattle.dispatch_engine.proofs.lemmas.LaneLemmas.{ends-closed}
-use Rattle.dispatch_engine.proofs.lemmas.StandLemmas.{stands-plain}
-use Rattle.dispatch_report.specs.Lines.{lines_text}
-use Rattle.dispatch_report.specs.Round.{entries_lines, entry_text}
-use Rattle.dispatch_report.specs.declared.fault.ReportFault.{ReportFault}
-use Rattle.live_batch.specs.Phase.{BeginWithRows, ClosesBatch, TakesRun, commands_of_pass, desk_after}
-use Rattle.live_batch.proofs.lemmas.RowLemmas.{runs-begin, runs-more, takes-start}
-use Rattle.live_batch.specs.declared.read_on.Halt.{Halt}
-use Rattle.live_batch.specs.declared.read_on.Halt.TheVariants as stop
-use Rattle.live_desk.specs.Desk.{IsPassedOn, Outputs, desk_of, desk_root, entries_text, notices_in, text_of}
 use Rattle.live_desk.specs.declared.desk.DeskRoot.{DeskRoot}
-use Rattle.live_desk.specs.declared.desk.LaneCommand.{LaneCommand}
-use Rattle.live_rows.specs.Rows.{TakesRows}
-use Rattle.request_book.specs.Book.{BookView, next_position}
 use Rattle.request_book.specs.Consistent.{IsNode}
-use Rattle.request_book.specs.Replay.{state_after, RepliesAreSteps}
-use Rattle.request_book.specs.Step.{step}
-use Rattle.request_book.specs.declared.command.Command.{Command}
-use Rattle.request_book.specs.declared.command.Command.TheVariants.{Submit, Cancel, Report, Pickup, Dropoff, Seal, Close}
-use Rattle.request_book.specs.declared.journal.Entry.{Entry}
-use Rattle.request_book.specs.declared.reply.Reply.{Reply}
-use Rattle.request_book.specs.declared.state.State.{State}
-use Rattle.rider_limits.specs.declared.settings.Settings.{Settings}
-use Rattle.rider_notices.specs.Notices.{notices_from}
-use Rattle.rider_notices.specs.Told.{HaveHeard}
-use Rattle.rider_notices.specs.declared.notice.Notice.{Notice}
-use Rattle.rider_notices.proofs.lemmas.HeardLemmas.{all-heard-nothing}
-use Rattle.road_network.specs.Roads.{Roads}
-use Rattle.script_rows.specs.Line.{IsBehind}
-use Rattle.script_rows.specs.Round.{MayStand}
-use Rattle.script_rows.specs.declared.line.Line.{Line}
-use Rattle.shared_book.specs.Locked.{is_light, sealed_by}
-use Rattle.shared_book.proofs.lemmas.LockedLemmas.{step-seals}
-use Rattle.live_dispatch.specs.Live.{BeginsRows}
-use Rattle.live_dispatch.specs.work.Rows.{in_lane, last_of, start_text}
-use Rattle.live_dispatch.specs.work.Standing.{AppendsSome, HasRunOn, HasTaken, HaveCome, Moment, Stands, entry_for, outputs_of, row_text}
 use Rattle.live_dispatch.proofs.BatchLemmas.{batch-begun, batch-closes, batch-ended, batch-lanes, batch-others, batch-unclosed, close-run, none-left, row-lanes, rows-of, some_close, stands-good, stands-silent, told, zero-commands}
-use Rattle.live_desk.proofs.lemmas.EntryLemmas.{entries-append, next-append, next-low, one-text}
 use Rattle.live_dispatch.proofs.StandLemmas.{Gives, begins-broken, begins-one, begins-whole, stands-after}
 use Rattle.live_dispatch.proofs.WriteLemmas.{some-part, some-whole}
+use Rattle.live_batch.specs.declared.read_on.Halt.TheVariants as stop
 
 -- a row's entry begins its lane's run, or is one with a close
 row-begun : (row : Line) (reply : Reply) (lane : ℕ) → IsLaneBeginning (in_lane (row ∷ []) lane) (of_lane lane ((record { lane = row.lane; command = row.command; reply = reply }) ∷ []))

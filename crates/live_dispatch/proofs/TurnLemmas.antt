@@ -1,36 +1,12 @@
 -- From one row to the next.
 use Rattle.std.proofs.Common.{◌≡◌, ℕ, ◌<◌, ◌≤◌, ◌^◌, Bool, List, [], ◌∷◌, ◌++◌, Option, None, Some, Result, Ok, Err, refl, sym, ap, subst, ◌∙◌, arith}
-use Rattle.std.specs.Io.KnownBytes.{Appends}
-use Rattle.std.proofs.KnownBytes.{Appends-nil}
-use Rattle.batch_snapshot.specs.Batch.{Batch}
-use Rattle.dispatch_engine.specs.Run.{IsReady}
-use Rattle.dispatch_report.specs.Written.{SinkView}
-use Rattle.live_desk.specs.Desk.{Outputs}
-use Rattle.dispatch_report.specs.declared.fault.ReportFault.{ReportFault}
-use Rattle.dispatch_report.specs.declared.fault.ReportFault.TheVariants as report
-use Rattle.live_batch.specs.Phase.{AreRows, BeginWithRows}
-use Rattle.live_batch.proofs.lemmas.RowLemmas.{takes-all, takes-begin, takes-more, takes-none, takes-start}
-use Rattle.live_rows.specs.Rows.{TakesRows}
+use Rattle.live_dispatch.proofs.Common.{Appends, Appends-nil, Batch, IsReady, SinkView, Outputs, ReportFault, AreRows, BeginWithRows, takes-all, takes-begin, takes-more, takes-none, takes-start, TakesRows, Rose, BookView, IsBook, next_position, state_after, Entry, Settings, HaveHeard, all-heard-nothing, Roads, IsBehind, Line, rounds_of, journals_notices, journals_text, LiveFault, EndsIn, last_of, AppendsSome, Awaits, GivesNext, HasEnded, HasTaken, HaveCome, Moment, Opens, Stands, WritesSome, of_line, of_report, outputs_of, row_text}
 use Rattle.live_rows.specs.declared.lines.LineFault.{LineFault}
-use Rattle.live_rows.specs.declared.lines.LineFault.TheVariants as line
-use Rattle.pool_io.specs.Faults.{Rose}
-use Rattle.request_book.specs.Book.{BookView, IsBook, next_position}
-use Rattle.request_book.specs.Replay.{state_after}
-use Rattle.request_book.specs.declared.journal.Entry.{Entry}
-use Rattle.rider_limits.specs.declared.settings.Settings.{Settings}
-use Rattle.rider_notices.specs.Told.{HaveHeard}
-use Rattle.rider_notices.proofs.lemmas.HeardLemmas.{all-heard-nothing}
-use Rattle.road_network.specs.Roads.{Roads}
-use Rattle.script_rows.specs.Line.{IsBehind}
-use Rattle.script_rows.specs.declared.line.Line.{Line}
-use Rattle.script_rows.specs.lemmas.Named.{rounds_of}
-use Rattle.live_dispatch.specs.Live.{journals_notices, journals_text}
-use Rattle.live_dispatch.specs.declared.fault.LiveFault.{LiveFault}
-use Rattle.live_dispatch.specs.declared.fault.LiveFault.TheVariants as live
-use Rattle.live_dispatch.specs.work.Rows.{EndsIn, last_of}
-use Rattle.live_dispatch.specs.work.Standing.{AppendsSome, Awaits, GivesNext, HasEnded, HasTaken, HaveCome, Moment, Opens, Stands, WritesSome, of_line, of_report, outputs_of, row_text}
 use Rattle.live_dispatch.proofs.EndLemmas.{begun-ended, stood-ended}
 use Rattle.live_dispatch.proofs.StepLemmas.{row-begins}
+use Rattle.dispatch_report.specs.declared.fault.ReportFault.TheVariants as report
+use Rattle.live_rows.specs.declared.lines.LineFault.TheVariants as line
+use Rattle.live_dispatch.specs.declared.fault.LiveFault.TheVariants as live
 
 -- what holds between two rows
 pub record IsBetween (settings : Settings) (roads : Roads) (start now : Moment) (came : ℕ) (held : Option Line) (proof : Bool) : Type 0 where

@@ -1,21 +1,7 @@
 -- What is written of a text.
 use Rattle.std.proofs.Common.{◌≡◌, ◌≢◌, ℕ, Bool, cond, List, [], ◌∷◌, ◌++◌, length, take, drop, Option, None, Some, Result, Ok, Err, sym, ap, subst, ◌∙◌, append_assoc, append-nil, take-append-drop, length-append, arith}
-use Rattle.std.proofs.Math.Seq.{take-append_seam}
-use Rattle.std.specs.Io.KnownBytes.{Appends}
+use Rattle.live_dispatch.proofs.Common.{take-append_seam, Appends, Appends-trans, entry_text, round_line, Change, SinkView, WritesText, ReportFault, Rose, AppendsPart, BookView, next_position, step, Command, Reply, State, start_text, AppendsSome, WritesSome, entry_for}
 use Rattle.std.proofs.lemmas.Bool.{ne_eqb}
-use Rattle.std.proofs.KnownBytes.{Appends-trans}
-use Rattle.dispatch_report.specs.Round.{entry_text, round_line}
-use Rattle.dispatch_report.specs.Written.{Change, SinkView, WritesText}
-use Rattle.dispatch_report.specs.declared.fault.ReportFault.{ReportFault}
-use Rattle.pool_io.specs.Faults.{Rose}
-use Rattle.pool_io.specs.Sink.{AppendsPart}
-use Rattle.request_book.specs.Book.{BookView, next_position}
-use Rattle.request_book.specs.Step.{step}
-use Rattle.request_book.specs.declared.command.Command.{Command}
-use Rattle.request_book.specs.declared.reply.Reply.{Reply}
-use Rattle.request_book.specs.declared.state.State.{State}
-use Rattle.live_dispatch.specs.work.Rows.{start_text}
-use Rattle.live_dispatch.specs.work.Standing.{AppendsSome, WritesSome, entry_for}
 
 pub part-some : (old new : Option (List ℕ)) (text : List ℕ) → AppendsPart old new text → AppendsSome old new text
 part-some old new text part = record { written = take part.0 text; unwritten = drop part.0 text; parts = take-append-drop part.0 text; bytes = part.2 }

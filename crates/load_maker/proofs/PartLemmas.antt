@@ -1,12 +1,7 @@
 use Rattle.std.proofs.Common.{◌≡◌, ℕ, ◌+◌, List, [], ◌∷◌, ◌++◌, refl, sym, ap, subst, ◌∙◌}
+use Rattle.load_maker.proofs.Common.{Stream, Field, csv_line, csv_lines, nothing, Part, plain, both, each, Writes}
 use Rattle.std.proofs.lemmas.List.{append-nil, append_assoc}
 use Rattle.std.proofs.lemmas.List.Concat.{flat_map-append}
-use Rattle.rand_core.specs.Stream.{Stream}
-use Rattle.load_maker.specs.declared.row.Field.{Field}
-use Rattle.load_maker.specs.Row.{csv_line}
-use Rattle.load_maker.specs.lemmas.Parts.{csv_lines, nothing}
-use Rattle.load_maker.specs.Part.{Part, plain, both, each}
-use Rattle.load_maker.specs.work.Written.{Writes}
 
 -- the text of one row
 pub one_row : (row : List Field) → csv_line row ≡ csv_lines (row ∷ [])

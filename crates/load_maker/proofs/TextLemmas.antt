@@ -1,12 +1,7 @@
 use Rattle.std.proofs.Common.{◌≡◌, ℕ, List, [], ◌∷◌, ◌++◌, ap, ◌∙◌}
+use Rattle.load_maker.proofs.Common.{Stream, Field, text_under, csv_lines, draws_of, network_part, fleet_part, script_part, arcs_right, arcs_down, arcs_of_row, Writes, Texts, texts_of}
 use Rattle.std.proofs.lemmas.List.{append_assoc}
-use Rattle.rand_core.specs.Stream.{Stream}
 use Rattle.rider_limits.specs.declared.load_shape.LoadShape.{LoadShape}
-use Rattle.load_maker.specs.declared.row.Field.{Field}
-use Rattle.load_maker.specs.Row.{text_under}
-use Rattle.load_maker.specs.lemmas.Parts.{csv_lines, draws_of, network_part, fleet_part, script_part, arcs_right, arcs_down, arcs_of_row}
-use Rattle.load_maker.specs.work.Written.{Writes}
-use Rattle.load_maker.specs.Texts.{Texts, texts_of}
 use Rattle.pool_base.specs.Header.{script_header, fleet_header, network_header}
 
 made_of : List (List Field) → List (List Field) → List (List Field) → Texts

@@ -1,21 +1,16 @@
 use Rattle.std.proofs.Common.{◌≡◌, ℕ, suc, ◌<◌, ◌≤◌, ◌^◌, false, cond, List, [], ◌∷◌, ◌++◌, Some, map, length, decimal, refl, sym, ap, ◌∙◌, arith}
-use Rattle.std.specs.List.{list_any}
-use Rattle.std.proofs.lemmas.Bool.{ne_eqb, or_from}
+use Rattle.made_inputs.proofs.Common.{list_any, or_from, next_record, default_config, number_up_to, Field, field_text, csv_line}
+use Rattle.std.proofs.lemmas.Bool.{ne_eqb}
 use Rattle.std.proofs.lemmas.List.{append-nil, append_assoc}
 use Rattle.std.proofs.lemmas.Str.Parse.{IsNumeralModel, numerals_by_fold, tells_by_index}
 use Rattle.std.proofs.lemmas.Fmt.{decimal_nonempty, digits_decimal, digits_value-decimal}
-use Rattle.csv.specs.Machine.{next_record}
-use Rattle.csv.specs.Reading.{default_config}
 use Rattle.csv.specs.Writing.{default_writer, field_text as written, fields_text, needs_byte, quoted, is_blank, row_text as written_row}
-use Rattle.csv.specs.declared.parser.State.TheVariants as st
 use Rattle.csv.proofs.RoundTrip.{read-write-many}
 use Rattle.pool_base.specs.Number.{IsDigit, AllDigits, IsNumeralOf}
 use Rattle.pool_base.specs.lemmas.Number.{value_after}
-use Rattle.pool_base.specs.Numeral.{number_up_to}
 use Rattle.pool_base.proofs.lemmas.NumeralLemmas.{is_numeral-digits, number_up_to-given}
-use Rattle.load_maker.specs.declared.row.Field.{Field}
 use Rattle.load_maker.specs.declared.row.Field.TheVariants.{Number, Report, Submit, Seal, Empty}
-use Rattle.load_maker.specs.Row.{field_text, csv_line}
+use Rattle.csv.specs.declared.parser.State.TheVariants as st
 
 -- numerals are read as std reads them
 own : IsNumeralModel AllDigits (value_after 0)

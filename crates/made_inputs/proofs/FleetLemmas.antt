@@ -1,30 +1,19 @@
 use Rattle.std.proofs.Common.{◌≡◌, ℕ, zero, suc, ◌+◌, ◌*◌, ◌%◌, ◌<◌, ◌≤◌, ◌==◌, true, false, cond, List, [], ◌∷◌, ◌++◌, Some, Result, Ok, Err, map, length, take, get_or, unwrap_or, inl, inr, decimal, refl, sym, ap, subst, ◌∙◌, arith}
+use Rattle.made_inputs.proofs.Common.{cases_eq, get_or_default, length-map, length_push, get_or-map, get_or_at, get_or_append_left, list_any_none, mod_below, Stream, next_u64, ◌>>=◌, refused_where, all_or_first, number_up_to, number_at, nodes_of, has_node, LoadShape, Field, draw, Part, each, draws_of, fleet_part, network_part, drawn_node, vehicle_row}
 use Rattle.std.specs.List.Sorted.{IsStrictlyIncreasing}
-use Rattle.std.proofs.lemmas.Bool.{cases_eq, le-ltb, ne_eqb}
-use Rattle.std.proofs.lemmas.List.{get_or-take, get_or_default, length-take-le, length-append, length-map, length_push, get_or-map, get_or_at, get_or_append_left}
-use Rattle.std.proofs.lemmas.List.Folds.{list_any_none}
-use Rattle.std.proofs.lemmas.Nat.{mod_below}
+use Rattle.std.proofs.lemmas.Bool.{le-ltb, ne_eqb}
+use Rattle.std.proofs.lemmas.List.{get_or-take, length-take-le, length-append}
 use Rattle.std.proofs.Math.Nat.{mul-le-mul}
-use Rattle.rand_core.specs.Stream.{Stream, next_u64}
-use Rattle.pool_base.specs.InOrder.{◌>>=◌, refused_where, all_or_first}
-use Rattle.pool_base.specs.Numeral.{number_up_to, number_at}
 use Rattle.batch_snapshot.specs.declared.vehicle.Vehicle.{Vehicle}
-use Rattle.road_network.specs.Reading.{nodes_of}
 use Rattle.fleet_state.specs.declared.fault.FleetFault.TheVariants.{TooManyVehicles, Duplicate}
 use Rattle.fleet_state.specs.Vehicle.{vehicle_in}
 use Rattle.fleet_state.specs.lemmas.Named.{empty_vehicle, is_repeated}
-use Rattle.road_network.specs.Roads.{has_node}
 use Rattle.fleet_state.specs.Fleet.{vehicle_of_row, IsFleetOf}
-use Rattle.rider_limits.specs.declared.load_shape.LoadShape.{LoadShape}
-use Rattle.load_maker.specs.declared.row.Field.{Field}
-use Rattle.load_maker.specs.declared.row.Field.TheVariants as field
-use Rattle.load_maker.specs.Part.{draw, Part, each}
-use Rattle.load_maker.specs.lemmas.Parts.{draws_of, fleet_part, network_part}
-use Rattle.load_maker.specs.Texts.{drawn_node, vehicle_row}
 use Rattle.made_inputs.proofs.FieldLemmas.{AllFit, number_up_to-decimal}
 use Rattle.made_inputs.proofs.TextLemmas.{fields_of, RowsFit}
 use Rattle.made_inputs.proofs.NetworkLemmas.{network_rows}
 use Rattle.made_inputs.proofs.NodeLemmas.{node_known}
+use Rattle.load_maker.specs.declared.row.Field.TheVariants as field
 
 -- a row of a vehicle of four seats at one of these nodes
 pub record IsVehicle (nodes : List ℕ) (id : ℕ) (row : List Field) : Type 0 where

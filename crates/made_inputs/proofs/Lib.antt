@@ -6,3 +6,4 @@ pub mod FleetLemmas
 pub mod ScriptLemmas
 pub mod ShapeLemmas
 pub mod ReadLemmas
+pub mod Common

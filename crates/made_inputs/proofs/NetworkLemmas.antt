@@ -1,26 +1,13 @@
 use Rattle.std.proofs.Common.{◌≡◌, ℕ, zero, suc, ◌+◌, ◌*◌, ◌<◌, ◌≤◌, ◌%◌, ◌^◌, Bool, true, false, cond, ltb, List, [], ◌∷◌, ◌++◌, Some, None, Ok, Err, map, length, take, get_or, decimal, ◌-◌, refl, sym, ap, subst, ◌∙◌, arith}
+use Rattle.made_inputs.proofs.Common.{option_or, length-map, get_or-map, mod_below, Stream, next_u64, number_up_to, length-distinct, first_fault-all, most_nodes, most_arcs, longest_arc, greatest_name, nodes_of, field_refusal, refusal_at, network_of, unless_refused, names_in, roads_of, first_refusal, LoadShape, Field, draw, Part, both, each, draws_of, nothing, arcs_right, arcs_down, arcs_of_row, network_part, node_id, arcs_between}
 use Rattle.std.specs.List.{flat_map}
-use Rattle.std.specs.Option.{option_or}
 use Rattle.std.proofs.lemmas.Bool.{le-ltb}
-use Rattle.std.proofs.lemmas.List.{length-append, length-map, get_or-map, length-take-le}
-use Rattle.std.proofs.lemmas.Nat.{mod_below}
+use Rattle.std.proofs.lemmas.List.{length-append, length-take-le}
 use Rattle.std.proofs.Math.Nat.{mul-le-mul, suc-mul}
-use Rattle.rand_core.specs.Stream.{Stream, next_u64}
-use Rattle.pool_base.specs.Numeral.{number_up_to}
-use Rattle.pool_base.proofs.lemmas.DistinctLemmas.{length-distinct}
-use Rattle.pool_base.proofs.lemmas.InOrderLemmas.{first_fault-all}
-use Rattle.road_network.specs.lemmas.Limits.{most_nodes, most_arcs, longest_arc, greatest_name}
-use Rattle.road_network.specs.Reading.{nodes_of, field_refusal, refusal_at, network_of}
-use Rattle.road_network.specs.lemmas.Rows.{unless_refused, names_in, roads_of, first_refusal}
 use Rattle.road_network.specs.declared.fault.NetworkFault.TheVariants.{TooManyArcs, TooManyNodes}
-use Rattle.rider_limits.specs.declared.load_shape.LoadShape.{LoadShape}
-use Rattle.load_maker.specs.declared.row.Field.{Field}
-use Rattle.load_maker.specs.declared.row.Field.TheVariants as field
-use Rattle.load_maker.specs.Part.{draw, Part, both, each}
-use Rattle.load_maker.specs.lemmas.Parts.{draws_of, nothing, arcs_right, arcs_down, arcs_of_row, network_part}
-use Rattle.load_maker.specs.Texts.{node_id, arcs_between}
 use Rattle.made_inputs.proofs.FieldLemmas.{AllFit, number_up_to-decimal}
 use Rattle.made_inputs.proofs.TextLemmas.{fields_of, RowsFit}
+use Rattle.load_maker.specs.declared.row.Field.TheVariants as field
 
 -- a row of an arc: two names of nodes, and its seconds
 pub record IsArc (row : List Field) : Type 0 where

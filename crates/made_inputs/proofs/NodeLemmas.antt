@@ -1,26 +1,14 @@
 use Rattle.std.proofs.Common.{◌≡◌, ℕ, zero, suc, ◌+◌, ◌*◌, ◌/◌, ◌%◌, ◌<◌, ◌≤◌, ◌==◌, Bool, true, false, ◌||◌, cond, ltb, List, [], ◌∷◌, Some, map, inl, inr, decimal, unwrap_or, refl, sym, ap, subst, ◌∙◌, arith}
-use Rattle.std.specs.List.{list_any, flat_map}
-use Rattle.std.proofs.lemmas.Bool.{lt-ltb, ltb-false, ltb-true, eq-eqb, false≢true, or_cases, or_left, or_right}
-use Rattle.std.proofs.lemmas.List.Folds.{list_any-append}
-use Rattle.std.proofs.lemmas.Nat.{mod_below, div-add-mod'}
+use Rattle.made_inputs.proofs.Common.{list_any, false≢true, or_cases, or_left, or_right, list_any-append, mod_below, Stream, number_up_to, number_at, has_node, greatest_name, nodes_of, names_in, any-distinct, LoadShape, Field, draw, Part, both, each, draws_of, nothing, arcs_right, arcs_down, arcs_of_row, network_part, node_id, arcs_between}
+use Rattle.std.specs.List.{flat_map}
+use Rattle.std.proofs.lemmas.Bool.{lt-ltb, ltb-false, ltb-true, eq-eqb}
+use Rattle.std.proofs.lemmas.Nat.{div-add-mod'}
 use Rattle.std.proofs.Math.Bool.{or-true}
 use Rattle.std.proofs.Math.Nat.{div-lt_iff_lt-mul}
-use Rattle.rand_core.specs.Stream.{Stream}
-use Rattle.pool_base.specs.Numeral.{number_up_to, number_at}
-use Rattle.road_network.specs.Roads.{has_node}
-use Rattle.road_network.specs.lemmas.Limits.{greatest_name}
-use Rattle.road_network.specs.Reading.{nodes_of}
-use Rattle.road_network.specs.lemmas.Rows.{names_in}
-use Rattle.pool_base.proofs.lemmas.DistinctLemmas.{any-distinct}
-use Rattle.rider_limits.specs.declared.load_shape.LoadShape.{LoadShape}
-use Rattle.load_maker.specs.declared.row.Field.{Field}
-use Rattle.load_maker.specs.declared.row.Field.TheVariants as field
-use Rattle.load_maker.specs.Part.{draw, Part, both, each}
-use Rattle.load_maker.specs.lemmas.Parts.{draws_of, nothing, arcs_right, arcs_down, arcs_of_row, network_part}
-use Rattle.load_maker.specs.Texts.{node_id, arcs_between}
 use Rattle.made_inputs.proofs.FieldLemmas.{number_up_to-decimal}
 use Rattle.made_inputs.proofs.TextLemmas.{fields_of}
 use Rattle.made_inputs.proofs.NetworkLemmas.{network_rows, node_small}
+use Rattle.load_maker.specs.declared.row.Field.TheVariants as field
 
 -- whether a row's arc starts at a node
 abbrev pub starts_at : ℕ → List Field → Bool

@@ -1,10 +1,5 @@
 use Rattle.std.proofs.Common.{◌≡◌, ℕ, List, Result, Ok, Err, sym, ap, subst, ◌∙◌}
-use Rattle.pool_io.specs.Table.{Table, table_of}
-use Rattle.road_network.specs.Roads.{Roads}
-use Rattle.road_network.specs.Reading.{network_of}
-use Rattle.load_maker.specs.Texts.{Texts}
-use Rattle.pool_base.specs.Header.{network_header}
-use Rattle.made_inputs.specs.Accepted.{AreReadable, IsNetworkText, IsFleetText, IsScriptText}
+use Rattle.made_inputs.proofs.Common.{Table, table_of, Roads, network_of, Texts, network_header, AreReadable, IsNetworkText, IsFleetText, IsScriptText}
 use Rattle.made_inputs.specs.work.Some.{AreSomeRounds, IsSomeFleet, IsSomeNetwork}
 
 value_or : {A E : Type 0} → A → Result A E → A

@@ -1,14 +1,9 @@
 use Rattle.std.proofs.Common.{◌≡◌, ℕ, zero, suc, ◌+◌, ◌-◌, ◌*◌, ◌%◌, ◌<◌, ◌≤◌, Bool, true, false, cond, ltb, List, [], ◌∷◌, ◌++◌, Some, Ok, Err, map, length, get_or, unwrap_or, decimal, refl, sym, ap, ◌∙◌, arith}
+use Rattle.made_inputs.proofs.Common.{length-map, mod_below, Stream, next_u64, ◌>>=◌, all_or_first, number_up_to, number_at, all_or_first-all, LoadShape, Field, draw, Part, plain, both, each, draws_of, nothing, all_reports, other_than, seal_row, reports, submits, script_part, fleet_part, network_part, drawn_node, report_row, submit_row, batch_rows}
 use Rattle.std.proofs.lemmas.Bool.{le-ltb}
-use Rattle.std.proofs.lemmas.List.{length-append, length-map}
-use Rattle.std.proofs.lemmas.Nat.{mod_below}
+use Rattle.std.proofs.lemmas.List.{length-append}
 use Rattle.std.proofs.Math.Nat.{mul-le-mul, suc-mul}
-use Rattle.rand_core.specs.Stream.{Stream, next_u64}
-use Rattle.pool_base.specs.InOrder.{◌>>=◌, all_or_first}
-use Rattle.pool_base.specs.Numeral.{number_up_to, number_at}
-use Rattle.pool_base.proofs.lemmas.InOrderLemmas.{all_or_first-all}
 use Rattle.request_book.specs.declared.command.Command.{Command}
-use Rattle.request_book.specs.declared.command.Command.TheVariants as command
 use Rattle.script_rows.specs.declared.fault.ScriptFault.TheVariants.{TooManyRows}
 use Rattle.script_rows.specs.declared.version.ScriptVersion.TheVariants.{One}
 use Rattle.script_rows.specs.Word.{word_of}
@@ -16,15 +11,11 @@ use Rattle.script_rows.specs.Line.{party_in, submit_in, three_in, command_in, le
 use Rattle.script_rows.specs.Round.{NumberedLanes}
 use Rattle.script_rows.specs.Script.{round_before, script_of}
 use Rattle.script_rows.specs.lemmas.Named.{line_at, rounds_of}
-use Rattle.rider_limits.specs.declared.load_shape.LoadShape.{LoadShape}
-use Rattle.load_maker.specs.declared.row.Field.{Field}
-use Rattle.load_maker.specs.declared.row.Field.TheVariants as field
-use Rattle.load_maker.specs.Part.{draw, Part, plain, both, each}
-use Rattle.load_maker.specs.lemmas.Parts.{draws_of, nothing, all_reports, other_than, seal_row, reports, submits, script_part, fleet_part, network_part}
-use Rattle.load_maker.specs.Texts.{drawn_node, report_row, submit_row, batch_rows}
 use Rattle.made_inputs.proofs.FieldLemmas.{AllFit, number_up_to-decimal}
 use Rattle.made_inputs.proofs.TextLemmas.{fields_of, RowsFit}
 use Rattle.made_inputs.proofs.FleetLemmas.{drawn_small}
+use Rattle.request_book.specs.declared.command.Command.TheVariants as command
+use Rattle.load_maker.specs.declared.row.Field.TheVariants as field
 
 -- the row of a command of this round, which is accepted behind a row of this round or an earlier one
 pub record IsLine (round : ℕ) (row : List Field) : Type 0 where

@@ -1,13 +1,6 @@
 use Rattle.std.proofs.Common.{List, map, arith}
-use Rattle.road_network.specs.Reading.{nodes_of}
-use Rattle.road_network.specs.lemmas.Rows.{roads_of}
-use Rattle.rider_limits.specs.declared.load_shape.LoadShape.{LoadShape}
+use Rattle.made_inputs.proofs.Common.{nodes_of, roads_of, LoadShape, Field, arcs_right, arcs_down, arcs_of_row, network_part, fleet_part, script_part, texts_of, script_header, fleet_header, network_header, AreReadable}
 use Rattle.rider_limits.specs.Range.{IsShapeInRange}
-use Rattle.load_maker.specs.declared.row.Field.{Field}
-use Rattle.load_maker.specs.lemmas.Parts.{arcs_right, arcs_down, arcs_of_row, network_part, fleet_part, script_part}
-use Rattle.load_maker.specs.Texts.{texts_of}
-use Rattle.pool_base.specs.Header.{script_header, fleet_header, network_header}
-use Rattle.made_inputs.specs.Accepted.{AreReadable}
 use Rattle.made_inputs.proofs.TextLemmas.{fields_of, IsHeader-network, IsHeader-fleet, IsHeader-script, table_of-under}
 use Rattle.made_inputs.proofs.NetworkLemmas.{network_rows, network_accepted}
 use Rattle.made_inputs.proofs.FleetLemmas.{GiveFleet, fleet_rows, fleet_accepted}

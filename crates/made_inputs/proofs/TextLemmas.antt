@@ -1,19 +1,11 @@
 use Rattle.std.proofs.Common.{◌≡◌, ◌≢◌, ℕ, zero, suc, ◌+◌, ◌<◌, ◌≤◌, true, not, cond, eqb, List, [], ◌∷◌, ◌++◌, Some, None, Ok, Err, map, length, refl, ap, ◌∙◌, add-one, arith}
-use Rattle.std.specs.List.{position_from}
-use Rattle.std.specs.Option.{option_map_or}
+use Rattle.made_inputs.proofs.Common.{position_from, option_map_or, length-map, next_record, default_config, records_from, records_next, records, strip_bom, header_fields, rows_under, table_of, Field, field_text, text_under, csv_line, csv_lines, script_header, fleet_header, network_header}
 use Rattle.std.proofs.lemmas.Bool.{eq-eqb}
-use Rattle.std.proofs.lemmas.List.{length-append, length-map}
-use Rattle.csv.specs.Machine.{next_record}
-use Rattle.csv.specs.Reading.{default_config, records_from, records_next, records, strip_bom}
-use Rattle.csv.specs.declared.parser.State.TheVariants as st
+use Rattle.std.proofs.lemmas.List.{length-append}
 use Rattle.pool_io.specs.declared.records.RowFault.TheVariants.{Header, UnequalLength}
-use Rattle.pool_io.specs.Table.{header_fields, rows_under, table_of}
 use Rattle.pool_io.specs.lemmas.Records.{records_of, is_record, even_rows}
-use Rattle.load_maker.specs.declared.row.Field.{Field}
-use Rattle.load_maker.specs.Row.{field_text, text_under, csv_line}
-use Rattle.load_maker.specs.lemmas.Parts.{csv_lines}
-use Rattle.pool_base.specs.Header.{script_header, fleet_header, network_header}
 use Rattle.made_inputs.proofs.FieldLemmas.{AllFit, row_read}
+use Rattle.csv.specs.declared.parser.State.TheVariants as st
 
 -- the texts of a row's fields
 abbrev pub fields_of : List Field → List (List ℕ)

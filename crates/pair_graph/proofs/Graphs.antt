@@ -1,11 +1,5 @@
 use Rattle.std.proofs.Common.{ℕ, List}
-use Rattle.stop_orders.specs.declared.settled.Settled.{Settled}
-use Rattle.stop_orders.specs.Settled.{IsRvEdge, IsRrEdge}
-use Rattle.pair_graph.specs.declared.rv_edge.RvEdge.{RvEdge}
-use Rattle.pair_graph.specs.RvGraph.{no_edge}
-use Rattle.pair_graph.specs.lemmas.Edge.{pair_of}
-use Rattle.pair_graph.specs.work.RvGraph.{IsRvGraphUpTo}
-use Rattle.pair_graph.specs.work.RrGraph.{IsRrGraphUpTo}
+use Rattle.pair_graph.proofs.Common.{Settled, IsRvEdge, IsRrEdge, RvEdge, no_edge, pair_of, IsRvGraphUpTo, IsRrGraphUpTo}
 use Rattle.pair_graph.proofs.lemmas.Listing.{ListsBefore}
 
 abbrev pub RvLists : (ℕ → ℕ → ℕ) → Settled → ℕ → ℕ → List RvEdge → Type 0

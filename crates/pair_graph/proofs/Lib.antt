@@ -1,3 +1,4 @@
 pub mod lemmas
 pub mod Graphs
 pub mod PairTasks
+pub mod Common

@@ -1,20 +1,15 @@
 use Rattle.std.proofs.Common.{◌≡◌, ℕ, zero, suc, ⊎_elim, inr, Option, Some, None, ◌+◌, ◌<◌, ◌≤◌, min, List, [], ◌∷◌, length, map, get_or, refl, sym, ap, ◌∙◌, subst, arith, eqb, Bool, true, false, cond}
+use Rattle.pair_graph.proofs.Common.{get_or_default, All-nil, Settled, Task, IsTask, IsLeg, IsServable, Serves, no_leg, IsTrip, IsRrEdge, pair_task, trip_task, IsRvEdge, rider_at, no_rider, no_vehicle, greatest}
 use Rattle.std.specs.List.{filter}
-use Rattle.std.proofs.lemmas.List.{get_or_default}
-use Rattle.std.proofs.lemmas.List.Elements.{All-nil}
 use Rattle.std.proofs.lemmas.Bool.Decides.{Decides-eqb}
 use Rattle.stop_orders.specs.declared.stop.Stop.{Stop}
 use Rattle.stop_orders.specs.declared.stop.Stop.TheVariants.{Pick, Drop, Alight}
-use Rattle.stop_orders.specs.declared.settled.Settled.{Settled}
 use Rattle.stop_orders.specs.declared.settled_vehicle.SettledVehicle.{SettledVehicle}
 use Rattle.stop_orders.specs.declared.settled_rider.SettledRider.{SettledRider}
 use Rattle.std.specs.Bool.{MatchBool}
 use Rattle.std.specs.Option.{IfSome, IfNone, is_some}
-use Rattle.stop_orders.specs.declared.task.Task.{Task}
 use Rattle.stop_orders.specs.declared.route.Route.{Route}
 use Rattle.stop_orders.specs.Order.{IsOrder, is_of_rider}
-use Rattle.stop_orders.specs.Task.{IsTask, IsLeg, IsServable, Serves, no_leg}
-use Rattle.stop_orders.specs.Settled.{IsTrip, IsRrEdge, pair_task, trip_task, IsRvEdge, rider_at, no_rider, no_vehicle, greatest}
 use Rattle.stop_orders.specs.Sound.{IsSound}
 
 -- what is read of a rider is what stands at its number

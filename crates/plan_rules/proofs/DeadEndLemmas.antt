@@ -1,16 +1,10 @@
 -- Marks on riders of usable and of sole rows.
 use Rattle.std.proofs.Common.{◌≡◌, ◌⊎◌, ◌||◌, ℕ, ◌+◌, ◌<◌, ◌≤◌, Bool, true, false, List, length, get_or, refl, sym, ◌∙◌, subst, ⊎_elim, arith}
-use Rattle.std.specs.List.{list_any}
-use Rattle.std.proofs.lemmas.Bool.{cases_eq, cases_lt, or_cases, or_left, or_right, both_ways}
-use Rattle.std.proofs.lemmas.List.{get_or_past}
-use Rattle.plan_rules.specs.Graph.{Graph, row_at, riders_at, row_vehicle, has_rider, choice_at, must_be_served, times_served, IsGraphRow, IsRowOf, IsGoodGraph}
-use Rattle.plan_rules.specs.Multipliers.{Usable}
-use Rattle.plan_rules.specs.Tree.{IsSoleRow, IsClash, IsStranded}
+use Rattle.plan_rules.proofs.Common.{list_any, cases_eq, cases_lt, or_cases, or_left, or_right, both_ways, get_or_past, Graph, row_at, riders_at, row_vehicle, has_rider, choice_at, must_be_served, times_served, IsGraphRow, IsRowOf, IsGoodGraph, Usable, IsSoleRow, IsClash, IsStranded, StandsInUsable, MarksSole}
 use Rattle.plan_rules.proofs.lemmas.GraphLemmas.{rider_below, in_choice, times_served_found}
 use Rattle.plan_rules.proofs.lemmas.PlanLemmas.{own_row, held_own}
 use Rattle.plan_rules.proofs.lemmas.MarkLemmas.{any_marked, marked_one}
 use Rattle.std.proofs.lemmas.Bool.{ltb-true}
-use Rattle.plan_rules.specs.work.DeadEnd.{StandsInUsable, MarksSole}
 
 -- the marks with those of a row's riders added
 pub record AddsRow (g : Graph) (k : ℕ) (old new : List Bool) : Type 0 where

@@ -1,3 +1,4 @@
 pub mod lemmas
 pub mod RowLemmas
 pub mod DeadEndLemmas
+pub mod Common

@@ -1,10 +1,6 @@
 -- Rows: rising riders, and the order of vehicles.
 use Rattle.std.proofs.Common.{◌≡◌, ◌==◌, ◌⊎◌, ℕ, zero, suc, ◌+◌, ◌-◌, ◌<◌, ◌≤◌, true, false, List, [], ◌∷◌, ◌++◌, length, get_or, eqb, not, Ordering, Less, Equal, Greater, nat_cmp, refl, sym, ap, ◌∙◌, subst, inl, inr, ⊎_elim, arith}
-use Rattle.std.specs.Ordering.{ordering_then, ordering_index}
-use Rattle.std.proofs.lemmas.List.{get_or_push, get_or_append_left}
-use Rattle.std.proofs.lemmas.Bool.{cases_eq, cases_lt, both_ways}
-use Rattle.std.proofs.lemmas.Bool.Decides.{nat_tests}
-use Rattle.plan_rules.specs.Graph.{Graph, row_at, row_vehicle, IsInOrder, AreRisingBelow, IsStartOf, row_cmp}
+use Rattle.plan_rules.proofs.Common.{ordering_then, ordering_index, get_or_push, get_or_append_left, cases_eq, cases_lt, both_ways, nat_tests, Graph, row_at, row_vehicle, IsInOrder, AreRisingBelow, IsStartOf, row_cmp}
 use Rattle.plan_rules.specs.GraphFault.{HasRowsInOrder, IsFirstUnordered}
 
 -- the first i numbers rise and are below `riders`, and `least` is one above the last of them

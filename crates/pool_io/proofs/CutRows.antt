@@ -1,11 +1,7 @@
 -- A flat list of fields, cut into rows.
 use Rattle.std.proofs.Common.{◌≡◌, ℕ, zero, suc, ◌+◌, ◌*◌, ◌<◌, ◌≤◌, ◌==◌, not, List, [], ◌∷◌, ◌++◌, Some, None, length, get_or, take, drop, refl, sym, ap, ◌∙◌, arith, true, Bool, inl, inr, length-drop, length-take}
-use Rattle.std.proofs.lemmas.List.{take_all, take-append-le, drop-append-le, get_or-take, get_or-drop, nil_from_length}
-use Rattle.std.proofs.lemmas.Bool.{cases_Bool}
-use Rattle.std.proofs.lemmas.Option.{none-some}
-use Rattle.std.proofs.lemmas.Bool.Decides.{nat_tests}
-use Rattle.std.specs.List.{position_from}
-use Rattle.pool_io.specs.work.Cutting.{cut_rows}
+use Rattle.pool_io.proofs.Common.{take-append-le, drop-append-le, nil_from_length, cases_Bool, none-some, nat_tests, position_from, cut_rows}
+use Rattle.std.proofs.lemmas.List.{take_all, get_or-take, get_or-drop}
 
 pub length-cut_rows : (count columns : ℕ) (fields : List (List ℕ)) → length (cut_rows count columns fields) ≡ count
 length-cut_rows zero columns fields = refl

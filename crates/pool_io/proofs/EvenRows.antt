@@ -1,12 +1,7 @@
 -- What is read of rows so far, and where it ends.
 use Rattle.std.proofs.Common.{◌≡◌, ◌≢◌, ℕ, ◌+◌, ◌*◌, ◌==◌, List, [], ◌∷◌, ◌++◌, Ok, Err, not, true, length, refl, ap, ◌∙◌, arith, append_assoc}
-use Rattle.std.proofs.lemmas.Bool.Decides.{nat_tests}
+use Rattle.pool_io.proofs.Common.{nat_tests, Reader, records_of, even_rows, cut_rows, HasRead, UnequalLength}
 use Rattle.std.specs.Borrow.{Bor}
-use Rattle.csv.specs.declared.reader.Reader.{Reader}
-use Rattle.pool_io.specs.lemmas.Records.{records_of, even_rows}
-use Rattle.pool_io.specs.work.Cutting.{cut_rows}
-use Rattle.pool_io.specs.work.Progress.{HasRead}
-use Rattle.pool_io.specs.declared.records.RowFault.TheVariants.{UnequalLength}
 use Rattle.pool_io.proofs.CutRows.{position_from-cut_rows, position_from-first, length-cut_rows}
 use Rattle.pool_io.proofs.RecordList.{records_of-begin}
 

@@ -1,7 +1,6 @@
 -- The field that a record gives at a place.
-use Rattle.std.proofs.Common.{◌≡◌, ℕ, ◌<◌, List, [], Option, Some, None, Bor, length, get_or, refl, sym}
-use Rattle.std.specs.Prelude.{option_map, IsSome}
-use Rattle.csv.specs.Records.{field_at}
+use Rattle.std.proofs.Common.{◌≡◌, ℕ, ◌<◌, List, [], Option, Some, None, Bor, length, get_or, refl, sym, option_map, IsSome}
+use Rattle.pool_io.proofs.Common.{field_at}
 use Rattle.csv.proofs.RecordFacts.{field-get, field-there}
 
 pub field_is_there : (found : Option (Bor (List ℕ))) (fields : List (List ℕ)) (place : ℕ) → place < length fields → option_map (λ (s : Bor (List ℕ)). s.now) found ≡ field_at fields place → IsSome found

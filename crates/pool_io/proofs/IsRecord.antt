@@ -1,7 +1,6 @@
 -- When two records are told to be equal.
 use Rattle.std.proofs.Common.{◌≡◌, ℕ, List, Bool, true, false, refl}
-use Rattle.std.proofs.lemmas.Slice.Eq.{bytes_eq-Decides, slice_eq-Decides}
-use Rattle.pool_io.specs.lemmas.Records.{is_record}
+use Rattle.pool_io.proofs.Common.{bytes_eq-Decides, slice_eq-Decides, is_record}
 
 pub is_record-same : (fields others : List (List ℕ)) → fields ≡ others → is_record fields others ≡ true
 is_record-same fields others same = (slice_eq-Decides bytes_eq-Decides fields others (is_record fields others) refl).1 same

@@ -7,3 +7,4 @@ pub mod NextRecord
 pub mod IsRecord
 pub mod EvenRows
 pub mod UnderHeader
+pub mod Common

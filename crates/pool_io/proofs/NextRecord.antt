@@ -1,13 +1,9 @@
 -- How one more read of a record goes on.
-use Rattle.std.proofs.Common.{◌≡◌, ℕ, List, [], ◌∷◌, ◌++◌, Some, Bool, true, false, Bor, inl, ◌∙◌}
-use Rattle.std.specs.Prelude.{MatchBool}
-use Rattle.csv.specs.Reading.{ReadRecord, default_config, strip_bom}
-use Rattle.csv.specs.declared.reader.Reader.{Reader}
-use Rattle.csv.specs.declared.parser.State.TheVariants as st
+use Rattle.std.proofs.Common.{◌≡◌, ℕ, List, [], ◌∷◌, ◌++◌, Some, Bool, true, false, Bor, inl, ◌∙◌, MatchBool}
+use Rattle.pool_io.proofs.Common.{ReadRecord, default_config, strip_bom, Reader, records_of, HasRead}
 use Rattle.csv.proofs.ReadFacts.{rows-end, rows-more}
-use Rattle.pool_io.specs.lemmas.Records.{records_of}
-use Rattle.pool_io.specs.work.Progress.{HasRead}
 use Rattle.pool_io.proofs.RecordList.{records_of-all}
+use Rattle.csv.specs.declared.parser.State.TheVariants as st
 
 pub read_on : (bytes : List ℕ) (rows : List (List (List ℕ))) (old new : Reader (Bor (List ℕ))) (found : Bool) (fields : List (List ℕ))
     → HasRead bytes rows old → ReadRecord (λ (text : Bor (List ℕ)). Some text.now) old new found fields → (new.first ≡ true)

@@ -1,8 +1,7 @@
 -- What goes in pieces, one after another, goes as a whole.
 use Rattle.std.proofs.Common.{◌≡◌, ℕ, ◌+◌, List, ◌++◌, Option, take, drop, sym, ap, subst, ◌∙◌, arith}
-use Rattle.std.proofs.lemmas.List.{take-append-drop, take-take, drop-take}
-use Rattle.std.specs.Io.KnownBytes.{Appends, Consumes}
-use Rattle.std.proofs.KnownBytes.{Appends-trans, Consumes-trans}
+use Rattle.pool_io.proofs.Common.{drop-take, Appends, Consumes, Appends-trans, Consumes-trans}
+use Rattle.std.proofs.lemmas.List.{take-append-drop, take-take}
 
 pub take-add : {A : Type 0} (front more : ℕ) (xs : List A) → take (front + more) xs ≡ take front xs ++ take more (drop front xs)
 take-add front more xs =

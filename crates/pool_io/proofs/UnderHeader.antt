@@ -1,14 +1,8 @@
 -- What the rows after the header say of the whole table.
-use Rattle.std.proofs.Common.{◌≡◌, ◌≢◌, ℕ, List, [], ◌∷◌, Result, Ok, Err, Bor, false, length, refl, sym}
-use Rattle.std.specs.Prelude.{IfOk, IfErr, OnOk}
+use Rattle.std.proofs.Common.{◌≡◌, ◌≢◌, ℕ, List, [], ◌∷◌, Result, Ok, Err, Bor, false, length, refl, sym, IfOk, IfErr, OnOk}
+use Rattle.pool_io.proofs.Common.{false≢true, Reader, Table, header_fields, table_of, records_of, even_rows, HasRead, OutOfMemory}
 use Rattle.std.specs.Result.{is_err}
-use Rattle.std.proofs.lemmas.Bool.{false≢true}
-use Rattle.csv.specs.declared.reader.Reader.{Reader}
-use Rattle.pool_io.specs.Table.{Table, header_fields, table_of}
-use Rattle.pool_io.specs.lemmas.Records.{records_of, even_rows}
-use Rattle.pool_io.specs.work.Progress.{HasRead}
 use Rattle.pool_io.specs.declared.records.RowFault.{RowFault}
-use Rattle.pool_io.specs.declared.records.RowFault.TheVariants.{OutOfMemory}
 use Rattle.pool_io.proofs.IsRecord.{is_record-same}
 
 pub on_ok : {T E P : Type 0} (r : Result T E) → is_err r ≡ false → OnOk r P → P

@@ -1,33 +1,11 @@
 use Rattle.std.proofs.Common.{◌≡◌, ℕ, zero, suc, ◌+◌, ◌-◌, ◌<◌, ◌≤◌, inl, inr, true, false, eqb, List, [], ◌∷◌, length, map, get_or, Some, None, Option, refl, sym, ap, ◌∙◌, subst, arith, ⊎_elim}
-use Rattle.std.specs.List.{All, Contains, range_with_len, slice_get}
-use Rattle.std.specs.List.Sorted.{IsStrictlyIncreasing}
-use Rattle.std.specs.Option.{option_map_or, is_some}
-use Rattle.std.proofs.lemmas.Bool.{cases_lt, cases_order}
+use Rattle.promise_check.proofs.Common.{range_with_len, IsStrictlyIncreasing, option_map_or, cases_lt, cases_order, length-map, get_or-map, get_or_default, filter_passes, slice_get-get_or, Promise, Rider, Vehicle, Batch, Leg, SettledRider, SettledVehicle, IsLeg, IsServable, no_rider, no_vehicle, greatest, IsTrip, vehicle_task, IsShort, IsSound, IsSoundVehicle, Settings, request_at, no_request, kept_leg, ArePlain, is_promised_to, promised_to, kept_legs, IsLive, kept_rider, IsHeld, AreKept, HoldsPromised, IsLiveRider, IsRiderOf, HasRightLimit, IsSettled, IsSettledVehicle, AreSettledVehicles}
+use Rattle.std.specs.List.{All, Contains, slice_get}
+use Rattle.std.specs.Option.{is_some}
 use Rattle.std.proofs.lemmas.Bool.Decides.{Decides-eqb}
-use Rattle.std.proofs.lemmas.List.{length-map, get_or-map, get_or_default}
-use Rattle.std.proofs.lemmas.List.Elements.{filter_passes}
-use Rattle.std.proofs.lemmas.Option.{slice_get-get_or}
 use Rattle.pool_base.specs.TravelTime.{longest}
-use Rattle.batch_snapshot.specs.declared.promise.Promise.{Promise}
-use Rattle.batch_snapshot.specs.declared.rider.Rider.{Rider}
-use Rattle.batch_snapshot.specs.declared.vehicle.Vehicle.{Vehicle}
-use Rattle.batch_snapshot.specs.Batch.{Batch}
 use Rattle.batch_snapshot.specs.Kept.{IsKept}
-use Rattle.stop_orders.specs.declared.leg.Leg.{Leg}
-use Rattle.stop_orders.specs.declared.settled_rider.SettledRider.{SettledRider}
-use Rattle.stop_orders.specs.declared.settled_vehicle.SettledVehicle.{SettledVehicle}
 use Rattle.stop_orders.specs.declared.settled.Settled.{Settled}
-use Rattle.stop_orders.specs.Task.{IsLeg, IsServable}
-use Rattle.stop_orders.specs.Settled.{no_rider, no_vehicle, greatest, IsTrip, vehicle_task}
-use Rattle.stop_orders.specs.Sound.{IsShort, IsSound, IsSoundVehicle}
-use Rattle.rider_limits.specs.declared.settings.Settings.{Settings}
-use Rattle.promise_check.specs.Requests.{request_at}
-use Rattle.promise_check.specs.lemmas.Named.{no_request, kept_leg}
-use Rattle.promise_check.specs.work.Requests.{ArePlain}
-use Rattle.promise_check.specs.Promised.{is_promised_to, promised_to, kept_legs, IsLive}
-use Rattle.promise_check.specs.work.Promised.{kept_rider, IsHeld, AreKept}
-use Rattle.promise_check.specs.Settling.{HoldsPromised, IsLiveRider, IsRiderOf, HasRightLimit, IsSettled}
-use Rattle.promise_check.specs.work.Settling.{IsSettledVehicle, AreSettledVehicles}
 use Rattle.promise_check.proofs.lemmas.Promises.{filter_range_has, promised_trip}
 use Rattle.promise_check.proofs.Seats.{kept_leg_valid, legs_valid, task_with_legs, plain_can_be_kept}
 

@@ -4,3 +4,4 @@ pub mod Pairing
 pub mod Seats
 pub mod Places
 pub mod Assembly
+pub mod Common

@@ -1,8 +1,6 @@
 use Rattle.std.proofs.Common.{◌≡◌, ℕ, ◌+◌, ◌<◌, ◌≤◌, List, [], ◌∷◌, ◌++◌, length, get_or, Some, sym, ap, ◌∙◌, subst, inl, inr, arith}
+use Rattle.promise_check.proofs.Common.{cases_lt, get_or_append_left, get_or_push, slice_get_within, slice_get-get_or}
 use Rattle.std.specs.List.{slice_get}
-use Rattle.std.proofs.lemmas.Bool.{cases_lt}
-use Rattle.std.proofs.lemmas.List.{get_or_append_left, get_or_push}
-use Rattle.std.proofs.lemmas.Option.{slice_get_within, slice_get-get_or}
 
 module _ {X Y : Type 0} (R : X → Y → Type 0) (d : Y) where
   -- the first n of one list fit those of another, place by place

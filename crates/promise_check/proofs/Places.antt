@@ -1,13 +1,7 @@
 use Rattle.std.proofs.Common.{ℕ, zero, suc, ◌<◌, List, [], ◌∷◌, length, get_or, refl, arith}
+use Rattle.promise_check.proofs.Common.{Contains-append_left, Contains-append_right, Passenger, Rider, Batch, ArePoints, IsBetweenPlaces, HasVehiclePlaces}
 use Rattle.std.specs.List.{All, Contains, flat_map}
-use Rattle.std.proofs.lemmas.List.Elements.{Contains-append_left, Contains-append_right}
-use Rattle.batch_snapshot.specs.declared.passenger.Passenger.{Passenger}
-use Rattle.batch_snapshot.specs.declared.rider.Rider.{Rider}
-use Rattle.batch_snapshot.specs.Batch.{Batch}
-use Rattle.batch_snapshot.specs.Points.{ArePoints}
 use Rattle.batch_snapshot.specs.lemmas.Points.{vehicle_nodes, rider_nodes}
-use Rattle.promise_check.specs.work.Requests.{IsBetweenPlaces}
-use Rattle.promise_check.specs.work.Settling.{HasVehiclePlaces}
 
 in_flat_map : {X : Type 0} (f : X → List ℕ) (xs : List X) (k : ℕ) (d : X) (y : ℕ) → k < length xs → Contains (f (get_or xs k d)) y → Contains (flat_map f xs) y
 in_flat_map f [] k d y h c = absurd (omega arith)

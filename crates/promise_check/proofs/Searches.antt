@@ -1,10 +1,10 @@
 use Rattle.std.proofs.Common.{◌≡◌, ℕ, List, Bool, Option, Some, None}
+use Rattle.promise_check.proofs.Common.{IsServable, Serves}
 use Rattle.std.specs.Bool.{MatchBool}
 use Rattle.std.specs.Option.{IfSome, IfNone, is_some}
 use Rattle.stop_orders.specs.declared.stop.Stop.{Stop}
 use Rattle.stop_orders.specs.declared.task.Task.{Task}
 use Rattle.stop_orders.specs.declared.route.Route.{Route}
-use Rattle.stop_orders.specs.Task.{IsServable, Serves}
 
 -- the answer of a search says whether some order serves
 pub found_serves : (tau : ℕ → ℕ → ℕ) (task : Task) (found : Option Route) (answer : Bool) → answer ≡ is_some found

@@ -1,21 +1,7 @@
 use Rattle.std.proofs.Common.{◌≡◌, ℕ, ◌+◌, ◌<◌, ◌≤◌, min, List, [], ◌∷◌, ◌++◌, length, map, get_or, Some, None, Option, ap, ◌∙◌, arith, zero-add}
+use Rattle.promise_check.proofs.Common.{option_map_or, length-map, get_or-map, Rider, Promise, Leg, SettledRider, SettledVehicle, IsLeg, IsTask, no_rider, vehicle_task, slice_get-get_or, Settings, request_at, no_request, kept_leg, ArePlain, CanBeKept, promised_limit, kept_legs}
 use Rattle.std.specs.List.{All, sum_by}
-use Rattle.std.specs.Option.{option_map_or}
-use Rattle.std.proofs.lemmas.List.{length-map, get_or-map}
 use Rattle.std.proofs.lemmas.List.Sums.{sum_by-append}
-use Rattle.batch_snapshot.specs.declared.rider.Rider.{Rider}
-use Rattle.batch_snapshot.specs.declared.promise.Promise.{Promise}
-use Rattle.stop_orders.specs.declared.leg.Leg.{Leg}
-use Rattle.stop_orders.specs.declared.settled_rider.SettledRider.{SettledRider}
-use Rattle.stop_orders.specs.declared.settled_vehicle.SettledVehicle.{SettledVehicle}
-use Rattle.stop_orders.specs.Task.{IsLeg, IsTask}
-use Rattle.stop_orders.specs.Settled.{no_rider, vehicle_task}
-use Rattle.std.proofs.lemmas.Option.{slice_get-get_or}
-use Rattle.rider_limits.specs.declared.settings.Settings.{Settings}
-use Rattle.promise_check.specs.Requests.{request_at}
-use Rattle.promise_check.specs.lemmas.Named.{no_request, kept_leg}
-use Rattle.promise_check.specs.work.Requests.{ArePlain, CanBeKept}
-use Rattle.promise_check.specs.Promised.{promised_limit, kept_legs}
 
 pub sum_by_push : {X : Type 0} (f : X → ℕ) (xs : List X) (y : X) → sum_by f (xs ++ y ∷ []) ≡ sum_by f xs + f y
 sum_by_push f xs y = sum_by-append f xs (y ∷ []) ∙ ap (λ (n : ℕ). sum_by f xs + n) (zero-add (f y))

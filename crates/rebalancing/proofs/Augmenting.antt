@@ -1,8 +1,6 @@
 use Rattle.std.proofs.Common.{◌≡◌, ◌≢◌, ℕ, ◌+◌, ◌<◌, ◌≤◌, List, length, slice_index, set, sym, ap, ◌∙◌, ⊎_elim, arith}
-use Rattle.std.proofs.lemmas.Bool.{cases_eq, cases_lt}
+use Rattle.rebalancing.proofs.Common.{cases_eq, cases_lt, IsPriced, IsGrown, IsReached, IsOpen}
 use Rattle.std.proofs.lemmas.List.{length-set, get_or-set_same, get_or-set_other}
-use Rattle.rebalancing.specs.work.Prices.{IsPriced}
-use Rattle.rebalancing.specs.work.SearchTree.{IsGrown, IsReached, IsOpen}
 
 module _ {n m : ℕ} {w : ℕ → ℕ → ℕ} {k : ℕ} {a b q p r c parent place : List ℕ} {rider position v : ℕ} (between : IsOpen n m w k a b q p r c parent place rider position) (ev : slice_index r position ≡ v) where
   v_within : v < n

@@ -1,16 +1,7 @@
 use Rattle.std.proofs.Common.{◌≡◌, ◌≢◌, ℕ, ◌+◌, ◌<◌, ◌≤◌, List, [], ◌∷◌, ◌++◌, length, slice_index, get_or, map, All, Any, sum_by, ℤ, pos, neg_ℤ, ◌+ℤ◌, ◌-ℤ◌, ◌≤ℤ◌, refl, sym, ap, ◌∙◌, ⊎_elim, arith}
-use Rattle.std.proofs.lemmas.Bool.{cases_eq, cases_lt, lt-ltb, le-ltb}
-use Rattle.std.proofs.lemmas.Int.{ints}
-use Rattle.std.proofs.lemmas.List.{length-map, get_or-map}
-use Rattle.std.proofs.lemmas.List.Elements.{All-push, Contains-append_left, Contains-push}
+use Rattle.rebalancing.proofs.Common.{cases_eq, cases_lt, ints, length-map, get_or-map, All-push, Contains-append_left, Contains-push, never, Matching, pair_seconds, total_of, IsMatching, pair_worth, potential, ArePotentials, weight_of, IsPricedMatching, weight_in, IsChosen, seconds_in}
+use Rattle.std.proofs.lemmas.Bool.{lt-ltb, le-ltb}
 use Rattle.std.proofs.lemmas.List.Quantifiers.{all_pairs_push}
-use Rattle.pool_base.specs.TravelTime.{never}
-use Rattle.rebalancing.specs.declared.matching.Matching.{Matching}
-use Rattle.rebalancing.specs.Matching.{pair_seconds, total_of, IsMatching}
-use Rattle.rebalancing.specs.Potentials.{pair_worth, potential, ArePotentials}
-use Rattle.rebalancing.specs.work.Weights.{weight_of}
-use Rattle.rebalancing.specs.work.Prices.{IsPricedMatching, weight_in}
-use Rattle.rebalancing.specs.work.Chosen.{IsChosen, seconds_in}
 use Rattle.rebalancing.proofs.PlaceSums.{sum_by_same}
 
 -- a vehicle without a pair that has a way is passed over

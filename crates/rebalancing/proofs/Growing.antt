@@ -1,10 +1,6 @@
 use Rattle.std.proofs.Common.{◌≡◌, ◌≢◌, ℕ, ◌+◌, ◌*◌, ◌<◌, ◌≤◌, ◌⊎◌, List, [], ◌∷◌, ◌++◌, length, slice_index, set, replicate, refl, sym, ap, ◌∙◌, inl, inr, ⊎_elim, arith}
-use Rattle.std.proofs.lemmas.Bool.{cases_eq, cases_lt}
-use Rattle.std.proofs.lemmas.List.{length-set, get_or-set_same, get_or-set_other, get_or_append_left, get_or_push, length_push, get_or-replicate, length-replicate}
-use Rattle.rebalancing.specs.Potentials.{pair_worth}
-use Rattle.rebalancing.specs.work.Prices.{IsPriced}
-use Rattle.rebalancing.specs.work.Relaxation.{Relaxes}
-use Rattle.rebalancing.specs.work.SearchTree.{IsGrown, IsReached, IsCheapest}
+use Rattle.rebalancing.proofs.Common.{cases_eq, cases_lt, get_or_append_left, get_or_push, length_push, get_or-replicate, length-replicate, pair_worth, IsPriced, Relaxes, IsGrown, IsReached, IsCheapest}
+use Rattle.std.proofs.lemmas.List.{length-set, get_or-set_same, get_or-set_other}
 
 -- no rider's price is above a pair's worth
 pub b_most : {n m : ℕ} {w : ℕ → ℕ → ℕ} {done next : ℕ} {a b q p : List ℕ} → IsPriced n m w done next a b q p → (j : ℕ) → j < m → slice_index b j ≤ pair_worth

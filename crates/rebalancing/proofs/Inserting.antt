@@ -1,8 +1,6 @@
 use Rattle.std.proofs.Common.{ℕ, ◌+◌}
-use Rattle.rebalancing.specs.declared.matching.Matching.{Matching}
+use Rattle.rebalancing.proofs.Common.{Matching, IsPricedMatching, IsSized, IsSameProblem, IsNearest, IsSearchTree}
 use Rattle.rebalancing.specs.declared.tree.Tree.{Tree}
-use Rattle.rebalancing.specs.work.Prices.{IsPricedMatching, IsSized, IsSameProblem}
-use Rattle.rebalancing.specs.work.SearchTree.{IsNearest, IsSearchTree}
 
 -- the search for a vehicle goes on, and `nearest` is the rider that is tight next
 pub record IsSearching (first s : Matching) (t : Tree) (vehicle nearest : ℕ) : Type 0 where

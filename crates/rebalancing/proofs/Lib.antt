@@ -8,3 +8,4 @@ pub mod Augmenting
 pub mod Growing
 pub mod Inserting
 pub mod Choosing
+pub mod Common

@@ -1,10 +1,5 @@
 use Rattle.std.proofs.Common.{◌≡◌, ℕ, suc, ◌+◌, ◌*◌, ◌<◌, ◌≤◌, List, length, get_or, map, replicate, All, Any, sum, sum_by, ℤ, pos, negsuc, neg_ℤ, ◌+ℤ◌, ◌-ℤ◌, ◌≤ℤ◌, refl, ap, ◌∙◌, arith}
-use Rattle.std.proofs.lemmas.Int.{ints}
-use Rattle.std.proofs.lemmas.List.{length-map, get_or-map, length-replicate, get_or-replicate}
-use Rattle.std.proofs.lemmas.List.Sums.{sum_by-le}
-use Rattle.pool_base.specs.TravelTime.{never, longest}
-use Rattle.rebalancing.specs.Matching.{pair_seconds, total_of, IsMatching, IsBestMatching}
-use Rattle.rebalancing.specs.Potentials.{pair_worth, potential, ArePotentials}
+use Rattle.rebalancing.proofs.Common.{ints, length-map, get_or-map, length-replicate, get_or-replicate, sum_by-le, never, longest, pair_seconds, total_of, IsMatching, IsBestMatching, pair_worth, potential, ArePotentials}
 use Rattle.rebalancing.proofs.PlaceSums.{sum_over_different, sum_over_covering, sum_at_least, sum_exactly}
 
 -- as many ones

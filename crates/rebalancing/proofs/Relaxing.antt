@@ -1,6 +1,5 @@
 use Rattle.std.proofs.Common.{◌≡◌, ◌≢◌, ℕ, ◌+◌, ◌<◌, ◌≤◌, ◌⊎◌, List, length, slice_index, sym, ap, ◌∙◌, inl, inr, ⊎_elim, arith}
-use Rattle.std.proofs.lemmas.Bool.{cases_eq}
-use Rattle.rebalancing.specs.work.Relaxation.{Improves}
+use Rattle.rebalancing.proofs.Common.{cases_eq, Improves}
 
 -- the riders below i are relaxed, and `nearest` is the nearest of them
 pub record IsRelaxing (row price place : List ℕ) (offset position : ℕ) (tight_at parent_of tight_at' parent_of' : List ℕ) (i m nearest : ℕ) : Type 0 where

@@ -1,9 +1,5 @@
 use Rattle.std.proofs.Common.{◌≡◌, ◌≢◌, ℕ, ◌+◌, ◌<◌, ◌≤◌, ◌⊎◌, List, length, slice_index, sym, ap, ◌∙◌, inl, inr, ⊎_elim, arith}
-use Rattle.std.proofs.lemmas.Bool.{cases_eq, cases_lt}
-use Rattle.rebalancing.specs.Potentials.{pair_worth}
-use Rattle.rebalancing.specs.work.Prices.{IsPriced}
-use Rattle.rebalancing.specs.work.Relaxation.{Falls, Rises}
-use Rattle.rebalancing.specs.work.SearchTree.{IsGrown, IsReached, IsCheapest}
+use Rattle.rebalancing.proofs.Common.{cases_eq, cases_lt, pair_worth, IsPriced, Falls, Rises, IsGrown, IsReached, IsCheapest}
 
 module _ {n m : ℕ} {w : ℕ → ℕ → ℕ} {k : ℕ} {a b q p r c parent place : List ℕ} (priced : IsPriced n m w k (k + 1) a b q p) (grown : IsGrown n m w k a b q r c parent place) where
   -- a vehicle that is neither the root nor has a rider of the tree isn't in the tree

@@ -1,23 +1,11 @@
 -- The close of a batch, taken into a book.
 use Rattle.std.proofs.Common.{◌≡◌, ℕ, ◌<◌, ◌^◌, List, Some, eqb, get_or, sym, ap, ◌∙◌, subst}
+use Rattle.report_audit.proofs.Common.{Batch, IsKept, BeginsWithGood, good_not_refused, BookView, IsApplied, next_position, Close, Outcome, Reply, Closed, Settings, Roads, TakesClose, close_line, IsBookOf}
 use Rattle.std.specs.List.{All, Contains}
 use Rattle.std.proofs.lemmas.Bool.{eqb-true}
 use Rattle.std.proofs.lemmas.Map.Views.{Contains-from_any}
-use Rattle.batch_snapshot.specs.Batch.{Batch}
 use Rattle.batch_snapshot.specs.Points.{named_nodes}
-use Rattle.batch_snapshot.specs.Kept.{IsKept}
-use Rattle.block_audit.specs.Block.{BeginsWithGood}
-use Rattle.block_audit.proofs.lemmas.AuditLemmas.{good_not_refused}
-use Rattle.request_book.specs.Book.{BookView, IsApplied, next_position}
 use Rattle.request_book.specs.Consistent.{IsNode}
-use Rattle.request_book.specs.declared.command.Command.TheVariants.{Close}
-use Rattle.request_book.specs.declared.outcome.Outcome.{Outcome}
-use Rattle.request_book.specs.declared.reply.Reply.{Reply}
-use Rattle.request_book.specs.declared.reply.Reply.TheVariants.{Closed}
-use Rattle.rider_limits.specs.declared.settings.Settings.{Settings}
-use Rattle.road_network.specs.Roads.{Roads}
-use Rattle.report_audit.specs.work.Closing.{TakesClose, close_line}
-use Rattle.report_audit.specs.work.Steps.{IsBookOf}
 use Rattle.report_audit.proofs.JournalLemmas.{close-is}
 
 -- the network has the nodes of the batch that is sealed

@@ -1,19 +1,10 @@
 -- The end of a report.
 use Rattle.std.proofs.Common.{◌≡◌, ℕ, ◌<◌, ◌^◌, List, [], ◌∷◌, ◌++◌, length, codes, Result, Ok, Err, MatchResult, refl, sym, ap, ◌∙◌, subst, append_assoc, append-nil}
-use Rattle.dispatch_report.specs.Round.{end_text}
-use Rattle.dispatch_report.specs.Words.{numbered}
-use Rattle.report_lines.specs.Next.{IsNextLine}
-use Rattle.report_lines.specs.declared.next.NextLine.{NextLine}
+use Rattle.report_audit.proofs.Common.{end_text, numbered, IsNextLine, NextLine, one_kind, IsFirstLine, Stop, Line, IsEndText, EndStops, IsRestBehind, HasNoNext}
 use Rattle.report_lines.specs.declared.next.NextLine.TheVariants.{Done as DoneOf}
-use Rattle.report_lines.proofs.lemmas.NextLemmas.{one_kind}
-use Rattle.report_lines.specs.Line.{IsFirstLine}
-use Rattle.report_audit.specs.declared.stop.LineFault.TheVariants as wrong
-use Rattle.report_audit.specs.declared.stop.Stop.{Stop}
-use Rattle.report_audit.specs.declared.stop.Stop.TheVariants.{Line}
-use Rattle.report_audit.specs.work.Ends.{IsEndText, EndStops, IsRestBehind}
-use Rattle.report_audit.specs.work.Steps.{HasNoNext}
 use Rattle.report_audit.proofs.NextLemmas.{in_form, no_next_between}
 use Rattle.report_audit.proofs.TextLemmas.{end-is}
+use Rattle.report_audit.specs.declared.stop.LineFault.TheVariants as wrong
 
 -- a last line, and what follows it
 done_text : (text line after : List ℕ) (x : NextLine) (entries : ℕ) → IsFirstLine text line after → IsNextLine x line → x ≡ DoneOf entries → text ≡ end_text entries ++ after

@@ -1,59 +1,18 @@
 -- An entry that an audit reads.
 use Rattle.std.proofs.Common.{◌≡◌, ◌≢◌, ◌⊎◌, ℕ, ◌<◌, ◌≤◌, ◌^◌, true, List, [], ◌∷◌, ◌++◌, length, set, slice_get, Option, Some, None, ⊎_elim, refl, sym, ap, ◌∙◌, subst, length-append, arith}
+use Rattle.report_audit.proofs.Common.{Batch, BeginsWithGood, Refuses, BlockRefusal, IsCloseOf, IsGoodClose, last_sealed, journal_of, entry_line, lines_text, entry_block, IsEntry, IsNextLine, NextLine, one_kind, LaneStand, stand_at, stand_after, HaveCome, AreDone, IsNext, IsNextFrom, come_more, BookView, IsNoClose, step, Command, Close, Entry, Journal, Outcome, Reply, Closed, State, replies-push, Settings, Roads, NumberedLanes, MayStand, lane_at, IsFirstLine, cut_once, IsWrongBlock, Extent, BeginsRound, MayComeNext, AreAtEnd, position_behind, state_behind, with_entry, HasFittingBlock, IsTold, LineFault, Stop, OutOfMemory, Line, Block, TakesClose, CloseStops, GoesOn, StopsAt, StopsHere, HasNoNext, IsWithin, HasRead, StopsWithin, Waits, TakesCommand, CommandStops}
 use Rattle.std.proofs.lemmas.List.{length-set}
 use Rattle.std.proofs.lemmas.Option.{slice_get_within, get_or_from_slice_get}
-use Rattle.batch_snapshot.specs.Batch.{Batch}
 use Rattle.batch_solver.specs.Outcome.{IsGoodOutcome}
-use Rattle.block_audit.specs.Block.{BeginsWithGood, Refuses}
-use Rattle.block_audit.specs.declared.refusal.BlockRefusal.{BlockRefusal}
-use Rattle.block_audit.specs.declared.refusal.BlockRefusal.TheVariants as refusal
 use Rattle.block_audit.specs.Fits.{FitsTypes}
-use Rattle.dispatch_engine.specs.Lane.{IsCloseOf, IsGoodClose, last_sealed}
-use Rattle.dispatch_engine.specs.Run.{journal_of}
 use Rattle.dispatch_report.specs.Block.{block_lines}
-use Rattle.dispatch_report.specs.Entry.{entry_line}
-use Rattle.dispatch_report.specs.Lines.{lines_text}
-use Rattle.dispatch_report.specs.Round.{entry_block}
-use Rattle.report_lines.specs.Next.{IsEntry, IsNextLine}
-use Rattle.report_lines.specs.declared.next.NextLine.{NextLine}
 use Rattle.report_lines.specs.declared.next.NextLine.TheVariants.{Entry as EntryOf}
-use Rattle.report_lines.proofs.lemmas.NextLemmas.{one_kind}
-use Rattle.dispatch_engine.specs.declared.stand.LaneStand.{LaneStand}
-use Rattle.dispatch_engine.specs.Progress.{stand_at, stand_after, HaveCome, AreDone, IsNext, IsNextFrom}
-use Rattle.dispatch_engine.proofs.lemmas.ProgressLemmas.{come_more}
-use Rattle.request_book.specs.Book.{BookView}
-use Rattle.request_book.specs.Command.{IsNoClose}
-use Rattle.request_book.specs.Step.{step}
-use Rattle.request_book.specs.declared.command.Command.{Command}
-use Rattle.request_book.specs.declared.command.Command.TheVariants.{Close}
-use Rattle.request_book.specs.declared.journal.Entry.{Entry}
-use Rattle.request_book.specs.declared.journal.Journal.{Journal}
-use Rattle.request_book.specs.declared.outcome.Outcome.{Outcome}
-use Rattle.request_book.specs.declared.reply.Reply.{Reply}
-use Rattle.request_book.specs.declared.reply.Reply.TheVariants.{Closed}
-use Rattle.request_book.specs.declared.state.State.{State}
-use Rattle.request_book.proofs.lemmas.BookLemmas.{replies-push}
-use Rattle.rider_limits.specs.declared.settings.Settings.{Settings}
-use Rattle.road_network.specs.Roads.{Roads}
-use Rattle.script_rows.specs.Round.{NumberedLanes, MayStand, lane_at}
-use Rattle.report_lines.specs.Line.{IsFirstLine}
-use Rattle.report_lines.proofs.lemmas.OneBlock.{cut_once}
-use Rattle.report_audit.specs.Fault.{IsWrongBlock}
-use Rattle.report_audit.specs.Place.{Extent, BeginsRound, MayComeNext, AreAtEnd, position_behind, state_behind}
-use Rattle.report_audit.specs.work.Place.{with_entry}
-use Rattle.report_audit.specs.Types.{HasFittingBlock, IsTold}
-use Rattle.report_audit.specs.declared.stop.LineFault.{LineFault}
-use Rattle.report_audit.specs.declared.stop.LineFault.TheVariants as wrong
-use Rattle.report_audit.specs.declared.stop.Stop.{Stop}
-use Rattle.report_audit.specs.declared.stop.Stop.TheVariants.{OutOfMemory, Line, Block}
-use Rattle.report_audit.specs.work.Closing.{TakesClose, CloseStops}
-use Rattle.report_audit.specs.work.Rest.{GoesOn, StopsAt, StopsHere}
-use Rattle.report_audit.specs.work.Steps.{HasNoNext, IsWithin, HasRead, StopsWithin, Waits}
-use Rattle.report_audit.specs.work.Taking.{TakesCommand, CommandStops}
 use Rattle.report_audit.proofs.JournalLemmas.{closes-push, told-push, sealed-after, close-is, not_closed}
 use Rattle.report_audit.proofs.LaneLemmas.{come_begins, end_done, no_close_of, no_outcome, none_beyond, waits_command, waits_close, waits_for}
 use Rattle.report_audit.proofs.NextLemmas.{HasNext, comes_is_no_stop, has_next, first_is, same_stop, wrong_is_none, no_next_within, book_state, book_step, journal_applied, book_of_applied, entry_by, candidate_lane, candidate_next, candidate_command, next_begins, read_one, close_of}
 use Rattle.report_audit.proofs.TextLemmas.{lines-none, next-low}
+use Rattle.block_audit.specs.declared.refusal.BlockRefusal.TheVariants as refusal
+use Rattle.report_audit.specs.declared.stop.LineFault.TheVariants as wrong
 
 -- a round goes on with one more entry
 begins_more : (settings : Settings) (roads : Roads) (round : NumberedLanes) (j : Journal) (e : Entry) → BeginsRound settings roads round j → j.first < 2 ^ 64

@@ -1,32 +1,13 @@
 -- From where an audit stops to what it says of the report.
 use Rattle.std.proofs.Common.{◌≡◌, ◌≢◌, ℕ, ◌+◌, ◌-◌, ◌≤◌, ◌^◌, min, true, List, [], ◌∷◌, ◌++◌, length, take, Option, Some, None, refl, sym, ap, ◌∙◌, subst, append_assoc, length-append, arith}
-use Rattle.batch_snapshot.specs.declared.vehicle.Vehicle.{Vehicle}
-use Rattle.block_audit.specs.declared.refusal.BlockRefusal.TheVariants as block
-use Rattle.dispatch_engine.specs.Run.{IsRun, position_after_run}
-use Rattle.dispatch_report.specs.Head.{head_text}
-use Rattle.dispatch_report.specs.Round.{end_text, round_text}
-use Rattle.report_lines.specs.Head.{BeginsWithHead}
+use Rattle.report_audit.proofs.Common.{Vehicle, IsRun, position_after_run, head_text, end_text, round_text, BeginsWithHead, HeadFails, HeadFault, opening, Settings, Roads, NumberedLanes, FailsAt, HasFault, IsCut, IsOutOfForm, FailsAsLine, IsWrongBatch, IsWrongLine, Extent, IsRightUpTo, rounds_so_far, IsAudited, IsReportOfRun, rounds_text, AuditFault, Stop, OutOfMemory, Line, Block, IsLeftOf, fault_of, fault_of_head, higher, line_left, next_line, IsRestOfRounds, StopsAt, AllStops, HasReadAll, WhereAllStops}
 use Rattle.report_lines.specs.Settings.{AreOf}
-use Rattle.report_lines.specs.HeadFault.{HeadFails}
-use Rattle.report_lines.specs.declared.head_fault.HeadFault.{HeadFault}
-use Rattle.report_lines.specs.declared.head_fault.HeadFault.TheVariants as head
-use Rattle.request_book.specs.Book.{opening}
-use Rattle.rider_limits.specs.declared.settings.Settings.{Settings}
-use Rattle.road_network.specs.Roads.{Roads}
-use Rattle.script_rows.specs.Round.{NumberedLanes}
-use Rattle.report_audit.specs.Fault.{FailsAt, HasFault, IsCut, IsOutOfForm, FailsAsLine, IsWrongBatch, IsWrongLine}
-use Rattle.report_audit.specs.Place.{Extent, IsRightUpTo, rounds_so_far}
-use Rattle.report_audit.specs.Report.{IsAudited, IsReportOfRun, rounds_text}
 use Rattle.report_audit.proofs.GoingLemmas.{right_goes, right_head, run_goes}
-use Rattle.report_audit.specs.declared.fault.AuditFault.{AuditFault}
-use Rattle.report_audit.specs.declared.fault.AuditFault.TheVariants as fault
 use Rattle.report_audit.specs.declared.fault.Audited.{Audited}
+use Rattle.block_audit.specs.declared.refusal.BlockRefusal.TheVariants as block
+use Rattle.report_lines.specs.declared.head_fault.HeadFault.TheVariants as head
+use Rattle.report_audit.specs.declared.fault.AuditFault.TheVariants as fault
 use Rattle.report_audit.specs.declared.stop.LineFault.TheVariants as wrong
-use Rattle.report_audit.specs.declared.stop.Stop.{Stop}
-use Rattle.report_audit.specs.declared.stop.Stop.TheVariants.{OutOfMemory, Line, Block}
-use Rattle.report_audit.specs.work.Faults.{IsLeftOf, fault_of, fault_of_head, higher, line_left, next_line}
-use Rattle.report_audit.specs.work.Rest.{IsRestOfRounds, StopsAt}
-use Rattle.report_audit.specs.work.Whole.{AllStops, HasReadAll, WhereAllStops}
 
 take_front : (xs ys : List ℕ) → take (length xs) (xs ++ ys) ≡ xs
 take_front [] ys = refl

@@ -1,24 +1,6 @@
 -- What is right up to a place, as a text that goes on to there.
 use Rattle.std.proofs.Common.{◌≡◌, ◌≢◌, ◌⊎◌, ℕ, ◌<◌, ◌^◌, true, List, [], ◌∷◌, ◌++◌, length, codes, Option, Some, None, inl, inr, refl, sym, ap, ◌∙◌, subst, append-nil, append_assoc, arith}
-use Rattle.batch_snapshot.specs.declared.vehicle.Vehicle.{Vehicle}
-use Rattle.dispatch_engine.specs.Lane.{of_lane, IsLaneRun}
-use Rattle.dispatch_engine.specs.Run.{IsRun, position_after_run, state_after_run}
-use Rattle.dispatch_report.specs.Head.{head_text}
-use Rattle.dispatch_report.specs.Round.{end_text, round_text}
-use Rattle.dispatch_report.specs.Words.{numbered}
-use Rattle.request_book.specs.Book.{next_position, opening}
-use Rattle.request_book.specs.Replay.{state_after}
-use Rattle.request_book.specs.declared.journal.Journal.{Journal}
-use Rattle.request_book.specs.declared.state.State.{State}
-use Rattle.rider_limits.specs.declared.settings.Settings.{Settings}
-use Rattle.road_network.specs.Roads.{Roads}
-use Rattle.script_rows.specs.Round.{NumberedLanes, lane_at}
-use Rattle.report_audit.specs.Place.{Extent, AreAtEnd, BeginsRound, IsRightUpTo}
-use Rattle.report_audit.specs.Report.{rounds_text}
-use Rattle.report_audit.specs.Types.{AreTold, JournalsAreTold}
-use Rattle.report_audit.specs.declared.stop.Stop.{Stop}
-use Rattle.report_audit.specs.declared.stop.Stop.TheVariants.{OutOfMemory}
-use Rattle.report_audit.specs.work.Rest.{IsRestOfRounds, StopsAt, StopsHere, entries_text, with_more}
+use Rattle.report_audit.proofs.Common.{Vehicle, of_lane, IsLaneRun, IsRun, position_after_run, state_after_run, head_text, end_text, round_text, numbered, next_position, opening, state_after, Journal, State, Settings, Roads, NumberedLanes, lane_at, Extent, AreAtEnd, BeginsRound, IsRightUpTo, rounds_text, AreTold, JournalsAreTold, Stop, OutOfMemory, IsRestOfRounds, StopsAt, StopsHere, entries_text, with_more}
 use Rattle.report_audit.proofs.TextLemmas.{next-low, next-none, round-is}
 
 -- positions are below 2^64

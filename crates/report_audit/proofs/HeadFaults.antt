@@ -1,14 +1,8 @@
 -- A head fails in one way.
 use Rattle.std.proofs.Common.{◌≡◌, ℕ, ◌+◌, ◌<◌, ◌^◌, true, List, [], ◌∷◌, inl, inr, sym, ap, ◌∙◌, subst}
-use Rattle.report_lines.specs.Cut.{is_one_line}
-use Rattle.report_lines.specs.HeadFault.{HeadLine, HasForm, FitsLine, HeadFails, LineFails, LinesFail, head_lines, sizes_of}
-use Rattle.report_lines.specs.HeadLines.{AreSizes}
-use Rattle.report_lines.specs.Line.{IsFirstLine}
-use Rattle.report_lines.specs.declared.head_fault.HeadFault.{HeadFault}
+use Rattle.report_audit.proofs.Common.{is_one_line, HeadLine, HasForm, FitsLine, HeadFails, LineFails, LinesFail, head_lines, sizes_of, AreSizes, IsFirstLine, HeadFault, no_one_line, Roads}
 use Rattle.report_lines.specs.declared.head_fault.HeadFault.TheVariants.{Cut, Form, Head}
 use Rattle.report_lines.proofs.lemmas.LineLemmas.{first_once, line_no_fault, said_behind}
-use Rattle.report_lines.proofs.lemmas.OneBlock.{no_one_line}
-use Rattle.road_network.specs.Roads.{Roads}
 
 -- the numbers of a line of the head are within their types
 abbrev IsLow : HeadLine → Type 0

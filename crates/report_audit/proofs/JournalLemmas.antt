@@ -1,31 +1,8 @@
 -- Journals, entry by entry.
 use Rattle.std.proofs.Common.{◌≡◌, ℕ, ◌<◌, ◌^◌, List, [], ◌∷◌, ◌++◌, Option, Some, None, Result, Ok, Err, refl, sym, ap, ◌∙◌, subst, eq-eqb, arith}
-use Rattle.batch_snapshot.specs.Batch.{Batch}
-use Rattle.dispatch_engine.specs.Lane.{IsGoodClose, ClosesAreGood, last_sealed}
+use Rattle.report_audit.proofs.Common.{Batch, IsGoodClose, ClosesAreGood, last_sealed, plain-quiet, one_more, next_position, would_seal, IsNoClose, state_after, RepliesAreSteps, batch_of, sealed_state, answered, cancel, close, dropoff, pickup, report, seal, step, submit, Command, Submit, Cancel, Report, Pickup, Dropoff, Seal, Close, Entry, Outcome, BookRefusal, Reply, Accepted, Cancelled, Closed, Dropped, Picked, Placed, Sealed, Waiting, State, answer, seal_refusal, seal_step, table_step, batch_unless, by-table, would_seal-table, Settings, Roads, snapshot_before, IsTold, AreTold}
 use Rattle.dispatch_engine.specs.lemmas.Lanes.{IsPlain}
-use Rattle.dispatch_engine.proofs.lemmas.LaneLemmas.{plain-quiet}
-use Rattle.pool_io.specs.Faults.{one_more}
-use Rattle.request_book.specs.Book.{next_position, would_seal}
 use Rattle.request_book.specs.Closing.{after_answer}
-use Rattle.request_book.specs.Command.{IsNoClose}
-use Rattle.request_book.specs.Replay.{state_after, RepliesAreSteps}
-use Rattle.request_book.specs.Sealing.{batch_of, sealed_state}
-use Rattle.request_book.specs.Step.{answered, cancel, close, dropoff, pickup, report, seal, step, submit}
-use Rattle.request_book.specs.declared.command.Command.{Command}
-use Rattle.request_book.specs.declared.command.Command.TheVariants.{Submit, Cancel, Report, Pickup, Dropoff, Seal, Close}
-use Rattle.request_book.specs.declared.journal.Entry.{Entry}
-use Rattle.request_book.specs.declared.outcome.Outcome.{Outcome}
-use Rattle.request_book.specs.declared.reply.BookRefusal.{BookRefusal}
-use Rattle.request_book.specs.declared.reply.Reply.{Reply}
-use Rattle.request_book.specs.declared.reply.Reply.TheVariants.{Accepted, Cancelled, Closed, Dropped, Picked, Placed, Sealed}
-use Rattle.request_book.specs.declared.rider.Status.TheVariants.{Waiting}
-use Rattle.request_book.specs.declared.state.State.{State}
-use Rattle.request_book.specs.lemmas.Table.{answer, seal_refusal, seal_step, table_step, batch_unless}
-use Rattle.request_book.proofs.lemmas.StepTable.{by-table, would_seal-table}
-use Rattle.rider_limits.specs.declared.settings.Settings.{Settings}
-use Rattle.road_network.specs.Roads.{Roads}
-use Rattle.shared_book.specs.Locked.{snapshot_before}
-use Rattle.report_audit.specs.Types.{IsTold, AreTold}
 use Rattle.report_audit.proofs.TextLemmas.{next-none, next-more}
 
 -- replies

@@ -1,29 +1,11 @@
 -- Lanes, entry by entry.
-use Rattle.std.proofs.Common.{◌≡◌, ◌≢◌, ◌==◌, ℕ, zero, suc, ◌<◌, ◌≤◌, List, [], ◌∷◌, ◌++◌, length, set, drop, slice_get, Option, Some, None, refl, sym, ap, ◌∙◌, subst, ⊎_elim, arith, append-nil, append_assoc, eq-eqb}
-use Rattle.std.specs.Prelude.{option_map}
-use Rattle.std.proofs.lemmas.Bool.{cases_eq, cond-true}
-use Rattle.std.proofs.lemmas.List.{get_or_past, get_or-set_same, get_or-set_other}
+use Rattle.std.proofs.Common.{◌≡◌, ◌≢◌, ◌==◌, ℕ, zero, suc, ◌<◌, ◌≤◌, List, [], ◌∷◌, ◌++◌, length, set, drop, slice_get, Option, Some, None, refl, sym, ap, ◌∙◌, subst, ⊎_elim, arith, append-nil, append_assoc, eq-eqb, option_map}
+use Rattle.report_audit.proofs.Common.{cases_eq, cond-true, get_or_past, Batch, of_lane, IsLaneRun, IsLaneRunFrom, IsLaneBeginning, last_sealed, plain-quiet, LaneStand, at_start, stand_at, IsRest, IsNext, IsNextFrom, stand_after, HaveCome, AreDone, IsNoClose, step, Command, Close, Entry, Outcome, Reply, Accepted, Closed, State, NumberedLanes, IsRound, MayStand, lane_at, sealed_by, snapshot_before, Waits}
+use Rattle.std.proofs.lemmas.List.{get_or-set_same, get_or-set_other}
 use Rattle.std.proofs.lemmas.List.Elements.{filter-append}
-use Rattle.batch_snapshot.specs.Batch.{Batch}
-use Rattle.dispatch_engine.specs.Lane.{of_lane, IsLaneRun, IsLaneRunFrom, IsLaneBeginning, last_sealed}
-use Rattle.dispatch_engine.proofs.lemmas.LaneLemmas.{plain-quiet}
 use Rattle.dispatch_engine.proofs.lemmas.StandLemmas.{stands-plain}
-use Rattle.dispatch_engine.specs.declared.stand.LaneStand.{LaneStand}
-use Rattle.dispatch_engine.specs.Progress.{at_start, stand_at, IsRest, IsNext, IsNextFrom, stand_after, HaveCome, AreDone}
-use Rattle.request_book.specs.Command.{IsNoClose}
-use Rattle.request_book.specs.Step.{step}
-use Rattle.request_book.specs.declared.command.Command.{Command}
-use Rattle.request_book.specs.declared.command.Command.TheVariants.{Close}
-use Rattle.request_book.specs.declared.journal.Entry.{Entry}
 use Rattle.request_book.specs.declared.outcome.Answer.TheVariants.{Overflow}
-use Rattle.request_book.specs.declared.outcome.Outcome.{Outcome}
-use Rattle.request_book.specs.declared.reply.Reply.{Reply}
-use Rattle.request_book.specs.declared.reply.Reply.TheVariants.{Accepted, Closed}
-use Rattle.request_book.specs.declared.state.State.{State}
-use Rattle.script_rows.specs.Round.{NumberedLanes, IsRound, MayStand, lane_at}
-use Rattle.shared_book.specs.Locked.{sealed_by, snapshot_before}
 use Rattle.shared_book.proofs.lemmas.LockedLemmas.{step-sealed}
-use Rattle.report_audit.specs.work.Steps.{Waits}
 use Rattle.report_audit.proofs.JournalLemmas.{sealed-after}
 
 -- the entries of a lane

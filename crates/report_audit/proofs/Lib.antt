@@ -12,3 +12,4 @@ pub mod WholeLemmas
 pub mod GoingLemmas
 mod HeadFaults
 mod FaultLemmas
+pub mod Common

@@ -1,54 +1,12 @@
 -- What comes next within a round.
-use Rattle.std.proofs.Common.{◌≡◌, ◌≢◌, ◌⊎◌, ◌==◌, ℕ, ◌<◌, true, false, List, [], ◌∷◌, ◌++◌, length, set, slice_get, Option, Some, None, inl, inr, ⊎_elim, refl, sym, ap, ◌∙◌, subst, append-nil, append_assoc, length-append, arith}
-use Rattle.std.specs.Prelude.{not}
-use Rattle.std.proofs.lemmas.Bool.{and_parts}
-use Rattle.batch_snapshot.specs.Batch.{Batch}
-use Rattle.block_audit.specs.Block.{Refuses}
-use Rattle.block_audit.specs.declared.refusal.BlockRefusal.{BlockRefusal}
-use Rattle.block_audit.specs.declared.refusal.BlockRefusal.TheVariants as refusal
-use Rattle.block_audit.proofs.lemmas.AuditLemmas.{one_refusal}
-use Rattle.dispatch_engine.specs.Lane.{of_lane, IsCloseOf, IsLaneRun, IsLaneBeginning, IsGoodClose}
-use Rattle.dispatch_engine.specs.Run.{journal_of}
-use Rattle.dispatch_report.specs.Entry.{entry_line}
-use Rattle.dispatch_report.specs.Lines.{lines_text}
-use Rattle.dispatch_report.specs.Round.{entry_block}
-use Rattle.report_lines.specs.Next.{IsNextLine}
-use Rattle.report_lines.specs.declared.next.NextLine.{NextLine}
+use Rattle.std.proofs.Common.{◌≡◌, ◌≢◌, ◌⊎◌, ◌==◌, ℕ, ◌<◌, true, false, List, [], ◌∷◌, ◌++◌, length, set, slice_get, Option, Some, None, inl, inr, ⊎_elim, refl, sym, ap, ◌∙◌, subst, append-nil, append_assoc, length-append, arith, not}
+use Rattle.report_audit.proofs.Common.{and_parts, Batch, Refuses, BlockRefusal, one_refusal, of_lane, IsCloseOf, IsLaneRun, IsLaneBeginning, IsGoodClose, journal_of, entry_line, lines_text, entry_block, IsNextLine, NextLine, one_kind, LaneStand, stand_at, stand_after, HaveCome, IsNext, IsNextFrom, come_more, one_more, is_one_line, cut_once, BookView, IsApplied, IsBook, next_position, state_after, step, Command, Close, Entry, Journal, Outcome, Reply, applied-book, Settings, Roads, NumberedLanes, lane_at, IsFirstLine, Extent, BeginsRound, IsInForm, MayComeNext, MayFollow, AreAtEnd, position_behind, state_behind, IsCut, IsWrongBatch, IsWrongBlock, with_entry, HasFittingBlock, AreTold, LineFault, Stop, OutOfMemory, Line, Block, GoesOn, IsRestOfRounds, IsWrong, StopsAt, StopsHere, entries_text, with_more, BeginsWithEntry, MayBegin, HasNoNext, IsBookOf}
 use Rattle.report_lines.specs.declared.next.NextLine.TheVariants.{Round as RoundOf, Done as DoneOf, Entry as EntryOf}
-use Rattle.report_lines.proofs.lemmas.NextLemmas.{one_kind}
-use Rattle.dispatch_engine.specs.declared.stand.LaneStand.{LaneStand}
-use Rattle.dispatch_engine.specs.Progress.{stand_at, stand_after, HaveCome, IsNext, IsNextFrom}
-use Rattle.dispatch_engine.proofs.lemmas.ProgressLemmas.{come_more}
-use Rattle.pool_io.specs.Faults.{one_more}
-use Rattle.report_lines.specs.Cut.{is_one_line}
-use Rattle.report_lines.proofs.lemmas.OneBlock.{cut_once}
-use Rattle.request_book.specs.Book.{BookView, IsApplied, IsBook, next_position}
-use Rattle.request_book.specs.Replay.{state_after}
-use Rattle.request_book.specs.Step.{step}
-use Rattle.request_book.specs.declared.command.Command.{Command}
-use Rattle.request_book.specs.declared.command.Command.TheVariants.{Close}
-use Rattle.request_book.specs.declared.journal.Entry.{Entry}
-use Rattle.request_book.specs.declared.journal.Journal.{Journal}
-use Rattle.request_book.specs.declared.outcome.Outcome.{Outcome}
-use Rattle.request_book.specs.declared.reply.Reply.{Reply}
-use Rattle.request_book.proofs.lemmas.BookLemmas.{applied-book}
-use Rattle.rider_limits.specs.declared.settings.Settings.{Settings}
-use Rattle.road_network.specs.Roads.{Roads}
-use Rattle.script_rows.specs.Round.{NumberedLanes, lane_at}
-use Rattle.report_lines.specs.Line.{IsFirstLine}
-use Rattle.report_audit.specs.Place.{Extent, BeginsRound, IsInForm, MayComeNext, MayFollow, AreAtEnd, position_behind, state_behind}
-use Rattle.report_audit.specs.Fault.{IsCut, IsWrongBatch, IsWrongBlock}
-use Rattle.report_audit.specs.work.Place.{with_entry}
-use Rattle.report_audit.specs.Types.{HasFittingBlock, AreTold}
-use Rattle.report_audit.specs.declared.stop.LineFault.{LineFault}
-use Rattle.report_audit.specs.declared.stop.LineFault.TheVariants as wrong
-use Rattle.report_audit.specs.declared.stop.Stop.{Stop}
-use Rattle.report_audit.specs.declared.stop.Stop.TheVariants.{OutOfMemory, Line, Block}
-use Rattle.report_audit.specs.work.Rest.{GoesOn, IsRestOfRounds, IsWrong, StopsAt, StopsHere, entries_text, with_more}
-use Rattle.report_audit.specs.work.Steps.{BeginsWithEntry, MayBegin, HasNoNext, IsBookOf}
 use Rattle.report_audit.proofs.JournalLemmas.{reply-at, close-at}
 use Rattle.report_audit.proofs.LaneLemmas.{of_lane-append, begins_next, come_begins}
 use Rattle.report_audit.proofs.TextLemmas.{entries-more, entry_one, entries-none}
+use Rattle.block_audit.specs.declared.refusal.BlockRefusal.TheVariants as refusal
+use Rattle.report_audit.specs.declared.stop.LineFault.TheVariants as wrong
 
 -- a line that ends has a line feed behind it
 pub not_one : (a r : List ℕ) → is_one_line (a ++ 10 ∷ r) ≡ true → ⊥

@@ -1,22 +1,6 @@
 -- An entry that was read, and a stop at one.
 use Rattle.std.proofs.Common.{◌≡◌, ℕ, List, [], length, set, Option, Some, None, refl, sym, subst}
-use Rattle.batch_snapshot.specs.Batch.{Batch}
-use Rattle.dispatch_engine.specs.Lane.{last_sealed}
-use Rattle.dispatch_engine.specs.Run.{journal_of}
-use Rattle.dispatch_engine.specs.declared.stand.LaneStand.{LaneStand}
-use Rattle.dispatch_engine.specs.Progress.{AreDone, IsNext, stand_after, stand_at}
-use Rattle.request_book.specs.Book.{BookView}
-use Rattle.request_book.specs.declared.command.Command.{Command}
-use Rattle.request_book.specs.declared.command.Command.TheVariants.{Close}
-use Rattle.request_book.specs.declared.reply.Reply.{Reply}
-use Rattle.request_book.specs.declared.reply.Reply.TheVariants.{Closed}
-use Rattle.rider_limits.specs.declared.settings.Settings.{Settings}
-use Rattle.road_network.specs.Roads.{Roads}
-use Rattle.script_rows.specs.Round.{NumberedLanes, lane_at}
-use Rattle.report_audit.specs.declared.stop.Stop.{Stop}
-use Rattle.report_audit.specs.work.Closing.{TakesClose, CloseStops}
-use Rattle.report_audit.specs.work.Steps.{EntryRead, IsEntryOf, IsWithin, StopsWithin}
-use Rattle.report_audit.specs.work.Taking.{TakesCommand, CommandStops}
+use Rattle.report_audit.proofs.Common.{Batch, last_sealed, journal_of, LaneStand, AreDone, IsNext, stand_after, stand_at, BookView, Command, Close, Reply, Closed, Settings, Roads, NumberedLanes, lane_at, Stop, TakesClose, CloseStops, EntryRead, IsEntryOf, IsWithin, StopsWithin, TakesCommand, CommandStops}
 use Rattle.report_audit.proofs.EntryLemmas.{close_stops, closing_next, command_stops, read_close, read_command, shorter, within_close, within_command}
 
 -- how the lanes stand after an entry of a lane, whichever way its number is told

@@ -1,30 +1,14 @@
 -- A reply of the book tells how a rider's request ended only where it did.
 use Rattle.std.proofs.Common.{ℕ, ◌+◌, ◌==◌, nat_le, nat_lt, Bool, true, false, cond, List, [], ◌∷◌, ◌++◌, length, Option, Some, None, sym, ap, subst}
-use Rattle.batch_snapshot.specs.Batch.{Batch}
+use Rattle.report_audit.proofs.Common.{Batch, Vehicle, one_more, BookView, IsApplied, sealed_state, rider_becomes, vehicle_becomes, step, Command, BookRefusal, UnknownNode, SamePlace, PoolFull, BookFull, TimeBack, NotPromised, VehicleFull, NotAboard, ClockBack, NotThisBatch, Reply, Accepted, Cancelled, Placed, Picked, Dropped, Sealed, Closed, Refused, Status, Waiting, Promised, Aboard, State, answer, picked_up, dropped_off, submit_step, cancel_step, report_step, pickup_step, dropoff_step, seal_step, close_step, table_step, by-table, has_node, TellsEnd}
 use Rattle.batch_snapshot.specs.Vehicle.{persons_aboard}
-use Rattle.batch_snapshot.specs.declared.vehicle.Vehicle.{Vehicle}
-use Rattle.pool_io.specs.Faults.{one_more}
-use Rattle.request_book.specs.Book.{BookView, IsApplied}
-use Rattle.request_book.specs.Sealing.{sealed_state}
 use Rattle.request_book.specs.State.{find_rider, find_vehicle, pool_count}
-use Rattle.request_book.specs.Step.{rider_becomes, vehicle_becomes, step}
-use Rattle.request_book.specs.declared.command.Command.{Command}
-use Rattle.request_book.specs.declared.command.Command.TheVariants as command
-use Rattle.request_book.specs.declared.reply.BookRefusal.{BookRefusal}
-use Rattle.request_book.specs.declared.reply.BookRefusal.TheVariants.{UnknownNode, SamePlace, PoolFull, BookFull, TimeBack, NotPromised, VehicleFull, NotAboard, ClockBack, NotThisBatch}
-use Rattle.request_book.specs.declared.reply.Reply.{Reply}
-use Rattle.request_book.specs.declared.reply.Reply.TheVariants.{Accepted, Cancelled, Placed, Picked, Dropped, Sealed, Closed, Refused}
 use Rattle.request_book.specs.declared.rider.BookRider.{BookRider}
-use Rattle.request_book.specs.declared.rider.Status.{Status}
-use Rattle.request_book.specs.declared.rider.Status.TheVariants.{Waiting, Promised, Aboard, Cancelled as GivenUp}
-use Rattle.request_book.specs.declared.state.State.{State}
+use Rattle.request_book.specs.declared.rider.Status.TheVariants.{Cancelled as GivenUp}
 use Rattle.request_book.specs.lemmas.Closing.{closed_state}
 use Rattle.request_book.specs.lemmas.Named.{stands_at}
 use Rattle.request_book.specs.lemmas.Refusals.{first_of, duplicate_rider, unknown_node, same_place, pool_full, book_full, unknown_rider, aboard_refusal, ended_refusal, is_aboard, has_ended, unknown_vehicle, time_back, promise_refusal, not_promised, vehicle_full, seat_refusal, not_aboard, batch_open, clock_back, not_this_batch}
-use Rattle.request_book.specs.lemmas.Table.{answer, picked_up, dropped_off, submit_step, cancel_step, report_step, pickup_step, dropoff_step, seal_step, close_step, table_step}
-use Rattle.request_book.proofs.lemmas.StepTable.{by-table}
-use Rattle.road_network.specs.Roads.{has_node}
-use Rattle.report_audit.specs.work.Taking.{TellsEnd}
+use Rattle.request_book.specs.declared.command.Command.TheVariants as command
 
 -- a refusal, if there is one, tells no other status
 abbrev IsFair : Option BookRefusal → Type 0

@@ -1,46 +1,13 @@
 -- Rounds of a report.
-use Rattle.std.proofs.Common.{◌≡◌, ◌≢◌, ◌⊎◌, ℕ, ◌<◌, ◌≤◌, ◌^◌, true, List, [], ◌∷◌, ◌++◌, length, replicate, drop, codes, Option, Some, None, refl, sym, ap, ◌∙◌, subst, ⊎_elim, append-nil, append_assoc, arith}
-use Rattle.std.specs.Prelude.{option_map, count_by}
-use Rattle.std.proofs.lemmas.Bool.{cases_lt}
-use Rattle.std.proofs.lemmas.List.{get_or_past, get_or-replicate, length-replicate}
-use Rattle.batch_snapshot.specs.Batch.{Batch}
-use Rattle.dispatch_engine.specs.Lane.{of_lane, ClosesAreGood, IsLaneBeginning, IsLaneRun, IsLaneRunFrom}
-use Rattle.dispatch_engine.specs.Run.{journal_of}
-use Rattle.dispatch_report.specs.Round.{round_text}
-use Rattle.dispatch_report.specs.Words.{numbered}
-use Rattle.report_lines.specs.Next.{IsNextLine}
-use Rattle.report_lines.specs.declared.next.NextLine.{NextLine}
+use Rattle.std.proofs.Common.{◌≡◌, ◌≢◌, ◌⊎◌, ℕ, ◌<◌, ◌≤◌, ◌^◌, true, List, [], ◌∷◌, ◌++◌, length, replicate, drop, codes, Option, Some, None, refl, sym, ap, ◌∙◌, subst, ⊎_elim, append-nil, append_assoc, arith, option_map, count_by}
+use Rattle.report_audit.proofs.Common.{cases_lt, get_or_past, get_or-replicate, length-replicate, Batch, of_lane, ClosesAreGood, IsLaneBeginning, IsLaneRun, IsLaneRunFrom, journal_of, round_text, numbered, IsNextLine, NextLine, one_kind, LaneStand, at_start, stand_at, HaveCome, AreDone, cut_once, BookView, next_position, state_after, RepliesAreSteps, Command, Entry, Journal, State, round-book, Settings, Roads, NumberedLanes, IsRound, lane_at, sealed_by, IsFirstLine, Extent, AreAtEnd, IsInForm, position_behind, state_behind, closes, AreTold, Stop, OutOfMemory, Line, Block, GoesOn, IsRestOfRounds, StopsAt, StopsHere, entries_text, with_more, IsRoundStart, HasRoundLine, IsNoRoundLine, EntriesStop, HasReadEntries, HasReadRound, RoundStops, WhereRoundStops, HasRead, IsBookOf, IsWithin, StopsBehind, StopsWithin}
 use Rattle.report_lines.specs.declared.next.NextLine.TheVariants.{Round as RoundOf}
-use Rattle.report_lines.proofs.lemmas.NextLemmas.{one_kind}
-use Rattle.dispatch_engine.specs.declared.stand.LaneStand.{LaneStand}
-use Rattle.dispatch_engine.specs.Progress.{at_start, stand_at, HaveCome, AreDone}
-use Rattle.report_lines.proofs.lemmas.OneBlock.{cut_once}
-use Rattle.request_book.specs.Book.{BookView, next_position}
-use Rattle.request_book.specs.Replay.{state_after, RepliesAreSteps}
-use Rattle.request_book.specs.declared.command.Command.{Command}
-use Rattle.request_book.specs.declared.journal.Entry.{Entry}
-use Rattle.request_book.specs.declared.journal.Journal.{Journal}
-use Rattle.request_book.specs.declared.state.State.{State}
-use Rattle.request_book.proofs.lemmas.BookLemmas.{round-book}
-use Rattle.rider_limits.specs.declared.settings.Settings.{Settings}
-use Rattle.road_network.specs.Roads.{Roads}
-use Rattle.script_rows.specs.Round.{NumberedLanes, IsRound, lane_at}
-use Rattle.shared_book.specs.Locked.{sealed_by}
-use Rattle.report_lines.specs.Line.{IsFirstLine}
-use Rattle.report_audit.specs.Place.{Extent, AreAtEnd, IsInForm, position_behind, state_behind}
-use Rattle.report_audit.specs.Report.{closes}
-use Rattle.report_audit.specs.Types.{AreTold}
-use Rattle.report_audit.specs.declared.stop.LineFault.TheVariants as wrong
-use Rattle.report_audit.specs.declared.stop.Stop.{Stop}
-use Rattle.report_audit.specs.declared.stop.Stop.TheVariants.{OutOfMemory, Line, Block}
-use Rattle.report_audit.specs.work.Rest.{GoesOn, IsRestOfRounds, StopsAt, StopsHere, entries_text, with_more}
-use Rattle.report_audit.specs.work.Rounds.{IsRoundStart, HasRoundLine, IsNoRoundLine, EntriesStop, HasReadEntries, HasReadRound, RoundStops, WhereRoundStops}
-use Rattle.report_audit.specs.work.Steps.{HasRead, IsBookOf, IsWithin, StopsBehind, StopsWithin}
 use Rattle.report_audit.proofs.JournalLemmas.{after-none, closes-none}
 use Rattle.report_audit.proofs.LaneLemmas.{come_begins, done_end, own-lane}
 use Rattle.report_audit.proofs.NextLemmas.{between_is_no_stop, book_state, in_form, same_stop}
 use Rattle.report_audit.proofs.EntryLemmas.{not_at_end}
 use Rattle.report_audit.proofs.TextLemmas.{words_one, entries-append, entries-none, next-append, next-low, next-none, round-is}
+use Rattle.report_audit.specs.declared.stop.LineFault.TheVariants as wrong
 
 -- at the start of a round no lane has begun
 stand_start : (k : ℕ) → stand_at (replicate 16 at_start) k ≡ at_start

@@ -1,30 +1,11 @@
 -- Texts of entries and rounds.
 use Rattle.std.proofs.Common.{◌≡◌, ℕ, ◌<◌, ◌≤◌, ◌^◌, Bool, true, false, cond, eqb, List, [], ◌∷◌, ◌++◌, codes, decimal, Some, None, refl, sym, ap, ◌∙◌, append_assoc, length-append, arith}
+use Rattle.report_audit.proofs.Common.{command_text, entry_line, refusal_text, reply_text, rider_status_text, lines_text, entries_lines, entry_block, round_text, end_text, numbered, spaced, IsEntry, one_more, is_one_line, append_one_line, numbered_one_line, next_position, Command, Submit, Cancel, Report, Pickup, Dropoff, Seal, Close, Entry, Journal, BookRefusal, IsAboard, Ended, TimeBack, NotPromised, BatchOpen, ClockBack, NotThisBatch, Reply, Sealed, Refused, Status, Waiting, entries_text}
 use Rattle.std.specs.List.{flat_map}
 use Rattle.std.proofs.lemmas.Grind.{flat_map-append}
-use Rattle.dispatch_report.specs.Entry.{command_text, entry_line, refusal_text, reply_text, rider_status_text}
-use Rattle.dispatch_report.specs.Lines.{lines_text}
-use Rattle.dispatch_report.specs.Round.{entries_lines, entry_block, round_text, end_text}
-use Rattle.dispatch_report.specs.Words.{numbered, spaced}
 use Rattle.report_lines.specs.Command.{IsCommand}
-use Rattle.report_lines.specs.Next.{IsEntry}
 use Rattle.report_lines.specs.Reply.{IsReply, IsRefusal}
-use Rattle.pool_io.specs.Faults.{one_more}
-use Rattle.report_lines.specs.Cut.{is_one_line}
 use Rattle.report_lines.specs.Ids.{IsId}
-use Rattle.report_lines.proofs.lemmas.OneBlock.{append_one_line, numbered_one_line}
-use Rattle.request_book.specs.Book.{next_position}
-use Rattle.request_book.specs.declared.command.Command.{Command}
-use Rattle.request_book.specs.declared.command.Command.TheVariants.{Submit, Cancel, Report, Pickup, Dropoff, Seal, Close}
-use Rattle.request_book.specs.declared.journal.Entry.{Entry}
-use Rattle.request_book.specs.declared.journal.Journal.{Journal}
-use Rattle.request_book.specs.declared.reply.BookRefusal.{BookRefusal}
-use Rattle.request_book.specs.declared.reply.BookRefusal.TheVariants.{IsAboard, Ended, TimeBack, NotPromised, BatchOpen, ClockBack, NotThisBatch}
-use Rattle.request_book.specs.declared.reply.Reply.{Reply}
-use Rattle.request_book.specs.declared.reply.Reply.TheVariants.{Sealed, Refused}
-use Rattle.request_book.specs.declared.rider.Status.{Status}
-use Rattle.request_book.specs.declared.rider.Status.TheVariants.{Waiting}
-use Rattle.report_audit.specs.work.Rest.{entries_text}
 
 -- lines
 pub lines-none : lines_text [] ≡ []

@@ -1,35 +1,13 @@
 -- All rounds of a report.
 use Rattle.std.proofs.Common.{◌≡◌, ◌≢◌, ◌⊎◌, ℕ, ◌+◌, ◌-◌, ◌<◌, ◌≤◌, ◌^◌, add-one, drop, codes, get_or, min, take, true, List, [], ◌∷◌, ◌++◌, length, Option, Some, None, ⊎_elim, refl, sym, ap, ◌∙◌, subst, append_assoc, append-nil}
+use Rattle.report_audit.proofs.Common.{drop_all, drop_more, IsRun, IsRoundRun, position_after_run, state_after_run, end_text, round_text, numbered, IsFirstLine, no_entry_done, no_entry_round, one_kind, BookView, next_position, state_after, Journal, State, Settings, Roads, NumberedLanes, Extent, IsInForm, IsNoEntry, batches_after, batches_in, rounds_text, AreTold, JournalsAreTold, Stop, OutOfMemory, Line, Block, EndStops, IsEndText, IsRestBehind, EndsBehind, GoesOn, IsRestOfRounds, StopsAt, StopsHere, HasReadRound, IsRoundStart, RoundStops, WhereRoundStops, BeginsWithEntry, MayBegin, AllStops, HasComeTo, HasReadAll, WhereAllStops, cut_once}
 use Rattle.std.proofs.Math.Seq.{take-suc}
-use Rattle.std.proofs.lemmas.List.{drop_all, drop_more, take_all}
-use Rattle.dispatch_engine.specs.Run.{IsRun, IsRoundRun, position_after_run, state_after_run}
-use Rattle.dispatch_report.specs.Round.{end_text, round_text}
-use Rattle.dispatch_report.specs.Words.{numbered}
-use Rattle.report_lines.specs.Line.{IsFirstLine}
+use Rattle.std.proofs.lemmas.List.{take_all}
 use Rattle.report_lines.specs.declared.next.NextLine.TheVariants.{Done as DoneOf, Entry as EntryOf}
-use Rattle.report_lines.proofs.lemmas.NextLemmas.{no_entry_done, no_entry_round, one_kind}
-use Rattle.request_book.specs.Book.{BookView, next_position}
-use Rattle.request_book.specs.Replay.{state_after}
-use Rattle.request_book.specs.declared.journal.Journal.{Journal}
-use Rattle.request_book.specs.declared.state.State.{State}
-use Rattle.rider_limits.specs.declared.settings.Settings.{Settings}
-use Rattle.road_network.specs.Roads.{Roads}
-use Rattle.script_rows.specs.Round.{NumberedLanes}
-use Rattle.report_audit.specs.Place.{Extent, IsInForm, IsNoEntry}
-use Rattle.report_audit.specs.Report.{batches_after, batches_in, rounds_text}
-use Rattle.report_audit.specs.Types.{AreTold, JournalsAreTold}
-use Rattle.report_audit.specs.declared.stop.LineFault.TheVariants as wrong
-use Rattle.report_audit.specs.declared.stop.Stop.{Stop}
-use Rattle.report_audit.specs.declared.stop.Stop.TheVariants.{OutOfMemory, Line, Block}
-use Rattle.report_audit.specs.work.Ends.{EndStops, IsEndText, IsRestBehind}
-use Rattle.report_audit.specs.work.Rest.{EndsBehind, GoesOn, IsRestOfRounds, StopsAt, StopsHere}
-use Rattle.report_audit.specs.work.Rounds.{HasReadRound, IsRoundStart, RoundStops, WhereRoundStops}
-use Rattle.report_audit.specs.work.Steps.{BeginsWithEntry, MayBegin}
-use Rattle.report_audit.specs.work.Whole.{AllStops, HasComeTo, HasReadAll, WhereAllStops}
-use Rattle.report_lines.proofs.lemmas.OneBlock.{cut_once}
 use Rattle.report_audit.proofs.NextLemmas.{between_is_no_stop, same_stop}
 use Rattle.report_audit.proofs.RoundLemmas.{base_is, round_so_far}
 use Rattle.report_audit.proofs.TextLemmas.{done_one, end-is, next-none}
+use Rattle.report_audit.specs.declared.stop.LineFault.TheVariants as wrong
 
 -- items up to the next one
 take_next : {X : Type 0} (xs : List X) (i : ℕ) (x : X) → i < length xs → x ≡ get_or xs i x → take i xs ++ x ∷ [] ≡ take (i + 1) xs

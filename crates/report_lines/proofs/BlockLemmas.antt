@@ -1,15 +1,7 @@
 -- Lines of a block, one more at a time.
 use Rattle.std.proofs.Common.{◌≡◌, ℕ, true, List, [], ◌∷◌, ◌++◌, map, refl, sym, ap, ◌∙◌, subst, append_assoc, append-nil, arith}
+use Rattle.report_lines.proofs.Common.{and_from, and_parts, flat_map-append, map-append, All-append, All-cons, lines_text, BeginsBlock, block_line_text, IsBlockLine, kind_place, may_follow_at, follow_on, last_place, BlockLine}
 use Rattle.std.specs.List.{flat_map}
-use Rattle.std.proofs.lemmas.Bool.{and_from, and_parts}
-use Rattle.std.proofs.lemmas.Grind.{flat_map-append}
-use Rattle.std.proofs.lemmas.List.{map-append}
-use Rattle.std.proofs.lemmas.List.Elements.{All-append, All-cons}
-use Rattle.dispatch_report.specs.Lines.{lines_text}
-use Rattle.report_lines.specs.Block.{BeginsBlock}
-use Rattle.report_lines.specs.BlockLine.{block_line_text, IsBlockLine}
-use Rattle.report_lines.specs.Order.{kind_place, may_follow_at, follow_on, last_place}
-use Rattle.report_lines.specs.declared.block_line.BlockLine.{BlockLine}
 
 follow_more : (place : ℕ) (lines : List BlockLine) (line : BlockLine) → follow_on place lines ≡ true → may_follow_at (last_place place lines) line ≡ true → follow_on place (lines ++ line ∷ []) ≡ true
 follow_more place [] line all next = and_from (may_follow_at place line) true next refl

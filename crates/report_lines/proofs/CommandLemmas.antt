@@ -1,22 +1,11 @@
 -- A command and the reply to it.
 use Rattle.std.proofs.Common.{◌≡◌, ◌≢◌, ℕ, zero, suc, ◌≤◌, ◌<◌, ◌^◌, ◌==◌, Bool, true, false, if◌then◌else◌, codes, get_or, drop, List, [], ◌∷◌, ◌++◌, decimal, refl, sym, ap, ◌∙◌, append_assoc, ne_eqb, arith}
-use Rattle.std.specs.Char.{is_ascii_digit}
-use Rattle.dispatch_report.specs.Entry.{reply_text}
-use Rattle.dispatch_report.specs.Words.{numbered, spaced}
+use Rattle.report_lines.proofs.Common.{is_ascii_digit, reply_text, numbered, spaced, IsReply, told_text, IsTold, single_text, IsSingle, three_text, AreThree, ride_text, IsRide, four_text, AreFour, ending_text, IsEnding, submit_text, IsSubmit, spaced_reply, Told, IsId, BeginsWith, BeginsWithNone, ends_number, both_texts, BothAre, Outcome, Reply}
 use Rattle.report_lines.specs.Command.{IsParty}
-use Rattle.report_lines.specs.Reply.{IsReply}
-use Rattle.report_lines.specs.work.Commands.{told_text, IsTold, single_text, IsSingle, three_text, AreThree, ride_text, IsRide, four_text, AreFour, ending_text, IsEnding, submit_text, IsSubmit}
-use Rattle.report_lines.specs.work.Replies.{spaced_reply}
-use Rattle.report_lines.specs.work.Told.{Told}
 use Rattle.report_lines.proofs.ToldLemmas.{no_number}
-use Rattle.report_lines.specs.Ids.{IsId}
-use Rattle.report_lines.specs.Reading.{BeginsWith, BeginsWithNone, ends_number}
-use Rattle.report_lines.specs.Both.{both_texts, BothAre}
 use Rattle.report_lines.proofs.lemmas.ReadingLemmas.{EndsOnce, both_once, both_none_first, both_none_second, numbered_once, pair_once, spaced_apart}
 use Rattle.request_book.specs.declared.command.Command.TheVariants.{Submit, Cancel, Report, Pickup, Dropoff, Seal, Close}
 use Rattle.request_book.specs.declared.outcome.Answer.TheVariants.{Overflow}
-use Rattle.request_book.specs.declared.outcome.Outcome.{Outcome}
-use Rattle.request_book.specs.declared.reply.Reply.{Reply}
 use Rattle.request_book.specs.declared.reply.Reply.TheVariants.{Accepted, Cancelled, Placed, Picked, Dropped, Sealed, Closed, Refused}
 
 -- a reply begins with a letter

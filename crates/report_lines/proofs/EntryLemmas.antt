@@ -1,19 +1,11 @@
 -- An entry's line.
 use Rattle.std.proofs.Common.{◌≡◌, ◌≢◌, ℕ, ◌≤◌, ◌<◌, ◌^◌, true, codes, List, ◌++◌, decimal, refl, sym, ap, ◌∙◌, append_assoc, arith}
-use Rattle.std.proofs.lemmas.List.{append_cancel_left}
-use Rattle.dispatch_report.specs.Entry.{entry_line, command_text, reply_text}
-use Rattle.dispatch_report.specs.Words.{numbered, spaced}
-use Rattle.report_lines.specs.Next.{IsNextLine}
+use Rattle.report_lines.proofs.Common.{append_cancel_left, entry_line, command_text, reply_text, numbered, spaced, IsNextLine, told_text, IsTold, Told, BeginsWith, BeginsWithNone, ends_number, both_texts, BothAre, Reply}
 use Rattle.report_lines.specs.declared.next.NextLine.TheVariants.{Entry as EntryOf}
-use Rattle.report_lines.specs.work.Commands.{told_text, IsTold}
-use Rattle.report_lines.specs.work.Told.{Told}
 use Rattle.report_lines.proofs.ToldLemmas.{no_head, tail_told}
-use Rattle.report_lines.specs.Reading.{BeginsWith, BeginsWithNone, ends_number}
-use Rattle.report_lines.specs.Both.{both_texts, BothAre}
 use Rattle.report_lines.proofs.lemmas.ReadingLemmas.{EndsOnce, decimal_once, numbered_once}
 use Rattle.request_book.specs.declared.command.Command.{Command}
 use Rattle.request_book.specs.declared.journal.Entry.{Entry}
-use Rattle.request_book.specs.declared.reply.Reply.{Reply}
 
 -- a command and its reply behind a space
 abbrev spaced_told : Command × Reply → List ℕ

@@ -1,11 +1,6 @@
 -- Lines that tell one thing alone.
 use Rattle.std.proofs.Common.{◌≡◌, ◌≢◌, ℕ, ◌≤◌, ◌<◌, ◌^◌, Bool, true, false, List, [], codes, refl, sym, ap, ◌∙◌, subst, append-nil, arith}
-use Rattle.dispatch_report.specs.Words.{numbered}
-use Rattle.report_lines.specs.HeadFault.{HeadLine, HasForm, FitsLine}
-use Rattle.report_lines.specs.Settings.{AreLawful}
-use Rattle.report_lines.specs.HeadLines.{settings_text, AreSettings, sizes_text, AreSizes}
-use Rattle.report_lines.specs.declared.head_lines.SettingsText.{SettingsText}
-use Rattle.report_lines.specs.Both.{BothAre}
+use Rattle.report_lines.proofs.Common.{numbered, HeadLine, HasForm, FitsLine, AreLawful, settings_text, AreSettings, sizes_text, AreSizes, SettingsText, BothAre}
 use Rattle.report_lines.proofs.lemmas.HeadLemmas.{settings_of_one}
 use Rattle.report_lines.proofs.lemmas.ReadingLemmas.{EndsOnce, StandsApart, both_once, numbered_below, numbered_once, of_one}
 

@@ -1,15 +1,10 @@
 -- A late vehicle's order.
 use Rattle.std.proofs.Common.{◌≡◌, ◌≢◌, ℕ, ◌≤◌, true, codes, List, Option, None, Some, refl, arith}
+use Rattle.report_lines.proofs.Common.{stop_text, numbered, spaced, BeginsWith, BeginsWithNone, ends_number, FitsStop, order_text, IsOrder, PlannedStop}
 use Rattle.std.specs.List.{flat_map, All}
-use Rattle.dispatch_report.specs.Block.{stop_text}
-use Rattle.dispatch_report.specs.Words.{numbered, spaced}
-use Rattle.report_lines.specs.Reading.{BeginsWith, BeginsWithNone, ends_number}
-use Rattle.report_lines.specs.Stops.{FitsStop}
-use Rattle.report_lines.specs.work.Late.{order_text, IsOrder}
 use Rattle.report_lines.proofs.ListLemmas.{many_end}
 use Rattle.report_lines.proofs.lemmas.ReadingLemmas.{head_none, tail_none, numbered_once}
 use Rattle.report_lines.proofs.StopLemmas.{stop_apart}
-use Rattle.request_book.specs.declared.outcome.PlannedStop.{PlannedStop}
 
 pub order_no_delay : (text : List ℕ) → text ≢ codes " none" → BeginsWithNone spaced (λ n. n ≤ 18446744073709551615) text → (order : ℕ × Option (List PlannedStop)) → IsOrder order → text ≢ order_text order
 order_no_delay text other none (delay, None) is e = other e

@@ -11,3 +11,4 @@ pub mod ToldLemmas
 pub mod CommandLemmas
 pub mod EntryLemmas
 pub mod ReplyLemmas
+pub mod Common

@@ -1,11 +1,7 @@
 -- Texts of things one behind another, to the end of a line.
 use Rattle.std.proofs.Common.{◌≡◌, ◌≢◌, ℕ, ◌<◌, Bool, true, false, nat_eq, length, List, [], ◌∷◌, ◌++◌, refl, sym, ap, ◌∙◌, append_assoc, append-nil, length-append, eqb-true, subst, arith}
+use Rattle.report_lines.proofs.Common.{flat_map-append, All-append, All-cons, All-head, All-tail, BeginsWith, BeginsWithNone, ends_number, numbered, spaced, IsId}
 use Rattle.std.specs.List.{flat_map, All}
-use Rattle.std.proofs.lemmas.Grind.{flat_map-append}
-use Rattle.std.proofs.lemmas.List.Elements.{All-append, All-cons, All-head, All-tail}
-use Rattle.report_lines.specs.Reading.{BeginsWith, BeginsWithNone, ends_number}
-use Rattle.dispatch_report.specs.Words.{numbered, spaced}
-use Rattle.report_lines.specs.Ids.{IsId}
 use Rattle.report_lines.proofs.lemmas.ReadingLemmas.{EndsOnce, StandsApart, numbered_once}
 
 -- no such text is empty

@@ -1,25 +1,11 @@
 -- A text is that of one line of a block.
 use Rattle.std.proofs.Common.{◌≡◌, ℕ, ◌+◌, eqb, ◌*◌, ◌<◌, ◌≤◌, ◌^◌, true, ℤ, List, [], ◌∷◌, ◌++◌, length, get_or, codes, Option, None, Some, false, drop, decimal, refl, sym, ap, ◌∙◌, subst, append-nil, length-append, arith}
+use Rattle.report_lines.proofs.Common.{All-head, All-tail, is_ascii_digit, list_all, and_parts, eqb-false, decimal_is_IsNumeral_wide, append_cancel_left, stop_text, pair_line, move_text, numbered, signed, spaced, block_line_text, IsBlockLine, IsId, AreIds, BeginsWith, ends_number, IsWide, IsLong, FitsStop, both_texts, BothAre, order_text, IsOrder, PlannedStop, BlockLine, Batch, Expired, Overflow, Lapsed, Late, Alone, Shared, Row, Trip, Out, Move, Cost, Bound, Nodes, Branch, Leaf, Dead, End}
 use Rattle.std.specs.List.{All, flat_map}
-use Rattle.std.proofs.lemmas.List.Elements.{All-head, All-tail}
-use Rattle.std.specs.Char.{is_ascii_digit}
-use Rattle.std.specs.List.{list_all}
-use Rattle.std.proofs.lemmas.Bool.{and_parts, eqb-false}
-use Rattle.std.proofs.lemmas.Fmt.{decimal_is_IsNumeral_wide}
-use Rattle.std.proofs.lemmas.List.{append_cancel_left}
-use Rattle.dispatch_report.specs.Block.{stop_text, pair_line, move_text}
-use Rattle.dispatch_report.specs.Words.{numbered, signed, spaced}
-use Rattle.report_lines.specs.BlockLine.{block_line_text, IsBlockLine}
-use Rattle.report_lines.specs.Ids.{IsId, AreIds}
 use Rattle.report_lines.specs.Leaf.{leaf_text}
 use Rattle.report_lines.specs.Moves.{IsMove, IsBranch}
-use Rattle.report_lines.specs.Reading.{BeginsWith, ends_number}
 use Rattle.report_lines.specs.Row.{row_line_text, IsRowLine}
-use Rattle.report_lines.specs.Signed.{IsWide, IsLong}
-use Rattle.report_lines.specs.Stops.{FitsStop}
 use Rattle.report_lines.specs.Trips.{trip_text, IsTripLine, late_text, IsLateLine}
-use Rattle.report_lines.specs.Both.{both_texts, BothAre}
-use Rattle.report_lines.specs.work.Late.{order_text, IsOrder}
 use Rattle.report_lines.proofs.LateLemmas.{order_ends}
 use Rattle.report_lines.proofs.ListLemmas.{IsNeverEmpty, many_end, spaced_some, spaced_once}
 use Rattle.report_lines.proofs.lemmas.NumeralLemmas.{decimal_digits}
@@ -29,10 +15,7 @@ use Rattle.report_lines.proofs.StopLemmas.{stop_once, stop_apart, stop_some}
 use Rattle.report_lines.specs.declared.trip.TripText.{TripText}
 use Rattle.report_lines.specs.declared.late.LateText.{LateText}
 use Rattle.request_book.specs.declared.outcome.MoveLine.{MoveLine}
-use Rattle.request_book.specs.declared.outcome.PlannedStop.{PlannedStop}
 use Rattle.report_lines.specs.declared.row.RowText.{RowText}
-use Rattle.report_lines.specs.declared.block_line.BlockLine.{BlockLine}
-use Rattle.report_lines.specs.declared.block_line.BlockLine.TheVariants.{Batch, Expired, Overflow, Lapsed, Late, Alone, Shared, Row, Trip, Out, Move, Cost, Bound, Nodes, Branch, Leaf, Dead, End}
 
 module _ {X : Type 0} (t : X → List ℕ) (Is : X → Type 0) (apart : StandsApart t) (once : EndsOnce t Is) (some : IsNeverEmpty t) where
   none_is_not_some : (x : X) (xs : List X) → [] ≡ flat_map t (x ∷ xs) → ⊥

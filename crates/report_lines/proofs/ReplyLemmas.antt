@@ -1,9 +1,7 @@
 -- Texts of no refusal of a kind.
 use Rattle.std.proofs.Common.{◌≢◌, ℕ, ◌≤◌, List, ◌++◌, codes, arith}
-use Rattle.dispatch_report.specs.Entry.{refusal_text}
+use Rattle.report_lines.proofs.Common.{refusal_text, numbered, IsNumberRefusal, IsNotPromised, IsNotThisBatch}
 use Rattle.dispatch_report.specs.lemmas.Named.{spaced_or_none}
-use Rattle.dispatch_report.specs.Words.{numbered}
-use Rattle.report_lines.specs.work.Replies.{IsNumberRefusal, IsNotPromised, IsNotThisBatch}
 use Rattle.request_book.specs.declared.reply.BookRefusal.{BookRefusal}
 use Rattle.request_book.specs.declared.reply.BookRefusal.TheVariants.{IsAboard, TimeBack, NotPromised, BatchOpen, ClockBack, NotThisBatch}
 

@@ -1,19 +1,10 @@
 -- Settings, and the numbers that a line tells of them.
 use Rattle.std.proofs.Common.{◌≡◌, ℕ, ◌≤◌, ◌==◌, Bool, true, false, if◌then◌else◌, List, [], ◌++◌, codes, refl, sym, ap, ◌∙◌, subst, arith}
-use Rattle.std.proofs.lemmas.Fmt.{decimal_digit}
+use Rattle.report_lines.proofs.Common.{decimal_digit, settings_line, numbered, AreOf, AreLawful, told_of, is_one_line, settings_text, AreSettings, IsShortNumber, dwell_text, SettingsText, Settings}
 use Rattle.std.proofs.Props.{props}
-use Rattle.dispatch_report.specs.Head.{settings_line}
-use Rattle.dispatch_report.specs.Words.{numbered}
-use Rattle.report_lines.specs.Settings.{AreOf, AreLawful}
-use Rattle.report_lines.specs.work.Settings.{told_of}
-use Rattle.report_lines.specs.Cut.{is_one_line}
-use Rattle.report_lines.specs.HeadLines.{settings_text, AreSettings, IsShortNumber}
-use Rattle.report_lines.specs.lemmas.HeadLines.{dwell_text}
-use Rattle.report_lines.specs.declared.head_lines.SettingsText.{SettingsText}
 use Rattle.report_lines.proofs.lemmas.OneBlock.{append_one_line, numbered_one_line}
 use Rattle.rider_limits.specs.Range.{AreInRange}
 use Rattle.rider_limits.specs.declared.settings.Mode.{Mode}
-use Rattle.rider_limits.specs.declared.settings.Settings.{Settings}
 use Rattle.rider_limits.specs.declared.settings.TimesWay.{TimesWay}
 
 -- lawful numbers are below 2^32

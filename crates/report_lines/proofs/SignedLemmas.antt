@@ -1,15 +1,9 @@
 -- Signed numbers at the beginning of a text.
 use Rattle.std.proofs.Common.{◌≡◌, ◌≢◌, ℕ, suc, ◌≤◌, ◌<◌, ◌^◌, true, false, ℤ, pos, negsuc, FitsSigned, to_z, of_z, w64, Bor, Option, None, Some, MatchOption, List, [], ◌∷◌, ◌++◌, length, decimal, codes, refl, sym, ap, ◌∙◌, subst, arith, rules}
-use Rattle.std.specs.List.{list_all}
-use Rattle.std.specs.Char.{is_ascii_digit}
+use Rattle.report_lines.proofs.Common.{list_all, is_ascii_digit, decimal_is_IsNumeral_wide, and_parts, signed, BeginsWith, BeginsWithNone, ends_number, IsWide, IsLong}
 use Rattle.std.specs.Fmt.{signed_decimal}
 use Rattle.std.specs.Int.{w128}
-use Rattle.std.proofs.lemmas.Fmt.{decimal_is_IsNumeral_wide}
-use Rattle.std.proofs.lemmas.Bool.{and_parts}
 use Rattle.std.proofs.lemmas.Int.{to_z-of_z}
-use Rattle.dispatch_report.specs.Words.{signed}
-use Rattle.report_lines.specs.Reading.{BeginsWith, BeginsWithNone, ends_number}
-use Rattle.report_lines.specs.Signed.{IsWide, IsLong}
 use Rattle.report_lines.proofs.ListLemmas.{IsNeverEmpty}
 use Rattle.report_lines.proofs.lemmas.NumeralLemmas.{decimal_digits}
 use Rattle.report_lines.proofs.lemmas.ReadingLemmas.{EndsOnce, StandsApart, decimal_once, behind_once, behind_none, behind_none_words, behind_some}

@@ -1,15 +1,8 @@
 -- Stops, one behind the other.
 use Rattle.std.proofs.Common.{◌≡◌, ◌≢◌, ℕ, ◌≤◌, ◌<◌, Bool, true, false, length, get_or, codes, List, [], ◌∷◌, ◌++◌, refl, sym, ap, ◌∙◌, arith}
-use Rattle.dispatch_report.specs.Block.{stop_text}
-use Rattle.dispatch_report.specs.Words.{numbered}
-use Rattle.report_lines.specs.Ids.{IsId}
-use Rattle.report_lines.specs.Reading.{BeginsWith, BeginsWithNone, ends_number}
-use Rattle.report_lines.specs.Both.{both_texts, BothAre}
-use Rattle.report_lines.specs.Stops.{FitsStop}
-use Rattle.report_lines.specs.work.Stops.{visit_text, IsVisit}
+use Rattle.report_lines.proofs.Common.{stop_text, numbered, IsId, BeginsWith, BeginsWithNone, ends_number, both_texts, BothAre, FitsStop, visit_text, IsVisit, PlannedStop}
 use Rattle.report_lines.proofs.ListLemmas.{IsNeverEmpty}
 use Rattle.report_lines.proofs.lemmas.ReadingLemmas.{EndsOnce, StandsApart, both_none_first, both_none_second, both_some, both_once, numbered_once}
-use Rattle.request_book.specs.declared.outcome.PlannedStop.{PlannedStop}
 
 pick_is_no_drop : (x y : ℕ) (r s : List ℕ) → numbered (codes " pick:") x ++ r ≡ numbered (codes " drop:") y ++ s → ⊥
 unfolding numbered

@@ -1,12 +1,6 @@
 -- Texts of one thing behind another, read to their end.
 use Rattle.std.proofs.Common.{◌≡◌, ℕ, ◌<◌, ◌^◌, Bool, true, false, get_or, List, [], ◌∷◌, ◌++◌, length, decimal, ap, arith}
-use Rattle.std.specs.Char.{is_ascii_digit}
-use Rattle.std.specs.List.{list_all}
-use Rattle.std.proofs.lemmas.Bool.{and_parts}
-use Rattle.std.proofs.lemmas.Fmt.{decimal_is_IsNumeral_wide}
-use Rattle.report_lines.specs.work.Told.{Told}
-use Rattle.report_lines.specs.Reading.{BeginsWith, BeginsWithNone, ends_number}
-use Rattle.report_lines.specs.Both.{both_texts, BothAre}
+use Rattle.report_lines.proofs.Common.{is_ascii_digit, list_all, and_parts, decimal_is_IsNumeral_wide, Told, BeginsWith, BeginsWithNone, ends_number, both_texts, BothAre}
 use Rattle.report_lines.proofs.lemmas.NumeralLemmas.{decimal_digits}
 use Rattle.report_lines.proofs.lemmas.ReadingLemmas.{EndsOnce, head_none, head_and_tail}
 

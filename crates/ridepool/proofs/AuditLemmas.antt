@@ -1,17 +1,8 @@
 -- What comes of an audit, from what came of its parts.
 use Rattle.std.proofs.Common.{◌≡◌, ℕ, List, Option, Result, Ok, Err, MatchResult, subst, refl}
-use Rattle.std.specs.Io.KnownBytes.{Appends}
-use Rattle.dispatch_report.specs.Written.{Change}
-use Rattle.pool_base.specs.declared.which.Which.TheVariants as file
-use Rattle.report_audit.specs.declared.fault.Audited.{Audited}
-use Rattle.ridepool.specs.Audit.{yes_text}
-use Rattle.ridepool.specs.work.Ended.{IsRunReport}
-use Rattle.ridepool.specs.Inputs.{Inputs, Reads}
-use Rattle.ridepool.specs.Seen.{SourceView}
-use Rattle.ridepool.specs.declared.status.RunStatus.{RunStatus}
-use Rattle.ridepool.specs.work.Auditing.{IsAuditFault, RefusesBytes, WritesYes}
-use Rattle.ridepool.specs.work.Writing.{IsTextFault}
+use Rattle.ridepool.proofs.Common.{Appends, Change, Audited, yes_text, IsRunReport, Inputs, Reads, SourceView, RunStatus, IsAuditFault, RefusesBytes, WritesYes, IsTextFault}
 use Rattle.ridepool.proofs.ReadingLemmas.{reads_as}
+use Rattle.pool_base.specs.declared.which.Which.TheVariants as file
 
 module _ (i : Inputs) (s : Change SourceView) (bytes now : List ℕ) (a b : Option (List ℕ)) (low high : ℕ) (whole : Reads file.Report s (λ came. came ≡ bytes)) (is : now ≡ bytes) where
   -- a report that is judged, and the line written or not

@@ -1,22 +1,7 @@
 -- Where nothing is wrong, a call is done or out of memory, or a day comes too late.
-use Rattle.std.proofs.Common.{◌≡◌, ℕ, ◌<◌, List, Option, Some, None, Result, Ok, Err, length, refl, subst, inl, inr, arith}
-use Rattle.std.specs.Prelude.{◌⊎◌, IfSome}
-use Rattle.pool_base.specs.declared.which.Which.{Which}
+use Rattle.std.proofs.Common.{◌≡◌, ℕ, ◌<◌, List, Option, Some, None, Result, Ok, Err, length, refl, subst, inl, inr, arith, ◌⊎◌, IfSome}
+use Rattle.ridepool.proofs.Common.{Which, Settings, Roads, day_fault, DayRound, EndsAudit, IsRightReport, EndsDrive, Inputs, AreReadFrom, TellInputs, CameTo, HasNoWriteFault, Reads, IsSourceTooLong, IsStop, Tells, most_bytes, network_in, vehicles_in, script_in, EndsText, Change, SourceView, Sources, Seen, source_at, RunStatus, Done, Words, Network, Fleet, Script, TooLong, ReadFault, WriteFault, OutOfMemory, Day, TooLate, Report, IsNoReport}
 use Rattle.pool_base.specs.declared.which.Which.TheVariants as file
-use Rattle.rider_limits.specs.declared.settings.Settings.{Settings}
-use Rattle.road_network.specs.Roads.{Roads}
-use Rattle.route_drive.specs.Day.{day_fault}
-use Rattle.route_drive.specs.declared.day_run.DayRound.{DayRound}
-use Rattle.ridepool.specs.Audit.{EndsAudit, IsRightReport}
-use Rattle.ridepool.specs.Drive.{EndsDrive}
-use Rattle.ridepool.specs.Inputs.{Inputs, AreReadFrom, TellInputs, CameTo, HasNoWriteFault, Reads, IsSourceTooLong, IsStop, Tells, most_bytes}
-use Rattle.ridepool.specs.Reading.{network_in, vehicles_in, script_in}
-use Rattle.ridepool.specs.Report.{EndsText}
-use Rattle.dispatch_report.specs.Written.{Change}
-use Rattle.ridepool.specs.Seen.{SourceView, Sources, Seen, source_at}
-use Rattle.ridepool.specs.declared.status.RunStatus.{RunStatus}
-use Rattle.ridepool.specs.declared.status.RunStatus.TheVariants.{Done, Words, Network, Fleet, Script, TooLong, ReadFault, WriteFault, OutOfMemory, Day, TooLate, Report}
-use Rattle.ridepool.specs.work.Ended.{IsNoReport}
 
 -- what holds of the bytes that a source tells
 of_told : (o : Option (List ℕ)) (bytes : List ℕ) (P : List ℕ → Type 0) → o ≡ Some bytes → IfSome o P → P bytes

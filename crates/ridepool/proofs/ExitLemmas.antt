@@ -1,37 +1,12 @@
 -- How the parts of a call explain its end.
-use Rattle.std.proofs.Common.{◌≡◌, ℕ, List, Option, Some, Ok, Err, length, refl, sym, ap, subst, inl, inr, ⊎_elim, arith}
-use Rattle.std.specs.Prelude.{◌⊎◌, MatchOption}
-use Rattle.load_maker.specs.Texts.{texts_of}
-use Rattle.pool_base.specs.declared.which.Which.{Which}
-use Rattle.pool_base.specs.declared.which.Which.TheVariants as file
-use Rattle.pool_io.specs.Sink.{AppendsPart}
-use Rattle.report_audit.specs.declared.fault.Audited.{Audited}
+use Rattle.std.proofs.Common.{◌≡◌, ℕ, List, Option, Some, Ok, Err, length, refl, sym, ap, subst, inl, inr, ⊎_elim, arith, ◌⊎◌, MatchOption}
+use Rattle.ridepool.proofs.Common.{texts_of, Which, AppendsPart, Audited, fault_of, LoadShape, Mode, Run, Load, Drive, Audit, Settings, DayFault, AnswersAudit, Confirms, EndsAudit, yes_text, AnswersDrive, EndsDrive, Inputs, AreGood, AreReadFrom, TellInputs, AreUntouched, CameTo, HasNoWriteFault, IsStop, IsWithin, Reads, StopsOrReads, AnswersLoad, AreTexts, EndsLoad, EndsText, AnswersRun, EndsRun, Change, SinkView, IsUntouched, SourceView, Sources, Seen, IsSilent, source_at, ReadInputs, RunStatus, Done, Words, Network, Fleet, Script, TooLong, ReadFault, WriteFault, OutOfMemory, Day, TooLate, Report, IsSameSink, RefusesBytes, WritesYes, IsAuditFault, IsLimited, IsRunReport, HidesNoMemory, AreInputs, IsUnread, IsNoInput, IsReadAsNoDay, GotInputs, AreAllWith, AreFirst, IsDayFor, IsReportFault, IsReportWhole, IsTextFault, IsWritingFault, added_by, added_text, first_text, head_of}
 use Rattle.rider_limits.specs.Settings.{AreGiven}
-use Rattle.rider_limits.specs.Words.{fault_of}
-use Rattle.rider_limits.specs.declared.load_shape.LoadShape.{LoadShape}
-use Rattle.rider_limits.specs.declared.settings.Mode.{Mode}
-use Rattle.rider_limits.specs.declared.settings.Mode.TheVariants.{Run, Load, Drive, Audit}
-use Rattle.rider_limits.specs.declared.settings.Settings.{Settings}
 use Rattle.rider_limits.specs.declared.word_fault.WordFault.{WordFault}
-use Rattle.route_drive.specs.declared.day.DayFault.{DayFault}
 use Rattle.ridepool.specs.Answers.{Answers, AnswersAs}
-use Rattle.ridepool.specs.Audit.{AnswersAudit, Confirms, EndsAudit, yes_text}
-use Rattle.ridepool.specs.Drive.{AnswersDrive, EndsDrive}
-use Rattle.ridepool.specs.Inputs.{Inputs, AreGood, AreReadFrom, TellInputs, AreUntouched, CameTo, HasNoWriteFault, IsStop, IsWithin, Reads, StopsOrReads}
-use Rattle.ridepool.specs.Load.{AnswersLoad, AreTexts, EndsLoad}
-use Rattle.ridepool.specs.Report.{EndsText}
-use Rattle.ridepool.specs.Run.{AnswersRun, EndsRun}
-use Rattle.dispatch_report.specs.Written.{Change, SinkView}
-use Rattle.ridepool.specs.Seen.{IsUntouched, SourceView, Sources, Seen, IsSilent, source_at}
-use Rattle.ridepool.specs.declared.inputs.ReadInputs.{ReadInputs}
-use Rattle.ridepool.specs.declared.status.RunStatus.{RunStatus}
-use Rattle.ridepool.specs.declared.status.RunStatus.TheVariants.{Done, Words, Network, Fleet, Script, TooLong, ReadFault, WriteFault, OutOfMemory, Day, TooLate, Report}
-use Rattle.ridepool.specs.work.Auditing.{IsSameSink, RefusesBytes, WritesYes, IsAuditFault}
-use Rattle.ridepool.specs.work.Ended.{IsLimited, IsRunReport, HidesNoMemory}
-use Rattle.ridepool.specs.work.Reading.{AreInputs, IsUnread, IsNoInput, IsReadAsNoDay, GotInputs}
-use Rattle.ridepool.specs.work.Writing.{AreAllWith, AreFirst, IsDayFor, IsReportFault, IsReportWhole, IsTextFault, IsWritingFault, added_by, added_text, first_text, head_of}
 use Rattle.ridepool.proofs.CompleteLemmas.{audit_ends, day_ends, stops, text_ends}
 use Rattle.ridepool.proofs.ReadingLemmas.{reads_as, reads_within}
+use Rattle.pool_base.specs.declared.which.Which.TheVariants as file
 
 -- a source that is untouched gave no more than may be
 pub untouched_within : (w : Which) (s : Change SourceView) → IsUntouched s → IsWithin w s

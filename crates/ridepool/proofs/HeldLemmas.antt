@@ -1,8 +1,7 @@
 -- Rounds of a day that are held.
 use Rattle.std.proofs.Common.{◌≡◌, ℕ, zero, suc, ◌<◌, Bool, true, false, List, [], ◌∷◌, ◌++◌, length, get_or, map, refl, sym, ap, subst, arith}
-use Rattle.std.specs.List.{AllZip}
+use Rattle.ridepool.proofs.Common.{AllZip, NotifierView, HaveHeard}
 use Rattle.rider_notices.specs.declared.notice.Notice.{Notice}
-use Rattle.rider_notices.specs.Told.{NotifierView, HaveHeard}
 
 module _ {X Y : Type 0} (R : X → Y → Type 0) where
   -- two lists that go together are as long, and go together at each place

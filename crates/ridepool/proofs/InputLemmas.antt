@@ -1,31 +1,10 @@
 -- What is said of the inputs of a call, from what the readers say of sources and of made texts.
-use Rattle.std.proofs.Common.{◌≡◌, ℕ, List, Some, None, Result, Ok, Err, refl, sym, ap, subst, ◌∙◌, inl, inr}
-use Rattle.std.specs.Prelude.{IfOk, IfErr}
-use Rattle.batch_snapshot.specs.declared.vehicle.Vehicle.{Vehicle}
+use Rattle.std.proofs.Common.{◌≡◌, ℕ, List, Some, None, Result, Ok, Err, refl, sym, ap, subst, ◌∙◌, inl, inr, IfOk, IfErr}
+use Rattle.ridepool.proofs.Common.{Vehicle, texts_of, Which, Input, LoadShape, Run, Load, Drive, Audit, Settings, Roads, day_fault, DayFault, NumberedLanes, HidesNoMemory, Inputs, AreUntouched, CameTo, IsStop, AreTexts, own_fault, in_rows, first_version, network_in, vehicles_in, IsFleetIn, script_in, Change, SourceView, Sources, source_at, ReadInputs, RunStatus, Network, Fleet, Script, OutOfMemory, Day, AreInputs, IsUnread, StopsAt, ReadSources, IsNoInput, GotInputs}
 use Rattle.fleet_state.specs.Fleet.{vehicles_of}
-use Rattle.load_maker.specs.Texts.{texts_of}
 use Rattle.made_inputs.specs.Accepted.{IsNetworkText, IsFleetText, IsScriptText, AreRead as TextsAreRead}
-use Rattle.pool_base.specs.declared.which.Which.{Which}
-use Rattle.pool_io.specs.declared.input.Input.{Input}
-use Rattle.pool_base.specs.declared.which.Which.TheVariants as file
-use Rattle.rider_limits.specs.declared.load_shape.LoadShape.{LoadShape}
-use Rattle.rider_limits.specs.declared.settings.Mode.TheVariants.{Run, Load, Drive, Audit}
-use Rattle.rider_limits.specs.declared.settings.Settings.{Settings}
-use Rattle.road_network.specs.Roads.{Roads}
 use Rattle.road_network.specs.Reading.{network_of}
-use Rattle.route_drive.specs.Day.{day_fault}
-use Rattle.route_drive.specs.declared.day.DayFault.{DayFault}
-use Rattle.script_rows.specs.Round.{NumberedLanes}
-use Rattle.ridepool.specs.work.Ended.{HidesNoMemory}
-use Rattle.ridepool.specs.Inputs.{Inputs, AreUntouched, CameTo, IsStop}
-use Rattle.ridepool.specs.Load.{AreTexts}
-use Rattle.ridepool.specs.Reading.{own_fault, in_rows, first_version, network_in, vehicles_in, IsFleetIn, script_in}
-use Rattle.dispatch_report.specs.Written.{Change}
-use Rattle.ridepool.specs.Seen.{SourceView, Sources, source_at}
-use Rattle.ridepool.specs.declared.inputs.ReadInputs.{ReadInputs}
-use Rattle.ridepool.specs.declared.status.RunStatus.{RunStatus}
-use Rattle.ridepool.specs.declared.status.RunStatus.TheVariants.{Network, Fleet, Script, OutOfMemory, Day}
-use Rattle.ridepool.specs.work.Reading.{AreInputs, IsUnread, StopsAt, ReadSources, IsNoInput, GotInputs}
+use Rattle.pool_base.specs.declared.which.Which.TheVariants as file
 
 -- a text that is read as a network, a fleet, a script
 network_made : (text : List ℕ) (roads : Roads) → IsNetworkText text roads → network_in text ≡ Ok roads

@@ -6,3 +6,4 @@ pub mod CompleteLemmas
 pub mod InputLemmas
 pub mod AuditLemmas
 pub mod LiveLemmas
+pub mod Common

@@ -1,43 +1,21 @@
 -- A call of `live`, from its steps.
-use Rattle.std.proofs.Common.{◌≡◌, ℕ, ◌≤◌, List, Option, Some, None, Result, Ok, Err, MatchResult, refl, sym, ap, subst, inl, inr, arith}
-use Rattle.std.specs.Prelude.{◌⊎◌}
-use Rattle.std.specs.Io.KnownBytes.{Appends}
+use Rattle.std.proofs.Common.{◌≡◌, ℕ, ◌≤◌, List, Option, Some, None, Result, Ok, Err, MatchResult, refl, sym, ap, subst, inl, inr, arith, ◌⊎◌}
+use Rattle.ridepool.proofs.Common.{Appends, IsReady, Change, SinkView, WritesText, ReportFault, lines_in, Which, Rose, Input, BookView, fault_of, Settings, NotifierView, Roads, AreGood, IsWithin, Reads, AnswersLive, AreLimited, AreRowsOf, BeginsLive, EndsLive, ExplainsLive, HasHead, IsFaultlessLive, IsLiveStop, IsSilentCall, LiveCall, LiveInputs, LiveSeen, live_head, opened_book, words_of_run, network_in, vehicles_in, IsUntouched, SourceView, RunStatus, Done, Words, Network, Fleet, Script, TooLong, ReadFault, WriteFault, OutOfMemory, Day, TooLate, Report, HidesNoMemory, IsUnread, StopsAt, status_of}
 use Rattle.std.specs.Result.{IsErrOf}
-use Rattle.dispatch_engine.specs.Run.{IsReady}
-use Rattle.dispatch_report.specs.Written.{Change, SinkView, WritesText}
-use Rattle.dispatch_report.specs.declared.fault.ReportFault.{ReportFault}
-use Rattle.dispatch_report.specs.declared.fault.ReportFault.TheVariants as report
 use Rattle.live_dispatch.specs.Live.{BeginsRows, RunsRows}
 use Rattle.live_dispatch.specs.declared.fault.LiveFault.{LiveFault}
-use Rattle.live_dispatch.specs.declared.fault.LiveFault.TheVariants as live
 use Rattle.live_rows.specs.Rows.{rows_to_come}
-use Rattle.live_rows.specs.Lines.{lines_in}
 use Rattle.live_rows.specs.Start.{live_rows, HasOtherStart, HasStarted}
 use Rattle.live_rows.specs.declared.start.StartFault.{StartFault}
-use Rattle.live_rows.specs.declared.start.StartFault.TheVariants as start
-use Rattle.pool_base.specs.declared.which.Which.{Which}
-use Rattle.pool_base.specs.declared.which.Which.TheVariants as file
-use Rattle.pool_io.specs.Faults.{Rose}
-use Rattle.pool_io.specs.declared.input.Input.{Input}
-use Rattle.request_book.specs.Book.{BookView}
-use Rattle.rider_limits.specs.Words.{fault_of}
-use Rattle.rider_limits.specs.declared.settings.Settings.{Settings}
-use Rattle.rider_notices.specs.Told.{NotifierView}
-use Rattle.road_network.specs.Roads.{Roads}
 use Rattle.script_rows.specs.declared.line.Line.{Line}
 use Rattle.script_rows.specs.declared.version.ScriptVersion.{ScriptVersion}
-use Rattle.ridepool.specs.Inputs.{AreGood, IsWithin, Reads}
-use Rattle.ridepool.specs.Live.{AnswersLive, AreLimited, AreRowsOf, BeginsLive, EndsLive, ExplainsLive, HasHead, IsFaultlessLive, IsLiveStop, IsSilentCall, LiveCall, LiveInputs, LiveSeen, live_head, opened_book, words_of_run}
-use Rattle.ridepool.specs.Reading.{network_in, vehicles_in}
-use Rattle.ridepool.specs.Seen.{IsUntouched, SourceView}
 use Rattle.ridepool.proofs.ReadingLemmas.{reads_within}
 use Rattle.ridepool.proofs.CompleteLemmas.{none_is_no_some, not_long, ok_is_no_err, read_of, same_value}
-use Rattle.ridepool.specs.declared.status.RunStatus.{RunStatus}
-use Rattle.ridepool.specs.declared.status.RunStatus.TheVariants.{Done, Words, Network, Fleet, Script, TooLong, ReadFault, WriteFault, OutOfMemory, Day, TooLate, Report}
-use Rattle.ridepool.specs.work.Ended.{HidesNoMemory}
 use Rattle.ridepool.specs.work.Live.{RefusesWords, status_of_end, status_of_start}
-use Rattle.ridepool.specs.work.Reading.{IsUnread, StopsAt}
-use Rattle.ridepool.specs.work.Writing.{status_of}
+use Rattle.dispatch_report.specs.declared.fault.ReportFault.TheVariants as report
+use Rattle.live_dispatch.specs.declared.fault.LiveFault.TheVariants as live
+use Rattle.live_rows.specs.declared.start.StartFault.TheVariants as start
+use Rattle.pool_base.specs.declared.which.Which.TheVariants as file
 
 -- a script with a header has rows
 rows-of : (version : ScriptVersion) (script next : Option (List ℕ)) → HasStarted script next version → AreRowsOf script (rows_to_come version 0 next)

@@ -1,24 +1,10 @@
 -- Why a source stopped a run, from why it wasn't read to its end and from why its bytes are refused.
-use Rattle.std.proofs.Common.{◌≡◌, ℕ, ◌+◌, ◌≤◌, List, Option, Some, None, Result, Ok, Err, IfSome, IfOk, IfErr, MatchResult, length, sym, ap, subst, ◌∙◌, arith, length-append}
-use Rattle.std.specs.Prelude.{◌<◌, ◌↔◌}
-use Rattle.batch_snapshot.specs.declared.vehicle.Vehicle.{Vehicle}
-use Rattle.pool_base.specs.declared.which.Which.{Which}
-use Rattle.pool_base.specs.declared.which.Which.TheVariants as file
-use Rattle.pool_io.specs.Faults.{Rose}
+use Rattle.std.proofs.Common.{◌≡◌, ℕ, ◌+◌, ◌≤◌, List, Option, Some, None, Result, Ok, Err, IfSome, IfOk, IfErr, MatchResult, length, sym, ap, subst, ◌∙◌, arith, length-append, ◌<◌, ◌↔◌}
+use Rattle.ridepool.proofs.Common.{Vehicle, Which, Rose, Input, Roads, NumberedLanes, HidesNoMemory, IsWithin, Reads, most_bytes, network_in, vehicles_in, IsFleetIn, script_in, Change, SourceView, RunStatus, Done, Words, Network, Fleet, Script, TooLong, ReadFault, WriteFault, OutOfMemory, Day, TooLate, Report, IsUnread, StopsAt, RefusesNetwork, RefusesFleet, RefusesRounds}
 use Rattle.pool_io.specs.Source.{Loses}
-use Rattle.pool_io.specs.declared.input.Input.{Input}
 use Rattle.pool_io.specs.declared.reading.ReadAll.{ReadAll}
+use Rattle.pool_base.specs.declared.which.Which.TheVariants as file
 use Rattle.pool_io.specs.declared.reading.ReadAll.TheVariants as of_read
-use Rattle.road_network.specs.Roads.{Roads}
-use Rattle.script_rows.specs.Round.{NumberedLanes}
-use Rattle.ridepool.specs.work.Ended.{HidesNoMemory}
-use Rattle.ridepool.specs.Inputs.{IsWithin, Reads, most_bytes}
-use Rattle.ridepool.specs.Reading.{network_in, vehicles_in, IsFleetIn, script_in}
-use Rattle.dispatch_report.specs.Written.{Change}
-use Rattle.ridepool.specs.Seen.{SourceView}
-use Rattle.ridepool.specs.declared.status.RunStatus.{RunStatus}
-use Rattle.ridepool.specs.declared.status.RunStatus.TheVariants.{Done, Words, Network, Fleet, Script, TooLong, ReadFault, WriteFault, OutOfMemory, Day, TooLate, Report}
-use Rattle.ridepool.specs.work.Reading.{IsUnread, StopsAt, RefusesNetwork, RefusesFleet, RefusesRounds}
 
 -- bytes that were lost were told, where any were
 pub told_so_many : (old new : Option (List ℕ)) (count least : ℕ) → Loses old new count → least < count → IfSome old (λ left. least < length left)

@@ -1,50 +1,26 @@
 -- Texts of rounds, one after the other, and what stands where the last isn't whole.
-use Rattle.std.proofs.Common.{◌≡◌, ℕ, ◌+◌, ◌-◌, ◌^◌, ◌<◌, ◌≤◌, List, [], ◌∷◌, ◌++◌, length, take, drop, get_or, Option, Result, Ok, Err, MatchResult, refl, sym, subst, ap, ◌∙◌, append_assoc, append-nil, add-one, arith}
-use Rattle.std.specs.Io.KnownBytes.{Appends}
+use Rattle.std.proofs.Common.{◌≡◌, ℕ, ◌+◌, ◌-◌, ◌^◌, ◌<◌, ◌≤◌, List, [], ◌∷◌, ◌++◌, length, take, drop, get_or, Option, Result, Ok, Err, MatchResult, refl, sym, subst, ap, ◌∙◌, append_assoc, append-nil, add-one, arith, Bool, true, false, not, ◌==◌}
+use Rattle.ridepool.proofs.Common.{Appends, Appends-nil, Appends-trans, Appends-kept, map-append, AppendsPart, IsReady, IsRoundRun, IsRun, IsSameRun, journal_of, position_after_run, state_after_run, Audited, yes_text, ReportFault, Rose, BookView, IsBook, next_position, opening, Mode, Run, Load, Drive, Audit, Settings, Roads, DayRound, NumberedLanes, Inputs, notices, NotifierView, HaveHeard, DrivesDay, AppendsWithPart, IsCutShort, IsPart, IsWhole, Runs, journals_of, rounds_notices, RunsScript, RunsSome, AreAllWith, AreFirst, IsReportWhole, added_by, first_text, head_of, BeginsRounds, EndsRounds, NextJournal, HasPut, PutsRound, IsUnput, StopsIn, RunsAll, RunsFirst, RunsFrom, WritesRound, IsReportFault, IsTextFault, IsRoundFault, IsWritingFault, day_ending, late_status, made_of, status_of, rounds_text, RunStatus, WriteFault, OutOfMemory}
 use Rattle.std.specs.List.{flat_map}
-use Rattle.std.specs.Prelude.{Bool, true, false, not, ◌==◌}
 use Rattle.std.proofs.lemmas.Bool.{eqb-true, false≢true}
-use Rattle.std.proofs.KnownBytes.{Appends-nil, Appends-trans, Appends-kept}
 use Rattle.std.proofs.lemmas.Grind.{flat_map-append}
-use Rattle.std.proofs.lemmas.List.{take-append-drop, length-append, map-append}
+use Rattle.std.proofs.lemmas.List.{take-append-drop, length-append}
 use Rattle.std.proofs.Math.Seq.{take-suc, take-length}
 use Rattle.batch_snapshot.specs.Kept.{IsFleet}
-use Rattle.pool_io.specs.Sink.{AppendsPart}
-use Rattle.dispatch_engine.specs.Run.{IsReady, IsRoundRun, IsRun, IsSameRun, journal_of, position_after_run, state_after_run}
 use Rattle.dispatch_engine.proofs.lemmas.RunLemmas.{position-more, run-more, state-more}
 use Rattle.dispatch_report.specs.Head.{head_text}
 use Rattle.dispatch_report.specs.Lines.{lines_text}
 use Rattle.dispatch_report.specs.Round.{end_text}
 use Rattle.dispatch_report.specs.Summary.{load_text}
-use Rattle.report_audit.specs.declared.fault.Audited.{Audited}
-use Rattle.ridepool.specs.Audit.{yes_text}
-use Rattle.dispatch_report.specs.declared.fault.ReportFault.{ReportFault}
-use Rattle.dispatch_report.specs.declared.fault.ReportFault.TheVariants as report
-use Rattle.pool_io.specs.Faults.{Rose}
-use Rattle.request_book.specs.Book.{BookView, IsBook, next_position, opening}
 use Rattle.request_book.specs.Replay.{state_after}
 use Rattle.request_book.specs.declared.journal.Journal.{Journal}
 use Rattle.dispatch_report.specs.declared.day.DayCounts.{DayCounts}
-use Rattle.rider_limits.specs.declared.settings.Mode.{Mode}
-use Rattle.rider_limits.specs.declared.settings.Mode.TheVariants.{Run, Load, Drive, Audit}
-use Rattle.rider_limits.specs.declared.settings.Settings.{Settings}
-use Rattle.road_network.specs.Roads.{Roads}
 use Rattle.route_drive.specs.Driven.{IsLateAnswer, IsNewBook, IsTooLateDay}
 use Rattle.route_drive.specs.Promises.{IsKeptDay, IsRunOfDay}
-use Rattle.route_drive.specs.declared.day_run.DayRound.{DayRound}
 use Rattle.route_drive.specs.declared.day_run.DriveFault.{DriveFault}
-use Rattle.route_drive.specs.declared.day_run.DriveFault.TheVariants as drive
-use Rattle.script_rows.specs.Round.{NumberedLanes}
-use Rattle.ridepool.specs.Inputs.{Inputs}
-use Rattle.rider_notices.specs.Notices.{notices}
-use Rattle.rider_notices.specs.Told.{NotifierView, HaveHeard}
 use Rattle.rider_notices.proofs.lemmas.HeardLemmas.{all-heard-nothing, all-heard-more}
-use Rattle.ridepool.specs.Drive.{DrivesDay}
-use Rattle.ridepool.specs.Report.{AppendsWithPart, IsCutShort, IsPart, IsWhole, Runs, journals_of, rounds_notices}
-use Rattle.ridepool.specs.Run.{RunsScript, RunsSome}
-use Rattle.ridepool.specs.work.Writing.{AreAllWith, AreFirst, IsReportWhole, added_by, first_text, head_of, BeginsRounds, EndsRounds, NextJournal, HasPut, PutsRound, IsUnput, StopsIn, RunsAll, RunsFirst, RunsFrom, WritesRound, IsReportFault, IsTextFault, IsRoundFault, IsWritingFault, day_ending, late_status, made_of, status_of, rounds_text}
-use Rattle.ridepool.specs.declared.status.RunStatus.{RunStatus}
-use Rattle.ridepool.specs.declared.status.RunStatus.TheVariants.{WriteFault, OutOfMemory}
+use Rattle.dispatch_report.specs.declared.fault.ReportFault.TheVariants as report
+use Rattle.route_drive.specs.declared.day_run.DriveFault.TheVariants as drive
 
 -- positions stay below 2 ^ 64
 pub position_after_run-most : (position : ℕ) (js : List Journal) → position ≤ 2 ^ 64 - 1 → position_after_run position js ≤ 2 ^ 64 - 1

@@ -1,12 +1,6 @@
 -- The hops that leave a node are its arcs: what a search over a network's nodes cites.
-use Rattle.std.proofs.Common.{◌≡◌, ℕ, ◌==◌, true, Bool, List, [], ◌∷◌, filter, ap, inl, inr, arith}
-use Rattle.std.specs.Prelude.{All, Contains}
-use Rattle.std.proofs.lemmas.Bool.{cases_Bool}
-use Rattle.std.proofs.lemmas.Bool.Decides.{nat_tests}
-use Rattle.std.proofs.lemmas.List.Elements.{All-nil, All-cons, All-weaker, Contains-append_right, Contains-get_or}
-use Rattle.road_network.specs.Walk.{Arc}
-use Rattle.road_network.specs.Roads.{hop_of}
-use Rattle.road_network.specs.work.Storage.{arc_from}
+use Rattle.std.proofs.Common.{◌≡◌, ℕ, ◌==◌, true, Bool, List, [], ◌∷◌, filter, ap, inl, inr, arith, All, Contains}
+use Rattle.road_network.proofs.Common.{cases_Bool, nat_tests, All-nil, All-cons, All-weaker, Contains-append_right, Contains-get_or, Arc, hop_of, arc_from}
 
 from_is : (node : ℕ) (arc : Arc) → (arc.from == node) ≡ true → arc_from node (hop_of arc) ≡ arc
 from_is node arc test =

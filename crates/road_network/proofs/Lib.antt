@@ -6,3 +6,4 @@ pub mod Names
 pub mod Sorted
 pub mod RowSteps
 pub mod HopLemmas
+pub mod Common

@@ -1,15 +1,9 @@
 -- Names and their indexes in a list of nodes.
-use Rattle.std.proofs.Common.{◌≡◌, ℕ, ◌<◌, eqb, true, false, List, length, get_or, Option, Some, None, slice_get, position, refl, sym, ap, ◌∙◌, arith, inl, inr}
-use Rattle.std.specs.Prelude.{All, Contains, IfSome, nat_lt}
-use Rattle.std.specs.List.{IsDistinct, list_any, position_or_len}
-use Rattle.std.proofs.lemmas.Bool.{cases_Bool}
-use Rattle.std.proofs.lemmas.Bool.Decides.{nat_tests}
+use Rattle.std.proofs.Common.{◌≡◌, ℕ, ◌<◌, eqb, true, false, List, length, get_or, Option, Some, None, slice_get, position, refl, sym, ap, ◌∙◌, arith, inl, inr, All, Contains, IfSome, nat_lt}
+use Rattle.road_network.proofs.Common.{IsDistinct, list_any, position_or_len, cases_Bool, nat_tests, passes_at_first, position_or_len_is, All-push, with_node}
 use Rattle.std.proofs.lemmas.Option.{slice_get-get_or}
 use Rattle.std.proofs.lemmas.List.Quantifiers.{position-Some}
-use Rattle.std.proofs.lemmas.List.Sums.{passes_at_first, position_or_len_is}
-use Rattle.std.proofs.lemmas.List.Elements.{All-push}
 use Rattle.std.proofs.lemmas.Map.Keys.{any_passes_from_place, apart_from_distinct}
-use Rattle.road_network.specs.work.Numbering.{with_node}
 use Rattle.road_network.proofs.Numbering.{any_found}
 
 same_name : (a b : ℕ) → eqb a b ≡ true → b ≡ a

@@ -1,15 +1,6 @@
 -- Nodes that are numbered keep their indexes.
-use Rattle.std.proofs.Common.{◌≡◌, ℕ, suc, ◌+◌, ◌<◌, ◌==◌, true, false, Bool, List, [], ◌∷◌, ◌++◌, length, map, refl, sym, ap, ◌∙◌, inl, inr, arith, length-append}
-use Rattle.std.proofs.lemmas.Bool.{cases_Bool, false≢true}
-use Rattle.std.proofs.lemmas.Bool.Decides.{nat_tests}
-use Rattle.std.proofs.lemmas.List.Elements.{All-head, All-tail}
-use Rattle.std.specs.Prelude.{All}
-use Rattle.std.specs.List.{list_any, position_or_len}
-use Rattle.road_network.specs.Walk.{Arc}
-use Rattle.road_network.specs.Roads.{index_in}
-use Rattle.road_network.specs.Reading.{arc_in}
-use Rattle.pool_base.specs.Numeral.{number_at}
-use Rattle.road_network.specs.work.Numbering.{with_row, with_node}
+use Rattle.std.proofs.Common.{◌≡◌, ℕ, suc, ◌+◌, ◌<◌, ◌==◌, true, false, Bool, List, [], ◌∷◌, ◌++◌, length, map, refl, sym, ap, ◌∙◌, inl, inr, arith, length-append, All}
+use Rattle.road_network.proofs.Common.{cases_Bool, false≢true, nat_tests, All-head, All-tail, list_any, position_or_len, Arc, index_in, arc_in, number_at, with_row, with_node}
 
 pub any_found : {A : Type 0} (p : A → Bool) (xs : List A) → list_any p xs ≡ true → position_or_len p xs < length xs
 any_found p [] e = absurd (false≢true e)

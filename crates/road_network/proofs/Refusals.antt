@@ -1,17 +1,10 @@
 -- The first refusal, row by row.
-use Rattle.std.proofs.Common.{◌≡◌, ℕ, ◌+◌, ◌<◌, ◌≤◌, cond, List, [], Some, None, Ok, Err, true, false, length, get_or, take, sym, ap, ◌∙◌, refl, arith}
-use Rattle.std.specs.Prelude.{nat_lt}
+use Rattle.std.proofs.Common.{◌≡◌, ℕ, ◌+◌, ◌<◌, ◌≤◌, cond, List, [], Some, None, Ok, Err, true, false, length, get_or, take, sym, ap, ◌∙◌, refl, arith, nat_lt}
+use Rattle.road_network.proofs.Common.{nat_tests, first_fault, most_nodes, most_arcs, nodes_of, field_refusal, refusal_at, network_of, first_refusal, roads_of, with_row, TooManyArcs, TooManyNodes}
 use Rattle.std.specs.Option.{option_or}
 use Rattle.std.proofs.lemmas.Bool.{le-ltb, lt-ltb}
-use Rattle.std.proofs.lemmas.Bool.Decides.{nat_tests}
-use Rattle.pool_base.specs.InOrder.{first_fault}
 use Rattle.pool_base.proofs.lemmas.InOrderLemmas.{first_fault-none, first_fault-some, first_fault-each, first_fault-all}
-use Rattle.road_network.specs.lemmas.Limits.{most_nodes, most_arcs}
-use Rattle.road_network.specs.Reading.{nodes_of, field_refusal, refusal_at, network_of}
-use Rattle.road_network.specs.lemmas.Rows.{first_refusal, roads_of}
-use Rattle.road_network.specs.work.Numbering.{with_row}
 use Rattle.road_network.specs.declared.fault.NetworkFault.{NetworkFault}
-use Rattle.road_network.specs.declared.fault.NetworkFault.TheVariants.{TooManyArcs, TooManyNodes}
 use Rattle.road_network.proofs.RowSteps.{nodes_of-more}
 
 -- a row whose fields are accepted is refused where it brings too many nodes

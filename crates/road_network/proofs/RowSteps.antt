@@ -1,19 +1,10 @@
 -- One more row of a network.
-use Rattle.std.proofs.Common.{◌≡◌, ◌==◌, ◌||◌, ℕ, cond, ◌+◌, ◌<◌, ◌≤◌, List, [], ◌∷◌, ◌++◌, length, get_or, take, map, refl, sym, ap, ◌∙◌, arith}
-use Rattle.std.specs.Prelude.{All}
-use Rattle.std.specs.List.{list_any, flat_map}
-use Rattle.std.proofs.lemmas.Bool.Decides.{nat_tests}
-use Rattle.std.proofs.lemmas.List.{append_assoc, flat_map_more, map_more, take_more}
+use Rattle.std.proofs.Common.{◌≡◌, ◌==◌, ◌||◌, ℕ, cond, ◌+◌, ◌<◌, ◌≤◌, List, [], ◌∷◌, ◌++◌, length, get_or, take, map, refl, sym, ap, ◌∙◌, arith, All}
+use Rattle.road_network.proofs.Common.{list_any, nat_tests, flat_map_more, map_more, take_more, All-map, All-more, Arc, IsArcAmong, index_in, longest_arc, arc_in, nodes_of, arc_seconds, names_in, number_at, with_row, with_node}
+use Rattle.std.specs.List.{flat_map}
+use Rattle.std.proofs.lemmas.List.{append_assoc}
 use Rattle.pool_base.specs.Distinct.{distinct}
 use Rattle.pool_base.proofs.lemmas.DistinctLemmas.{any-distinct, distinct-push}
-use Rattle.std.proofs.lemmas.List.Elements.{All-map, All-more}
-use Rattle.road_network.specs.Walk.{Arc}
-use Rattle.road_network.specs.Roads.{IsArcAmong, index_in}
-use Rattle.road_network.specs.lemmas.Limits.{longest_arc}
-use Rattle.road_network.specs.Reading.{arc_in, nodes_of, arc_seconds}
-use Rattle.road_network.specs.lemmas.Rows.{names_in}
-use Rattle.pool_base.specs.Numeral.{number_at}
-use Rattle.road_network.specs.work.Numbering.{with_row, with_node}
 use Rattle.road_network.proofs.Numbering.{IsRowNumbered, All-numbered, map-arc_in, with_row-numbers}
 
 -- the two ways to ask for a name

@@ -1,26 +1,6 @@
 -- No step changes how many vehicles there are.
 use Rattle.std.proofs.Common.{◌≡◌, ℕ, List, [], ◌∷◌, length, Option, None, Some, refl, ◌∙◌}
-use Rattle.std.proofs.lemmas.List.{length-map}
-use Rattle.batch_snapshot.specs.Batch.{Batch}
-use Rattle.request_book.specs.Closing.{after_answer}
-use Rattle.request_book.specs.lemmas.Closing.{closed_state}
-use Rattle.request_book.specs.Keyed.{changed_at}
-use Rattle.request_book.specs.Replay.{state_after}
-use Rattle.request_book.specs.Sealing.{sealed_state}
-use Rattle.request_book.specs.State.{find_rider, find_vehicle}
-use Rattle.request_book.specs.lemmas.Refusals.{first_of, unknown_vehicle, unknown_rider, is_aboard, has_ended, not_promised, time_back, vehicle_full, not_aboard}
-use Rattle.request_book.specs.Step.{step}
-use Rattle.request_book.specs.lemmas.Table.{answer, picked_up, dropped_off, submit_step, cancel_step, report_step, pickup_step, dropoff_step, seal_step, close_step, table_step}
-use Rattle.request_book.proofs.lemmas.StepTable.{by-table}
-use Rattle.request_book.specs.declared.command.Command.{Command}
-use Rattle.request_book.specs.declared.command.Command.TheVariants.{Submit, Cancel, Report, Pickup, Dropoff, Seal, Close}
-use Rattle.request_book.specs.declared.journal.Entry.{Entry}
-use Rattle.request_book.specs.declared.outcome.Answer.{Answer}
-use Rattle.request_book.specs.declared.reply.BookRefusal.{BookRefusal}
-use Rattle.request_book.specs.declared.reply.Reply.{Reply}
-use Rattle.request_book.specs.declared.reply.Reply.TheVariants.{Picked, Dropped}
-use Rattle.request_book.specs.declared.rider.BookRider.{BookRider}
-use Rattle.request_book.specs.declared.state.State.{State}
+use Rattle.route_drive.proofs.Common.{length-map, Batch, after_answer, closed_state, changed_at, state_after, sealed_state, find_rider, find_vehicle, first_of, unknown_vehicle, unknown_rider, is_aboard, has_ended, not_promised, time_back, vehicle_full, not_aboard, step, answer, picked_up, dropped_off, submit_step, cancel_step, report_step, pickup_step, dropoff_step, seal_step, close_step, table_step, by-table, Command, Submit, Cancel, Report, Pickup, Dropoff, Seal, Close, Entry, Answer, BookRefusal, Reply, Picked, Dropped, BookRider, State}
 
 answer-count : (s next : State) (refusal : Option BookRefusal) (reply : Reply) → length next.vehicles ≡ length s.vehicles → length (answer s refusal reply next).0.vehicles ≡ length s.vehicles
 answer-count s next None reply same = same

@@ -1,9 +1,6 @@
 -- Days judged round by round.
 use Rattle.std.proofs.Common.{◌≡◌, ℕ, zero, suc, ◌+◌, ◌<◌, max, refl, List, [], ◌∷◌, ◌++◌, length, get_or, take, unwrap_or, sym, ap, ◌∙◌, arith}
-use Rattle.std.proofs.lemmas.List.{take_more}
-use Rattle.script_rows.specs.Round.{NumberedLanes, empty_round}
-use Rattle.route_drive.specs.Day.{seal_of, latest_seal, round_fault}
-use Rattle.route_drive.specs.work.Drive.{fault_at}
+use Rattle.route_drive.proofs.Common.{take_more, NumberedLanes, empty_round, seal_of, latest_seal, round_fault, fault_at}
 
 latest-push : (rounds : List NumberedLanes) (r : NumberedLanes) → latest_seal (rounds ++ r ∷ []) ≡ max (unwrap_or (seal_of r) 0) (latest_seal rounds)
 latest-push [] r = omega arith

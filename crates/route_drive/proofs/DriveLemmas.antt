@@ -1,38 +1,14 @@
 -- A day under way, round by round.
-use Rattle.std.proofs.Common.{◌≡◌, ◌≢◌, ℕ, zero, suc, ◌+◌, ◌-◌, ◌<◌, ◌≤◌, List, [], ◌∷◌, ◌++◌, length, get_or, map, take, drop, replicate, Option, None, Some, Result, Ok, Err, inl, inr, refl, sym, ap, ◌∙◌, subst, arith, append-nil}
-use Rattle.std.specs.Prelude.{All, IfOk, IfErr}
+use Rattle.std.proofs.Common.{◌≡◌, ◌≢◌, ℕ, zero, suc, ◌+◌, ◌-◌, ◌<◌, ◌≤◌, List, [], ◌∷◌, ◌++◌, length, get_or, map, take, drop, replicate, Option, None, Some, Result, Ok, Err, inl, inr, refl, sym, ap, ◌∙◌, subst, arith, append-nil, All, IfOk, IfErr}
+use Rattle.route_drive.proofs.Common.{option_map_or, cases_lt, get_or-replicate, length-map, length-replicate, BookView, IsBook, next_position, state_after, Command, Entry, Journal, Planned, State, Settings, Roads, NumberedLanes, empty_round, lane_at, IsReady, IsRoundRun, IsRun, IsSameRun, journal_of, position_after_run, state_after_run, Course, DayRound, DayCounts, DriveFault, AreDriven, HasDrivenToTheEnd, IsDrivenRound, IsLateAnswer, IsTooLateDay, IsNewBook, courses_after, courses_from, courses_left, first_courses, left_course, left_state, number_after, plan_in, planned_course, AreCounts, entries_of, seal_of, EntersTooLate, IsInTime, IsTooLate, left_commands, AddsServed, AreServed, HasCome, HasEnded, IsCounted, IsEndLate, IsLastLate, IsLastOn, IsRoundLate, IsRoundOn, IsStoppedAt, IsTaken, IsUnderWay, Takes}
 use Rattle.std.specs.List.{Any}
-use Rattle.std.specs.Option.{option_map_or}
-use Rattle.std.proofs.lemmas.Bool.{cases_lt}
-use Rattle.std.proofs.lemmas.List.{get_or-replicate, length-map, length-replicate}
-use Rattle.request_book.specs.Book.{BookView, IsBook, next_position}
-use Rattle.request_book.specs.Replay.{state_after}
-use Rattle.request_book.specs.declared.command.Command.{Command}
-use Rattle.request_book.specs.declared.journal.Entry.{Entry}
-use Rattle.request_book.specs.declared.journal.Journal.{Journal}
-use Rattle.request_book.specs.declared.outcome.Planned.{Planned}
-use Rattle.request_book.specs.declared.state.State.{State}
-use Rattle.rider_limits.specs.declared.settings.Settings.{Settings}
-use Rattle.road_network.specs.Roads.{Roads}
-use Rattle.script_rows.specs.Round.{NumberedLanes, empty_round, lane_at}
-use Rattle.dispatch_engine.specs.Run.{IsReady, IsRoundRun, IsRun, IsSameRun, journal_of, position_after_run, state_after_run}
 use Rattle.dispatch_engine.proofs.lemmas.RunLemmas.{position-more, run-more, state-more}
 use Rattle.route_drive.proofs.CountLemmas.{vehicles-count}
 use Rattle.route_drive.proofs.EntryLemmas.{map-push, served_more}
-use Rattle.route_drive.specs.declared.course.Course.{Course}
-use Rattle.route_drive.specs.declared.day_run.DayRound.{DayRound}
-use Rattle.dispatch_report.specs.declared.day.DayCounts.{DayCounts}
-use Rattle.route_drive.specs.declared.day_run.DriveFault.{DriveFault}
-use Rattle.route_drive.specs.declared.day_run.DriveFault.TheVariants as fault
 use Rattle.route_drive.specs.declared.drive.Drive.{Drive}
-use Rattle.route_drive.specs.Driven.{AreDriven, HasDrivenToTheEnd, IsDrivenRound, IsLateAnswer, IsTooLateDay, IsNewBook, courses_after, courses_from, courses_left, first_courses, left_course, left_state, number_after, plan_in, planned_course}
-use Rattle.route_drive.specs.Counts.{AreCounts, entries_of}
-use Rattle.route_drive.specs.Day.{seal_of}
-use Rattle.route_drive.specs.Entering.{EntersTooLate, IsInTime, IsTooLate, left_commands}
 use Rattle.route_drive.specs.declared.entering.Stopped.{Stopped}
+use Rattle.route_drive.specs.declared.day_run.DriveFault.TheVariants as fault
 use Rattle.route_drive.specs.declared.entering.Stopped.TheVariants as stop
-use Rattle.route_drive.specs.work.Counting.{AddsServed, AreServed}
-use Rattle.route_drive.specs.work.Drive.{HasCome, HasEnded, IsCounted, IsEndLate, IsLastLate, IsLastOn, IsRoundLate, IsRoundOn, IsStoppedAt, IsTaken, IsUnderWay, Takes}
 
 -- as many courses as vehicles
 courses_each : (s : State) (round : NumberedLanes) (es : List Entry) (courses : List Course) → length courses ≡ length s.vehicles → length (courses_after s round es courses) ≡ length s.vehicles

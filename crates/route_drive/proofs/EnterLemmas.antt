@@ -1,27 +1,10 @@
 -- What is entered, stop by stop and vehicle by vehicle.
-use Rattle.std.proofs.Common.{◌≡◌, ℕ, zero, suc, ◌+◌, ◌<◌, ◌≤◌, Bool, true, false, leb, List, [], ◌∷◌, ◌++◌, length, get_or, map, filter, take, drop, Some, Result, Ok, Err, refl, sym, ap, ◌∙◌, inl, inr, subst, arith, append_assoc, append-nil, add-one, length-append}
-use Rattle.std.specs.Prelude.{IsSome, All, Contains, IfOk, MatchResult, find}
-use Rattle.std.specs.List.{AllZip, Any}
-use Rattle.std.proofs.lemmas.Bool.{cases_Bool, cond-true, cond-false, le-leb}
+use Rattle.std.proofs.Common.{◌≡◌, ℕ, zero, suc, ◌+◌, ◌<◌, ◌≤◌, Bool, true, false, leb, List, [], ◌∷◌, ◌++◌, length, get_or, map, filter, take, drop, Some, Result, Ok, Err, refl, sym, ap, ◌∙◌, inl, inr, subst, arith, append_assoc, append-nil, add-one, length-append, IsSome, All, Contains, IfOk, MatchResult, find}
+use Rattle.route_drive.proofs.Common.{AllZip, cases_Bool, cond-true, cond-false, take_more, get_or_append_left, filter-append, All-nil, All-cons, All-push, get_or-append_seam, Vehicle, Command, PlannedStop, Roads, NumberedLanes, lane_at, Course, NodeAt, Stay, WalkStep, longest, Pickup, Dropoff, Report, AreEntered, EntersTooLate, IsInTime, IsTooLate, due, left_commands, standing_after, stop_command, walk_end, step_from, ArePlaced, heading_of, headings_of, told_by, told_of, Adds}
+use Rattle.std.specs.List.{Any}
+use Rattle.std.proofs.lemmas.Bool.{le-leb}
 use Rattle.std.proofs.lemmas.Bool.Decides.{leb_tells}
-use Rattle.std.proofs.lemmas.List.{take_more, get_or_append_left}
-use Rattle.std.proofs.lemmas.List.Elements.{filter-append, All-nil, All-cons, All-push}
-use Rattle.std.proofs.Math.Seq.{drop-cons, get_or-append_seam}
-use Rattle.batch_snapshot.specs.declared.vehicle.Vehicle.{Vehicle}
-use Rattle.request_book.specs.declared.command.Command.{Command}
-use Rattle.request_book.specs.declared.outcome.PlannedStop.{PlannedStop}
-use Rattle.road_network.specs.Roads.{Roads}
-use Rattle.script_rows.specs.Round.{NumberedLanes, lane_at}
-use Rattle.route_drive.specs.declared.course.Course.{Course}
-use Rattle.route_drive.specs.declared.course.NodeAt.{NodeAt}
-use Rattle.route_drive.specs.declared.course.Stay.{Stay}
-use Rattle.route_drive.specs.declared.walk.WalkStep.{WalkStep}
-use Rattle.pool_base.specs.TravelTime.{longest}
-use Rattle.request_book.specs.declared.command.Command.TheVariants.{Pickup, Dropoff, Report}
-use Rattle.route_drive.specs.Entering.{AreEntered, EntersTooLate, IsInTime, IsTooLate, due, left_commands, standing_after, stop_command, walk_end}
-use Rattle.route_drive.specs.work.Drive.{step_from}
-use Rattle.route_drive.specs.work.Places.{ArePlaced, heading_of, headings_of, told_by, told_of}
-use Rattle.route_drive.specs.work.Rounds.{Adds}
+use Rattle.std.proofs.Math.Seq.{drop-cons}
 
 module _ {X : Type 0} where
   -- at the end nothing is left

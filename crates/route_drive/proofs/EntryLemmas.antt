@@ -1,26 +1,8 @@
 -- Who is served by entries that follow one another, and the counts of them.
-use Rattle.std.proofs.Common.{◌≡◌, ℕ, ◌+◌, ◌-◌, ◌^◌, ◌<◌, min, max, Bool, true, false, List, [], ◌∷◌, ◌++◌, length, get_or, map, filter, take, Option, None, Some, refl, sym, ap, ◌∙◌, inl, inr, subst, arith, eqb, append_assoc, append-nil}
-use Rattle.std.specs.Prelude.{◌==◌, All, Contains, MatchOption, find}
-use Rattle.std.specs.List.{AllZip}
-use Rattle.std.specs.Option.{option_map_or}
-use Rattle.std.proofs.lemmas.Bool.{cases_Bool, cond-true, cond-false, eqb-true}
-use Rattle.std.proofs.lemmas.List.{take_more, get_or_default, length-map, map-append}
-use Rattle.std.proofs.lemmas.List.Folds.{Any-from_list_any}
-use Rattle.std.proofs.lemmas.List.Elements.{filter-append, All-head, All-tail}
-use Rattle.request_book.specs.Consistent.{IsNode}
-use Rattle.request_book.specs.Keyed.{look_up}
-use Rattle.request_book.specs.State.{find_rider}
-use Rattle.request_book.specs.declared.journal.Entry.{Entry}
-use Rattle.request_book.specs.declared.reply.Reply.{Reply}
-use Rattle.request_book.specs.declared.rider.BookRider.{BookRider}
-use Rattle.road_network.specs.Roads.{Roads, index_in}
-use Rattle.road_network.specs.Walk.{IsTimeBetween}
+use Rattle.std.proofs.Common.{◌≡◌, ℕ, ◌+◌, ◌-◌, ◌^◌, ◌<◌, min, max, Bool, true, false, List, [], ◌∷◌, ◌++◌, length, get_or, map, filter, take, Option, None, Some, refl, sym, ap, ◌∙◌, inl, inr, subst, arith, eqb, append_assoc, append-nil, ◌==◌, All, Contains, MatchOption, find}
+use Rattle.route_drive.proofs.Common.{AllZip, option_map_or, cases_Bool, cond-true, cond-false, take_more, get_or_default, length-map, map-append, Any-from_list_any, filter-append, All-head, All-tail, IsNode, look_up, find_rider, Entry, Reply, BookRider, Roads, index_in, IsTimeBetween, ServedRider, DayRound, greatest, AreCounts, IsDelayOf, count_of, dropped_among, entries_of, ideal_dropoff, is_dropped, is_picked, picked_among, wait_of, AddsServed, AreServed, IsDelayed, all_served_by, served_by, waited}
+use Rattle.std.proofs.lemmas.Bool.{eqb-true}
 use Rattle.route_drive.specs.declared.counts.Served.{Served}
-use Rattle.route_drive.specs.declared.counts.ServedRider.{ServedRider}
-use Rattle.route_drive.specs.declared.day_run.DayRound.{DayRound}
-use Rattle.stop_orders.specs.Settled.{greatest}
-use Rattle.route_drive.specs.Counts.{AreCounts, IsDelayOf, count_of, dropped_among, entries_of, ideal_dropoff, is_dropped, is_picked, picked_among, wait_of}
-use Rattle.route_drive.specs.work.Counting.{AddsServed, AreServed, IsDelayed, all_served_by, served_by, waited}
 
 pub greatest-push : (xs : List ℕ) (x : ℕ) → greatest (xs ++ x ∷ []) ≡ max (greatest xs) x
 greatest-push [] x = omega arith

@@ -7,3 +7,4 @@ pub mod EntryLemmas
 pub mod DriveLemmas
 pub mod WorstLemmas
 pub mod kept
+pub mod Common

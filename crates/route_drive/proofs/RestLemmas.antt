@@ -1,23 +1,9 @@
 -- The suffix law: what remains of a serving order serves.
-use Rattle.std.proofs.Common.{◌≡◌, ℕ, zero, suc, ◌+◌, ◌-◌, ◌<◌, ◌≤◌, Bool, true, false, cond, eqb, ltb, List, [], ◌∷◌, ◌++◌, length, map, filter, take, drop, refl, sym, ap, ◌∙◌, subst, arith, inl, inr, length-append}
-use Rattle.std.specs.Prelude.{All, remove, slice_index_or}
-use Rattle.std.specs.List.{AllByRecursion}
-use Rattle.std.proofs.lemmas.Bool.{cases_Bool, cases_lt, cases_eq, eq-eqb, ne_eqb, eqb-true, cond-true, cond-false, lt-ltb, le-ltb, false≢true}
-use Rattle.std.proofs.lemmas.List.{get_or_append_left}
-use Rattle.std.proofs.Math.Seq.{get_or-append_seam}
+use Rattle.std.proofs.Common.{◌≡◌, ℕ, zero, suc, ◌+◌, ◌-◌, ◌<◌, ◌≤◌, Bool, true, false, cond, eqb, ltb, List, [], ◌∷◌, ◌++◌, length, map, filter, take, drop, refl, sym, ap, ◌∙◌, subst, arith, inl, inr, length-append, All, remove, slice_index_or}
+use Rattle.route_drive.proofs.Common.{AllByRecursion, cases_Bool, cases_lt, cases_eq, cond-true, cond-false, false≢true, get_or_append_left, get_or-append_seam, All-append, All-take, All-drop, All-cons, All-nil, sum_by-remove, sum_by_push, sum_by-cons, longest, Leg, Task, Stop, Pick, Drop, Alight, Visit, is_of_rider, is_of_passenger, IsKnown, place_of, boarding_of, room_after, ServesFrom, seconds_from, no_leg, leg_at, persons, IsLeg, IsTask, visit_at, visits_of, free_seats, IsOrderOf, Serves, seconds_of}
+use Rattle.std.proofs.lemmas.Bool.{eq-eqb, ne_eqb, eqb-true, lt-ltb, le-ltb}
 use Rattle.std.proofs.lemmas.List.Edits.{length-remove, get_or-remove_below, get_or-remove_above}
-use Rattle.std.proofs.lemmas.List.Elements.{All-append, All-take, All-drop, All-cons, All-nil}
-use Rattle.std.proofs.lemmas.List.Sums.{sum_by-remove, sum_by_push, sum_by-cons}
-use Rattle.pool_base.specs.TravelTime.{longest}
-use Rattle.stop_orders.specs.declared.leg.Leg.{Leg}
-use Rattle.stop_orders.specs.declared.task.Task.{Task}
-use Rattle.stop_orders.specs.declared.stop.Stop.{Stop}
-use Rattle.stop_orders.specs.declared.stop.Stop.TheVariants.{Pick, Drop, Alight}
-use Rattle.stop_orders.specs.declared.visit.Visit.{Visit}
 use Rattle.stop_orders.specs.declared.visit.Visit.TheVariants.{Pickup, Dropoff}
-use Rattle.stop_orders.specs.Order.{is_of_rider, is_of_passenger, IsKnown}
-use Rattle.stop_orders.specs.Visit.{place_of, boarding_of, room_after, ServesFrom, seconds_from}
-use Rattle.stop_orders.specs.Task.{no_leg, leg_at, persons, IsLeg, IsTask, visit_at, visits_of, free_seats, IsOrderOf, Serves, seconds_of}
 use Rattle.stop_orders.specs.Laws.{number_without, stop_without_passenger, without_passenger}
 use Rattle.route_drive.specs.Rest.{task_after, stop_after, rest_of, MeetsNext, RestServes}
 

@@ -1,25 +1,12 @@
 -- Searches for shortest walks.
-use Rattle.std.specs.Prelude.{IfNone, IfOk, IsSome, MatchOption, Result, Ok, Err}
-use Rattle.std.proofs.Common.{◌≡◌, ℕ, zero, suc, Option, None, Some, rules, nat_lt, ◌+◌, ◌*◌, ◌<◌, ◌≤◌, ◌⊎◌, Bool, true, false, cond, not, List, [], ◌∷◌, ◌++◌, length, get_or, slice_index, set, replicate, map, reverse, count_by, All, refl, sym, ap, ◌∙◌, inl, inr, subst, arith, length-append}
-use Rattle.std.specs.List.{position, position_or_len}
-use Rattle.std.proofs.lemmas.Bool.{cases_Bool, cases_eq, cases_lt, true≢false}
-use Rattle.std.proofs.lemmas.List.{length-set, get_or-set_same, get_or-set_other, get_or_append_left, reverse-append, get_or-replicate, length-replicate}
-use Rattle.std.proofs.lemmas.List.Elements.{All-contains}
-use Rattle.std.proofs.lemmas.List.Folds.{sum_by-replicate}
-use Rattle.std.proofs.lemmas.List.Sums.{sum_by-set, sum_by-cons}
-use Rattle.std.proofs.Math.Seq.{get_or-append_seam}
-use Rattle.pool_base.specs.TravelTime.{never}
-use Rattle.road_network.specs.declared.arc.Arc.{Arc}
-use Rattle.road_network.specs.declared.hop.Hop.{Hop}
-use Rattle.road_network.specs.Roads.{Roads, index_in, IsArcAmong, IsNetwork, hop_of, leaving}
-use Rattle.road_network.specs.Walk.{IsWalk, walk_seconds, HasNoWalk}
+use Rattle.std.proofs.Common.{IfNone, IfOk, IsSome, MatchOption, Result, Ok, Err, ◌≡◌, ℕ, zero, suc, Option, None, Some, rules, nat_lt, ◌+◌, ◌*◌, ◌<◌, ◌≤◌, ◌⊎◌, Bool, true, false, cond, not, List, [], ◌∷◌, ◌++◌, length, get_or, slice_index, set, replicate, map, reverse, count_by, All, refl, sym, ap, ◌∙◌, inl, inr, subst, arith, length-append}
+use Rattle.route_drive.proofs.Common.{position_or_len, cases_Bool, cases_eq, cases_lt, get_or_append_left, reverse-append, get_or-replicate, length-replicate, All-contains, sum_by-replicate, sum_by-set, sum_by-cons, get_or-append_seam, never, Arc, Hop, Roads, index_in, IsArcAmong, IsNetwork, hop_of, leaving, IsWalk, walk_seconds, HasNoWalk, Found, WalkStep, IsShortestWalk, no_found, found_at, is_seen, IsTight, IsTree, AreHopsOpened, IsOpened, Grows, IsGrowing, IsFullTree, IsWalkBack}
+use Rattle.std.specs.List.{position}
+use Rattle.std.proofs.lemmas.Bool.{true≢false}
+use Rattle.std.proofs.lemmas.List.{length-set, get_or-set_same, get_or-set_other}
 use Rattle.travel_times.proofs.lemmas.WalkLemmas.{IsWalk-append, walk_seconds-append, short_walk}
 use Rattle.travel_times.proofs.lemmas.SearchLemmas.{arc_of_hop, hop_of_arc, hops_among}
-use Rattle.route_drive.specs.declared.tree.Found.{Found}
-use Rattle.route_drive.specs.declared.walk.WalkStep.{WalkStep}
-use Rattle.route_drive.specs.Walk.{IsShortestWalk}
 use Rattle.travel_times.specs.Near.{AreTimesUpTo}
-use Rattle.route_drive.specs.work.Tree.{no_found, found_at, is_seen, IsTight, IsTree, AreHopsOpened, IsOpened, Grows, IsGrowing, IsFullTree, IsWalkBack}
 
 -- one more is marked and found
 module _ (arcs : List Arc) (times : List ℕ) (seen : List Bool) (found : List Found) (k to : ℕ) where

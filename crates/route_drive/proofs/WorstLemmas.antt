@@ -1,51 +1,12 @@
 -- Riders stay who they are, so that the waits and delays that are told at the end of a day are those of its pickups and
 -- drop-offs.
-use Rattle.std.proofs.Common.{◌≡◌, ℕ, ◌+◌, ◌-◌, ◌≤◌, max, Bool, true, false, cond, List, [], ◌∷◌, ◌++◌, map, Option, None, Some, inl, inr, refl, sym, ap, ◌∙◌, subst, arith}
-use Rattle.std.proofs.lemmas.Bool.{cases_Bool, cases_eq, cond-true, cond-false, true≢false}
-use Rattle.std.specs.Prelude.{◌==◌, ◌&&◌, MatchOption}
-use Rattle.std.specs.List.{AllZip}
-use Rattle.std.specs.Option.{option_map_or}
-use Rattle.batch_snapshot.specs.Batch.{Batch}
-use Rattle.batch_snapshot.specs.declared.rider.Rider.{Rider}
-use Rattle.request_book.proofs.lemmas.KeyedLemmas.{look_up-here, look_up-there, look_up-nil}
-use Rattle.request_book.specs.Closing.{Pick, after_answer, after_plan, picks}
-use Rattle.request_book.specs.lemmas.Named.{in_batch, planned_status}
-use Rattle.request_book.specs.lemmas.Closing.{closed_state}
-use Rattle.request_book.specs.Keyed.{changed_at}
-use Rattle.request_book.proofs.lemmas.LawLemmas.{rounds-join}
-use Rattle.request_book.specs.Book.{next_position}
-use Rattle.request_book.specs.Replay.{RepliesAreSteps, state_after}
-use Rattle.request_book.specs.Rider.{is_active, with_status}
-use Rattle.request_book.specs.Sealing.{sealed_state, after_seal, is_over}
-use Rattle.request_book.specs.State.{find_rider, find_vehicle}
-use Rattle.request_book.specs.lemmas.Refusals.{first_of, unknown_vehicle, unknown_rider, is_aboard, has_ended, not_promised, time_back, vehicle_full, not_aboard}
-use Rattle.request_book.specs.Step.{step}
-use Rattle.request_book.specs.lemmas.Table.{answer, picked_up, dropped_off, submit_step, cancel_step, report_step, pickup_step, dropoff_step, seal_step, close_step, table_step}
-use Rattle.request_book.proofs.lemmas.StepTable.{by-table}
-use Rattle.request_book.specs.declared.command.Command.{Command}
-use Rattle.request_book.specs.declared.command.Command.TheVariants.{Submit, Cancel, Report, Pickup, Dropoff, Seal, Close}
-use Rattle.request_book.specs.declared.outcome.Answer.{Answer}
+use Rattle.std.proofs.Common.{◌≡◌, ℕ, ◌+◌, ◌-◌, ◌≤◌, max, Bool, true, false, cond, List, [], ◌∷◌, ◌++◌, map, Option, None, Some, inl, inr, refl, sym, ap, ◌∙◌, subst, arith, ◌==◌, ◌&&◌, MatchOption}
+use Rattle.route_drive.proofs.Common.{cases_Bool, cases_eq, cond-true, cond-false, AllZip, option_map_or, Batch, Rider, look_up-here, look_up-there, look_up-nil, after_answer, after_plan, picks, in_batch, planned_status, closed_state, changed_at, rounds-join, next_position, RepliesAreSteps, state_after, is_active, with_status, sealed_state, after_seal, is_over, find_rider, find_vehicle, first_of, unknown_vehicle, unknown_rider, is_aboard, has_ended, not_promised, time_back, vehicle_full, not_aboard, step, answer, picked_up, dropped_off, submit_step, cancel_step, report_step, pickup_step, dropoff_step, seal_step, close_step, table_step, by-table, Command, Submit, Cancel, Report, Pickup, Dropoff, Seal, Close, Answer, BookRefusal, Entry, Reply, Accepted, Placed, Picked, Dropped, Sealed, Closed, Refused, BookRider, Status, Expired, State, Settings, Roads, index_in, Arc, IsTimeBetween, NumberedLanes, DayCounts, IsRun, state_after_run, DayRound, greatest, AreCounts, entries_of, IsDelayOf, dropped_among, ideal_dropoff, is_dropped, is_picked, picked_among, rider_of, wait_of, second_of, EntriesKeep, EntryKeeps, IsDroppedInTime, IsKeptDay, IsRunOfDay}
+use Rattle.std.proofs.lemmas.Bool.{true≢false}
+use Rattle.request_book.specs.Closing.{Pick}
+use Rattle.request_book.specs.declared.reply.Reply.TheVariants.{Cancelled}
+use Rattle.request_book.specs.declared.rider.Status.TheVariants.{Cancelled as GivenUp}
 use Rattle.request_book.specs.declared.outcome.Answer.TheVariants as answers
-use Rattle.request_book.specs.declared.reply.BookRefusal.{BookRefusal}
-use Rattle.request_book.specs.declared.journal.Entry.{Entry}
-use Rattle.request_book.specs.declared.reply.Reply.{Reply}
-use Rattle.request_book.specs.declared.reply.Reply.TheVariants.{Accepted, Cancelled, Placed, Picked, Dropped, Sealed, Closed, Refused}
-use Rattle.request_book.specs.declared.rider.BookRider.{BookRider}
-use Rattle.request_book.specs.declared.rider.Status.{Status}
-use Rattle.request_book.specs.declared.rider.Status.TheVariants.{Expired, Cancelled as GivenUp}
-use Rattle.request_book.specs.declared.state.State.{State}
-use Rattle.rider_limits.specs.declared.settings.Settings.{Settings}
-use Rattle.road_network.specs.Roads.{Roads, index_in}
-use Rattle.road_network.specs.declared.arc.Arc.{Arc}
-use Rattle.road_network.specs.Walk.{IsTimeBetween}
-use Rattle.script_rows.specs.Round.{NumberedLanes}
-use Rattle.dispatch_report.specs.declared.day.DayCounts.{DayCounts}
-use Rattle.dispatch_engine.specs.Run.{IsRun, state_after_run}
-use Rattle.route_drive.specs.declared.day_run.DayRound.{DayRound}
-use Rattle.stop_orders.specs.Settled.{greatest}
-use Rattle.route_drive.specs.Counts.{AreCounts, entries_of, IsDelayOf, dropped_among, ideal_dropoff, is_dropped, is_picked, picked_among, rider_of, wait_of}
-use Rattle.route_drive.specs.Entering.{second_of}
-use Rattle.route_drive.specs.Promises.{EntriesKeep, EntryKeeps, IsDroppedInTime, IsKeptDay, IsRunOfDay}
 
 -- a rider of whatever status
 pub record IsSame (r t : BookRider) : Type 0 where

@@ -1,15 +1,9 @@
 use Rattle.std.proofs.Common.{◌≡◌, ◌≢◌, ℕ, ◌<◌, Bool, true, false, ◌&&◌, cond, eqb, List, [], ◌∷◌, ◌++◌, map, length, get_or, set, refl, sym, ap, ◌∙◌, inl, inr, arith}
-use Rattle.std.specs.List.{All, filter, range_with_len}
-use Rattle.std.proofs.lemmas.Bool.{cases_eq, eq-eqb, ne_eqb, and_left, and_right, and_from}
-use Rattle.std.proofs.lemmas.List.{append-nil, map-append, length-set, get_or-set_same, get_or-set_other}
+use Rattle.script_rows.proofs.Common.{range_with_len, cases_eq, and_left, and_right, and_from, map-append, All-head, All-tail, filter-append, Command, Line, NumberedLanes, commands_of, empty_round, with_command, round_of}
+use Rattle.std.specs.List.{All, filter}
+use Rattle.std.proofs.lemmas.Bool.{eq-eqb, ne_eqb}
+use Rattle.std.proofs.lemmas.List.{append-nil, length-set, get_or-set_same, get_or-set_other}
 use Rattle.std.proofs.lemmas.List.FromFn.{length-map-range_with_len, get_or-map-range_with_len, fill_by_all}
-use Rattle.std.proofs.lemmas.List.Elements.{All-head, All-tail, filter-append}
-use Rattle.request_book.specs.declared.command.Command.{Command}
-use Rattle.script_rows.specs.declared.line.Line.{Line}
-use Rattle.script_rows.specs.Round.{NumberedLanes}
-use Rattle.script_rows.specs.work.Building.{commands_of}
-use Rattle.script_rows.specs.Round.{empty_round, with_command}
-use Rattle.script_rows.specs.Script.{round_of}
 
 -- two functions that agree on a list map it alike
 pub map-agree : {X Y : Type 0} (f g : X → Y) (xs : List X) → All (λ x. f x ≡ g x) xs → map f xs ≡ map g xs

@@ -2,3 +2,4 @@ pub mod lemmas
 pub mod RangeLemmas
 pub mod GroupLemmas
 pub mod ScriptLemmas
+pub mod Common

@@ -1,5 +1,5 @@
 use Rattle.std.proofs.Common.{◌≡◌, ℕ, suc, ◌+◌, ◌-◌, ◌<◌, ◌∷◌, ap, arith}
-use Rattle.std.specs.List.{range_with_len}
+use Rattle.script_rows.proofs.Common.{range_with_len}
 
 -- a range begins with its first number
 pub range_with_len-first : (a b : ℕ) → a < b → range_with_len a (b - a) ≡ a ∷ range_with_len (a + 1) (b - (a + 1))

@@ -1,22 +1,9 @@
 use Rattle.std.proofs.Common.{◌≡◌, ◌≢◌, ◌⊎◌, ℕ, ◌+◌, ◌-◌, ◌<◌, ◌≤◌, true, false, ◌&&◌, cond, eqb, nat_lt, List, [], ◌∷◌, ◌++◌, map, length, get_or, set, Result, Ok, Err, refl, sym, ap, subst, ◌∙◌, inl, inr, arith}
-use Rattle.std.specs.List.{All, list_any}
-use Rattle.std.proofs.lemmas.Bool.{cases_order, lt-ltb, le-ltb, eq-eqb, ne_eqb, and_parts, ltb-true}
-use Rattle.std.proofs.lemmas.List.{map-append, length_push, set_at, get_or_at, get_or_default}
-use Rattle.std.proofs.lemmas.List.Elements.{All-nil, All-push, All-weaker, All-same}
+use Rattle.script_rows.proofs.Common.{list_any, cases_order, and_parts, map-append, length_push, set_at, get_or_at, get_or_default, All-nil, All-push, All-weaker, All-same, ◌>>=◌, all_or_first, all_or_first-err, ScriptFault, TooManyRows, Line, ScriptVersion, line_in, IsBehind, NumberedLanes, last_round, joins, with_line, empty_round, with_command, round_before, round_of, script_of, line_at, rounds_of}
+use Rattle.std.specs.List.{All}
+use Rattle.std.proofs.lemmas.Bool.{lt-ltb, le-ltb, eq-eqb, ne_eqb, ltb-true}
 use Rattle.pool_base.specs.Distinct.{distinct}
-use Rattle.pool_base.specs.InOrder.{◌>>=◌, all_or_first}
 use Rattle.pool_base.proofs.lemmas.DistinctLemmas.{any-more, distinct-push_new, distinct-push_old}
-use Rattle.pool_base.proofs.lemmas.InOrderLemmas.{all_or_first-err}
-use Rattle.script_rows.specs.declared.fault.ScriptFault.{ScriptFault}
-use Rattle.script_rows.specs.declared.fault.ScriptFault.TheVariants.{TooManyRows}
-use Rattle.script_rows.specs.declared.line.Line.{Line}
-use Rattle.script_rows.specs.declared.version.ScriptVersion.{ScriptVersion}
-use Rattle.script_rows.specs.Line.{line_in, IsBehind}
-use Rattle.script_rows.specs.Round.{NumberedLanes}
-use Rattle.script_rows.specs.work.Building.{last_round, joins, with_line}
-use Rattle.script_rows.specs.Round.{empty_round, with_command}
-use Rattle.script_rows.specs.Script.{round_before, round_of, script_of}
-use Rattle.script_rows.specs.lemmas.Named.{line_at, rounds_of}
 use Rattle.script_rows.proofs.GroupLemmas.{map-agree, round_of-push, round_of-push_other, round_of-none}
 
 -- a row that joins the last round

@@ -1,11 +1,7 @@
 -- The calls of a lane in a log that grows by one entry.
 use Rattle.std.proofs.Common.{◌≡◌, ◌≢◌, ℕ, zero, suc, ◌+◌, ◌<◌, ◌≤◌, ◌==◌, if◌then◌else◌, cond, true, false, List, [], ◌∷◌, ◌++◌, length, filter, sym, refl, ap, ◌∙◌, subst, arith, eq-eqb, ne_eqb, append-nil}
-use Rattle.std.specs.List.{enumerate_from}
+use Rattle.seat_lock.proofs.Common.{enumerate_from, LoggedCall, Claim, calls_of, Claimed, Laned, lane_weight}
 use Rattle.std.proofs.lemmas.List.Elements.{filter-append}
-use Rattle.seat_lock.specs.declared.logged.LoggedCall.{LoggedCall}
-use Rattle.seat_lock.specs.declared.view.Claim.{Claim}
-use Rattle.seat_lock.specs.Values.{calls_of}
-use Rattle.seat_lock.specs.work.Rule.{Claimed, Laned, lane_weight}
 use Rattle.seat_lock.proofs.Totals.{at, at-same}
 
 module _ {C R : Type 0} where

@@ -1,16 +1,7 @@
 -- Passes as they are handed out and taken back.
 use Rattle.std.proofs.Common.{◌≡◌, ℕ, zero, suc, ◌+◌, ◌-◌, ◌<◌, List, [], ◌∷◌, ◌++◌, map, length, get_or, All, Option, Some, sym, refl, ap, ◌∙◌, subst, arith}
-use mathlib.Core.Logic.{dite}
-use native.Mathlib.Decide.{dec_lt}
-use Rattle.atomic_table.specs.Table.{Me}
+use Rattle.seat_lock.proofs.Common.{dite, dec_lt, Me, LoggedCall, View, Idle, PassValue, calls_of, claim, calls_in, lane_view, lanes_view, lane_given, lanes_kept, pass_value, IsPass, Claimed, Laned, claim_of}
 use Rattle.atomic_table.specs.declared.shared.Seat.{Seat}
-use Rattle.seat_lock.specs.declared.logged.LoggedCall.{LoggedCall}
-use Rattle.seat_lock.specs.declared.view.View.{View}
-use Rattle.seat_lock.specs.declared.view.Stage.TheVariants.{Idle}
-use Rattle.seat_lock.specs.Values.{PassValue, calls_of}
-use Rattle.seat_lock.specs.work.Views.{claim, calls_in, lane_view, lanes_view, lane_given, lanes_kept, pass_value, IsPass}
-use Rattle.seat_lock.specs.work.Rule.{Claimed, Laned}
-use Rattle.seat_lock.specs.work.Passes.{claim_of}
 
 module _ {A : Type 0} where
   front_at : (xs ys : List A) (k : ℕ) (d : A) → k < length xs → get_or (xs ++ ys) k d ≡ get_or xs k d

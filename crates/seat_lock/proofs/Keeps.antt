@@ -1,29 +1,14 @@
 -- Each move keeps the lock's rule.
 use Rattle.std.proofs.Common.{◌≡◌, ◌≢◌, ℕ, zero, suc, ◌+◌, ◌%◌, ◌^◌, ◌<◌, ◌≤◌, ◌⊎◌, List, [], ◌∷◌, ◌++◌, length, drop, set, get_or, Option, Some, sym, refl, ap, ◌∙◌, subst, inl, inr, ⊎_elim, arith, le_refl, append-nil, length-append, mod-eq_of_lt}
+use Rattle.seat_lock.proofs.Common.{drop-append_seam, some, none, some-injective, some-ne-none, dite, ℕ_discrete, get_elem?, State, Me, step, keeps, takes, gives, stepped, Allows, Splits, Joins, opening, Final, Seen, LoggedCall, View, Claim, Idle, Waiting, InTurn, calls_of, fresh_claims, first_claim, other_claims, with_stage, in_turn, lane_view, first_view, spent_view, lane_given, lanes_kept, lanes_joined, total, below, ticket_weight, lane_weight, IsInTurn, Claimed, Laned, Knows, Agrees, Sound, IsHome, IsOut, Kept, since, drew, LooksAt, looked, noted, gave_way, IsClosed, CanNote, CanServe}
 use Rattle.std.proofs.Math.Nat.{mod-add-mod}
-use Rattle.std.proofs.Math.Seq.{drop-append_seam}
 use Rattle.std.proofs.lemmas.List.{set-get_or}
-use mathlib.Core.Option as maybe
-use mathlib.Core.Option.{some, none, some-injective, some-ne-none}
 use mathlib.Core.List.{append_assoc}
-use mathlib.Core.Logic.{dite}
-use native.Mathlib.Decide.{ℕ_discrete}
-use lib.ListN.{get_elem?}
-use Rattle.atomic_table.specs.Table.{State, Me, step, keeps, takes, gives, stepped, Allows, Splits, Joins, opening, Final, Seen}
 use Rattle.atomic_table.proofs.Lists.{at_set, at_snoc, at_longer, set_else, set_again, one_turn}
-use Rattle.seat_lock.specs.declared.logged.LoggedCall.{LoggedCall}
-use Rattle.seat_lock.specs.declared.view.View.{View}
-use Rattle.seat_lock.specs.declared.view.Claim.{Claim}
 use Rattle.seat_lock.specs.declared.view.Stage.{Stage}
-use Rattle.seat_lock.specs.declared.view.Stage.TheVariants.{Idle, Waiting, InTurn}
-use Rattle.seat_lock.specs.Values.{calls_of}
-use Rattle.seat_lock.specs.work.Views.{fresh_claims, first_claim, other_claims, with_stage, in_turn, lane_view, first_view, spent_view, lane_given, lanes_kept, lanes_joined}
-use Rattle.seat_lock.specs.work.Rule.{total, below, ticket_weight, lane_weight, IsInTurn, Claimed, Laned, Knows, Agrees, Sound, IsHome, IsOut, Kept}
-use Rattle.seat_lock.specs.work.Moves.{since, drew, LooksAt, looked, noted, gave_way}
-use Rattle.seat_lock.specs.work.Passes.{IsClosed}
-use Rattle.seat_lock.specs.work.Turns.{CanNote, CanServe}
 use Rattle.seat_lock.proofs.Totals.{total-set, total-append, term-le, terms-le, total-le, total-ext, at, at-same, below-past, below-hit, below-most, below-count, lane_weight-count, lane_weight-append, lane_weight-cut, length-fresh, fresh-most, fresh-within}
 use Rattle.seat_lock.proofs.Calls.{Claimed-push, Claimed-append, Laned-push}
+use mathlib.Core.Option as maybe
 
 module _ {A : Type 0} where
   same_at : (l : List A) (i : ℕ) (a b : A) → get_elem? l i ≡ some a → get_elem? l i ≡ some b → a ≡ b

@@ -4,3 +4,4 @@ pub mod Keeps
 pub mod Handing
 pub mod Turning
 pub mod Positions
+pub mod Common

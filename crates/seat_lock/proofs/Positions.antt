@@ -1,12 +1,7 @@
 -- Each position of a log is that of one call of one lane.
 use Rattle.std.proofs.Common.{◌≡◌, ℕ, zero, suc, ◌+◌, ◌<◌, ◌≤◌, ◌==◌, if◌then◌else◌, cond, Bool, true, false, List, [], ◌∷◌, length, get_or, filter, count_by, sum_by, nat_lt, sym, refl, ap, ◌∙◌, arith, eq-eqb, ne_eqb, le-ltb, lt-ltb}
-use mathlib.Core.Logic.{dite}
-use native.Mathlib.Decide.{ℕ_discrete}
-use Rattle.std.specs.List.{enumerate_from}
+use Rattle.seat_lock.proofs.Common.{dite, ℕ_discrete, enumerate_from, LoggedCall, calls_of, below, Laned}
 use Rattle.std.proofs.lemmas.List.Sums.{sum_by-cons}
-use Rattle.seat_lock.specs.declared.logged.LoggedCall.{LoggedCall}
-use Rattle.seat_lock.specs.Values.{calls_of}
-use Rattle.seat_lock.specs.work.Rule.{below, Laned}
 use Rattle.seat_lock.proofs.Totals.{at, at-same, at-other}
 
 below-ext : (f h : ℕ → ℕ) (n : ℕ) → ((k : ℕ) → f k ≡ h k) → below f n ≡ below h n

@@ -1,12 +1,6 @@
 -- Sums over a list whose elements are read by `get_elem?`, and sums over the numbers below some n.
 use Rattle.std.proofs.Common.{◌≡◌, ◌≢◌, ℕ, zero, suc, ◌+◌, ◌<◌, ◌≤◌, ◌==◌, if◌then◌else◌, List, [], ◌∷◌, ◌++◌, length, set, sym, refl, ap, arith, le_refl, eq-eqb, ne_eqb}
-use mathlib.Core.Option.{some, some-injective, some-ne-none}
-use mathlib.Core.Logic.{dite}
-use native.Mathlib.Decide.{ℕ_discrete}
-use lib.ListN.{get_elem?}
-use Rattle.seat_lock.specs.declared.view.Claim.{Claim}
-use Rattle.seat_lock.specs.work.Rule.{total, below, lane_weight}
-use Rattle.seat_lock.specs.work.Views.{fresh_claims, first_claim, other_claims}
+use Rattle.seat_lock.proofs.Common.{some, some-injective, some-ne-none, dite, ℕ_discrete, get_elem?, Claim, total, below, lane_weight, fresh_claims, first_claim, other_claims}
 
 module _ {A : Type 0} (f : A → ℕ) where
   pub total-set : (l : List A) (j : ℕ) (v w : A) → get_elem? l j ≡ some v → total f (set l j w) + f v ≡ total f l + f w

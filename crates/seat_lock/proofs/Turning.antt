@@ -1,14 +1,7 @@
 -- What a seat knows in the course of a turn.
 use Rattle.std.proofs.Common.{◌≡◌, ℕ, ◌+◌, List, [], ◌∷◌, ◌++◌, length, Option, Some, None, sym, refl, ap, ◌∙◌, subst}
+use Rattle.seat_lock.proofs.Common.{drop-append_seam, Me, rest, LoggedCall, View, Idle, Waiting, InTurn, calls_of, claim, calls_in, with_stage, in_turn, lane_view, since, held, NotesAt}
 use mathlib.Core.List.{append_assoc}
-use Rattle.std.proofs.Math.Seq.{drop-append_seam}
-use Rattle.atomic_table.specs.Table.{Me, rest}
-use Rattle.seat_lock.specs.declared.logged.LoggedCall.{LoggedCall}
-use Rattle.seat_lock.specs.declared.view.View.{View}
-use Rattle.seat_lock.specs.declared.view.Stage.TheVariants.{Idle, Waiting, InTurn}
-use Rattle.seat_lock.specs.Values.{calls_of}
-use Rattle.seat_lock.specs.work.Views.{claim, calls_in, with_stage, in_turn, lane_view}
-use Rattle.seat_lock.specs.work.Moves.{since, held, NotesAt}
 use Rattle.seat_lock.proofs.Calls.{calls-own}
 
 -- a seat holds one value

@@ -1,19 +1,5 @@
 use Rattle.std.proofs.Common.{◌≡◌, ℕ, zero, suc, ◌+◌, ◌-◌, ◌<◌, ◌≤◌, Bool, true, false, List, [], ◌∷◌, refl, sym, ◌∙◌, subst, arith, inl, inr}
-use Rattle.std.proofs.lemmas.Bool.{cases_eq}
-use Rattle.pool_base.specs.TravelTime.{never, IsTravelTime}
-use Rattle.stop_orders.specs.declared.leg.Leg.{Leg}
-use Rattle.stop_orders.specs.declared.task.Task.{Task}
-use Rattle.stop_orders.specs.declared.stop.Stop.{Stop}
-use Rattle.stop_orders.specs.declared.stop.Stop.TheVariants.{Pick, Drop, Alight}
-use Rattle.stop_orders.specs.Visit.{place_of, lateness}
-use Rattle.stop_orders.specs.Task.{leg_at, visit_at}
-use Rattle.stop_orders.specs.Done.{has, IsNextStop}
-use Rattle.stop_orders.specs.lemmas.Rest.{sum_below}
-use Rattle.stop_orders.proofs.lemmas.DoneLemmas.{has-with_same, has-with_other, Completes-front, IsAllDone-from_nil, sum_below-le}
-use Rattle.stop_orders.proofs.lemmas.ClockLemmas.{AtLeastAsSoon, two_hops}
-use Rattle.small_routing.specs.declared.label.Label.{Label}
-use Rattle.small_routing.specs.work.Label.{task_riders, task_passengers, CanVisit, next_label, second_at, GoesOn, rest_delay}
-use Rattle.small_routing.specs.work.Ahead.{CanStill, late_at_once, RiderCan, rider_late, PassengerCan, passenger_late, least_ahead}
+use Rattle.small_routing.proofs.Common.{cases_eq, never, IsTravelTime, Leg, Task, Stop, Pick, Drop, Alight, place_of, lateness, leg_at, visit_at, has, IsNextStop, sum_below, has-with_same, has-with_other, Completes-front, IsAllDone-from_nil, sum_below-le, AtLeastAsSoon, two_hops, Label, task_riders, task_passengers, CanVisit, next_label, second_at, GoesOn, rest_delay, CanStill, late_at_once, RiderCan, rider_late, PassengerCan, passenger_late, least_ahead}
 
 sum_below-zero : (f : ℕ → ℕ) (n : ℕ) → ((k : ℕ) → k < n → f k ≤ 0) → sum_below f n ≤ 0
 sum_below-zero f zero h = omega arith

@@ -1,20 +1,5 @@
 use Rattle.std.proofs.Common.{◌≡◌, ◌⊎◌, ℕ, ◌+◌, ◌<◌, ◌≤◌, Bool, true, false, List, [], ◌∷◌, ◌++◌, length, get_or, refl, sym, ◌∙◌, subst, arith, inl, inr, ⊎_elim}
-use Rattle.std.proofs.lemmas.Bool.{cases_eq, false≢true}
-use Rattle.std.proofs.lemmas.List.{get_or_append_left, get_or_push, length_push}
-use Rattle.pool_base.specs.TravelTime.{never, IsTravelTime}
-use Rattle.stop_orders.specs.declared.leg.Leg.{Leg}
-use Rattle.stop_orders.specs.declared.task.Task.{Task}
-use Rattle.stop_orders.specs.declared.stop.Stop.{Stop}
-use Rattle.stop_orders.specs.declared.stop.Stop.TheVariants.{Pick, Drop, Alight}
-use Rattle.stop_orders.specs.Visit.{place_of}
-use Rattle.stop_orders.specs.Task.{no_leg, leg_at, visit_at, IsTask, IsServable}
-use Rattle.stop_orders.specs.Done.{has, IsNextStop}
-use Rattle.stop_orders.proofs.lemmas.DoneLemmas.{has-none, has-with_other, IsAllDone-from_nil, Completes-none}
-use Rattle.stop_orders.proofs.lemmas.ClockLemmas.{soon_there}
-use Rattle.small_routing.specs.declared.label.Label.{Label}
-use Rattle.small_routing.specs.work.Label.{task_riders, task_passengers, first_label, CanVisit, next_label, GoesOn}
-use Rattle.small_routing.specs.work.Ahead.{CanStill}
-use Rattle.small_routing.specs.Apart.{with_leg}
+use Rattle.small_routing.proofs.Common.{cases_eq, false≢true, get_or_append_left, get_or_push, length_push, never, IsTravelTime, Leg, Task, Stop, Pick, Drop, Alight, place_of, no_leg, leg_at, visit_at, IsTask, IsServable, has, IsNextStop, has-none, has-with_other, IsAllDone-from_nil, Completes-none, soon_there, Label, task_riders, task_passengers, first_label, CanVisit, next_label, GoesOn, CanStill, with_leg}
 use Rattle.small_routing.specs.work.Apart.{CanFollow, Waits}
 use Rattle.small_routing.proofs.AheadLemmas.{still_soon, soon_next, goes_on_next, is_ahead}
 

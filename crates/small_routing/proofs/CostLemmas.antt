@@ -1,24 +1,6 @@
-use Rattle.std.proofs.Common.{◌≡◌, ℕ, ◌+◌, ◌<◌, ◌≤◌, List, [], ◌∷◌, ◌++◌, Option, None, Some, refl, sym, ap, ◌∙◌, subst, inl, inr, arith}
-use Rattle.std.specs.Prelude.{All, IfSome, IfNone}
-use Rattle.std.proofs.lemmas.Bool.{cases_lt}
+use Rattle.std.proofs.Common.{◌≡◌, ℕ, ◌+◌, ◌<◌, ◌≤◌, List, [], ◌∷◌, ◌++◌, Option, None, Some, refl, sym, ap, ◌∙◌, subst, inl, inr, arith, All, IfSome, IfNone}
+use Rattle.small_routing.proofs.Common.{cases_lt, IsTravelTime, Route, Task, Stop, Pick, Drop, Alight, ServesFrom, visits_of, free_seats, order_delay, IsServable, IsLeastDelay, with_stop, IsNextStop, IsAllDone, left_count, NoneBetter, StaysGood, IsAllDone-from_nil, left_count-falls, MakesOrders-all, Label, IsRoutable, task_riders, task_passengers, first_label, CanVisit, second_at, label_at, next_label, rest_delay, IsSmallLabel, RiderCan, PassengerCan, LeadsTo, IsExhausted, IsTried, IsLabelDone, route_of, IsCostFound, person_of, IsOnlyStop, IsPersonTried, IsNextOf, Priced}
 use Rattle.std.proofs.lemmas.List.{append-nil}
-use Rattle.pool_base.specs.TravelTime.{IsTravelTime}
-use Rattle.stop_orders.specs.declared.route.Route.{Route}
-use Rattle.stop_orders.specs.declared.task.Task.{Task}
-use Rattle.stop_orders.specs.declared.stop.Stop.{Stop}
-use Rattle.stop_orders.specs.declared.stop.Stop.TheVariants.{Pick, Drop, Alight}
-use Rattle.stop_orders.specs.Visit.{ServesFrom}
-use Rattle.stop_orders.specs.Task.{visits_of, free_seats, order_delay, IsServable, IsLeastDelay}
-use Rattle.stop_orders.specs.Done.{with_stop, IsNextStop, IsAllDone}
-use Rattle.stop_orders.specs.lemmas.Rest.{left_count}
-use Rattle.stop_orders.specs.lemmas.Plain.{NoneBetter, StaysGood}
-use Rattle.stop_orders.proofs.lemmas.DoneLemmas.{IsAllDone-from_nil, left_count-falls}
-use Rattle.stop_orders.proofs.lemmas.PlainLemmas.{MakesOrders-all}
-use Rattle.small_routing.specs.declared.label.Label.{Label}
-use Rattle.small_routing.specs.work.Label.{IsRoutable, task_riders, task_passengers, first_label, CanVisit, second_at, label_at, next_label, rest_delay, IsSmallLabel}
-use Rattle.small_routing.specs.work.Ahead.{RiderCan, PassengerCan}
-use Rattle.small_routing.specs.work.Search.{LeadsTo, IsExhausted, IsTried, IsLabelDone}
-use Rattle.small_routing.specs.work.Cost.{route_of, IsCostFound, person_of, IsOnlyStop, IsPersonTried, IsNextOf, Priced}
 use Rattle.small_routing.proofs.AheadLemmas.{goes_on_next}
 use Rattle.small_routing.proofs.LabelLemmas.{leads_first, leads_next, small_next}
 use Rattle.small_routing.proofs.SearchLemmas.{good_better, settled_good, exhausted_all, exhausted_none, tried_exhausted, least_none}

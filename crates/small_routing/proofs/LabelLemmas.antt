@@ -1,22 +1,7 @@
 use Rattle.std.proofs.Common.{◌≡◌, ℕ, ◌+◌, ◌<◌, ◌≤◌, List, [], ◌∷◌, ◌++◌, length, sym, ap, ◌∙◌, subst, arith}
-use Rattle.std.proofs.lemmas.List.Elements.{All-weaker}
-use Rattle.pool_base.specs.TravelTime.{longest, IsTravelTime}
-use Rattle.stop_orders.specs.declared.leg.Leg.{Leg}
-use Rattle.stop_orders.specs.declared.task.Task.{Task}
-use Rattle.stop_orders.specs.declared.stop.Stop.{Stop}
-use Rattle.stop_orders.specs.declared.stop.Stop.TheVariants.{Pick, Drop, Alight}
+use Rattle.small_routing.proofs.Common.{All-weaker, longest, IsTravelTime, Leg, Task, Stop, Pick, Drop, Alight, IsKnown, place_of, room_after, lateness, ServesFrom, no_leg, IsLeg, IsTask, visit_at, visits_of, free_seats, order_delay, IsNextStop, left_count, left_count-most, MakesOrders-next, MakesOrders-none, append_one, Label, IsRoutable, IsRoutableLeg, task_riders, task_passengers, first_label, second_at, CanVisit, next_label, rest_delay, IsSmallLabel, LeadsTo}
 use Rattle.stop_orders.specs.declared.visit.Visit.{Visit}
 use Rattle.stop_orders.specs.declared.visit.Visit.TheVariants.{Pickup, Dropoff}
-use Rattle.stop_orders.specs.Order.{IsKnown}
-use Rattle.stop_orders.specs.Visit.{place_of, room_after, lateness, ServesFrom}
-use Rattle.stop_orders.specs.Task.{no_leg, IsLeg, IsTask, visit_at, visits_of, free_seats, order_delay}
-use Rattle.stop_orders.specs.Done.{IsNextStop}
-use Rattle.stop_orders.specs.lemmas.Rest.{left_count}
-use Rattle.stop_orders.proofs.lemmas.DoneLemmas.{left_count-most}
-use Rattle.stop_orders.proofs.lemmas.PlainLemmas.{MakesOrders-next, MakesOrders-none, append_one}
-use Rattle.small_routing.specs.declared.label.Label.{Label}
-use Rattle.small_routing.specs.work.Label.{IsRoutable, IsRoutableLeg, task_riders, task_passengers, first_label, second_at, CanVisit, next_label, rest_delay, IsSmallLabel}
-use Rattle.small_routing.specs.work.Search.{LeadsTo}
 
 -- a valid leg can be searched
 pub routable_leg : (points : ℕ) (leg : Leg) → IsLeg points leg → IsRoutableLeg points leg

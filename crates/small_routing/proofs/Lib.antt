@@ -5,3 +5,4 @@ pub mod LabelLemmas
 pub mod SearchLemmas
 pub mod UnlimitedLemmas
 mod ApartLemmas
+pub mod Common

@@ -1,26 +1,6 @@
-use Rattle.std.proofs.Common.{◌≡◌, ℕ, ◌+◌, ◌<◌, ◌≤◌, List, [], ◌∷◌, length, map, get_or, take, Option, Some, None, sym, ap, ◌∙◌, subst, arith, inl, inr}
-use Rattle.std.specs.Prelude.{All}
-use Rattle.std.proofs.lemmas.Bool.{cases_lt}
+use Rattle.std.proofs.Common.{◌≡◌, ℕ, ◌+◌, ◌<◌, ◌≤◌, List, [], ◌∷◌, length, map, get_or, take, Option, Some, None, sym, ap, ◌∙◌, subst, arith, inl, inr, All}
+use Rattle.small_routing.proofs.Common.{cases_lt, All-weaker, All-more, All-map, All-contains, IsTravelTime, Route, Task, Stop, ServesFrom, visits_of, free_seats, order_delay, Serves, IsAllDone, Completes, IsFound, NoneBetter, StaysGood, soon_over, ServesFrom-soon, IsAllDone-from_nil, Completes-none, MakesOrders-all, rest_of_all, Label, Candidate, IsRoutable, task_riders, task_passengers, CanVisit, next_label, GoesOn, rest_delay, RiderCan, PassengerCan, least_ahead, no_label, IsDominated, LeadsTo, IsExhausted, IsTried, IsLabelDone, AreCandidates, Searched}
 use Rattle.std.proofs.lemmas.List.{append-nil}
-use Rattle.std.proofs.lemmas.List.Elements.{All-weaker, All-more, All-map, All-contains}
-use Rattle.pool_base.specs.TravelTime.{IsTravelTime}
-use Rattle.stop_orders.specs.declared.route.Route.{Route}
-use Rattle.stop_orders.specs.declared.task.Task.{Task}
-use Rattle.stop_orders.specs.declared.stop.Stop.{Stop}
-use Rattle.stop_orders.specs.Visit.{ServesFrom}
-use Rattle.stop_orders.specs.Task.{visits_of, free_seats, order_delay, Serves}
-use Rattle.stop_orders.specs.Done.{IsAllDone}
-use Rattle.stop_orders.specs.lemmas.Rest.{Completes}
-use Rattle.stop_orders.specs.lemmas.Plain.{IsFound, NoneBetter, StaysGood}
-use Rattle.stop_orders.proofs.lemmas.ClockLemmas.{soon_over, ServesFrom-soon}
-use Rattle.stop_orders.proofs.lemmas.DoneLemmas.{IsAllDone-from_nil, Completes-none}
-use Rattle.stop_orders.proofs.lemmas.PlainLemmas.{MakesOrders-all, rest_of_all}
-use Rattle.small_routing.specs.declared.label.Label.{Label}
-use Rattle.small_routing.specs.declared.candidate.Candidate.{Candidate}
-use Rattle.small_routing.specs.work.Label.{IsRoutable, task_riders, task_passengers, CanVisit, next_label, GoesOn, rest_delay}
-use Rattle.small_routing.specs.work.Ahead.{RiderCan, PassengerCan, least_ahead}
-use Rattle.small_routing.specs.work.Kept.{no_label, IsDominated}
-use Rattle.small_routing.specs.work.Search.{LeadsTo, IsExhausted, IsTried, IsLabelDone, AreCandidates, Searched}
 use Rattle.small_routing.proofs.AheadLemmas.{is_ahead, goes_on_next}
 use Rattle.small_routing.proofs.LabelLemmas.{known_next}
 

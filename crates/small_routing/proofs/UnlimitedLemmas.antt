@@ -1,20 +1,7 @@
-use Rattle.std.proofs.Common.{◌≡◌, ℕ, ◌+◌, ◌-◌, ◌*◌, ◌<◌, ◌≤◌, List, [], ◌∷◌, length, map, Option, None, Some, refl, sym, ap, ◌∙◌, subst, arith}
-use Rattle.std.specs.Prelude.{IfSome, IfNone, fold}
+use Rattle.std.proofs.Common.{◌≡◌, ℕ, ◌+◌, ◌-◌, ◌*◌, ◌<◌, ◌≤◌, List, [], ◌∷◌, length, map, Option, None, Some, refl, sym, ap, ◌∙◌, subst, arith, IfSome, IfNone, fold}
+use Rattle.small_routing.proofs.Common.{get_or-map, length-map, All-map, All-weaker, never, longest, IsTravelTime, Leg, Route, Task, Stop, Pick, Drop, Alight, IsKnown, IsOrder, place_of, latest_of, boarding_of, room_after, lateness, Reaches, ServesFrom, delay_from, no_leg, IsTask, persons, leg_at, visit_at, visits_of, free_seats, IsOrderOf, ReachesAll, order_delay, Serves, IsRoutable, IsRoutableLeg, without_latest, without_limits}
 use Rattle.std.specs.List.{AllByRecursion}
-use Rattle.std.proofs.lemmas.List.{get_or-map, length-map}
-use Rattle.std.proofs.lemmas.List.Elements.{All-map, All-weaker}
-use Rattle.pool_base.specs.TravelTime.{never, longest, IsTravelTime}
-use Rattle.stop_orders.specs.declared.leg.Leg.{Leg}
-use Rattle.stop_orders.specs.declared.route.Route.{Route}
-use Rattle.stop_orders.specs.declared.task.Task.{Task}
-use Rattle.stop_orders.specs.declared.stop.Stop.{Stop}
-use Rattle.stop_orders.specs.declared.stop.Stop.TheVariants.{Pick, Drop, Alight}
-use Rattle.stop_orders.specs.Order.{IsKnown, IsOrder}
-use Rattle.stop_orders.specs.Visit.{place_of, latest_of, boarding_of, room_after, lateness, Reaches, ServesFrom, delay_from}
-use Rattle.stop_orders.specs.Task.{no_leg, IsTask, persons, leg_at, visit_at, visits_of, free_seats, IsOrderOf, ReachesAll, order_delay, Serves}
 use Rattle.stop_orders.proofs.lemmas.ScanLemmas.{order_short}
-use Rattle.small_routing.specs.work.Label.{IsRoutable, IsRoutableLeg}
-use Rattle.small_routing.specs.work.Unlimited.{without_latest, without_limits}
 use Rattle.small_routing.proofs.LabelLemmas.{routable}
 
 leg_unlimited : (legs : List Leg) (j : ℕ) → j < length legs → leg_at (map without_latest legs) j ≡ without_latest (leg_at legs j)

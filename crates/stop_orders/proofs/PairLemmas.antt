@@ -1,6 +1,5 @@
 use Rattle.std.proofs.Common.{◌≡◌, ℕ, zero, suc, ◌+◌, ◌-◌, ◌<◌, ◌≤◌, List, length, slice_index_or, subst, sym, arith, inl, inr}
-use Rattle.std.proofs.lemmas.Bool.{cases_eq}
-use Rattle.stop_orders.specs.PairList.{IsBefore, ArePairs}
+use Rattle.stop_orders.proofs.Common.{cases_eq, IsBefore, ArePairs}
 
 pub before_trans : (p q r : ℕ × ℕ) → IsBefore p q → IsBefore q r → IsBefore p r
 before_trans p q r a b = (

@@ -1,24 +1,8 @@
-use Rattle.std.proofs.Common.{◌≡◌, ℕ, zero, suc, ◌+◌, ◌-◌, ◌*◌, ◌<◌, ◌≤◌, List, [], ◌∷◌, ◌++◌, length, map, get_or, take, drop, refl, sym, ap, ◌∙◌, subst, arith, inl, inr, ◌⊎◌}
-use Rattle.std.specs.Prelude.{All, remove}
-use Rattle.std.specs.List.{AllByRecursion}
-use Rattle.std.proofs.lemmas.Bool.{false≢true}
-use Rattle.std.proofs.lemmas.List.{map-append, take-map, drop-map, length-map, get_or-map, nil_from_length}
-use Rattle.std.proofs.lemmas.List.Edits.{length-remove}
-use Rattle.pool_base.specs.TravelTime.{never, IsTravelTime}
-use Rattle.stop_orders.specs.declared.task.Task.{Task}
-use Rattle.stop_orders.specs.declared.stop.Stop.{Stop}
-use Rattle.stop_orders.specs.declared.stop.Stop.TheVariants.{Pick, Drop, Alight}
-use Rattle.stop_orders.specs.declared.visit.Visit.{Visit}
-use Rattle.stop_orders.specs.declared.visit.Visit.TheVariants.{Pickup, Dropoff}
+use Rattle.std.proofs.Common.{◌≡◌, ℕ, zero, suc, ◌+◌, ◌-◌, ◌*◌, ◌<◌, ◌≤◌, List, [], ◌∷◌, ◌++◌, length, map, get_or, take, drop, refl, sym, ap, ◌∙◌, subst, arith, inl, inr, ◌⊎◌, All, remove}
+use Rattle.stop_orders.proofs.Common.{AllByRecursion, false≢true, map-append, take-map, drop-map, length-map, get_or-map, nil_from_length, length-remove, never, IsTravelTime, Task, Stop, Pick, Drop, Alight, Visit, Pickup, Dropoff, IsKnown, IsOrder, place_of, latest_of, room_after, lateness, ServesFrom, delay_from, no_leg, leg_at, IsTask, IsServable, IsLeastDelay, visit_at, visits_of, free_seats, Serves, order_delay, IsNextStop, no_vehicle, no_rider, vehicle_at, rider_at, trip_task, pair_task, greatest, IsTrip, IsRrEdge, without_rider, without_passenger, stops_without_rider, stops_without_passenger, StillServes}
 use Rattle.stop_orders.specs.declared.settled.Settled.{Settled}
 use Rattle.stop_orders.specs.declared.settled_vehicle.SettledVehicle.{SettledVehicle}
-use Rattle.stop_orders.specs.Order.{IsKnown, IsOrder}
-use Rattle.stop_orders.specs.Visit.{place_of, latest_of, room_after, lateness, ServesFrom, delay_from}
-use Rattle.stop_orders.specs.Task.{no_leg, leg_at, IsTask, IsServable, IsLeastDelay, visit_at, visits_of, free_seats, Serves, order_delay}
-use Rattle.stop_orders.specs.Done.{IsNextStop}
-use Rattle.stop_orders.specs.Settled.{no_vehicle, no_rider, vehicle_at, rider_at, trip_task, pair_task, greatest, IsTrip, IsRrEdge}
 use Rattle.stop_orders.specs.Sound.{IsShort, IsSound}
-use Rattle.stop_orders.specs.Laws.{without_rider, without_passenger, stops_without_rider, stops_without_passenger, StillServes}
 use Rattle.stop_orders.proofs.lemmas.ClockLemmas.{soon_there, ServesFrom-soon}
 use Rattle.stop_orders.proofs.lemmas.DoneLemmas.{has-none, Completes-none, Completes-front}
 use Rattle.stop_orders.proofs.lemmas.ScanLemmas.{order_short}

@@ -1,10 +1,7 @@
 use Rattle.std.proofs.Common.{◌≡◌, ℕ, zero, suc, ◌+◌, ◌-◌, ◌<◌, ◌≤◌, ⊎_elim, List, [], ◌∷◌, ◌++◌, length, take, drop, map, slice_index, slice_range, add-one, refl, ap, ◌∙◌, arith}
-use Rattle.std.proofs.lemmas.Bool.{cases_lt}
-use Rattle.std.proofs.lemmas.List.{length-append, length-drop, take-append-le, drop-append-le, get_or_append_left, get_or_push, take_all}
+use Rattle.travel_times.proofs.Common.{cases_lt, take-append-le, drop-append-le, get_or_append_left, get_or_push, Arc, Hop, hop_of, leaving}
+use Rattle.std.proofs.lemmas.List.{length-append, length-drop, take_all}
 use Rattle.std.proofs.Math.Seq.{drop-append_seam}
-use Rattle.road_network.specs.declared.arc.Arc.{Arc}
-use Rattle.road_network.specs.declared.hop.Hop.{Hop}
-use Rattle.road_network.specs.Roads.{hop_of, leaving}
 use Rattle.road_network.specs.Storage.{start_at}
 use Rattle.travel_times.specs.Arcs.{AreArcsOf}
 

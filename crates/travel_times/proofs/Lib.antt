@@ -2,3 +2,4 @@ pub mod lemmas
 pub mod Tables
 pub mod ArcLemmas
 pub mod Pieces
+pub mod Common

@@ -1,14 +1,8 @@
 -- A table is written by pieces, each of whole rows.
 use Rattle.std.proofs.Common.{◌≡◌, ℕ, ◌+◌, ◌-◌, ◌*◌, ◌/◌, ◌%◌, ◌<◌, ◌≤◌, ◌⊎◌, min, List, length, slice_index, drop, All, sym, ap, ◌∙◌, subst, inl, inr, ⊎_elim, arith}
-use Rattle.std.specs.Fork.{IsChunk, slice_chunk}
+use Rattle.travel_times.proofs.Common.{IsChunk, slice_chunk, cases_lt, mul-add-lt, never, Arc, IsTimeBetween, AreRows, IsRowAt, IsUnwritten, AreWritten, IsPiece, IsPieceWritten, WritesRow}
 use Rattle.std.proofs.Math.Nat.{mul-le-mul_right, mod-eq-sub-div-mul, div-mul-le_self, lt-div-mul-add, mul-div_cancel}
-use Rattle.std.proofs.lemmas.Bool.{cases_lt}
-use Rattle.std.proofs.lemmas.Nat.{mul-add-lt}
 use Rattle.std.proofs.lemmas.List.{get_or-take, get_or-drop, length-take, length-drop}
-use Rattle.pool_base.specs.TravelTime.{never}
-use Rattle.road_network.specs.declared.arc.Arc.{Arc}
-use Rattle.road_network.specs.Walk.{IsTimeBetween}
-use Rattle.travel_times.specs.work.Table.{AreRows, IsRowAt, IsUnwritten, AreWritten, IsPiece, IsPieceWritten, WritesRow}
 
 -- a number that leaves nothing over
 whole_times : (start size : ℕ) → start % size ≡ 0 → start ≡ start / size * size

@@ -1,14 +1,8 @@
 use Rattle.std.proofs.Common.{◌≡◌, ℕ, ◌+◌, ◌-◌, ◌*◌, ◌<◌, ◌≤◌, ◌⊎◌, List, [], ◌++◌, length, slice_index, map, All, Bool, true, false, nat_lt, Some, None, refl, ap, ◌∙◌, inl, inr, ⊎_elim, arith}
-use Rattle.std.specs.List.{position, position_or_len}
-use Rattle.std.proofs.lemmas.Bool.{cases_lt, cases_Bool}
-use Rattle.std.proofs.lemmas.Nat.{mul-add-lt}
-use Rattle.std.proofs.lemmas.List.{length-append, get_or_append_left, get_or-append_right, get_or-map, length-map, get_or_default}
-use Rattle.pool_base.specs.TravelTime.{never, longest, cell_of, IsTable}
+use Rattle.travel_times.proofs.Common.{position_or_len, cases_lt, cases_Bool, mul-add-lt, get_or_append_left, get_or-append_right, get_or-map, length-map, get_or_default, never, longest, cell_of, IsTable, Arc, walk_seconds, IsTimeBetween, IsArcAmong, AreRows}
+use Rattle.std.specs.List.{position}
+use Rattle.std.proofs.lemmas.List.{length-append}
 use Rattle.pool_base.proofs.lemmas.TravelTimeLemmas.{cell_of-within, cell_of-from_outside, cell_of-to_outside}
-use Rattle.road_network.specs.declared.arc.Arc.{Arc}
-use Rattle.road_network.specs.Walk.{walk_seconds, IsTimeBetween}
-use Rattle.road_network.specs.Roads.{IsArcAmong}
-use Rattle.travel_times.specs.work.Table.{AreRows}
 use Rattle.travel_times.proofs.lemmas.WalkLemmas.{IsWalk-append, walk_seconds-append, short_walk}
 
 -- rows, and the rows after them

@@ -1,26 +1,16 @@
 -- The rows of a settled batch, and those that its vehicles hold, make a graph without a fault.
-use Rattle.std.proofs.Common.{◌≡◌, ◌==◌, ℕ, suc, ◌<◌, ◌≤◌, inl, inr, Bool, true, false, Option, None, Some, List, [], ◌∷◌, length, get_or, refl, sym, ◌∙◌, subst, arith}
-use Rattle.std.specs.Prelude.{MatchBool}
-use Rattle.std.specs.List.{Contains, list_any}
-use Rattle.std.proofs.lemmas.Bool.{cases_lt, eqb-true}
+use Rattle.std.proofs.Common.{◌≡◌, ◌==◌, ℕ, suc, ◌<◌, ◌≤◌, inl, inr, Bool, true, false, Option, None, Some, List, [], ◌∷◌, length, get_or, refl, sym, ◌∙◌, subst, arith, MatchBool}
+use Rattle.trip_graph.proofs.Common.{list_any, cases_lt, IsTravelTime, Settled, IsServable, IsTrip, trip_task, vehicle_at, IsSound, SubTripsAreServable, DelaysAreSmall, TripRow, Graph, no_row, choice_at, riders_at, has_rider, times_served, HoldsRightly, IsRowWith, HoldRows, AreRowsUpTo}
+use Rattle.std.specs.List.{Contains}
+use Rattle.std.proofs.lemmas.Bool.{eqb-true}
 use Rattle.std.proofs.lemmas.Map.Views.{Contains-from_any}
 use Rattle.std.proofs.lemmas.Option.{none-some, same_Some}
-use Rattle.pool_base.specs.TravelTime.{IsTravelTime}
-use Rattle.stop_orders.specs.declared.settled.Settled.{Settled}
-use Rattle.stop_orders.specs.Task.{IsServable}
-use Rattle.stop_orders.specs.Settled.{IsTrip, trip_task, vehicle_at}
-use Rattle.stop_orders.specs.Sound.{IsSound}
-use Rattle.stop_orders.specs.Laws.{SubTripsAreServable, DelaysAreSmall}
-use Rattle.plan_rules.specs.declared.row.TripRow.{TripRow}
 use Rattle.plan_rules.specs.declared.fault.GraphFault.{GraphFault}
 use Rattle.plan_rules.specs.declared.fault.GraphFault.TheVariants.{Range, Order, Held, OutOfMemory}
-use Rattle.plan_rules.specs.Graph.{Graph, no_row, choice_at, riders_at, has_rider, times_served, HoldsRightly}
 use Rattle.plan_rules.specs.GraphFault.{HasGoodRows, HasRowsInOrder, IsGraphFault}
 use Rattle.plan_rules.specs.lemmas.GraphFault.{HasHeldRows}
 use Rattle.plan_rules.proofs.lemmas.GraphLemmas.{tail_rises, times_served_found, in_choice}
 use Rattle.plan_rules.proofs.lemmas.HeldLemmas.{holds_at}
-use Rattle.trip_graph.specs.Answer.{IsRowWith, HoldRows}
-use Rattle.trip_graph.specs.work.Levels.{AreRowsUpTo}
 use Rattle.trip_graph.proofs.RowOrder.{AreInOrder}
 
 contains_of : (xs : List ℕ) (r : ℕ) → list_any (λ x. x == r) xs ≡ true → Contains xs r

@@ -1,26 +1,10 @@
-use Rattle.std.proofs.Common.{◌≡◌, ℕ, suc, ◌+◌, ◌-◌, ◌<◌, ◌≤◌, inl, inr, Bool, true, false, Option, None, Some, List, [], ◌∷◌, ◌++◌, length, get_or, map, take, refl, sym, ap, ◌∙◌, subst, arith}
-use Rattle.std.specs.Prelude.{MatchBool, MatchOption}
+use Rattle.std.proofs.Common.{◌≡◌, ℕ, suc, ◌+◌, ◌-◌, ◌<◌, ◌≤◌, inl, inr, Bool, true, false, Option, None, Some, List, [], ◌∷◌, ◌++◌, length, get_or, map, take, refl, sym, ap, ◌∙◌, subst, arith, MatchBool, MatchOption}
+use Rattle.trip_graph.proofs.Common.{cases_lt, length-map, get_or_append_left, get_or-append_right, get_or_push, get_or-map, get_or_default, get_or_past, take_more, All-append, All-nil, flat_map-cons, get_or-flat_map, sum_by-cons, sum_by_push, sum_by-take-le, Settled, SettledVehicle, IsServable, IsTrip, IsRow, trip_task, vehicle_at, IsSoundVehicle, TripRow, Graph, IsGoodGraph, no_row, choice_at, TripOf, AreSomeRows, AreRowsOfSize, AreLevels, row_total, level_total, AreRowsUpTo, total_upto, trip_row, vehicle_rows, IsRowWith, HoldRows, IsTripGraphOf}
 use Rattle.std.specs.List.{All, flat_map}
-use Rattle.std.proofs.lemmas.Bool.{cases_lt}
-use Rattle.std.proofs.lemmas.List.{length-map, length-append, get_or_append_left, get_or-append_right, get_or_push, get_or-map, get_or_default, get_or_past, take_more, take_all}
-use Rattle.std.proofs.lemmas.List.Elements.{All-append, All-nil}
-use Rattle.std.proofs.lemmas.List.Concat.{flat_map-cons, get_or-flat_map}
+use Rattle.std.proofs.lemmas.List.{length-append, take_all}
 use Rattle.std.proofs.lemmas.List.Folds.{length-flat_map-take}
-use Rattle.std.proofs.lemmas.List.Sums.{sum_by-cons, sum_by_push, sum_by-take-le}
-use Rattle.stop_orders.specs.declared.settled.Settled.{Settled}
-use Rattle.stop_orders.specs.declared.settled_vehicle.SettledVehicle.{SettledVehicle}
-use Rattle.stop_orders.specs.Task.{IsServable}
-use Rattle.stop_orders.specs.Settled.{IsTrip, IsRow, trip_task, vehicle_at}
-use Rattle.stop_orders.specs.Sound.{IsSoundVehicle}
-use Rattle.plan_rules.specs.declared.row.TripRow.{TripRow}
-use Rattle.plan_rules.specs.Graph.{Graph, IsGoodGraph, no_row, choice_at}
 use Rattle.rider_limits.specs.declared.settings.Settings.{Settings}
-use Rattle.trip_growth.specs.declared.trip_of.TripOf.{TripOf}
-use Rattle.trip_growth.specs.Rows.{AreSomeRows, AreRowsOfSize}
-use Rattle.trip_graph.specs.work.Levels.{AreLevels, row_total, level_total, AreRowsUpTo, total_upto}
 use Rattle.trip_graph.specs.lemmas.Rows.{AreRowsOf}
-use Rattle.trip_graph.specs.work.Rows.{trip_row, vehicle_rows}
-use Rattle.trip_graph.specs.Answer.{IsRowWith, HoldRows, IsTripGraphOf}
 
 no_trip : TripOf
 no_trip = record { riders = record { items = [] }; cost = 0 }

@@ -1,21 +1,8 @@
 use Rattle.std.proofs.Common.{◌≡◌, ℕ, suc, ◌+◌, ◌-◌, ◌<◌, ◌≤◌, inl, inr, List, [], ◌∷◌, ◌++◌, length, get_or, Contains, add-one, refl, sym, ap, ◌∙◌, subst, arith}
+use Rattle.trip_graph.proofs.Common.{cases_lt, length-map, get_or_append_left, get_or_push, get_or-map, get_or_default, All-nil, sum_by_push, IsTravelTime, Settled, SubTripsAreServable, CanServe, IsTrip, IsSound, TripOf, ComesBefore, trips_of, AreSomeRows, AreRowsOfSize, HasMoreThan, IsLevelOf, AreLevelsUpTo, HasMoreOfSize, AreLevels, row_total, level_total, AreLevelsOf, HasMoreRows}
 use native.Mathlib.Numerals.{unary_clauses}
-use Rattle.std.proofs.lemmas.Bool.{cases_lt}
-use Rattle.std.proofs.lemmas.List.{length-map, length-append, get_or_append_left, get_or_push, get_or-map, get_or_default}
-use Rattle.std.proofs.lemmas.List.Elements.{All-nil}
-use Rattle.std.proofs.lemmas.List.Sums.{sum_by_push}
-use Rattle.pool_base.specs.TravelTime.{IsTravelTime}
-use Rattle.stop_orders.specs.declared.settled.Settled.{Settled}
-use Rattle.stop_orders.specs.Laws.{SubTripsAreServable}
-use Rattle.stop_orders.specs.Settled.{CanServe, IsTrip}
-use Rattle.stop_orders.specs.Sound.{IsSound}
-use Rattle.trip_growth.specs.declared.trip_of.TripOf.{TripOf}
-use Rattle.trip_growth.specs.Trip.{ComesBefore, trips_of}
-use Rattle.trip_growth.specs.Rows.{AreSomeRows, AreRowsOfSize, HasMoreThan, IsLevelOf}
+use Rattle.std.proofs.lemmas.List.{length-append}
 use Rattle.trip_growth.specs.declared.level.Level.{Level}
-use Rattle.trip_graph.specs.work.Levels.{AreLevelsUpTo, HasMoreOfSize, AreLevels, row_total, level_total}
-use Rattle.trip_graph.specs.work.Runs.{AreLevelsOf}
-use Rattle.trip_graph.specs.Answer.{HasMoreRows}
 use Rattle.trip_graph.proofs.MoreRows.{more_rows}
 
 none_before : (a b : List ℕ) → length a ≡ 0 → length b ≡ 0 → ComesBefore a b → ⊥

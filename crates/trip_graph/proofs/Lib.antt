@@ -5,3 +5,4 @@ pub mod LevelSteps
 pub mod Runs
 pub mod GraphFaults
 pub mod SingleEdges
+pub mod Common

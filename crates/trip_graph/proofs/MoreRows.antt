@@ -1,18 +1,8 @@
 -- Some rows of some levels, more than allowed, make a list of more rows than allowed.
 use Rattle.std.proofs.Common.{◌≡◌, ℕ, zero, suc, ◌+◌, ◌<◌, ◌≤◌, inl, inr, List, [], ◌++◌, length, get_or, subst, arith}
+use Rattle.trip_graph.proofs.Common.{cases_lt, get_or_past, All-append, All-nil, Settled, IsRow, TripRow, no_row, TripOf, AreSomeRows, HasMoreRows, vehicle_rows, AreSomeLevels, level_total, total_upto}
 use Rattle.std.specs.List.{All}
-use Rattle.std.proofs.lemmas.Bool.{cases_lt}
-use Rattle.std.proofs.lemmas.List.{length-append, get_or_past}
-use Rattle.std.proofs.lemmas.List.Elements.{All-append, All-nil}
-use Rattle.stop_orders.specs.declared.settled.Settled.{Settled}
-use Rattle.stop_orders.specs.Settled.{IsRow}
-use Rattle.plan_rules.specs.declared.row.TripRow.{TripRow}
-use Rattle.plan_rules.specs.Graph.{no_row}
-use Rattle.trip_growth.specs.declared.trip_of.TripOf.{TripOf}
-use Rattle.trip_growth.specs.Rows.{AreSomeRows}
-use Rattle.trip_graph.specs.Answer.{HasMoreRows}
-use Rattle.trip_graph.specs.work.Rows.{vehicle_rows}
-use Rattle.trip_graph.specs.work.Levels.{AreSomeLevels, level_total, total_upto}
+use Rattle.std.proofs.lemmas.List.{length-append}
 use Rattle.trip_graph.proofs.GraphSteps.{IsOwn, own_rows, total_none, total_step, total_all}
 use Rattle.trip_graph.proofs.RowOrder.{AreInOrder, none_in_order, more_in_order}
 

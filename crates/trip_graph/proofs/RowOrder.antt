@@ -1,23 +1,14 @@
 -- The rows stand by vehicle, then size, then riders.
 use Rattle.std.proofs.Common.{◌≡◌, ℕ, suc, ◌+◌, ◌-◌, ◌<◌, ◌≤◌, inl, inr, List, [], ◌∷◌, ◌++◌, length, get_or, map, refl, sym, ◌∙◌, subst, arith, Ordering}
+use Rattle.trip_graph.proofs.Common.{cases_lt, length-map, get_or_append_left, get_or-append_right, get_or-map, All-append, All-nil, flat_map-cons, Settled, TripRow, no_row, row_cmp, TripOf, IsLower, ComesBefore, AreSomeRows, trip_row, vehicle_rows}
 use Rattle.std.specs.declared.cmp.Ordering.TheVariants.{Less, Equal, Greater}
 use Rattle.std.specs.Ordering.{MatchOrdering, nat_cmp}
 use Rattle.std.specs.Cmp.{nat_cmp_is}
 use Rattle.std.specs.Cmp.Lexicographic.{slice_cmp}
 use Rattle.std.specs.List.{All}
-use Rattle.std.proofs.lemmas.Bool.{cases_lt}
-use Rattle.std.proofs.lemmas.List.{length-map, length-append, get_or_append_left, get_or-append_right, get_or-map}
-use Rattle.std.proofs.lemmas.List.Elements.{All-append, All-nil}
-use Rattle.std.proofs.lemmas.List.Concat.{flat_map-cons}
-use Rattle.stop_orders.specs.declared.settled.Settled.{Settled}
-use Rattle.plan_rules.specs.declared.row.TripRow.{TripRow}
-use Rattle.plan_rules.specs.Graph.{no_row, row_cmp}
-use Rattle.trip_growth.specs.declared.trip_of.TripOf.{TripOf}
-use Rattle.trip_growth.specs.Trip.{IsLower, ComesBefore}
-use Rattle.trip_growth.specs.Rows.{AreSomeRows}
+use Rattle.std.proofs.lemmas.List.{length-append}
 use Rattle.trip_growth.proofs.lemmas.TripOrder.{lower_irrefl, lower_asym}
 use Rattle.trip_growth.proofs.lemmas.TripSearch.{compared}
-use Rattle.trip_graph.specs.work.Rows.{trip_row, vehicle_rows}
 
 -- each row stands before all later ones
 abbrev pub AreInOrder : List TripRow → Type 0

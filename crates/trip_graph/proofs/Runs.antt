@@ -1,9 +1,6 @@
 -- The vehicles of a run, and what stands between them.
 use Rattle.std.proofs.Common.{◌≡◌, ℕ, suc, ◌+◌, ◌<◌, ◌≤◌, inl, inr, List, [], ◌∷◌, ◌++◌, length, get_or, drop, drop-cons, add-one, zero, refl, subst, arith}
-use Rattle.std.proofs.lemmas.Bool.{cases_lt}
-use Rattle.std.proofs.lemmas.List.{drop_all}
-use Rattle.trip_growth.specs.declared.trip_of.TripOf.{TripOf}
-use Rattle.trip_graph.specs.work.Runs.{AreEmpty, AreNext}
+use Rattle.trip_graph.proofs.Common.{cases_lt, drop_all, TripOf, AreEmpty, AreNext}
 
 module _ (lists : List (List TripOf)) where
   empty_none : (from : ℕ) → AreEmpty lists from from

@@ -1,19 +1,10 @@
 -- The edges between vehicles and riders are the rows of one rider.
 use Rattle.std.proofs.Common.{◌≡◌, ℕ, zero, suc, ◌+◌, ◌<◌, ◌≤◌, inl, inr, List, [], ◌∷◌, ◌++◌, length, get_or, map, take, refl, sym, ap, ◌∙◌, subst, arith, add-one}
+use Rattle.trip_graph.proofs.Common.{cases_lt, length-map, get_or-map, map-append, take_more, RvEdge, IsRvGraph, no_edge, Settled, CanServe, IsRvEdge, TripOf, AreRowsOfSize, ComesBefore, IsLower, trips_of, HasOneRider, edges_upto, single_edge, AreLevelsUpTo}
 use Rattle.std.specs.List.{All, Contains}
-use Rattle.std.proofs.lemmas.Bool.{cases_lt}
-use Rattle.std.proofs.lemmas.List.{append-nil, append_assoc, length-map, get_or-map, map-append, take_more, take_all}
-use Rattle.pair_graph.specs.declared.rv_edge.RvEdge.{RvEdge}
-use Rattle.pair_graph.specs.RvGraph.{IsRvGraph, no_edge}
+use Rattle.std.proofs.lemmas.List.{append-nil, append_assoc, take_all}
 use Rattle.pair_graph.specs.lemmas.Edge.{pair_of}
 use Rattle.pair_graph.proofs.lemmas.Listing.{ListsBefore, lists_none, lists_taken, lists_skipped, lists_next, lists_whole}
-use Rattle.stop_orders.specs.declared.settled.Settled.{Settled}
-use Rattle.stop_orders.specs.Settled.{CanServe, IsRvEdge}
-use Rattle.trip_growth.specs.declared.trip_of.TripOf.{TripOf}
-use Rattle.trip_growth.specs.Rows.{AreRowsOfSize}
-use Rattle.trip_growth.specs.Trip.{ComesBefore, IsLower, trips_of}
-use Rattle.trip_graph.specs.work.Edges.{HasOneRider, edges_upto, single_edge}
-use Rattle.trip_graph.specs.work.Levels.{AreLevelsUpTo}
 
 abbrev no_trip : TripOf
 no_trip = record { riders = record { items = [] }; cost = 0 }

@@ -1,13 +1,7 @@
 -- The rows of a level, as what the public contracts say of them.
 use Rattle.std.proofs.Common.{◌≡◌, ℕ, ◌≤◌, List, length}
+use Rattle.trip_growth.proofs.Common.{Settled, CanServe, IsRow, trips_of, IsRising, AreSomeRows, AreAllRows, AreRowsOfSize, HasMoreThan, IsLevelRow, IsLevel, IsBelow, AreRowsWithin, HasMoreOfLevel, HasMoreWithin, CostsLeast, TripOf}
 use Rattle.std.specs.List.{All}
-use Rattle.stop_orders.specs.declared.settled.Settled.{Settled}
-use Rattle.stop_orders.specs.Settled.{CanServe, IsRow}
-use Rattle.trip_growth.specs.Trip.{trips_of, IsRising}
-use Rattle.trip_growth.specs.Rows.{AreSomeRows, AreAllRows, AreRowsOfSize, HasMoreThan}
-use Rattle.trip_growth.specs.work.Level.{IsLevelRow, IsLevel, IsBelow, AreRowsWithin, HasMoreOfLevel, HasMoreWithin}
-use Rattle.trip_growth.specs.work.Growth.{CostsLeast}
-use Rattle.trip_growth.specs.declared.trip_of.TripOf.{TripOf}
 
 module _ (tau : ℕ → ℕ → ℕ) (settled : Settled) (v : ℕ) where
   pub some_rows : (IsWanted : ℕ → Type 0) (rows : List TripOf) → All (IsLevelRow (CanServe 6 tau settled v) (CostsLeast tau settled v)) rows

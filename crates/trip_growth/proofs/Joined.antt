@@ -1,11 +1,7 @@
 use Rattle.std.proofs.Common.{◌≡◌, ℕ, ◌+◌, ◌-◌, ◌<◌, ◌≤◌, inl, inr, List, [], ◌∷◌, ◌++◌, length, get_or, refl, sym, ap, ◌∙◌, arith}
+use Rattle.trip_growth.proofs.Common.{cases_lt, length-map, map-append, get_or_append_left, get_or-append_right, get_or-map, nil_from_length, All-append, All-nil, All-cons, Contains-append_left, Contains-append_right, ComesBefore, IsRising, trips_of, IsLevelRow, IsLevel, AreRowsWithin, HasMoreOfLevel, HasMoreWithin, TripOf}
 use Rattle.std.specs.List.{All, Contains}
-use Rattle.std.proofs.lemmas.Bool.{cases_lt}
-use Rattle.std.proofs.lemmas.List.{length-map, length-append, map-append, get_or_append_left, get_or-append_right, get_or-map, nil_from_length}
-use Rattle.std.proofs.lemmas.List.Elements.{All-append, All-nil, All-cons, Contains-append_left, Contains-append_right}
-use Rattle.trip_growth.specs.Trip.{ComesBefore, IsRising, trips_of}
-use Rattle.trip_growth.specs.work.Level.{IsLevelRow, IsLevel, AreRowsWithin, HasMoreOfLevel, HasMoreWithin}
-use Rattle.trip_growth.specs.declared.trip_of.TripOf.{TripOf}
+use Rattle.std.proofs.lemmas.List.{length-append}
 
 rising_append : (ts us : List (List ℕ)) → IsRising ts → IsRising us
     → ((i j : ℕ) → i < length ts → j < length us → length (get_or ts i []) < length (get_or us j [])) → IsRising (ts ++ us)

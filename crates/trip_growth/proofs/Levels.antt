@@ -1,11 +1,7 @@
 use Rattle.std.proofs.Common.{◌≡◌, ℕ, ◌+◌, ◌<◌, ◌≤◌, ◌⊎◌, inl, inr, List, [], ◌∷◌, ◌++◌, length, take, refl, sym, ap, ◌∙◌, subst, arith, ⊎_elim, get_or}
+use Rattle.trip_growth.proofs.Common.{length-map, map_push, get_or-map, get_or_default, get_or_append_left, get_or_push, length_push, get_or_past, cases_lt, cases_order, All-push, All-nil, Contains-append_left, Contains-push, IsLower, ComesBefore, IsRising, trips_of, IsLevelRow, IsLevel, IsLevelUpTo, IsTripRule, TripOf}
 use Rattle.std.specs.List.{Contains, remove}
-use Rattle.std.proofs.lemmas.List.{append-nil, length-map, map_push, get_or-map, get_or_default, get_or_append_left, get_or_push, length_push, take_at, length-take-le, get_or_past}
-use Rattle.std.proofs.lemmas.Bool.{cases_lt, cases_order}
-use Rattle.std.proofs.lemmas.List.Elements.{All-push, All-nil, Contains-append_left, Contains-push}
-use Rattle.trip_growth.specs.Trip.{IsLower, ComesBefore, IsRising, trips_of}
-use Rattle.trip_growth.specs.work.Level.{IsLevelRow, IsLevel, IsLevelUpTo, IsTripRule}
-use Rattle.trip_growth.specs.declared.trip_of.TripOf.{TripOf}
+use Rattle.std.proofs.lemmas.List.{append-nil, take_at, length-take-le}
 use Rattle.trip_growth.proofs.lemmas.TripOrder.{lower_irrefl, lower_trans, lower_asym, lower_append, lower_front, lower_back, lower_last, lower_longer, lower_raise, squeeze, front_and_last}
 
 -- the trips of the size below, in order, with each that can be served

@@ -5,3 +5,4 @@ pub mod Rule
 pub mod Joined
 pub mod StepBound
 pub mod AllRows
+pub mod Common

@@ -1,17 +1,9 @@
 use Rattle.std.proofs.Common.{suc-mul, ◌≡◌, ℕ, ◌+◌, ◌<◌, ◌≤◌, inl, inr, suc, zero, ◌*◌, List, [], ◌∷◌, ◌++◌, length, map, get_or, take, refl, sym, ap, ◌∙◌, subst, arith}
+use Rattle.trip_growth.proofs.Common.{cases_lt, length-map, map_push, length_push, get_or_default, get_or_past, get_or_append_left, get_or_push, All-push, All-nil, Task, Settled, no_rider, rider_at, trip_task, IsTrip, task_with, IsLower, trips_of, IsLevelRow, IsLevel, IsLevelUpTo, IsTripRule, IsBelow, HasMoreOfLevel, TripOf}
 use Rattle.std.specs.List.{All, remove}
-use Rattle.std.proofs.lemmas.Bool.{cases_lt}
-use Rattle.std.proofs.lemmas.List.{length-map, map_push, length_push, length-take-le, get_or_default, get_or_past, get_or_append_left, get_or_push}
-use Rattle.std.proofs.lemmas.List.Elements.{All-push, All-nil}
+use Rattle.std.proofs.lemmas.List.{length-take-le}
 use Rattle.stop_orders.specs.declared.leg.Leg.{Leg}
-use Rattle.stop_orders.specs.declared.task.Task.{Task}
-use Rattle.stop_orders.specs.declared.settled.Settled.{Settled}
 use Rattle.stop_orders.specs.declared.settled_rider.SettledRider.{SettledRider}
-use Rattle.stop_orders.specs.Settled.{no_rider, rider_at, trip_task, IsTrip}
-use Rattle.trip_growth.specs.work.Growth.{task_with}
-use Rattle.trip_growth.specs.Trip.{IsLower, trips_of}
-use Rattle.trip_growth.specs.work.Level.{IsLevelRow, IsLevel, IsLevelUpTo, IsTripRule, IsBelow, HasMoreOfLevel}
-use Rattle.trip_growth.specs.declared.trip_of.TripOf.{TripOf}
 use Rattle.trip_growth.proofs.lemmas.TripOrder.{front_and_last}
 use Rattle.trip_growth.proofs.lemmas.TripSearch.{size_of}
 use Rattle.trip_growth.proofs.Levels.{AreBelow, trip_at, lower_last_back, opened, advanced, closed, begun, ended, lower_from_order}

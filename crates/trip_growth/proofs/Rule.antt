@@ -1,15 +1,11 @@
 use Rattle.std.proofs.Common.{◌≡◌, ℕ, ◌+◌, ◌<◌, inl, inr, List, [], ◌∷◌, ◌++◌, length, get_or, refl, arith}
+use Rattle.trip_growth.proofs.Common.{cases_lt, length_push, get_or_append_left, get_or_push, Settled, IsTrip, IsRrEdge, CanServe, IsTripRule}
 use Rattle.std.specs.List.{remove}
 use Rattle.std.specs.List.Sorted.{IsStrictlyIncreasing}
-use Rattle.std.proofs.lemmas.Bool.{cases_lt}
-use Rattle.std.proofs.lemmas.List.{length_push, get_or_append_left, get_or_push}
 use Rattle.std.proofs.lemmas.List.Edits.{length-remove, get_or-remove_below, get_or-remove_above}
 use Rattle.pool_base.specs.TravelTime.{IsTravelTime}
-use Rattle.stop_orders.specs.declared.settled.Settled.{Settled}
-use Rattle.stop_orders.specs.Settled.{IsTrip, IsRrEdge, CanServe}
 use Rattle.stop_orders.specs.Sound.{IsSound}
 use Rattle.stop_orders.specs.Laws.{SubTripsAreServable, PairsAreEdges}
-use Rattle.trip_growth.specs.work.Level.{IsTripRule}
 
 -- a trip without one of its riders
 trip_without : (riders : ℕ) (t : List ℕ) (i : ℕ) → i < length t → IsTrip riders t → IsTrip riders (remove t i)

@@ -1,10 +1,6 @@
 use Rattle.std.proofs.Common.{◌≡◌, ℕ, ◌+◌, ◌*◌, ◌≤◌, List, ◌++◌, length, subst, arith}
+use Rattle.trip_growth.proofs.Common.{Settled, CanServe, CostsLeast, AreAllRows, AreRowsOfSize, TakesSteps, TripOf}
 use Rattle.std.proofs.lemmas.List.{length-append}
-use Rattle.stop_orders.specs.declared.settled.Settled.{Settled}
-use Rattle.stop_orders.specs.Settled.{CanServe}
-use Rattle.trip_growth.specs.work.Growth.{CostsLeast}
-use Rattle.trip_growth.specs.Rows.{AreAllRows, AreRowsOfSize, TakesSteps}
-use Rattle.trip_growth.specs.declared.trip_of.TripOf.{TripOf}
 use Rattle.trip_growth.proofs.AllRows.{some_rows, level_of_rows, rows_within}
 use Rattle.trip_growth.proofs.Joined.{AreSmaller, smaller_joined, smaller_all}
 

@@ -1,9 +1,7 @@
 -- There is one greedy plan.
 use Rattle.std.proofs.Common.{◌≡◌, ◌⊎◌, ℕ, zero, suc, ◌<◌, ◌≤◌, List, length, Option, Some, None, refl, sym, ap, ◌∙◌, subst, inl, inr, ⊎_elim, arith}
-use Rattle.std.proofs.lemmas.Bool.{cases_eq, cases_lt}
+use Rattle.assignment_search.proofs.Common.{cases_eq, cases_lt, Graph, riders_at, cost_at, choice_at, IsGoodGraph, IsTriedBefore, IsTaken, IsGreedy}
 use Rattle.std.proofs.lemmas.List.{ext_get_or}
-use Rattle.plan_rules.specs.Graph.{Graph, riders_at, cost_at, choice_at, IsGoodGraph}
-use Rattle.plan_rules.specs.Greedy.{IsTriedBefore, IsTaken, IsGreedy}
 use Rattle.plan_rules.specs.lemmas.Rank.{rank_of}
 use Rattle.plan_rules.proofs.lemmas.GreedyLemmas.{rank_before}
 

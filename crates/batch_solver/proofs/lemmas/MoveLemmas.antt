@@ -1,15 +1,7 @@
 -- Moves of idle vehicles to riders who were left out.
 use Rattle.std.proofs.Common.{◌≡◌, ℕ, zero, suc, ◌<◌, List, [], ◌∷◌, length, get_or, map, refl, sym, ap, subst, arith}
+use Rattle.batch_solver.proofs.Common.{length-map, All-nil, All-map, IsMatching, IsBestMatching, MoveLine, IsTrip, vehicle_at, rider_at, IsSound, no_leg, Settled, AreMoves, move_line, HasPlaces, origins_of, starts_of}
 use Rattle.std.specs.List.{All, AllPairs}
-use Rattle.std.proofs.lemmas.List.{length-map}
-use Rattle.std.proofs.lemmas.List.Elements.{All-nil, All-map}
-use Rattle.rebalancing.specs.Matching.{IsMatching, IsBestMatching}
-use Rattle.request_book.specs.declared.outcome.MoveLine.{MoveLine}
-use Rattle.stop_orders.specs.Settled.{IsTrip, vehicle_at, rider_at}
-use Rattle.stop_orders.specs.Sound.{IsSound}
-use Rattle.stop_orders.specs.Task.{no_leg}
-use Rattle.stop_orders.specs.declared.settled.Settled.{Settled}
-use Rattle.batch_solver.specs.Moves.{AreMoves, move_line, HasPlaces, origins_of, starts_of}
 
 -- the places of a sound batch that has vehicles
 pub has_places : (k points : ℕ) (tau : ℕ → ℕ → ℕ) (settled : Settled) → IsSound k points tau settled → 0 < length settled.vehicles → HasPlaces points settled

@@ -1,40 +1,24 @@
 -- A block as which one outcome is judged, and good outcomes that print it.
 use Rattle.std.proofs.Common.{◌≡◌, ◌≢◌, ℕ, ◌<◌, ◌≤◌, min, true, List, ◌++◌, length, map, ⊎_elim, refl, sym, ap, ◌∙◌, subst, arith}
+use Rattle.block_audit.proofs.Common.{cases_lt, length-map, Batch, IsKept, IsGoodOutcome, block_lines, Meets, IsVerdictOf, Point, lines_of, BlockLine, Outcome, Settings, Roads, BeginsWithGood, BeginsWithWrong, MeetsAs, Refuses, judged_outcome, CanBeTold, Told, told_by, FailsFirst, HoldUpTo, IsRight, verdict_place}
 use Rattle.std.specs.List.{All}
-use Rattle.std.proofs.lemmas.Bool.{cases_lt}
-use Rattle.std.proofs.lemmas.List.{length-map}
-use Rattle.batch_snapshot.specs.Batch.{Batch}
-use Rattle.batch_snapshot.specs.Kept.{IsKept}
-use Rattle.batch_solver.specs.Outcome.{IsGoodOutcome}
-use Rattle.dispatch_report.specs.Block.{block_lines}
 use Rattle.dispatch_report.specs.Lines.{lines_text}
-use Rattle.outcome_check.specs.Verdict.{Meets, IsVerdictOf}
-use Rattle.batch_solver.specs.declared.point.Point.{Point}
-use Rattle.batch_solver.specs.declared.point.Point.TheVariants as point
 use Rattle.outcome_check.specs.declared.verdict.Verdict.{Verdict}
 use Rattle.outcome_check.specs.declared.verdict.Verdict.TheVariants.{Good, Fails}
 use Rattle.outcome_check.proofs.lemmas.PosedLemmas.{good_meets}
 use Rattle.outcome_check.proofs.lemmas.VerdictLemmas.{last_place}
 use Rattle.report_lines.specs.Block.{IsBlock, BlockFails}
 use Rattle.report_lines.specs.BlockLine.{block_line_text, IsBlockLine}
-use Rattle.report_lines.specs.Outcome.{lines_of}
 use Rattle.report_lines.specs.declared.block.BlockFault.{BlockFault}
-use Rattle.report_lines.specs.declared.block.BlockFault.TheVariants as fault
-use Rattle.report_lines.specs.declared.block_line.BlockLine.{BlockLine}
 use Rattle.report_lines.proofs.lemmas.OneBlock.{block_of_one, block_no_fault, one_fault}
 use Rattle.report_lines.proofs.lemmas.OutcomeLemmas.{outcome_block, outcome_texts}
-use Rattle.request_book.specs.declared.outcome.Outcome.{Outcome}
-use Rattle.rider_limits.specs.declared.settings.Settings.{Settings}
-use Rattle.road_network.specs.Roads.{Roads}
-use Rattle.block_audit.specs.Block.{BeginsWithGood, BeginsWithWrong, MeetsAs, Refuses}
-use Rattle.block_audit.specs.Judged.{judged_outcome, CanBeTold}
-use Rattle.block_audit.specs.Told.{Told, told_by}
 use Rattle.block_audit.specs.work.Block.{refusal_for}
-use Rattle.block_audit.specs.work.Judged.{FailsFirst, HoldUpTo, IsRight, verdict_place}
 use Rattle.block_audit.specs.declared.refusal.BlockRefusal.{BlockRefusal}
 use Rattle.block_audit.specs.declared.refusal.BlockRefusal.TheVariants.{OutOfMemory, Cut, Form, Wrong}
 use Rattle.block_audit.proofs.NumberedLemmas.{vehicle_ids, outcome_numbered, outcome_trips}
 use Rattle.block_audit.proofs.OutcomeLemmas.{IsToldAs, judged_few, lines_are, outcome_is_told}
+use Rattle.batch_solver.specs.declared.point.Point.TheVariants as point
+use Rattle.report_lines.specs.declared.block.BlockFault.TheVariants as fault
 
 -- two lists of points, one beside the other
 pub hold_both : (P Q : Point → Type 0) (m n : ℕ) → HoldUpTo P m → HoldUpTo Q n → HoldUpTo (λ q. P q × Q q) (min m n)

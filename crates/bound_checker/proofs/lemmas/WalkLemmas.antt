@@ -1,23 +1,10 @@
 -- A walk through a tree.
 use Rattle.std.proofs.Common.{◌≡◌, ℕ, ◌+◌, ◌<◌, Bool, true, false, not, List, [], ◌∷◌, ◌++◌, length, take, slice_get, Option, Some, ℤ, MatchBool, sym, ap, ◌∙◌, subst, ⊎_elim, arith}
-use Rattle.std.proofs.lemmas.Bool.{cases_eq}
-use Rattle.std.proofs.lemmas.List.{get_or_push, get_or_append_left, length_push}
-use Rattle.plan_rules.specs.Graph.{Graph, IsRowOf}
-use Rattle.plan_rules.specs.Multipliers.{Usable}
-use Rattle.plan_rules.specs.Tree.{every_row, least_leaf, with_leaf}
-use Rattle.plan_rules.specs.Reading.{ReadsTo}
-use Rattle.plan_rules.specs.lemmas.Tree.{places_read}
-use Rattle.plan_rules.specs.Path.{Standing, standing_of, decided, IsPathOf}
-use Rattle.plan_rules.specs.declared.node.Node.{Node}
+use Rattle.bound_checker.proofs.Common.{cases_eq, get_or_push, get_or_append_left, length_push, Graph, IsRowOf, Usable, every_row, least_leaf, with_leaf, ReadsTo, places_read, Standing, standing_of, decided, IsPathOf, Node, Decision, standing_start, standing_push, places_push, least_leaf_push, coming_of, IsNodeFault}
 use Rattle.plan_rules.specs.declared.node.Node.TheVariants.{Branch, Leaf, Dead}
-use Rattle.plan_rules.specs.declared.path.Decision.{Decision}
-use Rattle.plan_rules.proofs.lemmas.PathLemmas.{standing_start, standing_push}
-use Rattle.plan_rules.proofs.lemmas.ReadLemmas.{places_push, least_leaf_push}
 use Rattle.bound_checker.specs.declared.fault.CheckFault.{CheckFault}
 use Rattle.bound_checker.specs.declared.fault.CheckFault.TheVariants.{BadBranch, BadLeaf, BadDead, Unfinished, Extra, OutOfMemory}
 use Rattle.bound_checker.specs.Fault.{IsTreeFault, IsReached}
-use Rattle.bound_checker.specs.lemmas.Visit.{coming_of}
-use Rattle.bound_checker.specs.work.Visit.{IsNodeFault}
 
 -- what is to come after an end
 pub coming_left : (g : Graph) (b : Bool) (old new : List Decision) → MatchBool b ((standing_of g old).coming ≡ (standing_of g new).usable ∷ (standing_of g new).coming) ((standing_of g old).coming ≡ []) → coming_of g (not b) new ≡ (standing_of g old).coming

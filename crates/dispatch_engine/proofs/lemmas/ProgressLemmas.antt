@@ -1,14 +1,8 @@
 -- How lanes come on.
 use Rattle.std.proofs.Common.{◌≡◌, ◌==◌, ◌↔◌, ℕ, zero, suc, ◌+◌, ◌<◌, ◌≤◌, List, [], ◌∷◌, ◌++◌, length, get_or, set, drop, replicate, slice_get, Option, Some, None, refl, sym, ap, ◌∙◌, subst, ⊎_elim, arith, append-nil, append_assoc, eq-eqb}
-use Rattle.std.proofs.lemmas.Bool.{cases_eq, cases_lt, ne_eqb, cond-true, cond-false}
-use Rattle.std.proofs.lemmas.List.{drop_all, get_or_past, get_or-replicate, get_or-set_same, get_or-set_other, length-replicate}
-use Rattle.std.proofs.lemmas.List.Elements.{filter-append}
-use Rattle.dispatch_engine.specs.Lane.{of_lane, IsLaneRun, IsLaneRunFrom}
-use Rattle.dispatch_engine.specs.declared.stand.LaneStand.{LaneStand}
-use Rattle.dispatch_engine.specs.Progress.{at_start, stand_at, IsRest, IsNext, stand_after, HaveCome, AreDone}
-use Rattle.request_book.specs.declared.command.Command.{Command}
-use Rattle.request_book.specs.declared.journal.Entry.{Entry}
-use Rattle.script_rows.specs.Round.{NumberedLanes, IsRound, lane_at}
+use Rattle.dispatch_engine.proofs.Common.{cases_eq, cases_lt, cond-true, cond-false, drop_all, get_or_past, get_or-replicate, length-replicate, filter-append, of_lane, IsLaneRun, IsLaneRunFrom, LaneStand, at_start, stand_at, IsRest, IsNext, stand_after, HaveCome, AreDone, Command, Entry, NumberedLanes, IsRound, lane_at}
+use Rattle.std.proofs.lemmas.Bool.{ne_eqb}
+use Rattle.std.proofs.lemmas.List.{get_or-set_same, get_or-set_other}
 
 -- the command at a place is the first of those that are left there
 drop_at : (cs : List Command) (k : ℕ) (c : Command) → slice_get cs k ≡ Some c → drop k cs ≡ c ∷ drop (suc k) cs

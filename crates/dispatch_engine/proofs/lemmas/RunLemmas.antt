@@ -1,13 +1,6 @@
 -- A run of rounds, and of one more.
 use Rattle.std.proofs.Common.{◌≡◌, ℕ, List, [], ◌∷◌, ◌++◌, refl}
-use Rattle.request_book.specs.Book.{next_position}
-use Rattle.request_book.specs.Replay.{state_after}
-use Rattle.request_book.specs.declared.journal.Journal.{Journal}
-use Rattle.request_book.specs.declared.state.State.{State}
-use Rattle.rider_limits.specs.declared.settings.Settings.{Settings}
-use Rattle.road_network.specs.Roads.{Roads}
-use Rattle.script_rows.specs.Round.{NumberedLanes}
-use Rattle.dispatch_engine.specs.Run.{IsRoundRun, IsRun, position_after_run, state_after_run}
+use Rattle.dispatch_engine.proofs.Common.{next_position, state_after, Journal, State, Settings, Roads, NumberedLanes, IsRoundRun, IsRun, position_after_run, state_after_run}
 
 pub position-more : (position : ℕ) (js : List Journal) (j : Journal) → position_after_run position (js ++ j ∷ []) ≡ next_position (position_after_run position js) j.entries
 position-more position [] j = refl

@@ -1,9 +1,6 @@
 -- What may stand in a lane.
 use Rattle.std.proofs.Common.{◌≢◌, ℕ}
-use Rattle.request_book.specs.declared.command.Command.{Command}
-use Rattle.request_book.specs.declared.command.Command.TheVariants.{Submit, Cancel, Report, Pickup, Dropoff, Seal, Close}
-use Rattle.script_rows.specs.Round.{MayStand}
-use Rattle.dispatch_engine.specs.lemmas.Lanes.{IsPlain}
+use Rattle.dispatch_engine.proofs.Common.{Command, Submit, Cancel, Report, Pickup, Dropoff, Seal, Close, MayStand, IsPlain}
 
 -- a command of a lane other than the first is plain
 pub stands-plain : (lane : ℕ) (command : Command) → lane ≢ 0 → MayStand lane command → IsPlain command

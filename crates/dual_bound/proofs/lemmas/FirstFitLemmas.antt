@@ -1,13 +1,7 @@
 -- The first-fit pass.
 use Rattle.std.proofs.Common.{◌≡◌, ◌&&◌, ℕ, zero, suc, ◌+◌, ◌*◌, ◌<◌, ◌≤◌, List, [], ◌∷◌, ◌++◌, length, get_or, set, ℤ, pos, ◌-ℤ◌, ◌*ℤ◌, refl, sym, ap, ◌∙◌, subst, ⊎_elim, arith, add-one}
-use Rattle.std.proofs.lemmas.Int.{ints}
-use Rattle.std.proofs.lemmas.Bool.{cases_eq, cases_lt}
-use Rattle.std.proofs.lemmas.List.{get_or_push, get_or_append_left, get_or_past, get_or-set_same, get_or-set_other, length_push, ext_get_or}
-use Rattle.plan_rules.specs.Sums.{least_below, lesser}
-use Rattle.plan_rules.specs.Graph.{Graph, row_at, has_rider}
-use Rattle.plan_rules.specs.Multipliers.{Usable, multiplier_at, multiplier_sum, least_cost, room_at, first_fit_of, first_fit_below}
-use Rattle.plan_rules.specs.declared.row.TripRow.{TripRow}
-use Rattle.dual_bound.specs.work.Size.{IsModest}
+use Rattle.dual_bound.proofs.Common.{ints, cases_eq, cases_lt, get_or_push, get_or_append_left, get_or_past, length_push, least_below, lesser, Graph, row_at, has_rider, Usable, multiplier_at, multiplier_sum, least_cost, room_at, first_fit_of, first_fit_below, TripRow, IsModest}
+use Rattle.std.proofs.lemmas.List.{get_or-set_same, get_or-set_other, ext_get_or}
 
 -- what holds of each number at its place holds with one more at the end
 pub push_all : (P : ℕ → ℤ → Type 0) (xs : List ℤ) (n : ℕ) (z : ℤ) → length xs ≡ n → ((v : ℕ) → v < n → P v (get_or xs v (pos 0))) → P n z → (v : ℕ) → v < n + 1 → P v (get_or (xs ++ z ∷ []) v (pos 0))

@@ -1,14 +1,6 @@
 -- What the first-fit multipliers are worth: none is negative, and the cheapest usable rows stay the cheapest.
-use Rattle.std.proofs.Common.{◌≡◌, ◌==◌, ◌&&◌, ℕ, zero, suc, ◌*◌, ◌<◌, ◌≤◌, Bool, true, false, List, [], ◌∷◌, ◌++◌, length, Option, Some, None, ℤ, pos, ◌+ℤ◌, ◌*ℤ◌, ◌≤ℤ◌, refl, sym, ap, ◌∙◌, subst, ⊎_elim, arith, eq-eqb, eqb-true, ne_eqb}
-use Rattle.std.specs.Int.{int_min}
-use Rattle.std.specs.Prelude.{unwrap_or}
-use Rattle.std.proofs.lemmas.Int.{ints, int_min_is}
-use Rattle.std.proofs.lemmas.Bool.{cases_eq, cases_lt, cases_Bool, and_from, and_parts, cond-true, cond-false}
-use Rattle.std.proofs.lemmas.List.{get_or_push, get_or_append_left, get_or_past, length_push}
-use Rattle.plan_rules.specs.Sums.{int_sum_below, least_below, lesser}
-use Rattle.plan_rules.specs.Graph.{Graph, riders_at, row_vehicle, cost_at, has_rider, must_be_served, IsGoodGraph}
-use Rattle.plan_rules.specs.Multipliers.{Usable, multiplier_at, multiplier_sum, is_usable_by, reduced_cost, vehicle_term, rider_term, leaf_value, least_cost, room_at, first_fit_of, first_fit_below, first_fit, first_fit_value}
-use Rattle.plan_rules.proofs.lemmas.SumLemmas.{part, int_sum_same, int_sum_plus, int_sum_single, least_below_some, least_below_none, least_below_found, lesser-le_right, lesser-le_left}
+use Rattle.std.proofs.Common.{◌≡◌, ◌==◌, ◌&&◌, ℕ, zero, suc, ◌*◌, ◌<◌, ◌≤◌, Bool, true, false, List, [], ◌∷◌, ◌++◌, length, Option, Some, None, ℤ, pos, ◌+ℤ◌, ◌*ℤ◌, ◌≤ℤ◌, refl, sym, ap, ◌∙◌, subst, ⊎_elim, arith, eq-eqb, eqb-true, ne_eqb, unwrap_or}
+use Rattle.dual_bound.proofs.Common.{int_min, ints, int_min_is, cases_eq, cases_lt, cases_Bool, and_from, and_parts, cond-true, cond-false, get_or_push, get_or_append_left, get_or_past, length_push, int_sum_below, least_below, lesser, Graph, riders_at, row_vehicle, cost_at, has_rider, must_be_served, IsGoodGraph, Usable, multiplier_at, multiplier_sum, is_usable_by, reduced_cost, vehicle_term, rider_term, leaf_value, least_cost, room_at, first_fit_of, first_fit_below, first_fit, first_fit_value, part, int_sum_same, int_sum_plus, int_sum_single, least_below_some, least_below_none, least_below_found, lesser-le_right, lesser-le_left}
 use Rattle.plan_rules.proofs.lemmas.DualityLemmas.{multiplier_sum_is}
 use Rattle.dual_bound.proofs.lemmas.FirstFitLemmas.{length-first_fit}
 

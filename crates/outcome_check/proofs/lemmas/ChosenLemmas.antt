@@ -1,15 +1,9 @@
 -- The plan that trips give, and the points that ask for it.
 use Rattle.std.proofs.Common.{ℕ, List, Option, subst}
-use Rattle.assignment_search.specs.Found.{IsClose, IsFair, ShowsBound}
-use Rattle.batch_solver.specs.Points.{GivesPlanWith, Holds, Posed, TellsPlan}
-use Rattle.batch_solver.specs.declared.point.Point.TheVariants as point
-use Rattle.request_book.specs.declared.outcome.Planned.{Planned}
-use Rattle.rider_limits.specs.declared.settings.Settings.{Settings}
-use Rattle.trip_graph.specs.Answer.{IsTripGraphOf}
-use Rattle.outcome_check.specs.work.Orders.{HasOwnIds}
-use Rattle.outcome_check.specs.work.Trips.{GivesTrips}
+use Rattle.outcome_check.proofs.Common.{IsClose, IsFair, ShowsBound, GivesPlanWith, Holds, Posed, TellsPlan, Planned, Settings, IsTripGraphOf, HasOwnIds, GivesTrips}
 use Rattle.outcome_check.proofs.lemmas.TripLemmas.{one_plan}
 use Rattle.outcome_check.proofs.lemmas.VerdictLemmas.{HoldBelow, hold_more}
+use Rattle.batch_solver.specs.declared.point.Point.TheVariants as point
 
 module _ (settings : Settings) (p : Posed) (planned : Planned) (own : HasOwnIds p.settled) (exact : IsTripGraphOf settings p.tau p.settled p.graph) (plan : List (Option ℕ)) (gives : GivesTrips p.points p.tau p.settled p.graph plan planned.chosen) where
   pub with_plan : (P : List (Option ℕ) → Type 0) → P plan → GivesPlanWith p planned P

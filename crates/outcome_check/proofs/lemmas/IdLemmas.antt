@@ -1,21 +1,12 @@
 -- In a snapshot nobody is in two places, so ids tell riders and passengers apart.
 use Rattle.std.proofs.Common.{◌≡◌, ◌≢◌, ℕ, zero, suc, ◌+◌, ◌-◌, ◌<◌, ◌≤◌, List, [], ◌∷◌, ◌++◌, length, get_or, map, None, refl, sym, ap, ◌∙◌, subst, arith, ⊎_elim}
+use Rattle.outcome_check.proofs.Common.{cases_eq, cases_lt, get_or_append_left, get_or-append_right, get_or-map, length-map, Batch, IsKept, IsOnce, riders_aboard, IsPlaced, IsSettled, Settings, Settled, vehicle_at, IsSound, rider_id, HasOwnIds}
 use Rattle.std.specs.List.{flat_map}
-use Rattle.std.proofs.lemmas.Bool.{cases_eq, cases_lt}
-use Rattle.std.proofs.lemmas.List.{get_or_append_left, get_or-append_right, get_or-map, length-map, length-append}
+use Rattle.std.proofs.lemmas.List.{length-append}
 use Rattle.std.proofs.lemmas.Option.{slice_get-get_or}
-use Rattle.batch_snapshot.specs.Batch.{Batch}
-use Rattle.batch_snapshot.specs.Kept.{IsKept, IsOnce, riders_aboard}
 use Rattle.batch_snapshot.specs.declared.passenger.Passenger.{Passenger}
 use Rattle.batch_snapshot.specs.declared.rider.Rider.{Rider}
 use Rattle.batch_snapshot.specs.declared.vehicle.Vehicle.{Vehicle}
-use Rattle.promise_check.specs.Settling.{IsPlaced, IsSettled}
-use Rattle.rider_limits.specs.declared.settings.Settings.{Settings}
-use Rattle.stop_orders.specs.declared.settled.Settled.{Settled}
-use Rattle.stop_orders.specs.Settled.{vehicle_at}
-use Rattle.stop_orders.specs.Sound.{IsSound}
-use Rattle.batch_solver.specs.Told.{rider_id}
-use Rattle.outcome_check.specs.work.Orders.{HasOwnIds}
 use Rattle.outcome_check.proofs.lemmas.IdleLemmas.{one_rider}
 
 -- a list stands in another one from a place on

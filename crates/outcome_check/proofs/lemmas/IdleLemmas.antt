@@ -1,20 +1,7 @@
 -- Idle vehicles and riders who are left out stand at places of the table, each once.
 use Rattle.std.proofs.Common.{◌≡◌, ℕ, ◌<◌, ◌≤◌, Bool, List, [], length, get_or, map, filter, All, sym, ap, ◌∙◌, subst, arith}
-use Rattle.std.specs.List.{range_with_len}
-use Rattle.std.specs.List.Sorted.{IsStrictlyIncreasing}
-use Rattle.std.proofs.lemmas.List.{length-map, get_or-map}
-use Rattle.std.proofs.lemmas.List.FromFn.{length-range_with_len}
+use Rattle.outcome_check.proofs.Common.{range_with_len, IsStrictlyIncreasing, length-map, get_or-map, length-range_with_len, MoveLine, Settled, SettledRider, SettledVehicle, rider_at, no_rider, no_vehicle, IsSound, AreMoves, move_line, rider_id, vehicle_id, has_places, none_matched, HaveOwnPlaces}
 use Rattle.std.proofs.lemmas.List.Sums.{length-filter, count_by-le-length}
-use Rattle.request_book.specs.declared.outcome.MoveLine.{MoveLine}
-use Rattle.stop_orders.specs.declared.settled.Settled.{Settled}
-use Rattle.stop_orders.specs.declared.settled_rider.SettledRider.{SettledRider}
-use Rattle.stop_orders.specs.declared.settled_vehicle.SettledVehicle.{SettledVehicle}
-use Rattle.stop_orders.specs.Settled.{rider_at, no_rider, no_vehicle}
-use Rattle.stop_orders.specs.Sound.{IsSound}
-use Rattle.batch_solver.specs.Moves.{AreMoves, move_line}
-use Rattle.batch_solver.specs.Told.{rider_id, vehicle_id}
-use Rattle.batch_solver.proofs.lemmas.MoveLemmas.{has_places, none_matched}
-use Rattle.outcome_check.specs.work.Moves.{HaveOwnPlaces}
 use Rattle.outcome_check.proofs.lemmas.OrderLemmas.{rising_once}
 
 -- rising ids tell riders and vehicles apart

@@ -1,17 +1,7 @@
 -- Late vehicles, and orders of their passengers.
 use Rattle.std.proofs.Common.{◌≡◌, ℕ, ◌<◌, true, false, not, eqb, ⊎_elim, List, [], length, None, refl, sym, ap, ◌∙◌, subst, arith}
+use Rattle.outcome_check.proofs.Common.{LateVehicle, PlannedStop, Settled, Stop, Task, IsTrip, trip_task, IsSound, IsTask, IsOrderOf, ReachesAll, order_delay, told_stops, IsLateOrder, IsLeast}
 use Rattle.std.proofs.lemmas.Bool.Decides.{eqb_tells}
-use Rattle.request_book.specs.declared.outcome.LateVehicle.{LateVehicle}
-use Rattle.request_book.specs.declared.outcome.PlannedStop.{PlannedStop}
-use Rattle.stop_orders.specs.declared.settled.Settled.{Settled}
-use Rattle.stop_orders.specs.declared.stop.Stop.{Stop}
-use Rattle.stop_orders.specs.declared.task.Task.{Task}
-use Rattle.stop_orders.specs.Settled.{IsTrip, trip_task}
-use Rattle.stop_orders.specs.Sound.{IsSound}
-use Rattle.stop_orders.specs.Task.{IsTask, IsOrderOf, ReachesAll, order_delay}
-use Rattle.batch_solver.specs.Told.{told_stops}
-use Rattle.batch_solver.specs.Trips.{IsLateOrder}
-use Rattle.outcome_check.specs.work.Trips.{IsLeast}
 
 -- the late vehicle that is read where there is none
 abbrev pub no_late : LateVehicle

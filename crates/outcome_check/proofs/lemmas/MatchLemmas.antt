@@ -1,17 +1,10 @@
 -- Moves, read as pairs of places, and matchings that grow.
 use Rattle.std.proofs.Common.{◌≡◌, ◌≢◌, ◌⊎◌, ℕ, suc, ◌+◌, ◌-◌, ◌<◌, ◌≤◌, Bool, true, false, List, [], ◌∷◌, ◌++◌, length, get_or, take, set, map, All, AllPairs, refl, sym, ap, ◌∙◌, subst, inr, ⊎_elim, arith}
-use Rattle.std.proofs.lemmas.Bool.{cases_eq}
-use Rattle.std.proofs.lemmas.List.{get_or_default, ext_get_or, length-map, length-take, get_or-map, get_or-take, get_or-set_same, get_or-set_other, length-set, map_push, take_more}
-use Rattle.std.proofs.lemmas.List.Elements.{All-push}
+use Rattle.outcome_check.proofs.Common.{cases_eq, get_or_default, length-map, get_or-map, map_push, take_more, All-push, IsMatching, IsBestMatching, pair_seconds, total_of, MoveLine, Settled, rider_at, vehicle_at, AreMoves, move_line, HaveOwnPlaces, IsRisingMatching, IsWithin, TellsMoves}
+use Rattle.std.proofs.lemmas.List.{ext_get_or, length-take, get_or-take, get_or-set_same, get_or-set_other, length-set}
 use Rattle.std.proofs.lemmas.List.Quantifiers.{all_pairs_push}
 use borrow.Author.Count.{below_more}
 use Rattle.pool_base.specs.TravelTime.{never}
-use Rattle.rebalancing.specs.Matching.{IsMatching, IsBestMatching, pair_seconds, total_of}
-use Rattle.request_book.specs.declared.outcome.MoveLine.{MoveLine}
-use Rattle.stop_orders.specs.declared.settled.Settled.{Settled}
-use Rattle.stop_orders.specs.Settled.{rider_at, vehicle_at}
-use Rattle.batch_solver.specs.Moves.{AreMoves, move_line}
-use Rattle.outcome_check.specs.work.Moves.{HaveOwnPlaces, IsRisingMatching, IsWithin, TellsMoves}
 
 no_move : MoveLine
 no_move = record { vehicle = 0; rider = 0; seconds = 0 }

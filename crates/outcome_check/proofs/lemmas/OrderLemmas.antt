@@ -1,24 +1,10 @@
 -- Orders are read back from what is told of them.
 use Rattle.std.proofs.Common.{◌≡◌, ℕ, zero, suc, ◌+◌, ◌<◌, ◌≤◌, inl, inr, List, [], ◌∷◌, ◌++◌, length, get_or, map, zip, take, refl, sym, ap, ◌∙◌, subst, arith}
-use Rattle.std.specs.List.{AllByRecursion}
-use Rattle.std.specs.List.Sorted.{IsStrictlyIncreasing}
-use Rattle.std.proofs.lemmas.Bool.{cases_lt}
-use Rattle.std.proofs.lemmas.List.{get_or_default, take_more, take_all, length_push}
-use Rattle.request_book.specs.declared.outcome.PlannedStop.{PlannedStop}
-use Rattle.stop_orders.specs.declared.settled.Settled.{Settled}
-use Rattle.stop_orders.specs.declared.settled_rider.SettledRider.{SettledRider}
-use Rattle.stop_orders.specs.declared.settled_vehicle.SettledVehicle.{SettledVehicle}
-use Rattle.stop_orders.specs.declared.stop.Stop.{Stop}
-use Rattle.stop_orders.specs.declared.stop.Stop.TheVariants.{Pick}
+use Rattle.outcome_check.proofs.Common.{AllByRecursion, IsStrictlyIncreasing, cases_lt, get_or_default, take_more, length_push, PlannedStop, Settled, SettledRider, SettledVehicle, Stop, Pick, IsKnown, IsTrip, trip_task, vehicle_at, rider_at, no_rider, no_vehicle, IsOrderOf, visit_at, visits_of, seconds_of, rider_id, told_stop, told_stops, in_order, neighbours_from, nat_strict, HasOwnIds}
+use Rattle.std.proofs.lemmas.List.{take_all}
 use Rattle.stop_orders.specs.declared.visit.Visit.{Visit}
-use Rattle.stop_orders.specs.Order.{IsKnown}
-use Rattle.stop_orders.specs.Settled.{IsTrip, trip_task, vehicle_at, rider_at, no_rider, no_vehicle}
-use Rattle.stop_orders.specs.Task.{IsOrderOf, visit_at, visits_of, seconds_of}
 use Rattle.stop_orders.specs.Visit.{place_of, seconds_from}
 use Rattle.stop_orders.proofs.lemmas.DoneLemmas.{length-IsOrder}
-use Rattle.batch_solver.specs.Told.{rider_id, told_stop, told_stops}
-use Rattle.batch_laws.proofs.lemmas.SortedLemmas.{in_order, neighbours_from, nat_strict}
-use Rattle.outcome_check.specs.work.Orders.{HasOwnIds}
 
 -- a rising list has a number at one place
 pub rising_once : (xs : List ℕ) → IsStrictlyIncreasing xs → (i j : ℕ) → i < length xs → j < length xs → get_or xs i 0 ≡ get_or xs j 0 → i ≡ j

@@ -1,36 +1,15 @@
 -- A batch poses one problem.
 use Rattle.std.proofs.Common.{◌≡◌, ◌↔◌, ℕ, List, map, refl, subst}
-use Rattle.batch_snapshot.specs.Batch.{Batch}
+use Rattle.outcome_check.proofs.Common.{Batch, one_trip_graph, same_rising, AnswersWith, HasGraphsWith, IsGoodOutcome, IsOutcomeWith, IsGoodPlan, Holds, Posed, Point, IsRrGraph, IsRvGraph, RvEdge, Graph, travel_time, IsSettled, Answer, Planned, Settings, Roads, index_in, Settled, AreTravelTimes, IsTripGraphOf, IsVerdictOf, Meets, Verdict, Good, Fails}
 use Rattle.batch_snapshot.specs.Points.{ArePoints}
 use Rattle.batch_laws.proofs.lemmas.EdgeLemmas.{one_rr_graph, one_rv_graph}
-use Rattle.batch_laws.proofs.lemmas.GraphLemmas.{one_trip_graph}
 use Rattle.batch_laws.proofs.lemmas.SettledLemmas.{one_settling}
-use Rattle.batch_laws.proofs.lemmas.SortedLemmas.{same_rising}
 use Rattle.batch_laws.proofs.lemmas.TableLemmas.{one_table}
-use Rattle.batch_solver.specs.Outcome.{AnswersWith, HasGraphsWith, IsGoodOutcome, IsOutcomeWith, IsGoodPlan}
-use Rattle.batch_solver.specs.Points.{Holds, Posed}
-use Rattle.batch_solver.specs.declared.point.Point.{Point}
-use Rattle.batch_solver.specs.declared.point.Point.TheVariants as point
-use Rattle.pair_graph.specs.RrGraph.{IsRrGraph}
-use Rattle.pair_graph.specs.RvGraph.{IsRvGraph}
-use Rattle.pair_graph.specs.declared.rv_edge.RvEdge.{RvEdge}
-use Rattle.plan_rules.specs.Graph.{Graph}
-use Rattle.pool_base.specs.Times.{travel_time}
 use Rattle.pool_base.specs.declared.times.Times.{Times}
-use Rattle.promise_check.specs.Settling.{IsSettled}
-use Rattle.request_book.specs.declared.outcome.Answer.{Answer}
-use Rattle.request_book.specs.declared.outcome.Answer.TheVariants as answer
 use Rattle.request_book.specs.declared.outcome.Outcome.{Outcome}
-use Rattle.request_book.specs.declared.outcome.Planned.{Planned}
-use Rattle.rider_limits.specs.declared.settings.Settings.{Settings}
-use Rattle.road_network.specs.Roads.{Roads, index_in}
-use Rattle.stop_orders.specs.declared.settled.Settled.{Settled}
-use Rattle.travel_times.specs.Table.{AreTravelTimes}
-use Rattle.trip_graph.specs.Answer.{IsTripGraphOf}
-use Rattle.outcome_check.specs.Verdict.{IsVerdictOf, Meets}
-use Rattle.outcome_check.specs.declared.verdict.Verdict.{Verdict}
-use Rattle.outcome_check.specs.declared.verdict.Verdict.TheVariants.{Good, Fails}
 use Rattle.outcome_check.proofs.lemmas.VerdictLemmas.{verdict_of_same}
+use Rattle.batch_solver.specs.declared.point.Point.TheVariants as point
+use Rattle.request_book.specs.declared.outcome.Answer.TheVariants as answer
 
 -- what holds with some graphs of these limits holds with others
 module _ (settings : Settings) (points : List ℕ) (tau : ℕ → ℕ → ℕ) (settled : Settled) (graph : Graph) (edges : List RvEdge) (pairs : List (ℕ × ℕ))

@@ -1,16 +1,6 @@
 -- The row of which a trip tells.
 use Rattle.std.proofs.Common.{◌≡◌, ◌<◌, ℕ, List, length, get_or, sym, ap, ◌∙◌, subst}
-use Rattle.std.proofs.lemmas.List.{get_or_default}
-use Rattle.plan_rules.specs.declared.row.TripRow.{TripRow}
-use Rattle.plan_rules.specs.Graph.{Graph, riders_at, cost_at, no_row}
-use Rattle.request_book.specs.declared.outcome.ChosenTrip.{ChosenTrip}
-use Rattle.stop_orders.specs.declared.settled.Settled.{Settled}
-use Rattle.stop_orders.specs.declared.stop.Stop.{Stop}
-use Rattle.stop_orders.specs.declared.task.Task.{Task}
-use Rattle.stop_orders.specs.Settled.{trip_task}
-use Rattle.stop_orders.specs.Task.{Serves, order_delay}
-use Rattle.batch_solver.specs.Told.{vehicle_id, told_stops}
-use Rattle.outcome_check.specs.work.Trips.{TellsRow}
+use Rattle.outcome_check.proofs.Common.{get_or_default, TripRow, Graph, riders_at, cost_at, no_row, ChosenTrip, Settled, Stop, Task, trip_task, Serves, order_delay, vehicle_id, told_stops, TellsRow}
 
 -- the row read at a number
 pub row_read : (graph : Graph) (rows : List TripRow) (k : ℕ) (x : TripRow) → rows ≡ graph.rows → k < length graph.rows → get_or rows k x ≡ get_or graph.rows k no_row

@@ -1,29 +1,9 @@
 -- Trips give one plan, if any.
 use Rattle.std.proofs.Common.{◌≡◌, ◌≢◌, ℕ, zero, suc, ◌+◌, ◌<◌, ◌⊎◌, not, Bool, true, false, cond, List, [], ◌∷◌, length, get_or, filter, All, Contains, Option, Some, None, MatchOption, refl, sym, ap, ◌∙◌, subst, inl, inr, arith, ⊎_elim}
-use Rattle.std.specs.List.{AllZip, range_with_len}
-use Rattle.std.specs.List.Sorted.{IsStrictlyIncreasing}
-use Rattle.std.proofs.lemmas.List.{get_or_default, ext_get_or}
-use Rattle.std.proofs.lemmas.List.Elements.{All-filter, All-from_get_or, All-contains, filter_passes}
-use Rattle.std.proofs.lemmas.List.FromFn.{length-range_with_len, get_or-range_with_len}
+use Rattle.outcome_check.proofs.Common.{AllZip, range_with_len, IsStrictlyIncreasing, get_or_default, All-filter, All-from_get_or, All-contains, filter_passes, length-range_with_len, get_or-range_with_len, Graph, IsRowOf, HasNoRow, choice_at, riders_at, no_row, ChosenTrip, PlannedStop, Settings, Settled, Stop, Pick, Drop, Alight, IsKnown, is_of_rider, IsTrip, trip_task, vehicle_at, rider_at, IsOrderOf, seconds_of, IsTripGraphOf, rider_id, told_stop, told_stops, IsTripOf, has_head, has_later, head_or_tail, same_rising, graph_in_order, one_place, HasOwnIds, GivesTrips, TellsRow, HasNoRowFor, GiveRows, no_chosen}
+use Rattle.std.proofs.lemmas.List.{ext_get_or}
 use Rattle.std.proofs.lemmas.List.Kept.{IsStrictlyIncreasing-filter}
-use Rattle.plan_rules.specs.Graph.{Graph, IsRowOf, HasNoRow, choice_at, riders_at, no_row}
 use Rattle.plan_rules.proofs.lemmas.PlanLemmas.{plan_choice}
-use Rattle.request_book.specs.declared.outcome.ChosenTrip.{ChosenTrip}
-use Rattle.request_book.specs.declared.outcome.PlannedStop.{PlannedStop}
-use Rattle.rider_limits.specs.declared.settings.Settings.{Settings}
-use Rattle.stop_orders.specs.declared.settled.Settled.{Settled}
-use Rattle.stop_orders.specs.declared.stop.Stop.{Stop}
-use Rattle.stop_orders.specs.declared.stop.Stop.TheVariants.{Pick, Drop, Alight}
-use Rattle.stop_orders.specs.Order.{IsKnown, is_of_rider}
-use Rattle.stop_orders.specs.Settled.{IsTrip, trip_task, vehicle_at, rider_at}
-use Rattle.stop_orders.specs.Task.{IsOrderOf, seconds_of}
-use Rattle.trip_graph.specs.Answer.{IsTripGraphOf}
-use Rattle.batch_solver.specs.Told.{rider_id, told_stop, told_stops}
-use Rattle.batch_solver.specs.Trips.{IsTripOf}
-use Rattle.batch_laws.proofs.lemmas.SortedLemmas.{has_head, has_later, head_or_tail, same_rising}
-use Rattle.batch_laws.proofs.lemmas.GraphLemmas.{graph_in_order, one_place}
-use Rattle.outcome_check.specs.work.Orders.{HasOwnIds}
-use Rattle.outcome_check.specs.work.Trips.{GivesTrips, TellsRow, HasNoRowFor, GiveRows, no_chosen}
 use Rattle.outcome_check.proofs.lemmas.OrderLemmas.{known_at, told_here, told_long, map_long}
 
 -- between lists in pairs and their places

@@ -1,11 +1,7 @@
 -- Points, asked one after the other.
 use Rattle.std.proofs.Common.{◌≡◌, ℕ, zero, suc, ◌+◌, ◌<◌, ◌≤◌, refl, sym, ap, ◌∙◌, subst, ⊎_elim, arith}
-use Rattle.std.proofs.lemmas.Bool.{cases_lt}
-use Rattle.outcome_check.specs.Verdict.{point_place, IsVerdictOf}
-use Rattle.batch_solver.specs.declared.point.Point.{Point}
+use Rattle.outcome_check.proofs.Common.{cases_lt, point_place, IsVerdictOf, Point, Verdict, Good, Fails}
 use Rattle.batch_solver.specs.declared.point.Point.TheVariants as point
-use Rattle.outcome_check.specs.declared.verdict.Verdict.{Verdict}
-use Rattle.outcome_check.specs.declared.verdict.Verdict.TheVariants.{Good, Fails}
 
 -- all points before this place hold
 abbrev pub HoldBelow : (Point → Type 0) → ℕ → Type 0

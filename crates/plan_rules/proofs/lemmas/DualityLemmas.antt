@@ -1,16 +1,6 @@
 -- Weak duality: a leaf value is at most the cost of each lawful plan of usable rows.
-use Rattle.std.proofs.Common.{◌≡◌, ◌==◌, ◌&&◌, ℕ, suc, ◌*◌, ◌<◌, ◌≤◌, Bool, true, false, ◌||◌, ltb, List, [], ◌∷◌, length, get_or, Option, Some, None, MatchOption, ℤ, pos, ◌+ℤ◌, ◌-ℤ◌, ◌≤ℤ◌, refl, sym, ap, ◌∙◌, ⊎_elim, arith, eq-eqb, eqb-true, lt-ltb, le-ltb}
-use Rattle.std.specs.Int.{int_min}
-use Rattle.std.specs.Prelude.{unwrap_or}
-use Rattle.std.specs.List.Sorted.{IsStrictlyIncreasing}
-use Rattle.std.proofs.lemmas.Int.{ints, int_min_is}
-use Rattle.std.proofs.lemmas.Bool.{cases_eq, cases_Bool, and_from, cond-true, cond-false}
-use Rattle.plan_rules.specs.Sums.{sum_below, count_below, int_sum_below, least_below}
-use Rattle.plan_rules.specs.Graph.{Graph, row_at, riders_at, row_vehicle, has_rider, IsRowOf, HasNoRow, choice_at, is_in, must_be_served, IsGraphRow, IsGoodGraph}
-use Rattle.plan_rules.specs.Plan.{IsLawful, choice_cost, cost_of}
-use Rattle.plan_rules.specs.lemmas.Plan.{times_chosen, left_out}
-use Rattle.plan_rules.specs.Multipliers.{Usable, multiplier_at, multiplier_sum, reduced_cost, is_usable_by, vehicle_term, rider_term, leaf_value}
-use Rattle.plan_rules.specs.Tree.{is_choice_usable, is_within}
+use Rattle.std.proofs.Common.{◌≡◌, ◌==◌, ◌&&◌, ℕ, suc, ◌*◌, ◌<◌, ◌≤◌, Bool, true, false, ◌||◌, ltb, List, [], ◌∷◌, length, get_or, Option, Some, None, MatchOption, ℤ, pos, ◌+ℤ◌, ◌-ℤ◌, ◌≤ℤ◌, refl, sym, ap, ◌∙◌, ⊎_elim, arith, eq-eqb, eqb-true, lt-ltb, le-ltb, unwrap_or}
+use Rattle.plan_rules.proofs.Common.{int_min, IsStrictlyIncreasing, ints, int_min_is, cases_eq, cases_Bool, and_from, cond-true, cond-false, sum_below, count_below, int_sum_below, least_below, Graph, row_at, riders_at, row_vehicle, has_rider, IsRowOf, HasNoRow, choice_at, is_in, must_be_served, IsGraphRow, IsGoodGraph, IsLawful, choice_cost, cost_of, times_chosen, left_out, Usable, multiplier_at, multiplier_sum, reduced_cost, is_usable_by, vehicle_term, rider_term, leaf_value, is_choice_usable, is_within}
 use Rattle.plan_rules.proofs.lemmas.SumLemmas.{flag, flag-true, sum_below_scale, int_sum_same, int_sum_le, int_sum_plus, int_sum_minus, int_sum_pos, int_sum_zero, int_sum_swap, part, part-or, int_sum_single, int_sum_once, least_below_some, least_below_none, all_below_at}
 use Rattle.plan_rules.proofs.lemmas.GraphLemmas.{has, tail_rises, head_apart, times_served_as_count}
 

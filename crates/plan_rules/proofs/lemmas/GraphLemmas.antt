@@ -1,13 +1,6 @@
 -- Riders of rows, and how often riders are served.
 use Rattle.std.proofs.Common.{◌≡◌, ◌==◌, ℕ, zero, suc, ◌+◌, ◌<◌, ◌≤◌, Bool, true, false, IsTrue, List, [], ◌∷◌, length, get_or, Option, Some, None, MatchOption, refl, sym, ap, ◌∙◌, subst, ⊎_elim, arith, add-one, eqb-true, eq-eqb}
-use Rattle.std.specs.List.{list_any}
-use Rattle.std.specs.List.Sorted.{IsStrictlyIncreasing}
-use Rattle.std.proofs.lemmas.Bool.{cases_lt, cases_Bool, or_cases, both_ways}
-use Rattle.std.proofs.lemmas.List.Folds.{list_any_at}
-use Rattle.std.proofs.lemmas.List.{get_or_read}
-use Rattle.plan_rules.specs.Sums.{count_below}
-use Rattle.plan_rules.specs.declared.row.TripRow.{TripRow}
-use Rattle.plan_rules.specs.Graph.{Graph, no_row, row_at, riders_at, row_vehicle, has_rider, IsRowOf, HasNoRow, choice_at, is_in, times_served, IsGraphRow, HoldsRightly, IsStartOf}
+use Rattle.plan_rules.proofs.Common.{list_any, IsStrictlyIncreasing, cases_lt, cases_Bool, or_cases, both_ways, list_any_at, get_or_read, count_below, TripRow, Graph, no_row, row_at, riders_at, row_vehicle, has_rider, IsRowOf, HasNoRow, choice_at, is_in, times_served, IsGraphRow, HoldsRightly, IsStartOf}
 use Rattle.plan_rules.proofs.lemmas.SumLemmas.{flag, flag-true, flag-false, count_below_more, count_below-le, count_below_none, count_below_some, count_below_found}
 
 -- ---- lists of riders

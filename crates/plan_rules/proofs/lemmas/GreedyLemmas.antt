@@ -1,14 +1,8 @@
 -- Greedy plans: ranks, and what taking a row keeps.
 use Rattle.std.proofs.Common.{All, ◌≡◌, ◌⊎◌, ◌||◌, ℕ, ◌+◌, ◌-◌, ◌*◌, ◌<◌, ◌≤◌, Bool, true, false, List, length, get_or, set, replicate, Option, Some, None, refl, sym, ap, ◌∙◌, subst, inl, inr, ⊎_elim, arith}
-use Rattle.std.specs.List.{list_any}
-use Rattle.std.specs.Ordering.{nat_cmp, ordering_then, is_lt}
-use Rattle.std.proofs.lemmas.Bool.Decides.{nat_tests}
-use Rattle.std.proofs.lemmas.Bool.{cases_eq, cases_lt, or_cases, or_left, or_right, both_ways}
-use Rattle.std.proofs.lemmas.List.{get_or-replicate, length-replicate, get_or-set_same, get_or-set_other, get_or_past, length-set}
-use Rattle.plan_rules.specs.Graph.{Graph, riders_at, cost_at, row_vehicle, has_rider, choice_at, IsGoodGraph}
-use Rattle.plan_rules.specs.Greedy.{IsTaken, IsApart, IsTriedBefore, IsGreedy}
-use Rattle.plan_rules.specs.lemmas.Rank.{rank_value, rank_of}
-use Rattle.plan_rules.specs.work.Rank.{parts_of, AreRanks, IsSelection, IsInTheWay}
+use Rattle.plan_rules.proofs.Common.{list_any, ordering_then, nat_tests, cases_eq, cases_lt, or_cases, or_left, or_right, both_ways, get_or-replicate, length-replicate, get_or_past, Graph, riders_at, cost_at, row_vehicle, has_rider, choice_at, IsGoodGraph, IsTaken, IsApart, IsTriedBefore, IsGreedy, rank_value, rank_of, parts_of, AreRanks, IsSelection, IsInTheWay}
+use Rattle.std.specs.Ordering.{nat_cmp, is_lt}
+use Rattle.std.proofs.lemmas.List.{get_or-set_same, get_or-set_other, length-set}
 use Rattle.plan_rules.proofs.lemmas.GraphLemmas.{rider_below}
 use Rattle.plan_rules.proofs.lemmas.MarkLemmas.{any_marked, marked_one}
 

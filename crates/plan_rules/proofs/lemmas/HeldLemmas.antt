@@ -1,10 +1,6 @@
 -- Marks of the riders whom vehicles hold.
 use Rattle.std.proofs.Common.{◌≡◌, ◌||◌, ℕ, ◌+◌, ◌<◌, ◌≤◌, Bool, true, false, IsTrue, List, length, get_or, replicate, nat_lt, Option, None, MatchOption, refl, sym, ap, ◌∙◌, subst, ⊎_elim, arith, ltb-true, ltb-false, lt-ltb, le-ltb}
-use Rattle.std.specs.List.{list_any}
-use Rattle.std.proofs.lemmas.Bool.{cases_eq, cases_Bool, both_ways}
-use Rattle.std.proofs.lemmas.List.{get_or-replicate, length-replicate}
-use Rattle.plan_rules.specs.Graph.{Graph, row_at, riders_at, has_rider, IsRowOf, HasNoRow, choice_at, is_in, times_served, IsGraphRow, HoldsRightly}
-use Rattle.plan_rules.specs.work.Graph.{MarksHeld}
+use Rattle.plan_rules.proofs.Common.{list_any, cases_eq, cases_Bool, both_ways, get_or-replicate, length-replicate, Graph, row_at, riders_at, has_rider, IsRowOf, HasNoRow, choice_at, is_in, times_served, IsGraphRow, HoldsRightly, MarksHeld}
 use Rattle.plan_rules.proofs.lemmas.SumLemmas.{flag}
 use Rattle.plan_rules.proofs.lemmas.GraphLemmas.{rider_below, times_served_more, times_served_none}
 use Rattle.plan_rules.proofs.lemmas.MarkLemmas.{any_marked, marked_one}

@@ -1,9 +1,7 @@
 -- Marks on riders.
 use Rattle.std.proofs.Common.{◌≡◌, ◌==◌, ◌||◌, ℕ, ◌+◌, ◌<◌, Bool, true, false, List, [], ◌∷◌, length, get_or, take, set, refl, sym, ap, ◌∙◌, ⊎_elim, arith, eq-eqb, eqb-true, ne_eqb}
-use Rattle.std.specs.List.{list_any}
-use Rattle.std.proofs.lemmas.Bool.{cases_eq, or_cases, or_left, or_right, both_ways}
+use Rattle.plan_rules.proofs.Common.{list_any, cases_eq, or_cases, or_left, or_right, both_ways, list_any_more}
 use Rattle.std.proofs.lemmas.List.{get_or-set_same, get_or-set_other, length-set}
-use Rattle.std.proofs.lemmas.List.Folds.{list_any_more}
 use Rattle.plan_rules.proofs.lemmas.GraphLemmas.{has}
 
 -- beside those that were marked, these are

@@ -1,12 +1,7 @@
 -- Decisions along a tree.
 use Rattle.std.proofs.Common.{◌≡◌, ◌==◌, ◌&&◌, ◌||◌, not, ℕ, zero, suc, ◌+◌, ◌-◌, ◌<◌, ◌≤◌, Bool, true, false, List, [], ◌∷◌, ◌++◌, length, get_or, take, set, refl, sym, ap, ◌∙◌, ⊎_elim, eq-eqb, ne_eqb, arith}
-use Rattle.std.proofs.lemmas.Bool.{cases_eq, and_right, cond-true, cond-false}
-use Rattle.std.proofs.lemmas.List.{take_more, take_all, set_at, length-take-le, get_or-take, get_or_default, get_or-set_same, get_or-set_other}
-use Rattle.std.proofs.lemmas.List.Sums.{fold_more, fold_push}
-use Rattle.plan_rules.specs.Graph.{Graph, row_vehicle}
-use Rattle.plan_rules.specs.Tree.{only_row, without_row}
-use Rattle.plan_rules.specs.Path.{Standing, root, decided, standing_of}
-use Rattle.plan_rules.specs.declared.path.Decision.{Decision}
+use Rattle.plan_rules.proofs.Common.{cases_eq, and_right, cond-true, cond-false, take_more, set_at, get_or_default, fold_more, fold_push, Graph, row_vehicle, only_row, without_row, Standing, root, decided, standing_of, Decision}
+use Rattle.std.proofs.lemmas.List.{take_all, length-take-le, get_or-take, get_or-set_same, get_or-set_other}
 
 pub standing_start : (g : Graph) → standing_of g [] ≡ root
 unfolding standing_of

@@ -1,11 +1,7 @@
 -- Plans: the held one is lawful; choices name rows.
 use Rattle.std.proofs.Common.{◌≡◌, ◌⊎◌, ℕ, ◌<◌, ◌≤◌, IsTrue, List, length, Option, Some, None, MatchOption, refl, sym, ◌∙◌, subst, inl, inr, arith, ltb-true}
-use Rattle.std.proofs.lemmas.Bool.{cases_lt}
-use Rattle.std.proofs.lemmas.List.{get_or_past}
-use Rattle.plan_rules.specs.Graph.{Graph, has_rider, IsRowOf, HasNoRow, choice_at, times_served, must_be_served, IsGoodGraph}
+use Rattle.plan_rules.proofs.Common.{cases_lt, get_or_past, Graph, has_rider, IsRowOf, HasNoRow, choice_at, times_served, must_be_served, IsGoodGraph, IsPlan, IsLawful, times_chosen}
 use Rattle.plan_rules.specs.lemmas.Graph.{ChoosesRows}
-use Rattle.plan_rules.specs.Plan.{IsPlan, IsLawful}
-use Rattle.plan_rules.specs.lemmas.Plan.{times_chosen}
 use Rattle.plan_rules.proofs.lemmas.GraphLemmas.{held_once, times_served_outside}
 
 -- a choice of a plan is a row of its vehicle

@@ -1,14 +1,6 @@
 -- Trees read node by node, and the places that they have.
 use Rattle.std.proofs.Common.{◌≡◌, List, [], ◌∷◌, ◌++◌, Option, Some, None, ℤ, refl, sym, ap, ◌∙◌, subst, arith}
-use Rattle.std.proofs.lemmas.Int.{ints, int_min_is}
-use Rattle.std.specs.Int.{int_min}
-use Rattle.plan_rules.specs.Sums.{lesser}
-use Rattle.plan_rules.specs.Graph.{Graph}
-use Rattle.plan_rules.specs.Multipliers.{Usable, leaf_value}
-use Rattle.plan_rules.specs.Tree.{Place, rounded_up, with_leaf, least_leaf}
-use Rattle.plan_rules.specs.Reading.{IsSoundNode, coming_after, ReadsTo, places_from}
-use Rattle.plan_rules.specs.declared.node.Node.{Node}
-use Rattle.plan_rules.specs.declared.node.Node.TheVariants.{Branch, Leaf, Dead}
+use Rattle.plan_rules.proofs.Common.{ints, int_min_is, int_min, lesser, Graph, Usable, leaf_value, Place, rounded_up, with_leaf, least_leaf, IsSoundNode, coming_after, ReadsTo, places_from, Node, Branch, Leaf, Dead}
 
 -- two parts, one after the other
 pub reads_append : (g : Graph) (xs ys : List Node) (a b d : List Usable) → ReadsTo g a xs b → ReadsTo g b ys d → ReadsTo g a (xs ++ ys) d

@@ -1,16 +1,8 @@
 -- What is read node by node is a tree.
-use Rattle.std.proofs.Common.{◌≡◌, ℕ, count_by, zero, suc, ◌+◌, ◌≤◌, List, [], ◌∷◌, ◌++◌, length, map, refl, sym, ap, ap₂, ◌∙◌, subst, arith}
-use Rattle.std.specs.Prelude.{pos, Option, unwrap_or}
-use Rattle.std.proofs.lemmas.List.{length-append, map-append, append_assoc, append-nil}
-use Rattle.plan_rules.specs.Graph.{Graph, IsGoodGraph}
-use Rattle.plan_rules.specs.Multipliers.{Usable}
-use Rattle.plan_rules.specs.Tree.{every_row, only_row, without_row, SearchTree, Parted, Bounded, Closed, IsSoundTree, IsTreeOf, IsTreeOfValue, Place, places_within, least_leaf, tree_value, belongs_to_end, belongs_to_dead_end}
-use Rattle.plan_rules.specs.lemmas.Tree.{preorder, places, IsWholeTree, places_read, value_read}
-use Rattle.plan_rules.specs.Reading.{ReadsTo, places_from}
-use Rattle.plan_rules.specs.Plan.{IsPlan, IsLawful, IsBound}
+use Rattle.std.proofs.Common.{◌≡◌, ℕ, count_by, zero, suc, ◌+◌, ◌≤◌, List, [], ◌∷◌, ◌++◌, length, map, refl, sym, ap, ap₂, ◌∙◌, subst, arith, pos, Option, unwrap_or}
+use Rattle.plan_rules.proofs.Common.{map-append, Graph, IsGoodGraph, Usable, every_row, only_row, without_row, SearchTree, Parted, Bounded, Closed, IsSoundTree, IsTreeOf, IsTreeOfValue, Place, places_within, least_leaf, tree_value, belongs_to_end, belongs_to_dead_end, preorder, places, IsWholeTree, places_read, value_read, ReadsTo, places_from, IsPlan, IsLawful, IsBound, Node, Branch, Leaf, Dead}
+use Rattle.std.proofs.lemmas.List.{length-append, append_assoc, append-nil}
 use Rattle.plan_rules.proofs.lemmas.TreeLemmas.{each_plan_at_one_end, no_plan_at_dead_ends, tree_value_bounds}
-use Rattle.plan_rules.specs.declared.node.Node.{Node}
-use Rattle.plan_rules.specs.declared.node.Node.TheVariants.{Branch, Leaf, Dead}
 
 -- the nodes of the places of a tree
 nodes_of_places : (g : Graph) (t : SearchTree) (usable : Usable) → map (λ (p : Place). p.node) (places_within g usable t) ≡ preorder t

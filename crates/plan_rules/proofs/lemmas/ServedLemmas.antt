@@ -1,14 +1,6 @@
 -- The riders whom chosen rows serve: their marks, and how many they are.
 use Rattle.std.proofs.Common.{◌≡◌, ◌==◌, ◌||◌, ℕ, zero, suc, ◌+◌, ◌<◌, ◌≤◌, Bool, true, false, IsTrue, List, [], ◌∷◌, length, get_or, replicate, nat_lt, Option, Some, None, refl, sym, ap, ◌∙◌, ⊎_elim, arith, ltb-true, ltb-false, le-ltb}
-use Rattle.std.specs.List.{list_any}
-use Rattle.std.specs.List.Sorted.{IsStrictlyIncreasing}
-use Rattle.std.proofs.lemmas.Bool.{cases_eq, cases_Bool, both_ways}
-use Rattle.std.proofs.lemmas.List.{get_or-replicate, length-replicate}
-use Rattle.plan_rules.specs.Sums.{sum_below, count_below}
-use Rattle.plan_rules.specs.Graph.{Graph, row_at, riders_at, has_rider, choice_at, is_in, times_served, must_be_served, IsGraphRow, IsGoodGraph}
-use Rattle.plan_rules.specs.Plan.{IsLawful}
-use Rattle.plan_rules.specs.lemmas.Plan.{times_chosen, left_out}
-use Rattle.plan_rules.specs.work.Plan.{choice_size, IsServedOnce, MarksServed}
+use Rattle.plan_rules.proofs.Common.{list_any, IsStrictlyIncreasing, cases_eq, cases_Bool, both_ways, get_or-replicate, length-replicate, sum_below, count_below, Graph, row_at, riders_at, has_rider, choice_at, is_in, times_served, must_be_served, IsGraphRow, IsGoodGraph, IsLawful, times_chosen, left_out, choice_size, IsServedOnce, MarksServed}
 use Rattle.plan_rules.proofs.lemmas.SumLemmas.{flag, flag-true, flag-false, flag-or, sum_below_same, sum_below_plus, sum_below_zero, sum_below_swap, count_below_single, count_below_two}
 use Rattle.plan_rules.proofs.lemmas.GraphLemmas.{has, tail_rises, head_apart, rider_below, times_served_more, times_served_none, times_served_found, times_served_as_count}
 use Rattle.plan_rules.proofs.lemmas.MarkLemmas.{any_marked, marked_one}

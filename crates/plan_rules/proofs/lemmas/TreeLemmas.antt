@@ -1,18 +1,6 @@
 -- The leaves and dead ends of a sound tree part the plans, and its value is a bound.
-use Rattle.std.proofs.Common.{◌≡◌, ◌==◌, ◌&&◌, ◌||◌, not, ℕ, ◌+◌, ◌*◌, ◌/◌, ◌<◌, ◌≤◌, Bool, true, false, cond, List, [], ◌∷◌, length, Option, Some, None, count_by, ℤ, pos, negsuc, ◌≤ℤ◌, refl, sym, ap, ◌∙◌, inl, inr, ⊎_elim, arith, eq-eqb, ne_eqb}
-use Rattle.std.specs.Prelude.{unwrap_or}
-use Rattle.std.proofs.lemmas.Int.{ints}
-use Rattle.std.proofs.lemmas.List.Sums.{sum_by-cons}
-use Rattle.std.proofs.lemmas.Bool.{cases_eq, cases_Bool, or_right, or_left, both_ways, false_from_ne_true}
-use Rattle.plan_rules.specs.Sums.{all_below, lesser, count_below}
-use Rattle.plan_rules.specs.Graph.{Graph, row_at, row_vehicle, has_rider, IsRowOf, choice_at, is_in, IsGraphRow, IsGoodGraph}
-use Rattle.plan_rules.specs.Plan.{IsPlan, IsLawful, cost_of, IsBound}
-use Rattle.plan_rules.specs.Multipliers.{Usable, leaf_value}
-use Rattle.plan_rules.specs.Tree.{every_row, only_row, without_row, CanBranch, IsClash, IsStranded, IsDeadEnd, Place, rounded_up, least_leaf, is_choice_usable, is_within, belongs_to_end, belongs_to_dead_end}
-use Rattle.plan_rules.specs.Reading.{ReadsTo, places_from}
-use Rattle.plan_rules.specs.lemmas.Tree.{IsWholeTree, places_read, value_read}
-use Rattle.plan_rules.specs.declared.node.Node.{Node}
-use Rattle.plan_rules.specs.declared.node.Node.TheVariants.{Branch, Leaf, Dead}
+use Rattle.std.proofs.Common.{◌≡◌, ◌==◌, ◌&&◌, ◌||◌, not, ℕ, ◌+◌, ◌*◌, ◌/◌, ◌<◌, ◌≤◌, Bool, true, false, cond, List, [], ◌∷◌, length, Option, Some, None, count_by, ℤ, pos, negsuc, ◌≤ℤ◌, refl, sym, ap, ◌∙◌, inl, inr, ⊎_elim, arith, eq-eqb, ne_eqb, unwrap_or}
+use Rattle.plan_rules.proofs.Common.{ints, sum_by-cons, cases_eq, cases_Bool, or_right, or_left, both_ways, false_from_ne_true, all_below, lesser, count_below, Graph, row_at, row_vehicle, has_rider, IsRowOf, choice_at, is_in, IsGraphRow, IsGoodGraph, IsPlan, IsLawful, cost_of, IsBound, Usable, leaf_value, every_row, only_row, without_row, CanBranch, IsClash, IsStranded, IsDeadEnd, Place, rounded_up, least_leaf, is_choice_usable, is_within, belongs_to_end, belongs_to_dead_end, ReadsTo, places_from, IsWholeTree, places_read, value_read, Node, Branch, Leaf, Dead}
 use Rattle.plan_rules.proofs.lemmas.SumLemmas.{flag, flag-true, flag-false, all_below_at, all_below_from, all_below_fails, all_below_same, count_below_two, lesser-le_left, lesser-le_right}
 use Rattle.plan_rules.proofs.lemmas.GraphLemmas.{times_served_as_count, times_served_found, in_choice}
 use Rattle.plan_rules.proofs.lemmas.PlanLemmas.{has_choice, plan_choice}

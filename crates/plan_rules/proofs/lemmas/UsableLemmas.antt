@@ -1,10 +1,6 @@
 -- What depends on usable rows depends on those of the graph alone.
-use Rattle.std.proofs.Common.{◌≡◌, ◌==◌, ◌&&◌, ℕ, zero, suc, ◌<◌, Bool, cond, List, length, Option, Some, ℤ, pos, ◌+ℤ◌, ◌-ℤ◌, ◌*ℤ◌, ◌*◌, [], ◌∷◌, ◌++◌, refl, sym, ap, ◌∙◌, inl, inr, arith}
-use Rattle.std.specs.Prelude.{unwrap_or}
-use Rattle.plan_rules.specs.Sums.{least_below, lesser, int_sum_below}
-use Rattle.plan_rules.specs.Graph.{Graph, row_vehicle, cost_at, riders_at, has_rider}
-use Rattle.plan_rules.specs.Multipliers.{Usable, is_usable_by, reduced_cost, vehicle_term, rider_term, leaf_value, least_cost, room_at, first_fit_of, first_fit_below, first_fit, first_fit_value, multiplier_sum}
-use Rattle.plan_rules.specs.Tree.{MayUse, CanBranch, IsSoleRow, IsDeadEnd}
+use Rattle.std.proofs.Common.{◌≡◌, ◌==◌, ◌&&◌, ℕ, zero, suc, ◌<◌, Bool, cond, List, length, Option, Some, ℤ, pos, ◌+ℤ◌, ◌-ℤ◌, ◌*ℤ◌, ◌*◌, [], ◌∷◌, ◌++◌, refl, sym, ap, ◌∙◌, inl, inr, arith, unwrap_or}
+use Rattle.plan_rules.proofs.Common.{least_below, lesser, int_sum_below, Graph, row_vehicle, cost_at, riders_at, has_rider, Usable, is_usable_by, reduced_cost, vehicle_term, rider_term, leaf_value, least_cost, room_at, first_fit_of, first_fit_below, first_fit, first_fit_value, multiplier_sum, MayUse, CanBranch, IsSoleRow, IsDeadEnd}
 use Rattle.plan_rules.proofs.lemmas.SumLemmas.{int_sum_same}
 
 -- the two agree on the graph's rows

@@ -1,11 +1,6 @@
 -- Leaf values, term by term.
 use Rattle.std.proofs.Common.{◌≡◌, ◌==◌, ℕ, zero, suc, ◌+◌, ◌-◌, ◌<◌, ◌≤◌, Bool, true, false, List, length, get_or, drop, Option, Some, None, ℤ, pos, ◌+ℤ◌, sym, ap, ◌∙◌, ⊎_elim, arith, ne_eqb, eq-eqb}
-use Rattle.std.proofs.lemmas.Int.{ints}
-use Rattle.std.proofs.lemmas.Bool.{cases_lt, and_left, and_right, and_from, cond-true, cond-false}
-use Rattle.std.proofs.lemmas.List.{at_drop_more, at_drop_all}
-use Rattle.plan_rules.specs.Sums.{least_below, lesser}
-use Rattle.plan_rules.specs.Graph.{Graph, row_vehicle, IsStartOf}
-use Rattle.plan_rules.specs.Multipliers.{Usable, multiplier_at, multiplier_sum, is_usable_by}
+use Rattle.plan_rules.proofs.Common.{ints, cases_lt, and_left, and_right, and_from, cond-true, cond-false, at_drop_more, at_drop_all, least_below, lesser, Graph, row_vehicle, IsStartOf, Usable, multiplier_at, multiplier_sum, is_usable_by}
 use Rattle.plan_rules.proofs.lemmas.SumLemmas.{least_below_none, least_below_more}
 
 -- the sum so far and that of the riders to come is that of all

@@ -1,10 +1,6 @@
 use Rattle.std.proofs.Common.{◌≡◌, ℕ, not, eqb, cond, List, [], ◌∷◌, Option, Some, None, Ok, Err, length, sym, ap, ◌∙◌, inl, inr}
-use Rattle.std.specs.List.{position_from}
+use Rattle.pool_io.proofs.Common.{position_from, cases_Bool, Header, UnequalLength, Table, header_fields, rows_under, table_of, records_of, is_record, even_rows}
 use Rattle.std.specs.Option.{option_map_or}
-use Rattle.std.proofs.lemmas.Bool.{cases_Bool}
-use Rattle.pool_io.specs.declared.records.RowFault.TheVariants.{Header, UnequalLength}
-use Rattle.pool_io.specs.Table.{Table, header_fields, rows_under, table_of}
-use Rattle.pool_io.specs.lemmas.Records.{records_of, is_record, even_rows}
 
 even_columns : (columns : ℕ) (rows : List (List (List ℕ))) (o : Option ℕ) (table : Table) → option_map_or (λ row. Err (UnequalLength row)) o (Ok (record { columns = columns; records = rows })) ≡ Ok table → table.columns ≡ columns
 even_columns columns rows None table is = let same : record { columns = columns; records = rows } ≡ table = cc in sym (ap (λ (t : Table). t.columns) same)

@@ -1,12 +1,6 @@
 -- The line of the settings.
 use Rattle.std.proofs.Common.{◌≡◌, ◌≢◌, ℕ, zero, suc, ◌≤◌, ◌==◌, Bool, true, false, not, if◌then◌else◌, nat_eq, get_or, length, codes, List, [], ◌∷◌, ◌++◌, refl, sym, ap, ◌∙◌, append-nil, append_assoc, ne_eqb, arith}
-use Rattle.std.specs.Char.{is_ascii_digit}
-use Rattle.std.proofs.lemmas.Bool.{and_parts}
-use Rattle.dispatch_report.specs.Words.{numbered}
-use Rattle.report_lines.specs.HeadLines.{IsShortNumber, settings_text, AreSettings}
-use Rattle.report_lines.specs.Reading.{BeginsWith, BeginsWithNone, ends_number}
-use Rattle.report_lines.specs.declared.head_lines.SettingsText.{SettingsText}
-use Rattle.report_lines.specs.lemmas.HeadLines.{dwell_text}
+use Rattle.report_lines.proofs.Common.{is_ascii_digit, and_parts, numbered, IsShortNumber, settings_text, AreSettings, BeginsWith, BeginsWithNone, ends_number, SettingsText, dwell_text}
 use Rattle.report_lines.proofs.lemmas.ReadingLemmas.{EndsOnce, TextIsOfOne, numbered_once, of_one}
 
 short_once : (words : List ℕ) → EndsOnce (numbered words) IsShortNumber

@@ -1,10 +1,7 @@
 -- The first line of a text, and what fails of it.
 use Rattle.std.proofs.Common.{◌≡◌, ℕ, true, List, [], ◌∷◌, ◌++◌, sym, ◌∙◌, subst, append_assoc}
-use Rattle.report_lines.specs.HeadFault.{HeadLine, HasForm, FitsLine, LineFails}
-use Rattle.report_lines.specs.Line.{IsFirstLine}
-use Rattle.report_lines.specs.declared.head_fault.HeadFault.{HeadFault}
+use Rattle.report_lines.proofs.Common.{HeadLine, HasForm, FitsLine, LineFails, IsFirstLine, HeadFault, is_one_line}
 use Rattle.report_lines.specs.declared.head_fault.HeadFault.TheVariants.{Cut, Form, Head}
-use Rattle.report_lines.specs.Cut.{is_one_line}
 use Rattle.report_lines.proofs.lemmas.OneBlock.{cut_once, no_one_line}
 
 -- a text has one first line

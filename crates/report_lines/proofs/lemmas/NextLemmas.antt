@@ -1,8 +1,6 @@
 -- A line is of one kind.
 use Rattle.std.proofs.Common.{◌≡◌, ◌≢◌, ℕ, ◌≤◌, ◌<◌, ◌^◌, codes, get_or, List, [], ◌++◌, decimal, refl, sym, ap, ◌∙◌, append-nil, append_assoc, false, ◌∷◌, arith}
-use Rattle.std.specs.Char.{is_ascii_digit}
-use Rattle.dispatch_report.specs.Words.{numbered}
-use Rattle.report_lines.specs.Next.{IsNextLine}
+use Rattle.report_lines.proofs.Common.{is_ascii_digit, numbered, IsNextLine}
 use Rattle.report_lines.specs.declared.next.NextLine.{NextLine}
 use Rattle.report_lines.specs.declared.next.NextLine.TheVariants.{Round, Done, Entry as EntryOf}
 use Rattle.report_lines.proofs.EntryLemmas.{same_lane, entry_begins}

@@ -1,14 +1,8 @@
 -- Numerals at the beginning of a text.
 use Rattle.std.proofs.Common.{◌≡◌, ℕ, zero, suc, ◌+◌, ◌-◌, ◌*◌, ◌<◌, ◌≤◌, ◌^◌, get_or, drop, true, false, not, nat_le, List, [], ◌∷◌, ◌++◌, length, decimal, refl, sym, ap, ◌∙◌, arith}
-use Rattle.std.specs.List.{list_all}
-use Rattle.std.specs.Char.{is_ascii_digit}
-use Rattle.std.proofs.lemmas.Bool.{and_parts, leb-true, le-leb, and_from}
-use Rattle.std.proofs.lemmas.List.{at_drop_more}
+use Rattle.report_lines.proofs.Common.{list_all, is_ascii_digit, and_parts, and_from, at_drop_more, decimal_is_IsNumeral_wide, IsDigit, AllDigits, value_of, value_after, BeginsWith, BeginsWithNone, ends_number}
+use Rattle.std.proofs.lemmas.Bool.{leb-true, le-leb}
 use Rattle.std.proofs.lemmas.Str.Parse.{IsNumeralModel, numerals_by_fold, tells_by_index}
-use Rattle.std.proofs.lemmas.Fmt.{decimal_is_IsNumeral_wide}
-use Rattle.pool_base.specs.Number.{IsDigit, AllDigits, value_of}
-use Rattle.pool_base.specs.lemmas.Number.{value_after}
-use Rattle.report_lines.specs.Reading.{BeginsWith, BeginsWithNone, ends_number}
 
 -- numerals are read as std reads them
 own : IsNumeralModel AllDigits (value_after 0)

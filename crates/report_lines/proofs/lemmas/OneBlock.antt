@@ -1,30 +1,13 @@
 -- A text begins with one block at most.
 use Rattle.std.proofs.Common.{◌≡◌, ◌≢◌, ℕ, suc, ◌<◌, ◌≤◌, ◌^◌, Bool, true, false, not, ◌==◌, ℤ, pos, negsuc, Option, None, Some, List, [], ◌∷◌, ◌++◌, length, map, codes, decimal, refl, sym, ap, ◌∙◌, subst, append_assoc, ne_eqb, arith}
-use Rattle.std.specs.Char.{is_ascii_digit}
-use Rattle.std.specs.List.{All, list_all, flat_map}
-use Rattle.std.proofs.lemmas.Bool.{and_parts, and_from}
-use Rattle.std.proofs.lemmas.List.Elements.{All-head, All-tail}
+use Rattle.report_lines.proofs.Common.{is_ascii_digit, list_all, and_parts, and_from, All-head, All-tail, stop_text, pair_line, lines_text, numbered, signed, spaced, IsBlock, BeginsBlock, IsCutBlock, IsBadBlock, BlockFails, block_line_text, IsBlockLine, is_one_line, IsId, AreIds, kind_place, may_follow_at, follow_on, last_place, IsWide, IsLong, FitsStop, order_text, IsOrder, visit_text, PlannedStop, BlockLine, Batch, Expired, Overflow, Lapsed, Late, Alone, Shared, Row, Trip, Out, Move, Cost, Bound, Nodes, Branch, Leaf, Dead, End}
+use Rattle.std.specs.List.{All, flat_map}
 use Rattle.std.proofs.lemmas.List.Folds.{list_all-append}
-use Rattle.dispatch_report.specs.Block.{stop_text, pair_line}
-use Rattle.dispatch_report.specs.Lines.{lines_text}
-use Rattle.dispatch_report.specs.Words.{numbered, signed, spaced}
-use Rattle.report_lines.specs.Block.{IsBlock, BeginsBlock, IsCutBlock, IsBadBlock, BlockFails}
 use Rattle.report_lines.specs.declared.block.BlockFault.{BlockFault}
 use Rattle.report_lines.specs.declared.block.BlockFault.TheVariants.{OutOfMemory as NoMemory, Cut, Form}
-use Rattle.report_lines.specs.BlockLine.{block_line_text, IsBlockLine}
-use Rattle.report_lines.specs.Cut.{is_one_line}
-use Rattle.report_lines.specs.Ids.{IsId, AreIds}
-use Rattle.report_lines.specs.Order.{kind_place, may_follow_at, follow_on, last_place}
-use Rattle.report_lines.specs.Signed.{IsWide, IsLong}
-use Rattle.report_lines.specs.Stops.{FitsStop}
-use Rattle.report_lines.specs.work.Late.{order_text, IsOrder}
-use Rattle.report_lines.specs.work.Stops.{visit_text}
 use Rattle.report_lines.proofs.lemmas.NumeralLemmas.{decimal_digits}
 use Rattle.report_lines.proofs.OneLine.{block_line_of_one}
 use Rattle.report_lines.proofs.SignedLemmas.{long_is_wide}
-use Rattle.request_book.specs.declared.outcome.PlannedStop.{PlannedStop}
-use Rattle.report_lines.specs.declared.block_line.BlockLine.{BlockLine}
-use Rattle.report_lines.specs.declared.block_line.BlockLine.TheVariants.{Batch, Expired, Overflow, Lapsed, Late, Alone, Shared, Row, Trip, Out, Move, Cost, Bound, Nodes, Branch, Leaf, Dead, End}
 
 -- lines end at line feeds, and there alone
 pub cut_once : (a b r s : List ℕ) → is_one_line a ≡ true → is_one_line b ≡ true → a ++ 10 ∷ r ≡ b ++ 10 ∷ s → (a ≡ b) × (r ≡ s)

@@ -1,27 +1,17 @@
 -- An outcome's lines are a block.
 use Rattle.std.proofs.Common.{◌≡◌, ℕ, ◌≤◌, true, ℤ, List, [], ◌∷◌, ◌++◌, length, map, codes, nat_le, option_map, Option, None, Some, refl, sym, ap, ◌∙◌, subst, arith}
+use Rattle.report_lines.proofs.Common.{and_from, and_parts, map-append, block_lines, answer_lines, node_line, stop_text, late_line, pair_line, pair_text, trip_line, move_text, lines_text, numbered, spaced, PlannedStop, Outcome, IsBlock, block_line_text, IsBlockLine, kind_place, is_between, may_follow_at, follow_on, last_place, BlockLine, Batch, Expired, Lapsed, Alone, Shared, Out, Move, Cost, Bound, Nodes, End}
 use Rattle.std.specs.List.{All, flat_map}
-use Rattle.std.proofs.lemmas.Bool.{and_from, and_parts, le-leb}
-use Rattle.std.proofs.lemmas.List.{map-append}
-use Rattle.dispatch_report.specs.Block.{block_lines, answer_lines, node_line, stop_text, late_line, pair_line, pair_text, trip_line, move_text}
-use Rattle.dispatch_report.specs.Lines.{lines_text}
-use Rattle.dispatch_report.specs.Words.{numbered, spaced}
+use Rattle.std.proofs.lemmas.Bool.{le-leb}
 use Rattle.plan_rules.specs.declared.node.Node.{Node}
 use Rattle.plan_rules.specs.declared.node.Node.TheVariants.{Branch as Branches, Leaf as Ends, Dead as Closed}
 use Rattle.request_book.specs.declared.outcome.Answer.{Answer}
 use Rattle.request_book.specs.declared.outcome.Answer.TheVariants.{Overflow as TooMany, Planned as Plan}
 use Rattle.arrayvec.specs.ArrayVec.{ArrayVec}
 use Rattle.request_book.specs.declared.outcome.LateVehicle.{LateVehicle}
-use Rattle.request_book.specs.declared.outcome.PlannedStop.{PlannedStop}
-use Rattle.request_book.specs.declared.outcome.Outcome.{Outcome}
 use Rattle.request_book.specs.declared.outcome.Planned.{Planned}
 use Rattle.request_book.specs.declared.outcome.RowLine.{RowLine}
-use Rattle.report_lines.specs.Block.{IsBlock}
-use Rattle.report_lines.specs.BlockLine.{block_line_text, IsBlockLine}
-use Rattle.report_lines.specs.Order.{kind_place, is_between, may_follow_at, follow_on, last_place}
 use Rattle.report_lines.specs.Outcome.{row_as_line, trip_as_line, late_as_line, tree_line, lines_of_answer, lines_of}
-use Rattle.report_lines.specs.declared.block_line.BlockLine.{BlockLine}
-use Rattle.report_lines.specs.declared.block_line.BlockLine.TheVariants.{Batch, Expired, Lapsed, Alone, Shared, Out, Move, Cost, Bound, Nodes, End}
 
 -- texts of lines
 kind_texts : {X : Type 0} (K : X → BlockLine) (t : X → List ℕ) → ((x : X) → block_line_text (K x) ≡ t x) → (xs : List X) → map block_line_text (map K xs) ≡ map t xs

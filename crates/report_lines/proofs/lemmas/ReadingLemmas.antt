@@ -1,9 +1,6 @@
 -- Texts of one thing behind another, and of whole lines.
 use Rattle.std.proofs.Common.{◌≡◌, ◌≢◌, ℕ, ◌≤◌, ◌<◌, ◌^◌, Bool, true, false, nat_eq, length, List, [], ◌∷◌, ◌++◌, Option, Some, None, MatchOption, Bor, decimal, refl, sym, ap, ◌∙◌, append_assoc, append-nil, eqb-true, arith}
-use Rattle.std.proofs.lemmas.List.{append_cancel_left}
-use Rattle.dispatch_report.specs.Words.{numbered, spaced}
-use Rattle.report_lines.specs.Reading.{BeginsWith, BeginsWithNone, ends_number}
-use Rattle.report_lines.specs.Both.{both_texts, BothAre}
+use Rattle.report_lines.proofs.Common.{append_cancel_left, numbered, spaced, BeginsWith, BeginsWithNone, ends_number, both_texts, BothAre}
 use Rattle.report_lines.proofs.lemmas.NumeralLemmas.{digits_unique, decimal_digits, decimal_same}
 
 -- the text of a thing ends at one place alone, and is that of one thing

@@ -1,25 +1,11 @@
 -- The head of a report, line by line.
 use Rattle.std.proofs.Common.{◌≡◌, ℕ, ◌+◌, ◌<◌, ◌^◌, true, get_or, length, inl, inr, List, [], ◌∷◌, ◌++◌, codes, refl, sym, ap, ◌∙◌, subst, arith}
-use Rattle.std.specs.List.{list_all}
-use Rattle.std.proofs.lemmas.Bool.{and_parts, and_from}
-use Rattle.dispatch_report.specs.Head.{head_text, settings_line}
-use Rattle.dispatch_report.specs.Lines.{lines_text}
-use Rattle.dispatch_report.specs.Words.{numbered}
-use Rattle.report_lines.specs.Cut.{is_one_line}
+use Rattle.report_lines.proofs.Common.{list_all, and_parts, and_from, head_text, settings_line, lines_text, numbered, is_one_line, HeadLine, HasForm, FitsLine, HeadFails, LinesFail, head_lines, sizes_of, settings_text, AreSettings, sizes_text, AreSizes, IsFirstLine, Passes, AreOf, AreLawful, HeadFault, SettingsText, LinesThen, told_lines, HasHead, told_of, Settings}
 use Rattle.report_lines.specs.Head.{BeginsWithHead}
-use Rattle.report_lines.specs.HeadFault.{HeadLine, HasForm, FitsLine, HeadFails, LinesFail, head_lines, sizes_of}
-use Rattle.report_lines.specs.HeadLines.{settings_text, AreSettings, sizes_text, AreSizes}
-use Rattle.report_lines.specs.Line.{IsFirstLine, Passes}
-use Rattle.report_lines.specs.Settings.{AreOf, AreLawful}
-use Rattle.report_lines.specs.declared.head_fault.HeadFault.{HeadFault}
-use Rattle.report_lines.specs.declared.head_lines.SettingsText.{SettingsText}
-use Rattle.report_lines.specs.work.Head.{LinesThen, told_lines, HasHead}
-use Rattle.report_lines.specs.work.Settings.{told_of}
 use Rattle.report_lines.proofs.SettingsLemmas.{lawful_short, told_lawful, settings_one_line, settings_line_is, same_settings}
 use Rattle.report_lines.proofs.lemmas.HeadLemmas.{settings_of_one}
 use Rattle.report_lines.proofs.lemmas.LineLemmas.{first_once, said_behind, line_no_fault, line_more}
 use Rattle.report_lines.proofs.lemmas.OneBlock.{append_one_line, numbered_one_line}
-use Rattle.rider_limits.specs.declared.settings.Settings.{Settings}
 use Rattle.road_network.specs.Roads.{Roads}
 
 -- lines at the beginning of a text

@@ -1,29 +1,10 @@
 -- The batch of a seal: what it shows, and what it keeps.
-use Rattle.std.proofs.Common.{◌≡◌, ℕ, zero, suc, ◌+◌, ◌<◌, ◌≤◌, Bool, true, false, cond, leb, ltb, eqb, ◌&&◌, List, [], ◌∷◌, ◌++◌, length, map, Option, Some, None, refl, sym, ap, subst, ◌∙◌, inl, inr, arith}
-use Rattle.std.specs.Prelude.{is_some, option_map, option_and_then, count_by, slice_index}
-use Rattle.std.specs.List.{filter_map, cons_option, All, Contains}
-use Rattle.std.specs.List.Sorted.{IsStrictlyIncreasing}
-use Rattle.std.proofs.lemmas.Bool.{cases_eq, ne_eqb, leb-true, true≢false}
-use Rattle.std.proofs.lemmas.List.{length-map}
-use Rattle.std.proofs.lemmas.List.Sums.{sum_by-cons}
-use Rattle.batch_snapshot.specs.Kept.{IsKept, IsOnce, riders_aboard}
-use Rattle.batch_snapshot.specs.declared.passenger.Passenger.{Passenger}
+use Rattle.std.proofs.Common.{◌≡◌, ℕ, zero, suc, ◌+◌, ◌<◌, ◌≤◌, Bool, true, false, cond, leb, ltb, eqb, ◌&&◌, List, [], ◌∷◌, ◌++◌, length, map, Option, Some, None, refl, sym, ap, subst, ◌∙◌, inl, inr, arith, is_some, option_map, option_and_then, count_by, slice_index}
+use Rattle.request_book.proofs.Common.{cons_option, IsStrictlyIncreasing, cases_eq, length-map, sum_by-cons, IsKept, IsOnce, riders_aboard, Passenger, Rider, Vehicle, BookRider, Status, Waiting, Promised, Aboard, Delivered, Expired, State, IsConsistent, seat_in, look_up, by_key, KeysRise, KeysDiffer, AllAbove, changed_in_turn, pool_id, is_active, pool_promise, vehicle_of, shown, with_status, passenger_of, is_over, after_seal, batch_of, asking, over_id, find_rider, find_vehicle, find_passenger}
+use Rattle.std.specs.List.{filter_map, All, Contains}
+use Rattle.std.proofs.lemmas.Bool.{ne_eqb, leb-true, true≢false}
 use Rattle.batch_snapshot.specs.declared.promise.Promise.{Promise}
-use Rattle.batch_snapshot.specs.declared.rider.Rider.{Rider}
-use Rattle.batch_snapshot.specs.declared.vehicle.Vehicle.{Vehicle}
-use Rattle.request_book.specs.declared.rider.BookRider.{BookRider}
-use Rattle.request_book.specs.declared.rider.Status.{Status}
-use Rattle.request_book.specs.declared.rider.Status.TheVariants.{Waiting, Promised, Aboard, Cancelled, Delivered, Expired}
-use Rattle.request_book.specs.declared.state.State.{State}
-use Rattle.request_book.specs.Consistent.{IsConsistent, seat_in}
-use Rattle.request_book.specs.Keyed.{look_up, by_key, KeysRise, KeysDiffer, AllAbove}
-use Rattle.request_book.specs.work.Keyed.{changed_in_turn}
-use Rattle.request_book.specs.work.Register.{pool_id}
-use Rattle.request_book.specs.Rider.{is_active, pool_promise, vehicle_of, shown, with_status, passenger_of}
-use Rattle.request_book.specs.Sealing.{is_over, after_seal, batch_of}
-use Rattle.request_book.specs.lemmas.Named.{asking}
-use Rattle.request_book.specs.work.Named.{over_id}
-use Rattle.request_book.specs.State.{find_rider, find_vehicle, find_passenger}
+use Rattle.request_book.specs.declared.rider.Status.TheVariants.{Cancelled}
 use Rattle.request_book.proofs.lemmas.IndexLemmas.{IsPool, pool_id-keeps}
 use Rattle.request_book.proofs.lemmas.SealLemmas.{changed_in_turn-marked, marked, map-agree}
 use Rattle.request_book.proofs.lemmas.KeyedLemmas.{IsOrderOf, look_up-here, look_up-there, look_up-nil, look_up-key, look_up-at, look_up-filter_map, KeysDiffer-filter_map, KeysDiffer-from_rise, by_key-order, filter_map-by_key, made-rise, made-found, look_up-map, length-by_key, length-filter_map, All-from_look_up, All-look_up}

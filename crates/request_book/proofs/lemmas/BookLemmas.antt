@@ -1,21 +1,7 @@
 -- What every book keeps is kept by each command.
-use Rattle.std.proofs.Common.{◌≡◌, ℕ, zero, suc, ◌≤◌, ◌<◌, Bool, false, List, [], ◌∷◌, ◌++◌, length, get_or, take, Option, Some, None, refl, sym, ap, subst, ◌∙◌, arith}
-use Rattle.std.specs.Prelude.{option_and_then}
-use Rattle.std.specs.List.{All, list_any}
-use Rattle.std.proofs.lemmas.List.Elements.{All-nil, All-weaker}
-use Rattle.batch_snapshot.specs.Kept.{IsFleet}
-use Rattle.batch_snapshot.specs.declared.passenger.Passenger.{Passenger}
-use Rattle.batch_snapshot.specs.declared.vehicle.Vehicle.{Vehicle}
-use Rattle.request_book.specs.declared.command.Command.{Command}
-use Rattle.request_book.specs.declared.journal.Entry.{Entry}
-use Rattle.request_book.specs.declared.reply.Reply.{Reply}
-use Rattle.request_book.specs.declared.state.State.{State}
-use Rattle.request_book.specs.Book.{BookView, IsBook, opening}
-use Rattle.request_book.specs.Consistent.{IsConsistent, IsNode, NamesNodes}
-use Rattle.request_book.specs.Keyed.{look_up, KeysRise, KeysDiffer}
-use Rattle.request_book.specs.Replay.{state_after, RepliesAreSteps}
-use Rattle.request_book.specs.State.{find_vehicle, find_passenger}
-use Rattle.request_book.specs.Step.{step}
+use Rattle.std.proofs.Common.{◌≡◌, ℕ, zero, suc, ◌≤◌, ◌<◌, Bool, false, List, [], ◌∷◌, ◌++◌, length, get_or, take, Option, Some, None, refl, sym, ap, subst, ◌∙◌, arith, option_and_then}
+use Rattle.request_book.proofs.Common.{list_any, All-nil, All-weaker, IsFleet, Passenger, Vehicle, Command, Entry, Reply, State, BookView, IsBook, opening, IsConsistent, IsNode, NamesNodes, look_up, KeysRise, KeysDiffer, state_after, RepliesAreSteps, find_vehicle, find_passenger, step}
+use Rattle.std.specs.List.{All}
 use Rattle.request_book.proofs.lemmas.ConsistentLemmas.{step-consistent}
 use Rattle.request_book.proofs.lemmas.KeyedLemmas.{look_up-nil, All-look_up, rise_from_increasing}
 use Rattle.request_book.proofs.lemmas.NamedLemmas.{step-named}

@@ -1,30 +1,15 @@
 -- What a close makes of the riders.
-use Rattle.std.proofs.Common.{◌≡◌, ℕ, zero, suc, ◌+◌, ◌<◌, ◌≤◌, Bool, true, false, cond, eqb, ◌&&◌, List, [], ◌∷◌, ◌++◌, length, get_or, drop, map, Option, Some, None, Result, Ok, Err, Equal, Less, Greater, refl, sym, ap, subst, ◌∙◌, inl, inr, arith}
-use Rattle.std.specs.Prelude.{is_some, is_ok, option_map, unwrap_or}
-use Rattle.std.specs.List.Sorted.{IsBinarySearchResult, IsSearchInRange, IsSortedBy}
+use Rattle.std.proofs.Common.{◌≡◌, ℕ, zero, suc, ◌+◌, ◌<◌, ◌≤◌, Bool, true, false, cond, eqb, ◌&&◌, List, [], ◌∷◌, ◌++◌, length, get_or, drop, map, Option, Some, None, Result, Ok, Err, Equal, Less, Greater, refl, sym, ap, subst, ◌∙◌, inl, inr, arith, is_some, is_ok, option_map, unwrap_or}
+use Rattle.request_book.proofs.Common.{IsBinarySearchResult, IsSearchInRange, cases_eq, cases_lt, at_drop_more, drop_all, searchable_from_sorted, Rider, ChosenTrip, PlannedStop, BookRider, Status, Waiting, Promised, Aboard, Delivered, Expired, Pick, picks, trip_picks, after_plan, after_answer, in_batch, planned_status, waits_again, takes_promise, promised_in_turn, Answer, Overflow, pool_id, look_up, changed_at, KeysRise, KeysDiffer, AllAbove, changed_in_turn, is_active, with_status, is_waiting}
+use Rattle.std.specs.List.Sorted.{IsSortedBy}
 use Rattle.std.specs.Ordering.{nat_cmp, is_lt}
 use Rattle.std.specs.Cmp.{nat_cmp_total}
-use Rattle.std.proofs.lemmas.Bool.{cases_eq, cases_lt, eq-eqb, ne_eqb}
+use Rattle.std.proofs.lemmas.Bool.{eq-eqb, ne_eqb}
 use Rattle.std.proofs.lemmas.Bool.Decides.{nat_tests}
-use Rattle.std.proofs.lemmas.List.{at_drop_more, drop_all, append-nil, append_assoc}
-use Rattle.std.proofs.lemmas.List.Sorted.{searchable_from_sorted}
-use Rattle.batch_snapshot.specs.declared.rider.Rider.{Rider}
-use Rattle.request_book.specs.declared.outcome.ChosenTrip.{ChosenTrip}
-use Rattle.request_book.specs.declared.outcome.PlannedStop.{PlannedStop}
-use Rattle.request_book.specs.declared.rider.BookRider.{BookRider}
-use Rattle.request_book.specs.declared.rider.Status.{Status}
-use Rattle.request_book.specs.declared.rider.Status.TheVariants.{Waiting, Promised, Aboard, Cancelled, Delivered, Expired}
-use Rattle.request_book.specs.Closing.{Pick, picks, trip_picks, after_plan, after_answer}
-use Rattle.request_book.specs.lemmas.Named.{in_batch, planned_status}
-use Rattle.request_book.specs.work.Closing.{waits_again, takes_promise, promised_in_turn}
-use Rattle.request_book.specs.declared.outcome.Answer.{Answer}
-use Rattle.request_book.specs.declared.outcome.Answer.TheVariants.{Overflow, Planned as Plan}
-use Rattle.request_book.specs.work.Register.{pool_id}
+use Rattle.std.proofs.lemmas.List.{append-nil, append_assoc}
+use Rattle.request_book.specs.declared.rider.Status.TheVariants.{Cancelled}
+use Rattle.request_book.specs.declared.outcome.Answer.TheVariants.{Planned as Plan}
 use Rattle.request_book.proofs.lemmas.IndexLemmas.{IsPool, IsPool-map}
-use Rattle.request_book.specs.Keyed.{look_up, changed_at, KeysRise, KeysDiffer, AllAbove}
-use Rattle.request_book.specs.work.Keyed.{changed_in_turn}
-use Rattle.request_book.specs.Rider.{is_active, with_status}
-use Rattle.request_book.specs.work.Closing.{is_waiting}
 use Rattle.request_book.proofs.lemmas.KeyedLemmas.{look_up-here, look_up-there, look_up-nil, look_up-at, look_up-push_here, look_up-push_there, look_up-push_found, KeysDiffer-map, map-keys, KeysDiffer-from_rise}
 use Rattle.request_book.proofs.lemmas.SealLemmas.{changed_in_turn-marked, marked}
 

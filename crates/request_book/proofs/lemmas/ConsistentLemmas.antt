@@ -1,40 +1,10 @@
 -- What every state of a book keeps is kept by each step.
-use Rattle.std.proofs.Common.{◌≡◌, ℕ, ◌+◌, ◌<◌, ◌≤◌, Bool, true, false, cond, eqb, leb, ◌&&◌, List, [], ◌∷◌, ◌++◌, length, map, Option, Some, None, refl, sym, ap, subst, ◌∙◌, inl, inr, arith}
-use Rattle.std.specs.Prelude.{option_map, option_and_then, count_by}
+use Rattle.std.proofs.Common.{◌≡◌, ℕ, ◌+◌, ◌<◌, ◌≤◌, Bool, true, false, cond, eqb, leb, ◌&&◌, List, [], ◌∷◌, ◌++◌, length, map, Option, Some, None, refl, sym, ap, subst, ◌∙◌, inl, inr, arith, option_map, option_and_then, count_by}
+use Rattle.request_book.proofs.Common.{cases_eq, length-map, sum_by-cons, sum_by_push, Batch, HasSeats, persons_aboard, Passenger, Rider, Vehicle, Command, Submit, Cancel, Report, Pickup, Dropoff, Seal, Close, Answer, Overflow, Planned, BookRefusal, BookFull, NotAboard, VehicleFull, Reply, Accepted, Cancelled, Placed, Picked, Dropped, Sealed, Closed, BookRider, Status, Waiting, Promised, Aboard, Delivered, Expired, State, Pick, after_answer, after_plan, picks, in_batch, takes_in, lets_out, planned_status, closed_state, AreConsistent, IsConsistent, seat_in, changed_at, without, KeysRise, KeysDiffer, first_of, unknown_vehicle, unknown_rider, is_aboard, has_ended, not_promised, not_aboard, time_back, vehicle_full, seat_refusal, not_this_batch, is_active, vehicle_of, with_status, passenger_of, is_over, after_seal, sealed_state, one_more, find_rider, find_vehicle, find_passenger, pool_count, rider_becomes, vehicle_becomes, step, stands_at, answer, picked_up, dropped_off, submit_refusal, submit_step, cancel_step, report_step, pickup_step, dropoff_step, seal_refusal, seal_step, close_step, table_step}
 use Rattle.std.specs.List.{All, sum_by}
-use Rattle.std.proofs.lemmas.Bool.{cases_eq, eq-eqb, ne_eqb, eqb-true, leb-true, leb-false, true≢false}
-use Rattle.std.proofs.lemmas.List.{length-map, length-append}
-use Rattle.std.proofs.lemmas.List.Sums.{sum_by-cons, sum_by_push}
-use Rattle.batch_snapshot.specs.Batch.{Batch}
-use Rattle.batch_snapshot.specs.Vehicle.{HasSeats, persons_aboard}
-use Rattle.batch_snapshot.specs.declared.passenger.Passenger.{Passenger}
-use Rattle.batch_snapshot.specs.declared.rider.Rider.{Rider}
-use Rattle.batch_snapshot.specs.declared.vehicle.Vehicle.{Vehicle}
-use Rattle.request_book.specs.declared.command.Command.{Command}
-use Rattle.request_book.specs.declared.command.Command.TheVariants.{Submit, Cancel, Report, Pickup, Dropoff, Seal, Close}
-use Rattle.request_book.specs.declared.outcome.Answer.{Answer}
-use Rattle.request_book.specs.declared.outcome.Answer.TheVariants.{Overflow, Planned}
-use Rattle.request_book.specs.declared.reply.BookRefusal.{BookRefusal}
-use Rattle.request_book.specs.declared.reply.BookRefusal.TheVariants.{BookFull, NotAboard, VehicleFull}
-use Rattle.request_book.specs.declared.reply.Reply.{Reply}
-use Rattle.request_book.specs.declared.reply.Reply.TheVariants.{Accepted, Cancelled, Placed, Picked, Dropped, Sealed, Closed}
-use Rattle.request_book.specs.declared.rider.BookRider.{BookRider}
-use Rattle.request_book.specs.declared.rider.Status.{Status}
-use Rattle.request_book.specs.declared.rider.Status.TheVariants.{Waiting, Promised, Aboard, Delivered, Expired, Cancelled as GivenUp}
-use Rattle.request_book.specs.declared.state.State.{State}
-use Rattle.request_book.specs.Closing.{Pick, after_answer, after_plan, picks}
-use Rattle.request_book.specs.lemmas.Named.{in_batch, takes_in, lets_out, planned_status}
-use Rattle.request_book.specs.lemmas.Closing.{closed_state}
-use Rattle.request_book.specs.Consistent.{AreConsistent, IsConsistent, seat_in}
-use Rattle.request_book.specs.Keyed.{changed_at, without, KeysRise, KeysDiffer}
-use Rattle.request_book.specs.lemmas.Refusals.{first_of, unknown_vehicle, unknown_rider, is_aboard, has_ended, not_promised, not_aboard, time_back, vehicle_full, seat_refusal, not_this_batch}
-use Rattle.request_book.specs.Rider.{is_active, vehicle_of, with_status, passenger_of}
-use Rattle.request_book.specs.Sealing.{is_over, after_seal, sealed_state}
-use Rattle.pool_io.specs.Faults.{one_more}
-use Rattle.request_book.specs.State.{find_rider, find_vehicle, find_passenger, pool_count}
-use Rattle.request_book.specs.Step.{rider_becomes, vehicle_becomes, step}
-use Rattle.request_book.specs.lemmas.Named.{stands_at}
-use Rattle.request_book.specs.lemmas.Table.{answer, picked_up, dropped_off, submit_refusal, submit_step, cancel_step, report_step, pickup_step, dropoff_step, seal_refusal, seal_step, close_step, table_step}
+use Rattle.std.proofs.lemmas.Bool.{eq-eqb, ne_eqb, eqb-true, leb-true, leb-false, true≢false}
+use Rattle.std.proofs.lemmas.List.{length-append}
+use Rattle.request_book.specs.declared.rider.Status.TheVariants.{Cancelled as GivenUp}
 use Rattle.request_book.proofs.lemmas.BatchLemmas.{after_seal-id}
 use Rattle.request_book.proofs.lemmas.CloseLemmas.{after_plan-id, after_plan-active}
 use Rattle.request_book.proofs.lemmas.KeyedLemmas.{look_up-key, look_up-map, look_up-changed_here, look_up-changed_there, look_up-push_here, look_up-push_there, look_up-without_here, look_up-without_there, KeysDiffer-push, KeysDiffer-map, KeysDiffer-changed_at, KeysDiffer-from_rise, KeysRise-changed_at, All-changed_at, length-changed_at}

@@ -1,14 +1,8 @@
 -- What the words on lists with keys come to.
-use Rattle.std.proofs.Common.{◌≡◌, ℕ, zero, suc, ◌+◌, ◌<◌, ◌≤◌, Bool, cond, eqb, ltb, List, [], ◌∷◌, ◌++◌, length, get_or, set, map, take, Option, None, Some, refl, sym, ap, subst, ◌∙◌, inl, inr, arith}
-use Rattle.std.specs.Prelude.{option_map, option_and_then, position, is_some, ◌||◌, count_by}
-use Rattle.std.specs.List.{filter_map, cons_option, list_any, All, insert, remove}
-use Rattle.std.specs.List.Sorted.{IsStrictlyIncreasing}
-use Rattle.std.proofs.lemmas.List.{length-map}
-use Rattle.std.proofs.lemmas.List.Quantifiers.{position-Some}
-use Rattle.std.proofs.lemmas.List.Sums.{sum_by-cons}
-use Rattle.std.proofs.lemmas.List.Elements.{All-nil, All-cons, All-head, All-tail}
-use Rattle.std.proofs.lemmas.Bool.{cases_eq, cases_lt, cases_order, eq-eqb, ne_eqb, lt-ltb, le-ltb, cond-true, cond-false, eqb-true}
-use Rattle.request_book.specs.Keyed.{look_up, changed_at, without, AllAbove, KeysRise, KeysDiffer, placed, by_key}
+use Rattle.std.proofs.Common.{◌≡◌, ℕ, zero, suc, ◌+◌, ◌<◌, ◌≤◌, Bool, cond, eqb, ltb, List, [], ◌∷◌, ◌++◌, length, get_or, set, map, take, Option, None, Some, refl, sym, ap, subst, ◌∙◌, inl, inr, arith, option_map, option_and_then, position, is_some, ◌||◌, count_by}
+use Rattle.request_book.proofs.Common.{cons_option, list_any, IsStrictlyIncreasing, length-map, position-Some, sum_by-cons, All-nil, All-cons, All-head, All-tail, cases_eq, cases_lt, cases_order, cond-true, cond-false, look_up, changed_at, without, AllAbove, KeysRise, KeysDiffer, placed, by_key}
+use Rattle.std.specs.List.{filter_map, All, insert, remove}
+use Rattle.std.proofs.lemmas.Bool.{eq-eqb, ne_eqb, lt-ltb, le-ltb, eqb-true}
 
 module _ {X : Type 0} (key : X → ℕ) where
   pub look_up-here : (k : ℕ) (x : X) (xs : List X) → key x ≡ k → look_up key k (x ∷ xs) ≡ Some x

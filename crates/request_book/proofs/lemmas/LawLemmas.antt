@@ -1,32 +1,10 @@
 -- The laws of steps and journals.
-use Rattle.std.proofs.Common.{◌≡◌, ℕ, ◌+◌, ◌-◌, ◌^◌, ◌≤◌, Bool, true, false, cond, eqb, List, [], ◌∷◌, ◌++◌, length, Option, Some, None, refl, sym, ap, ◌∙◌, inl, inr, arith}
-use Rattle.std.specs.Prelude.{min, is_some, option_map, option_and_then, ◌↔◌}
+use Rattle.std.proofs.Common.{◌≡◌, ℕ, ◌+◌, ◌-◌, ◌^◌, ◌≤◌, Bool, true, false, cond, eqb, List, [], ◌∷◌, ◌++◌, length, Option, Some, None, refl, sym, ap, ◌∙◌, inl, inr, arith, min, is_some, option_map, option_and_then, ◌↔◌}
+use Rattle.request_book.proofs.Common.{cases_lt, IsFleet, Vehicle, Command, Submit, Cancel, Report, Pickup, Dropoff, Seal, Close, Entry, BookRefusal, Reply, Accepted, Cancelled, Placed, Picked, Dropped, Sealed, Closed, Refused, BookRider, Status, Waiting, Promised, Aboard, Delivered, Expired, State, next_position, opening, closed_state, IsConsistent, IsPassenger, seat_in, status_in, state_after, passenger_of, vehicle_of, sealed_state, one_more, find_rider, rider_becomes, vehicle_becomes, step, stands_at, answer, picked_up, dropped_off, submit_step, cancel_step, report_step, pickup_step, dropoff_step, seal_step, close_step, table_step}
 use Rattle.std.proofs.Math.Nat.{min-eq_left, min-eq_right}
-use Rattle.std.proofs.lemmas.Bool.{cases_lt, eq-eqb, eqb-true, true≢false}
+use Rattle.std.proofs.lemmas.Bool.{eq-eqb, eqb-true, true≢false}
 use Rattle.std.proofs.lemmas.List.{length-append}
-use Rattle.batch_snapshot.specs.Kept.{IsFleet}
-use Rattle.batch_snapshot.specs.declared.vehicle.Vehicle.{Vehicle}
-use Rattle.request_book.specs.declared.command.Command.{Command}
-use Rattle.request_book.specs.declared.command.Command.TheVariants.{Submit, Cancel, Report, Pickup, Dropoff, Seal, Close}
-use Rattle.request_book.specs.declared.journal.Entry.{Entry}
-use Rattle.request_book.specs.declared.reply.BookRefusal.{BookRefusal}
-use Rattle.request_book.specs.declared.reply.Reply.{Reply}
-use Rattle.request_book.specs.declared.reply.Reply.TheVariants.{Accepted, Cancelled, Placed, Picked, Dropped, Sealed, Closed, Refused}
-use Rattle.request_book.specs.declared.rider.BookRider.{BookRider}
-use Rattle.request_book.specs.declared.rider.Status.{Status}
-use Rattle.request_book.specs.declared.rider.Status.TheVariants.{Waiting, Promised, Aboard, Delivered, Expired, Cancelled as GivenUp}
-use Rattle.request_book.specs.declared.state.State.{State}
-use Rattle.request_book.specs.Book.{next_position, opening}
-use Rattle.request_book.specs.lemmas.Closing.{closed_state}
-use Rattle.request_book.specs.Consistent.{IsConsistent, IsPassenger, seat_in, status_in}
-use Rattle.request_book.specs.Replay.{state_after}
-use Rattle.request_book.specs.Rider.{passenger_of, vehicle_of}
-use Rattle.request_book.specs.Sealing.{sealed_state}
-use Rattle.pool_io.specs.Faults.{one_more}
-use Rattle.request_book.specs.State.{find_rider}
-use Rattle.request_book.specs.Step.{rider_becomes, vehicle_becomes, step}
-use Rattle.request_book.specs.lemmas.Named.{stands_at}
-use Rattle.request_book.specs.lemmas.Table.{answer, picked_up, dropped_off, submit_step, cancel_step, report_step, pickup_step, dropoff_step, seal_step, close_step, table_step}
+use Rattle.request_book.specs.declared.rider.Status.TheVariants.{Cancelled as GivenUp}
 use Rattle.request_book.proofs.lemmas.BookLemmas.{opening-consistent}
 use Rattle.request_book.proofs.lemmas.ConsistentLemmas.{step-consistent}
 use Rattle.request_book.proofs.lemmas.StepTable.{step-table}

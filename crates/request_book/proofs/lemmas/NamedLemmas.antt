@@ -1,36 +1,10 @@
 -- Every step keeps that the state names nodes of the network alone.
-use Rattle.std.proofs.Common.{◌≡◌, ℕ, Bool, true, false, cond, eqb, ◌&&◌, List, [], ◌∷◌, ◌++◌, map, Option, Some, None, refl, sym, ap, subst, ◌∙◌}
-use Rattle.std.specs.Prelude.{option_and_then}
+use Rattle.std.proofs.Common.{◌≡◌, ℕ, Bool, true, false, cond, eqb, ◌&&◌, List, [], ◌∷◌, ◌++◌, map, Option, Some, None, refl, sym, ap, subst, ◌∙◌, option_and_then}
+use Rattle.request_book.proofs.Common.{All-nil, All-cons, All-head, All-tail, All-append, All-push, All-map, All-weaker, Passenger, Rider, Vehicle, Command, Submit, Cancel, Report, Pickup, Dropoff, Seal, Close, Answer, Overflow, Planned, UnknownNode, Accepted, Cancelled, Placed, Picked, Dropped, Sealed, BookRider, Status, Waiting, Aboard, Delivered, Expired, State, after_answer, after_plan, picks, in_batch, takes_in, lets_out, asking, planned_status, IsConsistent, IsNode, NamesNodes, seat_in, KeysDiffer, by_key, unknown_node, is_active, vehicle_of, with_status, passenger_of, is_over, after_seal, batch_of, sealed_state, one_more, find_rider, find_vehicle, find_passenger, has_node, rider_becomes, vehicle_becomes, step, stands_at, picked_up, dropped_off, submit_refusal, submit_step, cancel_step, report_step, pickup_step, dropoff_step, seal_refusal, seal_step, close_step, table_step}
 use Rattle.std.specs.List.{All, filter_map, flat_map}
-use Rattle.std.proofs.lemmas.List.Elements.{All-nil, All-cons, All-head, All-tail, All-append, All-push, All-map, All-weaker}
 use Rattle.batch_snapshot.specs.Points.{named_nodes}
 use Rattle.batch_snapshot.specs.lemmas.Points.{vehicle_nodes, rider_nodes}
-use Rattle.batch_snapshot.specs.declared.passenger.Passenger.{Passenger}
-use Rattle.batch_snapshot.specs.declared.rider.Rider.{Rider}
-use Rattle.batch_snapshot.specs.declared.vehicle.Vehicle.{Vehicle}
-use Rattle.request_book.specs.declared.command.Command.{Command}
-use Rattle.request_book.specs.declared.command.Command.TheVariants.{Submit, Cancel, Report, Pickup, Dropoff, Seal, Close}
-use Rattle.request_book.specs.declared.outcome.Answer.{Answer}
-use Rattle.request_book.specs.declared.outcome.Answer.TheVariants.{Overflow, Planned}
-use Rattle.request_book.specs.declared.reply.BookRefusal.TheVariants.{UnknownNode}
-use Rattle.request_book.specs.declared.reply.Reply.TheVariants.{Accepted, Cancelled, Placed, Picked, Dropped, Sealed}
-use Rattle.request_book.specs.declared.rider.BookRider.{BookRider}
-use Rattle.request_book.specs.declared.rider.Status.{Status}
-use Rattle.request_book.specs.declared.rider.Status.TheVariants.{Waiting, Aboard, Delivered, Expired, Cancelled as GivenUp}
-use Rattle.request_book.specs.declared.state.State.{State}
-use Rattle.request_book.specs.Closing.{after_answer, after_plan, picks}
-use Rattle.request_book.specs.lemmas.Named.{in_batch, takes_in, lets_out, asking, planned_status}
-use Rattle.request_book.specs.Consistent.{IsConsistent, IsNode, NamesNodes, seat_in}
-use Rattle.request_book.specs.Keyed.{KeysDiffer, by_key}
-use Rattle.request_book.specs.lemmas.Refusals.{unknown_node}
-use Rattle.request_book.specs.Rider.{is_active, vehicle_of, with_status, passenger_of}
-use Rattle.request_book.specs.Sealing.{is_over, after_seal, batch_of, sealed_state}
-use Rattle.pool_io.specs.Faults.{one_more}
-use Rattle.request_book.specs.State.{find_rider, find_vehicle, find_passenger}
-use Rattle.road_network.specs.Roads.{has_node}
-use Rattle.request_book.specs.Step.{rider_becomes, vehicle_becomes, step}
-use Rattle.request_book.specs.lemmas.Named.{stands_at}
-use Rattle.request_book.specs.lemmas.Table.{picked_up, dropped_off, submit_refusal, submit_step, cancel_step, report_step, pickup_step, dropoff_step, seal_refusal, seal_step, close_step, table_step}
+use Rattle.request_book.specs.declared.rider.Status.TheVariants.{Cancelled as GivenUp}
 use Rattle.request_book.proofs.lemmas.BatchLemmas.{batch-each}
 use Rattle.request_book.proofs.lemmas.ConsistentLemmas.{answer-keeps, close-keeps}
 use Rattle.request_book.proofs.lemmas.KeyedLemmas.{All-changed_at, All-look_up, All-from_look_up, KeysDiffer-from_rise}

@@ -1,15 +1,9 @@
 -- How a register finds and changes its riders and vehicles.
-use Rattle.std.proofs.Common.{◌≡◌, ℕ, zero, suc, ◌+◌, ◌<◌, ◌≤◌, Bool, true, false, eqb, List, [], ◌∷◌, length, get_or, drop, map, Option, None, Some, Result, Ok, Err, refl, sym, ap, subst, ◌∙◌, inl, inr, arith}
-use Rattle.std.specs.Prelude.{MatchOption, MatchResult, position, is_some}
+use Rattle.std.proofs.Common.{◌≡◌, ℕ, zero, suc, ◌+◌, ◌<◌, ◌≤◌, Bool, true, false, eqb, List, [], ◌∷◌, length, get_or, drop, map, Option, None, Some, Result, Ok, Err, refl, sym, ap, subst, ◌∙◌, inl, inr, arith, MatchOption, MatchResult, position, is_some}
+use Rattle.request_book.proofs.Common.{list_any, IsBinarySearchResult, cases_lt, cases_eq, false≢true, at_drop_more, drop_all, searched, look_up, placed, without, KeysRise, KeysDiffer, first_of, BookRefusal}
 use Rattle.std.specs.Ordering.{nat_cmp}
-use Rattle.std.specs.List.{list_any, remove, insert}
-use Rattle.std.specs.List.Sorted.{IsBinarySearchResult}
-use Rattle.std.proofs.lemmas.Bool.{cases_lt, cases_eq, eq-eqb, ne_eqb, false≢true}
-use Rattle.std.proofs.lemmas.List.{at_drop_more, drop_all}
-use Rattle.std.proofs.lemmas.List.Sorted.{searched}
-use Rattle.request_book.specs.Keyed.{look_up, placed, without, KeysRise, KeysDiffer}
-use Rattle.request_book.specs.lemmas.Refusals.{first_of}
-use Rattle.request_book.specs.declared.reply.BookRefusal.{BookRefusal}
+use Rattle.std.specs.List.{remove, insert}
+use Rattle.std.proofs.lemmas.Bool.{eq-eqb, ne_eqb}
 use Rattle.request_book.proofs.lemmas.KeyedLemmas.{look_up-position, look_up-list_any, nondecreasing_from_rise, insert-placed, remove-without, look_up-at, look_up-nil, look_up-there, without_key-absent, look_up-nowhere, KeysDiffer-from_rise, without-absent}
 
 -- the first refusal is the first of the rest after one that doesn't hold

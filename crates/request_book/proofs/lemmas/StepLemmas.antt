@@ -1,26 +1,8 @@
 -- How the steps go on from their refusals.
 use Rattle.std.proofs.Common.{◌≡◌, ℕ, ◌<◌, Bool, true, false, cond, leb, List, [], ◌∷◌, ◌++◌, length, get_or, Option, Some, None, refl, sym, ap, ◌∙◌, arith}
+use Rattle.request_book.proofs.Common.{Vehicle, Batch, Answer, after_answer, closed_state, sealed_state, one_more, BookRefusal, Refused, Accepted, Cancelled, Placed, Picked, Dropped, Sealed, Closed, UnknownRider, UnknownVehicle, PoolFull, BookRider, Status, Waiting, Promised, Aboard, Delivered, Expired, State, is_active, first_of, duplicate_rider, aboard_refusal, ended_refusal, promise_refusal, seat_refusal, time_back, vehicle_full, unknown_node, not_this_batch, find_rider, find_vehicle, pool_count, rider_becomes, vehicle_becomes, stands_at, takes_in, lets_out, answer, submit_refusal, submit_step, cancel_step, report_step, pickup_step, dropoff_step, seal_refusal, seal_step, close_step}
 use Rattle.std.proofs.lemmas.Bool.{leb-false}
-use Rattle.batch_snapshot.specs.declared.vehicle.Vehicle.{Vehicle}
-use Rattle.batch_snapshot.specs.Batch.{Batch}
-use Rattle.request_book.specs.declared.outcome.Answer.{Answer}
-use Rattle.request_book.specs.Closing.{after_answer}
-use Rattle.request_book.specs.lemmas.Closing.{closed_state}
-use Rattle.request_book.specs.Sealing.{sealed_state}
-use Rattle.pool_io.specs.Faults.{one_more}
-use Rattle.request_book.specs.declared.reply.BookRefusal.{BookRefusal}
-use Rattle.request_book.specs.declared.reply.Reply.TheVariants.{Refused, Accepted, Cancelled, Placed, Picked, Dropped, Sealed, Closed}
-use Rattle.request_book.specs.declared.reply.BookRefusal.TheVariants.{UnknownRider, UnknownVehicle, PoolFull}
-use Rattle.request_book.specs.declared.rider.BookRider.{BookRider}
-use Rattle.request_book.specs.declared.rider.Status.{Status}
-use Rattle.request_book.specs.declared.rider.Status.TheVariants.{Waiting, Promised, Aboard, Cancelled as GivenUp, Delivered, Expired}
-use Rattle.request_book.specs.declared.state.State.{State}
-use Rattle.request_book.specs.Rider.{is_active}
-use Rattle.request_book.specs.lemmas.Refusals.{first_of, duplicate_rider, aboard_refusal, ended_refusal, promise_refusal, seat_refusal, time_back, vehicle_full, unknown_node, not_this_batch}
-use Rattle.request_book.specs.State.{find_rider, find_vehicle, pool_count}
-use Rattle.request_book.specs.Step.{rider_becomes, vehicle_becomes}
-use Rattle.request_book.specs.lemmas.Named.{stands_at, takes_in, lets_out}
-use Rattle.request_book.specs.lemmas.Table.{answer, submit_refusal, submit_step, cancel_step, report_step, pickup_step, dropoff_step, seal_refusal, seal_step, close_step}
+use Rattle.request_book.specs.declared.rider.Status.TheVariants.{Cancelled as GivenUp}
 
 -- where the first refusal of a list is none, none of them holds
 pub first_of-none : (o : Option BookRefusal) (rest : List (Option BookRefusal)) → first_of (o ∷ rest) ≡ None → (o ≡ None) × (first_of rest ≡ None)

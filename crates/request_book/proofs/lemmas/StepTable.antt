@@ -1,34 +1,10 @@
 -- The step table is what the register works: refusals as a list of those that hold.
-use Rattle.std.proofs.Common.{◌≡◌, ℕ, ◌+◌, Bool, true, false, cond, eqb, leb, ltb, List, [], ◌∷◌, ◌++◌, length, Option, Some, None, Result, Ok, Err, refl, sym, ap, subst, ◌∙◌}
-use Rattle.std.specs.Prelude.{is_some, ◌&&◌, not}
-use Rattle.std.specs.Option.{ok_or, option_map_or}
-use Rattle.batch_snapshot.specs.Batch.{Batch}
-use Rattle.batch_snapshot.specs.Vehicle.{persons_aboard}
-use Rattle.batch_snapshot.specs.declared.vehicle.Vehicle.{Vehicle}
+use Rattle.std.proofs.Common.{◌≡◌, ℕ, ◌+◌, Bool, true, false, cond, eqb, leb, ltb, List, [], ◌∷◌, ◌++◌, length, Option, Some, None, Result, Ok, Err, refl, sym, ap, subst, ◌∙◌, is_some, ◌&&◌, not}
+use Rattle.request_book.proofs.Common.{option_map_or, Batch, persons_aboard, Vehicle, one_more, has_node, Command, Answer, BookRefusal, DuplicateRider, UnknownNode, SamePlace, PoolFull, BookFull, UnknownRider, UnknownVehicle, TimeBack, NotPromised, VehicleFull, NotAboard, BatchOpen, ClockBack, NotThisBatch, Reply, Accepted, Cancelled, Placed, Picked, Dropped, Sealed, Closed, BookRider, Status, Waiting, Promised, Aboard, Delivered, Expired, State, would_seal, after_answer, vehicle_of, batch_of, sealed_state, find_rider, find_vehicle, pool_count, rider_becomes, vehicle_becomes, still_asks, is_promised_by, submit, cancel, report, pickup, dropoff, seal, close, answered, step, stands_at, takes_in, lets_out, closed_state, first_of, duplicate_rider, unknown_rider, is_aboard, has_ended, aboard_refusal, ended_refusal, promise_refusal, seat_refusal, unknown_vehicle, time_back, not_promised, vehicle_full, not_aboard, batch_open, clock_back, not_this_batch, answer, picked_up, dropped_off, submit_step, cancel_step, report_step, pickup_step, dropoff_step, seal_refusal, seal_step, close_step, table_step, batch_unless}
+use Rattle.std.specs.Option.{ok_or}
 use Rattle.pool_base.specs.InOrder.{◌>>=◌, refused_where}
-use Rattle.pool_io.specs.Faults.{one_more}
-use Rattle.road_network.specs.Roads.{has_node}
-use Rattle.request_book.specs.declared.command.Command.{Command}
+use Rattle.request_book.specs.declared.rider.Status.TheVariants.{Cancelled as GivenUp}
 use Rattle.request_book.specs.declared.command.Command.TheVariants as command
-use Rattle.request_book.specs.declared.outcome.Answer.{Answer}
-use Rattle.request_book.specs.declared.reply.BookRefusal.{BookRefusal}
-use Rattle.request_book.specs.declared.reply.BookRefusal.TheVariants.{DuplicateRider, UnknownNode, SamePlace, PoolFull, BookFull, UnknownRider, UnknownVehicle, TimeBack, NotPromised, VehicleFull, NotAboard, BatchOpen, ClockBack, NotThisBatch}
-use Rattle.request_book.specs.declared.reply.Reply.{Reply}
-use Rattle.request_book.specs.declared.reply.Reply.TheVariants.{Accepted, Cancelled, Placed, Picked, Dropped, Sealed, Closed}
-use Rattle.request_book.specs.declared.rider.BookRider.{BookRider}
-use Rattle.request_book.specs.declared.rider.Status.{Status}
-use Rattle.request_book.specs.declared.rider.Status.TheVariants.{Waiting, Promised, Aboard, Delivered, Expired, Cancelled as GivenUp}
-use Rattle.request_book.specs.declared.state.State.{State}
-use Rattle.request_book.specs.Book.{would_seal}
-use Rattle.request_book.specs.Closing.{after_answer}
-use Rattle.request_book.specs.Rider.{vehicle_of}
-use Rattle.request_book.specs.Sealing.{batch_of, sealed_state}
-use Rattle.request_book.specs.State.{find_rider, find_vehicle, pool_count}
-use Rattle.request_book.specs.Step.{rider_becomes, vehicle_becomes, still_asks, is_promised_by, submit, cancel, report, pickup, dropoff, seal, close, answered, step}
-use Rattle.request_book.specs.lemmas.Named.{stands_at, takes_in, lets_out}
-use Rattle.request_book.specs.lemmas.Closing.{closed_state}
-use Rattle.request_book.specs.lemmas.Refusals.{first_of, duplicate_rider, unknown_rider, is_aboard, has_ended, aboard_refusal, ended_refusal, promise_refusal, seat_refusal, unknown_vehicle, time_back, not_promised, vehicle_full, not_aboard, batch_open, clock_back, not_this_batch}
-use Rattle.request_book.specs.lemmas.Table.{answer, picked_up, dropped_off, submit_step, cancel_step, report_step, pickup_step, dropoff_step, seal_refusal, seal_step, close_step, table_step, batch_unless}
 
 submit-table : (nodes : List ℕ) (s : State) (r : BookRider) → answered s Accepted (submit nodes s r) ≡ submit_step nodes s r
 unfolding submit submit_step first_of

@@ -1,27 +1,10 @@
 -- At a seal the stops of each vehicle serve, by the batch's table, its passengers and the riders promised to it.
-use Rattle.std.proofs.Common.{◌≡◌, ℕ, zero, suc, ◌+◌, ◌<◌, ◌≤◌, Bool, true, false, cond, eqb, leb, nat_eq, List, [], ◌∷◌, length, get_or, map, Option, Some, None, refl, sym, ap, ◌∙◌, subst, arith, inl, inr}
-use Rattle.std.specs.Prelude.{option_map, option_and_then, slice_get}
-use Rattle.std.specs.List.{AllByRecursion, IsDistinct, sum_by}
+use Rattle.std.proofs.Common.{◌≡◌, ℕ, zero, suc, ◌+◌, ◌<◌, ◌≤◌, Bool, true, false, cond, eqb, leb, nat_eq, List, [], ◌∷◌, length, get_or, map, Option, Some, None, refl, sym, ap, ◌∙◌, subst, arith, inl, inr, option_map, option_and_then, slice_get}
+use Rattle.route_drive.proofs.Common.{AllByRecursion, IsDistinct, cases_eq, cases_lt, get_or_default, sum_by-cons, Passenger, Promise, Rider, seat_in, look_up, KeysDiffer, shown, pool_promise, passenger_of, vehicle_of, asking, find_rider, BookRider, Status, Waiting, Promised, Aboard, Cancelled, Delivered, Expired, State, look_up-here, look_up-there, look_up-nil, Leg, leg_at, persons}
+use Rattle.std.specs.List.{sum_by}
 use Rattle.std.specs.List.Sorted.{IsStrictlyIncreasing}
-use Rattle.std.proofs.lemmas.Bool.{cases_eq, cases_lt, ne_eqb, eqb-true, leb-true}
-use Rattle.std.proofs.lemmas.List.{get_or_default}
-use Rattle.std.proofs.lemmas.List.Sums.{sum_by-cons}
+use Rattle.std.proofs.lemmas.Bool.{ne_eqb, eqb-true, leb-true}
 use Rattle.std.proofs.lemmas.Map.Keys.{IsDistinct-from_apart}
-use Rattle.batch_snapshot.specs.declared.passenger.Passenger.{Passenger}
-use Rattle.batch_snapshot.specs.declared.promise.Promise.{Promise}
-use Rattle.batch_snapshot.specs.declared.rider.Rider.{Rider}
-use Rattle.request_book.specs.Consistent.{seat_in}
-use Rattle.request_book.specs.Keyed.{look_up, KeysDiffer}
-use Rattle.request_book.specs.Rider.{shown, pool_promise, passenger_of, vehicle_of}
-use Rattle.request_book.specs.lemmas.Named.{asking}
-use Rattle.request_book.specs.State.{find_rider}
-use Rattle.request_book.specs.declared.rider.BookRider.{BookRider}
-use Rattle.request_book.specs.declared.rider.Status.{Status}
-use Rattle.request_book.specs.declared.rider.Status.TheVariants.{Waiting, Promised, Aboard, Cancelled, Delivered, Expired}
-use Rattle.request_book.specs.declared.state.State.{State}
-use Rattle.request_book.proofs.lemmas.KeyedLemmas.{look_up-here, look_up-there, look_up-nil}
-use Rattle.stop_orders.specs.declared.leg.Leg.{Leg}
-use Rattle.stop_orders.specs.Task.{leg_at, persons}
 
 -- where a list has what is looked up
 pub found_at : {X : Type 0} (key : X → ℕ) (k : ℕ) (xs : List X) (x : X) → look_up key k xs ≡ Some x → (i : ℕ) × (i < length xs) × ((d : X) → get_or xs i d ≡ x)

@@ -1,54 +1,15 @@
 -- A chosen trip on a driven day: whose its stops are.
-use Rattle.std.proofs.Common.{◌≡◌, ℕ, ◌<◌, ◌≤◌, Bool, true, false, eqb, List, [], ◌∷◌, length, get_or, map, filter, Some, refl, sym, ap, ◌∙◌, subst, arith}
-use Rattle.std.specs.Prelude.{slice_get}
-use Rattle.std.specs.List.{AllByRecursion}
-use Rattle.pool_base.specs.Times.{travel_time}
-use Rattle.pool_base.specs.declared.times.Times.{Times}
-use Rattle.batch_snapshot.specs.Batch.{Batch}
-use Rattle.batch_snapshot.specs.declared.vehicle.Vehicle.{Vehicle}
-use Rattle.batch_solver.specs.Outcome.{HasGraphsWith, IsGoodPlan}
-use Rattle.batch_solver.specs.declared.point.Point.TheVariants as point
-use Rattle.promise_check.specs.Requests.{request_at}
-use Rattle.promise_check.specs.Settling.{IsSettled}
-use Rattle.request_book.specs.State.{find_rider, find_vehicle}
-use Rattle.request_book.specs.declared.outcome.PlannedStop.{PlannedStop}
-use Rattle.request_book.specs.declared.outcome.Planned.{Planned}
-use Rattle.request_book.specs.declared.state.State.{State}
-use Rattle.rider_limits.specs.declared.settings.Settings.{Settings}
-use Rattle.road_network.specs.Roads.{Roads, index_in}
-use Rattle.stop_orders.specs.declared.settled.Settled.{Settled}
-use Rattle.stop_orders.specs.Settled.{vehicle_at, rider_at}
-use Rattle.travel_times.specs.Table.{AreTravelTimes}
-use Rattle.route_drive.specs.work.Serving.{IsKept}
+use Rattle.std.proofs.Common.{◌≡◌, ℕ, ◌<◌, ◌≤◌, Bool, true, false, eqb, List, [], ◌∷◌, length, get_or, map, filter, Some, refl, sym, ap, ◌∙◌, subst, arith, slice_get, nat_eq}
+use Rattle.route_drive.proofs.Common.{AllByRecursion, travel_time, Times, Batch, Vehicle, HasGraphsWith, IsGoodPlan, request_at, IsSettled, find_rider, find_vehicle, PlannedStop, Planned, State, Settings, Roads, index_in, Settled, vehicle_at, rider_at, AreTravelTimes, IsKept, IsDistinct, false≢true, get_or-map, length-map, Passenger, rider_id, told_stop, IsTripOf, riders_at, IsPlaced, ChosenTrip, BookRider, Aboard, look_up-at, has_node, Stop, Pick, Drop, Alight, is_of_rider, is_of_passenger, IsKnown, trip_task, IsTrip, visit_at, is_stop_of, calls_of, pool_promise, find_passenger}
 use Rattle.route_drive.proofs.kept.Sealing.{ShowsRiders}
 use Rattle.route_drive.proofs.kept.Served.{request_rider}
-use Rattle.std.specs.List.{IsDistinct}
-use Rattle.std.proofs.Common.{nat_eq}
-use Rattle.std.proofs.lemmas.Bool.{ne_eqb, false≢true}
-use Rattle.std.proofs.lemmas.List.{get_or-map, length-map}
-use Rattle.batch_snapshot.specs.declared.passenger.Passenger.{Passenger}
-use Rattle.batch_solver.specs.Told.{rider_id, told_stop}
-use Rattle.batch_solver.specs.Trips.{IsTripOf}
-use Rattle.plan_rules.specs.Graph.{riders_at}
-use Rattle.promise_check.specs.Settling.{IsPlaced}
-use Rattle.request_book.specs.declared.outcome.ChosenTrip.{ChosenTrip}
-use Rattle.request_book.specs.declared.rider.BookRider.{BookRider}
-use Rattle.request_book.specs.declared.rider.Status.TheVariants.{Aboard}
-use Rattle.request_book.proofs.lemmas.KeyedLemmas.{look_up-at}
-use Rattle.road_network.specs.Roads.{has_node}
-use Rattle.stop_orders.specs.declared.stop.Stop.{Stop}
-use Rattle.stop_orders.specs.declared.stop.Stop.TheVariants.{Pick, Drop, Alight}
-use Rattle.stop_orders.specs.Order.{is_of_rider, is_of_passenger, IsKnown}
-use Rattle.stop_orders.specs.Settled.{trip_task, IsTrip}
-use Rattle.stop_orders.specs.Task.{visit_at}
-use Rattle.route_drive.specs.work.Serving.{is_stop_of, calls_of}
+use Rattle.std.proofs.lemmas.Bool.{ne_eqb}
 use Rattle.route_drive.proofs.kept.Batches.{distinct_from_differ, IsRiderAboard}
 use Rattle.route_drive.proofs.kept.Served.{passenger_rider, passengers_differ}
 use Rattle.route_drive.proofs.kept.Told.{is_pick, told_calls}
 use Rattle.route_drive.proofs.kept.Walks.{is_node_at}
-use Rattle.request_book.specs.Rider.{pool_promise}
-use Rattle.request_book.specs.State.{find_passenger}
 use Rattle.route_drive.proofs.kept.Trips.{trip_is, names_distinct, told_id, other_id, same_number}
+use Rattle.batch_solver.specs.declared.point.Point.TheVariants as point
 
 none_filtered : {X : Type 0} (xs : List X) → filter (λ (x : X). false) xs ≡ []
 none_filtered [] = refl

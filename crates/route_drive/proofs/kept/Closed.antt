@@ -1,80 +1,26 @@
 -- The state after a close with a good plan on a driven day.
-use Rattle.std.proofs.Common.{◌≡◌, ◌⊎◌, ℕ, zero, suc, ◌+◌, ◌<◌, ◌≤◌, Bool, true, false, cond, List, [], ◌∷◌, length, get_or, map, Option, Some, None, refl, sym, ap, ◌∙◌, subst, arith, inl, inr}
-use Rattle.std.specs.Prelude.{slice_get, is_some}
+use Rattle.std.proofs.Common.{◌≡◌, ◌⊎◌, ℕ, zero, suc, ◌+◌, ◌<◌, ◌≤◌, Bool, true, false, cond, List, [], ◌∷◌, length, get_or, map, Option, Some, None, refl, sym, ap, ◌∙◌, subst, arith, inl, inr, slice_get, is_some, option_map, ◌&&◌, min, Contains}
+use Rattle.route_drive.proofs.Common.{get_or_default, travel_time, Times, Batch, Promise, Rider, Vehicle, HasGraphsWith, IsGoodPlan, request_at, is_promised_to, IsLive, IsSettled, HasRightLimit, shown, find_rider, find_vehicle, PlannedStop, Planned, State, Settings, Roads, index_in, Settled, vehicle_at, rider_at, AreTravelTimes, IsKept, option_map_or, false≢true, times_served_some, times_served_found, in_choice, choice_at, riders_at, is_in, no_request, picks, after_plan, in_batch, planned_status, look_up, with_status, is_active, ChosenTrip, BookRider, Status, Waiting, Promised, Aboard, Cancelled, Delivered, Expired, look_up-at, KeysDiffer-from_rise, has_node, calls_of, and_from, and_parts, MatchBool-at_false, must_be_served, times_chosen, promised_limit, promised_to, filter_range_has, look_up-key, IsRightDropoff, IsServing, IsPromiseKept, IsConsistent, NamesNodes, step, Command, Reply, step-consistent, step-named, look_up-here, look_up-there, HoldsPromised, chosen_stops}
 use Rattle.std.proofs.lemmas.Bool.{eq-eqb}
-use Rattle.std.proofs.lemmas.List.{get_or_default}
-use Rattle.pool_base.specs.Times.{travel_time}
-use Rattle.pool_base.specs.declared.times.Times.{Times}
-use Rattle.batch_snapshot.specs.Batch.{Batch}
-use Rattle.batch_snapshot.specs.declared.promise.Promise.{Promise}
-use Rattle.batch_snapshot.specs.declared.rider.Rider.{Rider}
-use Rattle.batch_snapshot.specs.declared.vehicle.Vehicle.{Vehicle}
-use Rattle.batch_solver.specs.Outcome.{HasGraphsWith, IsGoodPlan}
-use Rattle.batch_solver.specs.declared.point.Point.TheVariants as point
-use Rattle.promise_check.specs.Requests.{request_at}
-use Rattle.promise_check.specs.Promised.{is_promised_to, IsLive}
-use Rattle.promise_check.specs.Settling.{IsSettled, HasRightLimit}
-use Rattle.request_book.specs.Rider.{shown}
-use Rattle.request_book.specs.State.{find_rider, find_vehicle}
-use Rattle.request_book.specs.declared.outcome.PlannedStop.{PlannedStop}
-use Rattle.request_book.specs.declared.outcome.Planned.{Planned}
-use Rattle.request_book.specs.declared.state.State.{State}
-use Rattle.rider_limits.specs.declared.settings.Settings.{Settings}
-use Rattle.road_network.specs.Roads.{Roads, index_in}
-use Rattle.stop_orders.specs.declared.settled.Settled.{Settled}
-use Rattle.stop_orders.specs.Settled.{vehicle_at, rider_at}
-use Rattle.travel_times.specs.Table.{AreTravelTimes}
-use Rattle.route_drive.specs.work.Serving.{IsKept}
 use Rattle.route_drive.proofs.kept.Batches.{found_at}
 use Rattle.route_drive.proofs.kept.Sealing.{ShowsRiders}
 use Rattle.route_drive.proofs.kept.States.{vehicle_id}
-use Rattle.std.specs.Prelude.{option_map, ◌&&◌, min}
-use Rattle.std.specs.Option.{option_map_or}
-use Rattle.std.proofs.lemmas.Bool.{false≢true, true≢false}
-use Rattle.plan_rules.proofs.lemmas.GraphLemmas.{times_served_some, times_served_found, in_choice}
-use Rattle.plan_rules.specs.Graph.{choice_at, riders_at, is_in}
-use Rattle.promise_check.specs.lemmas.Named.{no_request}
-use Rattle.request_book.specs.Closing.{picks, after_plan}
-use Rattle.request_book.specs.lemmas.Named.{in_batch, planned_status}
-use Rattle.request_book.specs.Keyed.{look_up}
-use Rattle.request_book.specs.Rider.{with_status, is_active}
-use Rattle.request_book.specs.declared.outcome.ChosenTrip.{ChosenTrip}
-use Rattle.request_book.specs.declared.rider.BookRider.{BookRider}
-use Rattle.request_book.specs.declared.rider.Status.{Status}
-use Rattle.request_book.specs.declared.rider.Status.TheVariants.{Waiting, Promised, Aboard, Cancelled, Delivered, Expired}
-use Rattle.request_book.proofs.lemmas.KeyedLemmas.{look_up-at, KeysDiffer-from_rise}
-use Rattle.road_network.specs.Roads.{has_node}
-use Rattle.route_drive.specs.work.Serving.{calls_of}
+use Rattle.std.proofs.lemmas.Bool.{true≢false}
 use Rattle.route_drive.proofs.kept.Lapse.{vehicle_of_number, not_late, number_of_vehicle}
 use Rattle.route_drive.proofs.kept.Served.{vehicle_found}
 use Rattle.route_drive.proofs.kept.Walks.{is_node_at}
 use Rattle.route_drive.proofs.kept.Trips.{trip_back, trip_is, other_id}
-use Rattle.std.proofs.lemmas.Bool.{lt-ltb, and_from, and_parts, MatchBool-at_false}
-use Rattle.plan_rules.specs.Graph.{must_be_served}
-use Rattle.plan_rules.specs.lemmas.Plan.{times_chosen}
-use Rattle.promise_check.specs.Promised.{promised_limit, promised_to}
-use Rattle.promise_check.proofs.lemmas.Promises.{filter_range_has}
-use Rattle.request_book.proofs.lemmas.KeyedLemmas.{look_up-key}
-use Rattle.route_drive.specs.work.Serving.{IsRightDropoff, IsServing, IsPromiseKept}
+use Rattle.std.proofs.lemmas.Bool.{lt-ltb}
 use Rattle.route_drive.proofs.kept.Lists.{both}
 use Rattle.route_drive.proofs.kept.Lapse.{promise_is_live}
 use Rattle.route_drive.proofs.kept.Riders.{found_id}
 use Rattle.route_drive.proofs.kept.Sealing.{first_call}
 use Rattle.route_drive.proofs.kept.States.{IsBoundBy, IsBound}
 use Rattle.route_drive.proofs.kept.Chosen.{member_calls}
-use Rattle.request_book.specs.Consistent.{IsConsistent, NamesNodes}
-use Rattle.request_book.specs.Step.{step}
-use Rattle.request_book.specs.declared.command.Command.{Command}
-use Rattle.request_book.specs.declared.reply.Reply.{Reply}
-use Rattle.request_book.proofs.lemmas.ConsistentLemmas.{step-consistent}
-use Rattle.request_book.proofs.lemmas.NamedLemmas.{step-named}
-use Rattle.request_book.proofs.lemmas.KeyedLemmas.{look_up-here, look_up-there}
-use Rattle.std.specs.Prelude.{Contains}
-use Rattle.promise_check.specs.Settling.{HoldsPromised}
 use Rattle.trip_graph.specs.Answer.{IsRowWith}
 use Rattle.route_drive.proofs.kept.States.{KeepsBounds}
-use Rattle.route_drive.specs.work.Serving.{chosen_stops}
 use Rattle.route_drive.proofs.kept.Made.{HasTrip, has_trip, find_planned, planned_rider, member_promised, member_status, left_status, IsPlaced', where_is, serves_chosen, items_told, trip_vehicle, one_number, IsMemberPickup, after_is, after_stays}
+use Rattle.batch_solver.specs.declared.point.Point.TheVariants as point
 
 -- the element of a key, where no other has it
 look_up_only : {X : Type 0} (key : X → ℕ) (xs : List X) (i : ℕ) (x : X) → slice_get xs i ≡ Some x → ((j : ℕ) (y : X) → slice_get xs j ≡ Some y → key y ≡ key x → j ≡ i) → look_up key (key x) xs ≡ Some x

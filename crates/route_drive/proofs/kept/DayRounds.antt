@@ -1,21 +1,11 @@
 -- The rounds of a day: requests, and in lane 0 a seal before them.
-use Rattle.std.proofs.Common.{◌≡◌, ℕ, zero, suc, ◌+◌, ◌<◌, ◌≤◌, max, Bool, true, false, not, cond, ltb, List, [], ◌∷◌, ◌++◌, length, drop, get_or, replicate, Option, Some, None, unwrap_or, refl, sym, ap, ◌∙◌, subst, arith, inl, inr, append_assoc, length-append}
-use Rattle.std.specs.Prelude.{All, ◌||◌, option_and_then}
-use Rattle.std.specs.List.{AllByRecursion, list_any}
-use Rattle.std.specs.Option.{option_or}
-use Rattle.std.proofs.lemmas.Bool.{cases_lt, ltb-false, true≢false}
-use Rattle.std.proofs.lemmas.List.{get_or-append-add, get_or-replicate, length-replicate, take_at}
-use Rattle.std.proofs.lemmas.List.Elements.{All-head, All-tail, recursion_from_All}
-use Rattle.pool_base.specs.InOrder.{first_fault}
-use Rattle.pool_base.proofs.lemmas.InOrderLemmas.{first_fault-each}
-use Rattle.request_book.specs.declared.command.Command.{Command}
-use Rattle.request_book.specs.declared.command.Command.TheVariants.{Submit, Seal}
-use Rattle.script_rows.specs.Round.{IsRound, MayStand, NumberedLanes, empty_round, lane_at}
-use Rattle.route_drive.specs.declared.day.DayFault.TheVariants as fault
-use Rattle.route_drive.specs.Day.{back_fault, day_fault, first_seal, is_of_day, is_seal_command, lane_fault, latest_seal, round_fault, seal_of, seals_fault}
-use Rattle.route_drive.specs.work.Drive.{fault_at}
+use Rattle.std.proofs.Common.{◌≡◌, ℕ, zero, suc, ◌+◌, ◌<◌, ◌≤◌, max, Bool, true, false, not, cond, ltb, List, [], ◌∷◌, ◌++◌, length, drop, get_or, replicate, Option, Some, None, unwrap_or, refl, sym, ap, ◌∙◌, subst, arith, inl, inr, append_assoc, length-append, All, ◌||◌, option_and_then}
+use Rattle.route_drive.proofs.Common.{AllByRecursion, list_any, option_or, cases_lt, get_or-replicate, length-replicate, All-head, All-tail, recursion_from_All, first_fault, first_fault-each, Command, Submit, Seal, IsRound, MayStand, NumberedLanes, empty_round, lane_at, back_fault, day_fault, first_seal, is_of_day, is_seal_command, lane_fault, latest_seal, round_fault, seal_of, seals_fault, fault_at}
+use Rattle.std.proofs.lemmas.Bool.{ltb-false, true≢false}
+use Rattle.std.proofs.lemmas.List.{get_or-append-add, take_at}
 use Rattle.route_drive.proofs.kept.Lists.{both, all_weaker}
 use Rattle.route_drive.proofs.kept.Mixed.{IsRequest}
+use Rattle.route_drive.specs.declared.day.DayFault.TheVariants as fault
 
 -- lane 0 of a round that has no seal, or begins with one
 pub data IsDayLane (latest : ℕ) (round : NumberedLanes) : Type 0 where

@@ -1,37 +1,7 @@
 -- A driven day, round by round.
-use Rattle.std.proofs.Common.{◌≡◌, ℕ, ◌≤◌, cond, eqb, List, [], ◌∷◌, ◌++◌, length, map, Option, Some, None, unwrap_or, refl, sym, ap, ◌∙◌, subst, arith, inl, inr}
-use Rattle.std.specs.Prelude.{All, MatchOption}
-use Rattle.std.specs.List.{AllByRecursion}
-use Rattle.std.specs.Option.{option_map_or}
-use Rattle.std.proofs.lemmas.Bool.{cases_eq, cond-true, cond-false, eq-eqb, ne_eqb}
-use Rattle.std.proofs.lemmas.List.{length-map}
-use Rattle.batch_snapshot.specs.declared.vehicle.Vehicle.{Vehicle}
-use Rattle.request_book.specs.Book.{next_position}
-use Rattle.request_book.specs.Keyed.{look_up}
-use Rattle.request_book.specs.Replay.{RepliesAreSteps, state_after}
-use Rattle.request_book.specs.State.{find_vehicle}
-use Rattle.request_book.specs.declared.command.Command.{Command}
-use Rattle.request_book.specs.declared.command.Command.TheVariants.{Seal}
-use Rattle.request_book.specs.declared.journal.Entry.{Entry}
-use Rattle.request_book.specs.declared.journal.Journal.{Journal}
-use Rattle.request_book.specs.declared.outcome.ChosenTrip.{ChosenTrip}
-use Rattle.request_book.specs.declared.outcome.Planned.{Planned}
-use Rattle.request_book.specs.declared.outcome.PlannedStop.{PlannedStop}
-use Rattle.request_book.specs.declared.rider.BookRider.{BookRider}
-use Rattle.request_book.specs.declared.state.State.{State}
-use Rattle.request_book.proofs.lemmas.KeyedLemmas.{look_up-here, look_up-there, look_up-nil}
-use Rattle.request_book.proofs.lemmas.LawLemmas.{rounds-join}
-use Rattle.rider_limits.specs.declared.settings.Settings.{Settings}
-use Rattle.road_network.specs.Roads.{Roads, IsNetwork}
-use Rattle.script_rows.specs.Round.{NumberedLanes, lane_at}
-use Rattle.dispatch_engine.specs.Lane.{ClosesAreGood}
-use Rattle.dispatch_engine.specs.Run.{IsRoundRun, IsRun}
-use Rattle.route_drive.specs.declared.course.Course.{Course}
-use Rattle.route_drive.specs.Day.{seal_of}
-use Rattle.route_drive.specs.Driven.{AreDriven, IsDrivenRound, IsPrecededBy, courses_after, courses_left, left_course, left_state, plan_in, planned_course}
-use Rattle.route_drive.specs.Entering.{AreEntered, IsInTime, to_come}
-use Rattle.route_drive.specs.work.Kept.{course_of}
-use Rattle.route_drive.specs.work.Serving.{IsKept, IsServing, chosen_stops}
+use Rattle.std.proofs.Common.{◌≡◌, ℕ, ◌≤◌, cond, eqb, List, [], ◌∷◌, ◌++◌, length, map, Option, Some, None, unwrap_or, refl, sym, ap, ◌∙◌, subst, arith, inl, inr, All, MatchOption}
+use Rattle.route_drive.proofs.Common.{AllByRecursion, option_map_or, cases_eq, cond-true, cond-false, length-map, Vehicle, next_position, look_up, RepliesAreSteps, state_after, find_vehicle, Command, Seal, Entry, Journal, ChosenTrip, Planned, PlannedStop, BookRider, State, look_up-here, look_up-there, look_up-nil, rounds-join, Settings, Roads, IsNetwork, NumberedLanes, lane_at, ClosesAreGood, IsRoundRun, IsRun, Course, seal_of, AreDriven, IsDrivenRound, IsPrecededBy, courses_after, courses_left, left_course, left_state, plan_in, planned_course, AreEntered, IsInTime, to_come, course_of, IsKept, IsServing, chosen_stops}
+use Rattle.std.proofs.lemmas.Bool.{eq-eqb, ne_eqb}
 use Rattle.route_drive.proofs.kept.DayRounds.{AreDayRounds, IsDayLane, IsDayRound}
 use Rattle.route_drive.proofs.kept.Journals.{entries_in}
 use Rattle.route_drive.proofs.kept.Keeping.{AllKeep, all_append}

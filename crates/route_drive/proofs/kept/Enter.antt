@@ -1,25 +1,8 @@
 -- Stops that are entered: what each leaves of what the vehicles have to do.
 use Rattle.std.proofs.Common.{◌≡◌, ℕ, ◌+◌, ◌-◌, ◌≤◌, Bool, true, false, List, [], ◌∷◌, ◌++◌, length, Some, None, refl, sym, ap, ◌∙◌, subst, arith, inl, inr, length-append}
-use Rattle.std.specs.List.{AllByRecursion, sum_by}
-use Rattle.std.specs.Option.{option_map_or}
-use Rattle.std.proofs.lemmas.Bool.{cases_eq, eq-eqb, ne_eqb, MatchBool-at_true, MatchBool-at_false}
-use Rattle.std.proofs.lemmas.List.Sums.{sum_by-cons, sum_by_push}
-use Rattle.batch_snapshot.specs.Vehicle.{persons_aboard}
-use Rattle.batch_snapshot.specs.declared.passenger.Passenger.{Passenger}
-use Rattle.batch_snapshot.specs.declared.vehicle.Vehicle.{Vehicle}
-use Rattle.request_book.specs.Keyed.{look_up, without, KeysDiffer}
-use Rattle.request_book.specs.Rider.{with_status, passenger_of}
-use Rattle.request_book.specs.State.{find_rider, find_passenger}
-use Rattle.request_book.specs.lemmas.Named.{takes_in, lets_out}
-use Rattle.request_book.specs.declared.outcome.PlannedStop.{PlannedStop}
-use Rattle.request_book.specs.declared.rider.BookRider.{BookRider}
-use Rattle.request_book.specs.declared.rider.Status.{Status}
-use Rattle.request_book.specs.declared.rider.Status.TheVariants.{Waiting, Promised, Aboard, Cancelled, Delivered, Expired}
-use Rattle.request_book.proofs.lemmas.KeyedLemmas.{look_up-here, look_up-there, look_up-nil, without_key-absent}
-use Rattle.rider_limits.specs.declared.settings.Settings.{Settings}
-use Rattle.road_network.specs.Roads.{Roads}
-use Rattle.route_drive.specs.Promises.{IsDroppedInTime}
-use Rattle.route_drive.specs.work.Serving.{AreReached, party_at, seats_after, IsRightPickup, IsRightDropoff, IsRightStop, IsOfVehicle, calls_of, HasCalls, IsServing}
+use Rattle.route_drive.proofs.Common.{AllByRecursion, option_map_or, cases_eq, MatchBool-at_true, MatchBool-at_false, sum_by-cons, sum_by_push, persons_aboard, Passenger, Vehicle, look_up, without, KeysDiffer, with_status, passenger_of, find_rider, find_passenger, takes_in, lets_out, PlannedStop, BookRider, Status, Waiting, Promised, Aboard, Cancelled, Delivered, Expired, look_up-here, look_up-there, look_up-nil, without_key-absent, Settings, Roads, IsDroppedInTime, AreReached, party_at, seats_after, IsRightPickup, IsRightDropoff, IsRightStop, IsOfVehicle, calls_of, HasCalls, IsServing}
+use Rattle.std.specs.List.{sum_by}
+use Rattle.std.proofs.lemmas.Bool.{eq-eqb, ne_eqb}
 use Rattle.route_drive.proofs.kept.Lists.{both, all_weaker, all_from}
 use Rattle.route_drive.proofs.kept.Riders.{changed, find_other, find_same, same_party, seats_by_party, calls_own, calls_other, no_pickup, no_stop, right_elsewhere, serves_elsewhere}
 

@@ -1,9 +1,6 @@
 -- The journals of a day as one list of entries.
 use Rattle.std.proofs.Common.{◌≡◌, List, [], ◌∷◌, ◌++◌, map, refl, sym, ap, ◌∙◌, append-nil, append_assoc}
-use Rattle.request_book.specs.declared.journal.Entry.{Entry}
-use Rattle.request_book.specs.declared.journal.Journal.{Journal}
-use Rattle.route_drive.specs.declared.day_run.DayRound.{DayRound}
-use Rattle.route_drive.specs.Counts.{entries_of}
+use Rattle.route_drive.proofs.Common.{Entry, Journal, DayRound, entries_of}
 
 -- the entries of journals, in order
 abbrev pub entries_in : List Journal → List Entry

@@ -1,24 +1,6 @@
 -- What entries keep, gathered one by one.
-use Rattle.std.proofs.Common.{◌≡◌, ℕ, arith, Bool, true, false, cond, List, [], ◌∷◌, ◌++◌, Some, refl, sym, ap, subst}
-use Rattle.std.specs.Prelude.{All}
-use Rattle.std.proofs.lemmas.List.Elements.{All-nil, All-cons}
-use Rattle.batch_snapshot.specs.Vehicle.{HasSeats}
-use Rattle.request_book.specs.Replay.{state_after}
-use Rattle.request_book.specs.State.{find_rider}
-use Rattle.request_book.specs.Step.{step}
-use Rattle.request_book.specs.declared.command.Command.{Command}
-use Rattle.request_book.specs.declared.command.Command.TheVariants.{Report, Pickup, Dropoff}
-use Rattle.request_book.specs.declared.journal.Entry.{Entry}
-use Rattle.request_book.specs.declared.outcome.PlannedStop.{PlannedStop}
-use Rattle.request_book.specs.declared.reply.Reply.{Reply}
-use Rattle.request_book.specs.declared.reply.Reply.TheVariants.{Placed, Picked, Dropped}
-use Rattle.request_book.specs.declared.rider.BookRider.{BookRider}
-use Rattle.request_book.specs.declared.state.State.{State}
-use Rattle.rider_limits.specs.declared.settings.Settings.{Settings}
-use Rattle.road_network.specs.Roads.{Roads}
-use Rattle.route_drive.specs.Entering.{stop_command}
-use Rattle.route_drive.specs.Promises.{EntryKeeps, EntriesKeep, IsPickedBy, StateKeeps}
-use Rattle.route_drive.specs.work.Serving.{IsBound, IsBoundBy, IsDayState, IsDone, IsRightStop, KeepsBounds}
+use Rattle.std.proofs.Common.{◌≡◌, ℕ, arith, Bool, true, false, cond, List, [], ◌∷◌, ◌++◌, Some, refl, sym, ap, subst, All}
+use Rattle.route_drive.proofs.Common.{All-nil, All-cons, HasSeats, state_after, find_rider, step, Command, Report, Pickup, Dropoff, Entry, PlannedStop, Reply, Placed, Picked, Dropped, BookRider, State, Settings, Roads, stop_command, EntryKeeps, EntriesKeep, IsPickedBy, StateKeeps, IsBound, IsBoundBy, IsDayState, IsDone, IsRightStop, KeepsBounds}
 use Rattle.route_drive.proofs.kept.Enter.{picked_up_right, dropped_right}
 
 -- what one entry keeps, and what it leaves to those after it

@@ -1,38 +1,13 @@
 -- On a driven day a good plan has no late vehicle and no lapsed promise.
-use Rattle.std.proofs.Common.{◌≡◌, ◌⊎◌, ℕ, ◌+◌, ◌<◌, ◌≤◌, Bool, true, false, not, List, [], ◌∷◌, length, get_or, map, filter, Option, Some, None, refl, sym, ap, ◌∙◌, subst, arith, inl, inr}
-use Rattle.std.specs.Prelude.{All, slice_get, is_some}
-use Rattle.std.specs.List.{AllByRecursion, AllZip, range_with_len}
-use Rattle.std.proofs.lemmas.Bool.{cases_Bool, eq-eqb, MatchBool-at_true}
-use Rattle.std.proofs.lemmas.List.Elements.{recursion_from_All, All-from_get_or}
-use Rattle.std.proofs.lemmas.List.FromFn.{length-range_with_len, get_or-range_with_len}
-use Rattle.std.proofs.lemmas.Option.{slice_get_within, slice_get-get_or, slice_get_cases}
-use Rattle.pool_base.specs.Times.{travel_time}
-use Rattle.pool_base.specs.declared.times.Times.{Times}
-use Rattle.batch_snapshot.specs.Batch.{Batch}
-use Rattle.batch_snapshot.specs.declared.promise.Promise.{Promise}
-use Rattle.batch_snapshot.specs.declared.vehicle.Vehicle.{Vehicle}
-use Rattle.batch_solver.specs.Outcome.{HasGraphsWith, IsGoodPlan}
-use Rattle.batch_solver.specs.declared.point.Point.TheVariants as point
-use Rattle.batch_solver.specs.Trips.{IsLate}
-use Rattle.promise_check.specs.Requests.{request_at}
-use Rattle.promise_check.specs.Promised.{is_promised_to, IsLive}
-use Rattle.promise_check.specs.Settling.{IsSettled, IsLiveRider, HasRightLimit}
-use Rattle.request_book.specs.State.{find_vehicle}
-use Rattle.request_book.specs.declared.outcome.PlannedStop.{PlannedStop}
-use Rattle.request_book.specs.declared.outcome.Planned.{Planned}
-use Rattle.request_book.specs.declared.state.State.{State}
-use Rattle.rider_limits.specs.declared.settings.Settings.{Settings}
-use Rattle.road_network.specs.Roads.{Roads, index_in}
-use Rattle.stop_orders.specs.declared.settled.Settled.{Settled}
-use Rattle.stop_orders.specs.Settled.{vehicle_at, rider_at, no_rider, no_vehicle, vehicle_task}
-use Rattle.stop_orders.specs.Task.{IsServable}
-use Rattle.travel_times.specs.Table.{AreTravelTimes}
-use Rattle.route_drive.specs.work.Serving.{IsKept}
+use Rattle.std.proofs.Common.{◌≡◌, ◌⊎◌, ℕ, ◌+◌, ◌<◌, ◌≤◌, Bool, true, false, not, List, [], ◌∷◌, length, get_or, map, filter, Option, Some, None, refl, sym, ap, ◌∙◌, subst, arith, inl, inr, All, slice_get, is_some}
+use Rattle.route_drive.proofs.Common.{AllByRecursion, AllZip, range_with_len, cases_Bool, MatchBool-at_true, recursion_from_All, All-from_get_or, length-range_with_len, get_or-range_with_len, slice_get_within, slice_get-get_or, slice_get_cases, travel_time, Times, Batch, Promise, Vehicle, HasGraphsWith, IsGoodPlan, IsLate, request_at, is_promised_to, IsLive, IsSettled, IsLiveRider, HasRightLimit, find_vehicle, PlannedStop, Planned, State, Settings, Roads, index_in, Settled, vehicle_at, rider_at, no_rider, no_vehicle, vehicle_task, IsServable, AreTravelTimes, IsKept}
+use Rattle.std.proofs.lemmas.Bool.{eq-eqb}
 use Rattle.route_drive.proofs.kept.Lists.{skips}
 use Rattle.route_drive.proofs.kept.Batches.{found_at}
 use Rattle.route_drive.proofs.kept.Sealing.{ShowsRiders}
 use Rattle.route_drive.proofs.kept.States.{vehicle_id}
 use Rattle.route_drive.proofs.kept.Served.{promised_request, promised_served, passengers_served, few_promised}
+use Rattle.batch_solver.specs.declared.point.Point.TheVariants as point
 
 pub filter_none : {X : Type 0} (p : X → Bool) (xs : List X) → AllByRecursion (λ x. p x ≡ false) xs → filter p xs ≡ []
 filter_none p [] all = refl

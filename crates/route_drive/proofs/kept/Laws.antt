@@ -1,30 +1,6 @@
 -- The laws of driven days.
 use Rattle.std.proofs.Common.{[], arith, ◌≡◌, ◌+◌, ◌<◌, Bool, true, false, cond, map, None, refl, sym, ap, ◌∙◌, subst}
-use Rattle.pool_base.specs.Times.{travel_time}
-use Rattle.batch_solver.specs.Outcome.{AnswersWith, IsGoodPlan}
-use Rattle.request_book.specs.Closing.{after_answer, after_plan, picks}
-use Rattle.request_book.specs.Consistent.{IsConsistent, NamesNodes}
-use Rattle.request_book.specs.Step.{step}
-use Rattle.request_book.specs.declared.command.Command.TheVariants.{Pickup, Dropoff, Close}
-use Rattle.request_book.specs.declared.outcome.Answer.{Answer}
-use Rattle.request_book.specs.declared.outcome.Answer.TheVariants as answer
-use Rattle.request_book.specs.declared.outcome.Planned.{Planned}
-use Rattle.request_book.specs.declared.outcome.PlannedStop.{PlannedStop}
-use Rattle.request_book.specs.declared.reply.Reply.{Reply}
-use Rattle.request_book.specs.declared.reply.Reply.TheVariants.{Picked, Dropped, Closed}
-use Rattle.request_book.specs.declared.state.State.{State}
-use Rattle.request_book.proofs.lemmas.ConsistentLemmas.{step-consistent}
-use Rattle.request_book.proofs.lemmas.NamedLemmas.{step-named}
-use Rattle.request_book.proofs.lemmas.KeyedLemmas.{look_up-nil}
-use Rattle.request_book.proofs.lemmas.LawLemmas.{reached-consistent}
-use Rattle.request_book.specs.Consistent.{IsNode}
-use Rattle.request_book.specs.Replay.{state_after}
-use Rattle.request_book.specs.declared.rider.BookRider.{BookRider}
-use Rattle.std.proofs.lemmas.List.Elements.{All-nil}
-use Rattle.road_network.specs.Roads.{has_node}
-use Rattle.route_drive.specs.work.Serving.{IsKept, IsDone, IsBound}
-use Rattle.route_drive.specs.Promises.{TellsNothingLate}
-use Rattle.route_drive.specs.work.Kept.{StopsAreAnswered, ReportsAreServed, SealsKeep, NoPromiseLapses, ClosesKeep, IsClosedOn, closed, stops_after, OpeningIsKept}
+use Rattle.route_drive.proofs.Common.{travel_time, AnswersWith, IsGoodPlan, after_answer, after_plan, picks, IsConsistent, NamesNodes, step, Pickup, Dropoff, Close, Answer, Planned, PlannedStop, Reply, Picked, Dropped, Closed, State, step-consistent, step-named, look_up-nil, reached-consistent, IsNode, state_after, BookRider, All-nil, has_node, IsKept, IsDone, IsBound, TellsNothingLate, StopsAreAnswered, ReportsAreServed, SealsKeep, NoPromiseLapses, ClosesKeep, IsClosedOn, closed, stops_after, OpeningIsKept}
 use Rattle.route_drive.proofs.kept.Lists.{all_weaker}
 use Rattle.route_drive.proofs.kept.Replies.{close_is}
 use Rattle.route_drive.proofs.kept.States.{pickup_done, dropoff_done, report_done}
@@ -32,6 +8,7 @@ use Rattle.route_drive.proofs.kept.Sealing.{sealed_kept, sealed_shows, sealed_bo
 use Rattle.route_drive.proofs.kept.Reported.{reported_there}
 use Rattle.route_drive.proofs.kept.Lapse.{all_in_time, nothing_lapses}
 use Rattle.route_drive.proofs.kept.Closed.{closed_kept, closed_bounds}
+use Rattle.request_book.specs.declared.outcome.Answer.TheVariants as answer
 
 pub stops_are_answered : StopsAreAnswered
 stops_are_answered settings roads s v free stop stops day at early serves = by stop.pick refl

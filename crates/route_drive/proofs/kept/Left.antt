@@ -1,29 +1,7 @@
 -- The last round of a day: the stops that are left.
 use Rattle.std.proofs.Common.{◌≡◌, ℕ, ◌+◌, ◌≤◌, eqb, List, [], ◌∷◌, ◌++◌, map, Some, None, refl, sym, ap, ◌∙◌, subst, arith, inl, inr, append-nil}
-use Rattle.std.specs.List.{AllByRecursion}
-use Rattle.std.proofs.lemmas.Bool.{cases_eq, cond-true, cond-false, eq-eqb, ne_eqb}
-use Rattle.batch_snapshot.specs.declared.vehicle.Vehicle.{Vehicle}
-use Rattle.request_book.specs.Keyed.{KeysDiffer}
-use Rattle.request_book.specs.Replay.{RepliesAreSteps, state_after}
-use Rattle.request_book.specs.State.{find_vehicle}
-use Rattle.request_book.specs.Step.{step}
-use Rattle.request_book.specs.declared.command.Command.{Command}
-use Rattle.request_book.specs.declared.journal.Entry.{Entry}
-use Rattle.request_book.specs.declared.journal.Journal.{Journal}
-use Rattle.request_book.specs.declared.outcome.PlannedStop.{PlannedStop}
-use Rattle.request_book.specs.declared.reply.Reply.{Reply}
-use Rattle.request_book.specs.declared.state.State.{State}
-use Rattle.request_book.proofs.lemmas.KeyedLemmas.{KeysDiffer-from_rise, look_up-here, look_up-there}
-use Rattle.rider_limits.specs.declared.settings.Settings.{Settings}
-use Rattle.road_network.specs.Roads.{Roads}
-use Rattle.script_rows.specs.Round.{NumberedLanes, empty_round, lane_at}
-use Rattle.shared_book.specs.Locked.{sealed_by}
-use Rattle.dispatch_engine.specs.Lane.{IsLaneRun, IsLaneRunFrom, of_lane}
-use Rattle.route_drive.specs.declared.course.Course.{Course}
-use Rattle.route_drive.specs.Driven.{IsPrecededBy}
-use Rattle.route_drive.specs.Entering.{left_commands, stop_command}
-use Rattle.route_drive.specs.work.Kept.{course_of}
-use Rattle.route_drive.specs.work.Serving.{IsDayState, IsDone, IsKept, IsServing, LeavesOthers}
+use Rattle.route_drive.proofs.Common.{AllByRecursion, cases_eq, cond-true, cond-false, Vehicle, KeysDiffer, RepliesAreSteps, state_after, find_vehicle, step, Command, Entry, Journal, PlannedStop, Reply, State, KeysDiffer-from_rise, look_up-here, look_up-there, Settings, Roads, NumberedLanes, empty_round, lane_at, sealed_by, IsLaneRun, IsLaneRunFrom, of_lane, Course, IsPrecededBy, left_commands, stop_command, course_of, IsDayState, IsDone, IsKept, IsServing, LeavesOthers}
+use Rattle.std.proofs.lemmas.Bool.{eq-eqb, ne_eqb}
 use Rattle.route_drive.proofs.kept.DayRounds.{nothing_at}
 use Rattle.route_drive.proofs.kept.Keeping.{AllKeep, OneKeeps, stop_one}
 use Rattle.route_drive.proofs.kept.Laws.{stops_are_answered}

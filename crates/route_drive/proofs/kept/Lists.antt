@@ -1,8 +1,6 @@
 -- Filters, and lists whose parts are counted.
 use Rattle.std.proofs.Common.{◌≡◌, ℕ, zero, suc, ◌+◌, ◌*◌, ◌<◌, ◌≤◌, Bool, true, false, not, List, [], ◌∷◌, length, map, filter, refl, sym, ap, ◌∙◌, subst, arith, inl, inr}
-use Rattle.std.specs.List.{AllByRecursion}
-use Rattle.std.proofs.lemmas.Bool.{cases_Bool, cond-true, cond-false, false≢true}
-use Rattle.std.proofs.lemmas.List.Filters.{length-filter_both}
+use Rattle.route_drive.proofs.Common.{AllByRecursion, cases_Bool, cond-true, cond-false, false≢true, length-filter_both}
 
 -- what a filter does at the front of a list
 pub skips : {X : Type 0} (p : X → Bool) (x : X) (xs : List X) → p x ≡ false → filter p (x ∷ xs) ≡ filter p xs

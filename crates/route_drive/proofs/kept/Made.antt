@@ -1,96 +1,28 @@
 -- A close with a good plan on a driven day: the chosen trips are what the vehicles now serve.
-use Rattle.std.proofs.Common.{◌≡◌, ◌⊎◌, ℕ, ◌+◌, ◌<◌, ◌≤◌, Bool, true, false, cond, List, [], ◌∷◌, length, get_or, map, Option, Some, None, refl, sym, ap, ◌∙◌, subst, arith, inl, inr}
-use Rattle.std.specs.Prelude.{slice_get, is_some}
-use Rattle.std.specs.List.{AllByRecursion}
-use Rattle.std.proofs.lemmas.Bool.{cases_Bool, eq-eqb}
-use Rattle.std.proofs.lemmas.Option.{slice_get_within, get_or_from_slice_get, slice_get-get_or}
-use Rattle.pool_base.specs.Times.{travel_time}
-use Rattle.pool_base.specs.declared.times.Times.{Times}
-use Rattle.batch_snapshot.specs.Batch.{Batch}
-use Rattle.batch_snapshot.specs.declared.promise.Promise.{Promise}
-use Rattle.batch_snapshot.specs.declared.rider.Rider.{Rider}
-use Rattle.batch_snapshot.specs.declared.vehicle.Vehicle.{Vehicle}
-use Rattle.batch_solver.specs.Outcome.{HasGraphsWith, IsGoodPlan}
-use Rattle.batch_solver.specs.declared.point.Point.TheVariants as point
-use Rattle.promise_check.specs.Requests.{request_at}
-use Rattle.promise_check.specs.Settling.{IsSettled, HasRightLimit}
-use Rattle.request_book.specs.Rider.{shown}
-use Rattle.request_book.specs.State.{find_rider, find_vehicle}
-use Rattle.request_book.specs.declared.outcome.PlannedStop.{PlannedStop}
-use Rattle.request_book.specs.declared.outcome.Planned.{Planned}
-use Rattle.request_book.specs.declared.state.State.{State}
-use Rattle.rider_limits.specs.declared.settings.Settings.{Settings}
-use Rattle.road_network.specs.Roads.{Roads, index_in}
-use Rattle.stop_orders.specs.declared.settled.Settled.{Settled}
-use Rattle.stop_orders.specs.Settled.{vehicle_at, rider_at}
-use Rattle.travel_times.specs.Table.{AreTravelTimes}
-use Rattle.route_drive.specs.work.Serving.{IsKept}
+use Rattle.std.proofs.Common.{◌≡◌, ◌⊎◌, ℕ, ◌+◌, ◌<◌, ◌≤◌, Bool, true, false, cond, List, [], ◌∷◌, length, get_or, map, Option, Some, None, refl, sym, ap, ◌∙◌, subst, arith, inl, inr, slice_get, is_some, option_map, option_and_then, unwrap_or, ◌&&◌, min, nat_eq, ◌-◌, ◌*◌, MatchBool, max}
+use Rattle.route_drive.proofs.Common.{AllByRecursion, cases_Bool, slice_get_within, get_or_from_slice_get, slice_get-get_or, travel_time, Times, Batch, Promise, Rider, Vehicle, HasGraphsWith, IsGoodPlan, request_at, IsSettled, HasRightLimit, shown, find_rider, find_vehicle, PlannedStop, Planned, State, Settings, Roads, index_in, Settled, vehicle_at, rider_at, AreTravelTimes, IsKept, IsDistinct, option_map_or, cases_lt, false≢true, get_or-map, length-map, persons_aboard, Passenger, rider_id, told_stop, IsTripOf, times_served_some, times_served_found, in_choice, choice_at, riders_at, is_in, IsLegOf, no_request, IsPlaced, picks, trip_picks, after_plan, in_batch, planned_status, look_up, KeysDiffer, with_status, passenger_of, is_active, ChosenTrip, BookRider, Status, Waiting, Promised, Aboard, Cancelled, Delivered, Expired, look_up-at, KeysDiffer-from_rise, has_node, Leg, Stop, Pick, Drop, Alight, IsKnown, trip_task, no_leg, leg_at, visit_at, free_seats, calls_of, find_passenger, and_from, and_parts, cond-true, times_chosen, ideal_second, Task, look_up-map, look_up-key, latest_of, Visit, ideal_dropoff, IsDroppedInTime, AreReached, party_at, HasSeatsFor, IsRightPickup, IsRightDropoff, IsRightStop, IsOfVehicle, HasCalls, IsServing, seat_in, persons}
+use Rattle.std.proofs.lemmas.Bool.{eq-eqb}
 use Rattle.route_drive.proofs.kept.Batches.{found_at}
 use Rattle.route_drive.proofs.kept.Sealing.{ShowsRiders}
 use Rattle.route_drive.proofs.kept.Served.{request_rider}
-use Rattle.std.specs.Prelude.{option_map, option_and_then, unwrap_or, ◌&&◌, min}
-use Rattle.std.specs.List.{IsDistinct}
-use Rattle.std.specs.Option.{option_map_or}
-use Rattle.std.proofs.Common.{nat_eq, ◌-◌, ◌*◌}
-use Rattle.std.proofs.lemmas.Bool.{cases_lt, false≢true, true≢false}
-use Rattle.std.proofs.lemmas.List.{get_or-map, length-map}
-use Rattle.batch_snapshot.specs.Vehicle.{persons_aboard}
-use Rattle.batch_snapshot.specs.declared.passenger.Passenger.{Passenger}
-use Rattle.batch_solver.specs.Told.{rider_id, told_stop}
-use Rattle.batch_solver.specs.Trips.{IsTripOf}
-use Rattle.plan_rules.proofs.lemmas.GraphLemmas.{times_served_some, times_served_found, in_choice}
-use Rattle.plan_rules.specs.Graph.{choice_at, riders_at, is_in}
-use Rattle.promise_check.specs.Requests.{IsLegOf}
-use Rattle.promise_check.specs.lemmas.Named.{no_request}
-use Rattle.promise_check.specs.Settling.{IsPlaced}
-use Rattle.request_book.specs.Closing.{picks, trip_picks, after_plan}
-use Rattle.request_book.specs.lemmas.Named.{in_batch, planned_status}
-use Rattle.request_book.specs.Keyed.{look_up, KeysDiffer}
-use Rattle.request_book.specs.Rider.{with_status, passenger_of, is_active}
-use Rattle.request_book.specs.declared.outcome.ChosenTrip.{ChosenTrip}
-use Rattle.request_book.specs.declared.rider.BookRider.{BookRider}
-use Rattle.request_book.specs.declared.rider.Status.{Status}
-use Rattle.request_book.specs.declared.rider.Status.TheVariants.{Waiting, Promised, Aboard, Cancelled, Delivered, Expired}
-use Rattle.request_book.proofs.lemmas.KeyedLemmas.{look_up-at, KeysDiffer-from_rise}
-use Rattle.road_network.specs.Roads.{has_node}
-use Rattle.stop_orders.specs.declared.leg.Leg.{Leg}
-use Rattle.stop_orders.specs.declared.stop.Stop.{Stop}
-use Rattle.stop_orders.specs.declared.stop.Stop.TheVariants.{Pick, Drop, Alight}
-use Rattle.stop_orders.specs.Order.{IsKnown}
-use Rattle.stop_orders.specs.Settled.{trip_task}
-use Rattle.stop_orders.specs.Task.{no_leg, leg_at, visit_at, free_seats}
-use Rattle.route_drive.specs.work.Serving.{calls_of}
+use Rattle.std.proofs.lemmas.Bool.{true≢false}
 use Rattle.route_drive.proofs.kept.Batches.{distinct_from_differ, IsAsking, IsRiderAboard}
 use Rattle.route_drive.proofs.kept.Lapse.{vehicle_of_number}
 use Rattle.route_drive.proofs.kept.Served.{vehicle_found}
 use Rattle.route_drive.proofs.kept.Told.{told_from, none_promised, one_promised, IsPickPromised, found_among, none_among}
 use Rattle.route_drive.proofs.kept.Walks.{has_index, index_at, name_at, is_node_at}
-use Rattle.request_book.specs.State.{find_passenger}
 use Rattle.route_drive.proofs.kept.Trips.{trip_of, trip_back, trip_is, one_trip, told_id}
-use Rattle.std.specs.Prelude.{MatchBool}
-use Rattle.std.proofs.lemmas.Bool.{and_from, and_parts, cond-true}
-use Rattle.plan_rules.specs.lemmas.Plan.{times_chosen}
-use Rattle.promise_check.specs.Requests.{ideal_second}
-use Rattle.stop_orders.specs.declared.task.Task.{Task}
 use Rattle.request_book.specs.Closing.{Pick as PlanPick}
 use Rattle.request_book.proofs.lemmas.CloseLemmas.{after_plan-id}
-use Rattle.request_book.proofs.lemmas.KeyedLemmas.{look_up-map, look_up-key}
 use Rattle.stop_orders.proofs.lemmas.DoneLemmas.{length-IsOrder}
-use Rattle.stop_orders.specs.Visit.{latest_of}
-use Rattle.stop_orders.specs.declared.visit.Visit.{Visit}
-use Rattle.route_drive.specs.Counts.{ideal_dropoff}
-use Rattle.route_drive.specs.Promises.{IsDroppedInTime}
-use Rattle.route_drive.specs.work.Serving.{AreReached, party_at, HasSeatsFor, IsRightPickup, IsRightDropoff, IsRightStop, IsOfVehicle, HasCalls, IsServing}
 use Rattle.route_drive.proofs.kept.Lists.{all_weaker, both}
 use Rattle.route_drive.proofs.kept.Batches.{same_persons}
-use Rattle.std.proofs.Common.{max}
-use Rattle.request_book.specs.Consistent.{seat_in}
-use Rattle.stop_orders.specs.Task.{persons}
 use Rattle.route_drive.proofs.kept.Trips.{row_of}
 use Rattle.route_drive.proofs.kept.Riders.{found_id}
 use Rattle.route_drive.proofs.kept.Tables.{time_between}
 use Rattle.route_drive.proofs.kept.Told.{IsTold, told_reached, told_seats, told_all, told_length}
 use Rattle.route_drive.proofs.kept.Chosen.{rider_aboard, known, member_calls, passenger_calls, other_calls}
+use Rattle.batch_solver.specs.declared.point.Point.TheVariants as point
 
 all_each : {A X : Type 0} (P : A → X → Type 0) (xs : List X) → ((a : A) → AllByRecursion (P a) xs) → AllByRecursion (λ x. (a : A) → P a x) xs
 all_each P [] each = tt

@@ -1,18 +1,7 @@
 -- The entries of a round in one order: those of lane 0, with requests of any lanes between.
 use Rattle.std.proofs.Common.{◌≡◌, ◌⊎◌, ℕ, true, eqb, List, [], ◌∷◌, Option, Some, None, Result, Ok, Err, refl, sym, subst, inl, inr}
-use Rattle.std.specs.List.{AllByRecursion}
-use Rattle.std.proofs.lemmas.Bool.{cases_eq, eq-eqb, ne_eqb}
-use Rattle.request_book.specs.Replay.{RepliesAreSteps}
-use Rattle.request_book.specs.Step.{answered, step, submit}
-use Rattle.request_book.specs.declared.command.Command.{Command}
-use Rattle.request_book.specs.declared.command.Command.TheVariants.{Submit}
-use Rattle.request_book.specs.declared.journal.Entry.{Entry}
-use Rattle.request_book.specs.declared.reply.BookRefusal.{BookRefusal}
-use Rattle.request_book.specs.declared.reply.Reply.TheVariants.{Accepted}
-use Rattle.request_book.specs.declared.rider.Status.TheVariants.{Waiting}
-use Rattle.request_book.specs.declared.state.State.{State}
-use Rattle.shared_book.specs.Locked.{sealed_by}
-use Rattle.dispatch_engine.specs.Lane.{IsCloseOf, IsLaneRun, IsLaneRunFrom, of_lane}
+use Rattle.route_drive.proofs.Common.{AllByRecursion, cases_eq, RepliesAreSteps, answered, step, submit, Command, Submit, Entry, BookRefusal, Accepted, Waiting, State, sealed_by, IsCloseOf, IsLaneRun, IsLaneRunFrom, of_lane}
+use Rattle.std.proofs.lemmas.Bool.{eq-eqb, ne_eqb}
 use Rattle.route_drive.proofs.kept.Lists.{all_filtered, all_weaker, skips, takes}
 
 -- a request

@@ -1,14 +1,7 @@
 -- Stops by riders' ids, as an order of numbered riders and passengers.
 use Rattle.std.proofs.Common.{◌≡◌, ℕ, ◌+◌, ◌*◌, ◌<◌, ◌≤◌, Bool, true, false, cond, not, eqb, nat_eq, List, [], ◌∷◌, length, get_or, map, filter, refl, sym, ap, ◌∙◌, subst, arith, inl, inr}
-use Rattle.std.specs.List.{AllByRecursion, IsDistinct}
-use Rattle.std.proofs.lemmas.Bool.{cases_eq, eq-eqb, ne_eqb, eqb-true, false≢true}
-use Rattle.std.proofs.lemmas.List.Filters.{length-filter_both}
-use Rattle.request_book.specs.declared.outcome.PlannedStop.{PlannedStop}
-use Rattle.road_network.specs.Roads.{index_in, has_node}
-use Rattle.stop_orders.specs.declared.stop.Stop.{Stop}
-use Rattle.stop_orders.specs.declared.stop.Stop.TheVariants.{Pick, Drop, Alight}
-use Rattle.stop_orders.specs.Order.{is_of_rider, is_of_passenger, IsKnown, IsOrder}
-use Rattle.route_drive.specs.work.Serving.{is_stop_of, calls_of}
+use Rattle.route_drive.proofs.Common.{AllByRecursion, IsDistinct, cases_eq, false≢true, length-filter_both, PlannedStop, index_in, has_node, Stop, Pick, Drop, Alight, is_of_rider, is_of_passenger, IsKnown, IsOrder, is_stop_of, calls_of}
+use Rattle.std.proofs.lemmas.Bool.{eq-eqb, ne_eqb, eqb-true}
 use Rattle.route_drive.proofs.kept.Lists.{filter_renamed, filter_filter, all_filtered, all_mapped, all_weaker, many_apart}
 use Rattle.route_drive.proofs.kept.Walks.{has_index, index_at, name_at, is_node_at}
 

@@ -1,24 +1,7 @@
 -- What is entered of a vehicle before a seal, command by command.
 use Rattle.std.proofs.Common.{◌≡◌, ◌⊎◌, ℕ, ◌+◌, ◌<◌, ◌≤◌, true, false, cond, leb, ltb, List, [], ◌∷◌, ◌++◌, map, Option, Some, refl, sym, ap, ◌∙◌, subst, arith, inl, inr}
-use Rattle.std.specs.List.{AllByRecursion}
-use Rattle.std.proofs.lemmas.Bool.{cases_Bool, cases_lt, lt-ltb, le-ltb, le-leb, lt-leb}
-use Rattle.batch_snapshot.specs.declared.vehicle.Vehicle.{Vehicle}
-use Rattle.request_book.specs.Consistent.{IsNode}
-use Rattle.request_book.specs.State.{find_rider, find_vehicle}
-use Rattle.request_book.specs.Step.{step}
-use Rattle.request_book.specs.declared.command.Command.{Command}
-use Rattle.request_book.specs.declared.command.Command.TheVariants.{Report}
-use Rattle.request_book.specs.declared.outcome.PlannedStop.{PlannedStop}
-use Rattle.request_book.specs.declared.reply.Reply.{Reply}
-use Rattle.request_book.specs.declared.reply.Reply.TheVariants.{Placed, Picked, Dropped}
-use Rattle.request_book.specs.declared.rider.BookRider.{BookRider}
-use Rattle.request_book.specs.declared.state.State.{State}
-use Rattle.request_book.proofs.lemmas.KeyedLemmas.{All-look_up}
-use Rattle.rider_limits.specs.declared.settings.Settings.{Settings}
-use Rattle.road_network.specs.Roads.{Roads, IsNetwork, has_node}
-use Rattle.route_drive.specs.declared.course.NodeAt.{NodeAt}
-use Rattle.route_drive.specs.Entering.{IsReported, due, goal_of, standing_after, stop_command, to_come}
-use Rattle.route_drive.specs.work.Serving.{AreReached, IsRightStop, IsServing, IsDayState, IsDone}
+use Rattle.route_drive.proofs.Common.{AllByRecursion, cases_Bool, cases_lt, lt-leb, Vehicle, IsNode, find_rider, find_vehicle, step, Command, Report, PlannedStop, Reply, Placed, Picked, Dropped, BookRider, State, All-look_up, Settings, Roads, IsNetwork, has_node, NodeAt, IsReported, due, goal_of, standing_after, stop_command, to_come, AreReached, IsRightStop, IsServing, IsDayState, IsDone}
+use Rattle.std.proofs.lemmas.Bool.{lt-ltb, le-ltb, le-leb}
 use Rattle.route_drive.proofs.kept.Lists.{takes, skips, all_weaker, both}
 use Rattle.route_drive.proofs.kept.Enter.{picked_up_right, dropped_right}
 use Rattle.route_drive.proofs.kept.Keeping.{OneKeeps, report_one, stop_one}

@@ -1,30 +1,7 @@
 -- A driven day keeps its promises.
-use Rattle.std.proofs.Common.{◌≡◌, ℕ, Bool, true, false, cond, eqb, List, [], ◌∷◌, ◌++◌, map, None, refl, sym, ap, ◌∙◌, subst}
-use Rattle.std.specs.Prelude.{All}
-use Rattle.std.proofs.lemmas.List.{length-map}
+use Rattle.std.proofs.Common.{◌≡◌, ℕ, Bool, true, false, cond, eqb, List, [], ◌∷◌, ◌++◌, map, None, refl, sym, ap, ◌∙◌, subst, All}
+use Rattle.route_drive.proofs.Common.{length-map, Vehicle, BookView, IsBook, opening, IsNode, RepliesAreSteps, state_after, Entry, Journal, State, rounds-join, Settings, Roads, IsNetwork, IsRound, NumberedLanes, empty_round, IsRun, Course, DayRound, entries_of, day_fault, HasDrivenToTheEnd, IsDrivenDay, IsNewBook, IsPrecededBy, courses_from, first_courses, number_after, at_rest, left_commands, course_of, DaysKeep, EntriesKeep, IsDayState, IsKept, IsServing}
 use Rattle.batch_snapshot.specs.Kept.{IsFleet}
-use Rattle.batch_snapshot.specs.declared.vehicle.Vehicle.{Vehicle}
-use Rattle.request_book.specs.Book.{BookView, IsBook, opening}
-use Rattle.request_book.specs.Consistent.{IsNode}
-use Rattle.request_book.specs.Replay.{RepliesAreSteps, state_after}
-use Rattle.request_book.specs.declared.journal.Entry.{Entry}
-use Rattle.request_book.specs.declared.journal.Journal.{Journal}
-use Rattle.request_book.specs.declared.state.State.{State}
-use Rattle.request_book.proofs.lemmas.LawLemmas.{rounds-join}
-use Rattle.rider_limits.specs.declared.settings.Settings.{Settings}
-use Rattle.road_network.specs.Roads.{Roads, IsNetwork}
-use Rattle.script_rows.specs.Round.{IsRound, NumberedLanes, empty_round}
-use Rattle.dispatch_engine.specs.Run.{IsRun}
-use Rattle.route_drive.specs.declared.course.Course.{Course}
-use Rattle.route_drive.specs.declared.day_run.DayRound.{DayRound}
-use Rattle.route_drive.specs.Counts.{entries_of}
-use Rattle.route_drive.specs.Day.{day_fault}
-use Rattle.route_drive.specs.Driven.{HasDrivenToTheEnd, IsDrivenDay, IsNewBook, IsPrecededBy, courses_from, first_courses, number_after}
-use Rattle.route_drive.specs.work.Drive.{at_rest}
-use Rattle.route_drive.specs.Entering.{left_commands}
-use Rattle.route_drive.specs.work.Kept.{course_of}
-use Rattle.route_drive.specs.Promises.{DaysKeep, EntriesKeep}
-use Rattle.route_drive.specs.work.Serving.{IsDayState, IsKept, IsServing}
 use Rattle.route_drive.proofs.kept.DayRounds.{AreDayRounds, are_day_rounds}
 use Rattle.route_drive.proofs.kept.Days.{AreOver, IsOnDay, rounds_over}
 use Rattle.route_drive.proofs.kept.Journals.{entries_in, entries_last, entries_made, journals_last}

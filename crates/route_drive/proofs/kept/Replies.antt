@@ -1,30 +1,9 @@
 -- How the book answers what is entered on a driven day.
 use Rattle.std.proofs.Common.{◌≡◌, ◌⊎◌, ℕ, ◌+◌, ◌≤◌, true, List, [], ◌∷◌, ◌++◌, Option, Some, None, refl, ap, ◌∙◌, inl, inr}
+use Rattle.route_drive.proofs.Common.{Batch, persons_aboard, Promise, Vehicle, one_more, after_answer, closed_state, first_of, duplicate_rider, unknown_node, unknown_rider, is_aboard, has_ended, unknown_vehicle, time_back, not_promised, vehicle_full, not_aboard, batch_open, clock_back, not_this_batch, sealed_state, find_rider, find_vehicle, step, rider_becomes, vehicle_becomes, stands_at, takes_in, lets_out, answer, submit_step, submit_refusal, report_step, pickup_step, dropoff_step, seal_step, close_step, table_step, by-table, Submit, Report, Pickup, Dropoff, Seal, Close, BookRefusal, Reply, Accepted, Placed, Picked, Dropped, Sealed, Closed, BookRider, Waiting, Promised, Aboard, Delivered, State, has_node}
 use Rattle.std.proofs.lemmas.Bool.{eq-eqb, le-ltb, le-leb}
-use Rattle.batch_snapshot.specs.Batch.{Batch}
-use Rattle.batch_snapshot.specs.Vehicle.{persons_aboard}
-use Rattle.batch_snapshot.specs.declared.promise.Promise.{Promise}
-use Rattle.batch_snapshot.specs.declared.vehicle.Vehicle.{Vehicle}
-use Rattle.pool_io.specs.Faults.{one_more}
-use Rattle.request_book.specs.Closing.{after_answer}
-use Rattle.request_book.specs.lemmas.Closing.{closed_state}
-use Rattle.request_book.specs.lemmas.Refusals.{first_of, duplicate_rider, unknown_node, unknown_rider, is_aboard, has_ended, unknown_vehicle, time_back, not_promised, vehicle_full, not_aboard, batch_open, clock_back, not_this_batch}
-use Rattle.request_book.specs.Sealing.{sealed_state}
-use Rattle.request_book.specs.State.{find_rider, find_vehicle}
-use Rattle.request_book.specs.Step.{step, rider_becomes, vehicle_becomes}
-use Rattle.request_book.specs.lemmas.Named.{stands_at, takes_in, lets_out}
-use Rattle.request_book.specs.lemmas.Table.{answer, submit_step, submit_refusal, report_step, pickup_step, dropoff_step, seal_step, close_step, table_step}
-use Rattle.request_book.proofs.lemmas.StepTable.{by-table}
-use Rattle.request_book.specs.declared.command.Command.TheVariants.{Submit, Report, Pickup, Dropoff, Seal, Close}
 use Rattle.request_book.specs.declared.outcome.Outcome.{Outcome}
-use Rattle.request_book.specs.declared.reply.BookRefusal.{BookRefusal}
-use Rattle.request_book.specs.declared.reply.Reply.{Reply}
-use Rattle.request_book.specs.declared.reply.Reply.TheVariants.{Accepted, Placed, Picked, Dropped, Sealed, Closed}
-use Rattle.request_book.specs.declared.rider.BookRider.{BookRider}
-use Rattle.request_book.specs.declared.rider.Status.TheVariants.{Waiting, Promised, Aboard, Delivered}
-use Rattle.request_book.specs.declared.state.State.{State}
 use Rattle.request_book.proofs.lemmas.StepLemmas.{first_of-none, closed-some}
-use Rattle.road_network.specs.Roads.{has_node}
 
 -- nothing speaks against a pickup, a drop-off, a report
 pickup_free : (v : Vehicle) (r : BookRider) (promise : Promise) (vehicle time : ℕ) → r.status ≡ Promised promise → promise.vehicle ≡ vehicle → v.time ≤ time → persons_aboard v + r.party ≤ v.seats

@@ -1,19 +1,7 @@
 -- Where a vehicle is reported at a seal, its stops to come are still reached at their seconds.
 use Rattle.std.proofs.Common.{◌≡◌, ℕ, ◌+◌, ◌<◌, ◌≤◌, Bool, true, false, cond, leb, List, [], ◌∷◌, length, get_or, max, find, Contains, Option, Some, None, refl, sym, ap, ◌∙◌, subst, arith}
-use Rattle.std.specs.List.{AllByRecursion}
+use Rattle.route_drive.proofs.Common.{AllByRecursion, sum_by-cons, never, PlannedStop, Arc, Roads, IsNetwork, index_in, has_node, IsWalk, walk_seconds, IsLeastTime, NodeAt, Stay, WalkStep, IsReported, goal_of, walk_end, steps_of, AreReached}
 use Rattle.std.proofs.lemmas.Bool.{leb-true}
-use Rattle.std.proofs.lemmas.List.Sums.{sum_by-cons}
-use Rattle.pool_base.specs.TravelTime.{never}
-use Rattle.request_book.specs.declared.outcome.PlannedStop.{PlannedStop}
-use Rattle.road_network.specs.declared.arc.Arc.{Arc}
-use Rattle.road_network.specs.Roads.{Roads, IsNetwork, index_in, has_node}
-use Rattle.road_network.specs.Walk.{IsWalk, walk_seconds, IsLeastTime}
-use Rattle.route_drive.specs.declared.course.NodeAt.{NodeAt}
-use Rattle.route_drive.specs.declared.course.Stay.{Stay}
-use Rattle.route_drive.specs.declared.walk.WalkStep.{WalkStep}
-use Rattle.route_drive.specs.Entering.{IsReported, goal_of, walk_end}
-use Rattle.route_drive.specs.Walk.{steps_of}
-use Rattle.route_drive.specs.work.Serving.{AreReached}
 use Rattle.route_drive.proofs.kept.Walks.{ends_within, rest_is_least, has_index, index_at, is_node_at, node_from_index, contains_node}
 
 -- a step of a walk parts it

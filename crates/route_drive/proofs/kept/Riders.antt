@@ -1,22 +1,7 @@
 -- What a change of one rider's status, or of one vehicle, leaves.
-use Rattle.std.proofs.Common.{◌≡◌, ◌⊎◌, ℕ, ◌-◌, ◌≤◌, Bool, true, false, List, [], ◌∷◌, map, Option, Some, None, refl, sym, ap, ◌∙◌, subst, arith, inl, inr}
-use Rattle.std.specs.Prelude.{option_map, MatchBool}
-use Rattle.std.specs.List.{AllByRecursion}
-use Rattle.std.specs.Option.{option_map_or}
-use Rattle.std.proofs.lemmas.Bool.{cases_Bool, cases_eq, eq-eqb, ne_eqb, MatchBool-at_true, MatchBool-at_false}
-use Rattle.batch_snapshot.specs.Vehicle.{persons_aboard}
-use Rattle.batch_snapshot.specs.declared.vehicle.Vehicle.{Vehicle}
-use Rattle.request_book.specs.Keyed.{changed_at}
-use Rattle.request_book.specs.Rider.{with_status}
-use Rattle.request_book.specs.State.{find_rider}
-use Rattle.request_book.specs.declared.outcome.PlannedStop.{PlannedStop}
-use Rattle.request_book.specs.declared.rider.BookRider.{BookRider}
-use Rattle.request_book.specs.declared.rider.Status.{Status}
-use Rattle.request_book.specs.declared.rider.Status.TheVariants.{Waiting, Promised, Aboard, Cancelled, Delivered, Expired}
-use Rattle.request_book.proofs.lemmas.KeyedLemmas.{look_up-key, look_up-changed_here, look_up-changed_there}
-use Rattle.rider_limits.specs.declared.settings.Settings.{Settings}
-use Rattle.road_network.specs.Roads.{Roads}
-use Rattle.route_drive.specs.work.Serving.{party_at, seats_after, HasSeatsFor, IsRightPickup, IsRightDropoff, IsRightStop, IsOfVehicle, is_stop_of, calls_of, HasCalls, IsServing}
+use Rattle.std.proofs.Common.{◌≡◌, ◌⊎◌, ℕ, ◌-◌, ◌≤◌, Bool, true, false, List, [], ◌∷◌, map, Option, Some, None, refl, sym, ap, ◌∙◌, subst, arith, inl, inr, option_map, MatchBool}
+use Rattle.route_drive.proofs.Common.{AllByRecursion, option_map_or, cases_Bool, cases_eq, MatchBool-at_true, MatchBool-at_false, persons_aboard, Vehicle, changed_at, with_status, find_rider, PlannedStop, BookRider, Status, Waiting, Promised, Aboard, Cancelled, Delivered, Expired, look_up-key, look_up-changed_here, look_up-changed_there, Settings, Roads, party_at, seats_after, HasSeatsFor, IsRightPickup, IsRightDropoff, IsRightStop, IsOfVehicle, is_stop_of, calls_of, HasCalls, IsServing}
+use Rattle.std.proofs.lemmas.Bool.{eq-eqb, ne_eqb}
 use Rattle.route_drive.proofs.kept.Lists.{skips, takes, all_weaker}
 
 -- what is found has the id that was looked for

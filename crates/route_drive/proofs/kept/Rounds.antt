@@ -1,41 +1,6 @@
 -- A round of a driven day, from its last entry to its first.
 use Rattle.std.proofs.Common.{◌≡◌, ◌⊎◌, ℕ, ◌≤◌, List, [], ◌∷◌, ◌++◌, length, map, filter, Option, Some, None, Result, Ok, Err, refl, sym, ap, ◌∙◌, subst, arith, inl, inr}
-use Rattle.std.specs.List.{AllByRecursion}
-use Rattle.std.specs.Option.{option_or}
-use Rattle.std.proofs.lemmas.List.Elements.{recursion_from_All}
-use Rattle.batch_snapshot.specs.Batch.{Batch}
-use Rattle.batch_snapshot.specs.declared.vehicle.Vehicle.{Vehicle}
-use Rattle.batch_solver.specs.Outcome.{IsGoodOutcome}
-use Rattle.pool_io.specs.Faults.{one_more}
-use Rattle.request_book.specs.Keyed.{KeysDiffer}
-use Rattle.request_book.specs.Replay.{RepliesAreSteps, state_after}
-use Rattle.request_book.specs.Sealing.{batch_of, sealed_state}
-use Rattle.request_book.specs.State.{find_rider, find_vehicle}
-use Rattle.request_book.specs.Step.{answered, step}
-use Rattle.request_book.specs.declared.reply.BookRefusal.{BookRefusal}
-use Rattle.request_book.specs.declared.command.Command.{Command}
-use Rattle.request_book.specs.declared.command.Command.TheVariants.{Submit, Report, Pickup, Dropoff, Seal, Close}
-use Rattle.request_book.specs.declared.journal.Entry.{Entry}
-use Rattle.request_book.specs.declared.outcome.Answer.{Answer}
-use Rattle.request_book.specs.declared.outcome.Answer.TheVariants as answer
-use Rattle.request_book.specs.declared.outcome.Planned.{Planned}
-use Rattle.request_book.specs.declared.outcome.PlannedStop.{PlannedStop}
-use Rattle.request_book.specs.declared.reply.Reply.{Reply}
-use Rattle.request_book.specs.declared.reply.Reply.TheVariants.{Closed, Dropped, Picked, Placed, Sealed}
-use Rattle.request_book.specs.declared.rider.BookRider.{BookRider}
-use Rattle.request_book.specs.declared.rider.Status.TheVariants.{Promised, Waiting}
-use Rattle.request_book.specs.declared.state.State.{State}
-use Rattle.request_book.proofs.lemmas.KeyedLemmas.{KeysDiffer-from_rise, look_up-at}
-use Rattle.rider_limits.specs.declared.settings.Settings.{Settings}
-use Rattle.road_network.specs.Roads.{Roads, IsNetwork}
-use Rattle.shared_book.specs.Locked.{sealed_by}
-use Rattle.dispatch_engine.specs.Lane.{ClosesAreGood, IsCloseOf, IsGoodClose}
-use Rattle.route_drive.specs.declared.course.Course.{Course}
-use Rattle.route_drive.specs.Driven.{plan_in, plan_of, planned_in}
-use Rattle.route_drive.specs.Entering.{AreEntered, to_come}
-use Rattle.route_drive.specs.Promises.{IsClosedInTime}
-use Rattle.route_drive.specs.work.Kept.{AreReported, IsClosedOn, IsReadyForSeal, IsSealedOn, closed, course_of, stops_after}
-use Rattle.route_drive.specs.work.Serving.{IsDayState, IsKept, KeepsBounds, LeavesAll, ShowsRiders, chosen_stops}
+use Rattle.route_drive.proofs.Common.{AllByRecursion, option_or, recursion_from_All, Batch, Vehicle, IsGoodOutcome, one_more, KeysDiffer, RepliesAreSteps, state_after, batch_of, sealed_state, find_rider, find_vehicle, answered, step, BookRefusal, Command, Submit, Report, Pickup, Dropoff, Seal, Close, Entry, Answer, Planned, PlannedStop, Reply, Closed, Dropped, Picked, Placed, Sealed, BookRider, Promised, Waiting, State, KeysDiffer-from_rise, look_up-at, Settings, Roads, IsNetwork, sealed_by, ClosesAreGood, IsCloseOf, IsGoodClose, Course, plan_in, plan_of, planned_in, AreEntered, to_come, IsClosedInTime, AreReported, IsClosedOn, IsReadyForSeal, IsSealedOn, closed, course_of, stops_after, IsDayState, IsKept, KeepsBounds, LeavesAll, ShowsRiders, chosen_stops}
 use Rattle.route_drive.proofs.kept.Keeping.{AllKeep, OneKeeps}
 use Rattle.route_drive.proofs.kept.Laws.{closes_keep, no_promise_lapses, seals_keep}
 use Rattle.route_drive.proofs.kept.Mixed.{IsAsked, IsMixed, IsRequest, asked_only, mixed_asked}
@@ -43,6 +8,7 @@ use Rattle.route_drive.proofs.kept.Pending.{IsPending}
 use Rattle.route_drive.proofs.kept.Replies.{close_is, seal_is, submit_is}
 use Rattle.route_drive.proofs.kept.Sealing.{found_before, still_found, submit_done}
 use Rattle.route_drive.proofs.kept.Sequence.{ArePending, IsOneOn, IsOwned, finished, is_for, moved, one_on, owners, part_of, still_owned, vehicle_in}
+use Rattle.request_book.specs.declared.outcome.Answer.TheVariants as answer
 
 -- the stops that are on their way: those of a plan, if there is one
 abbrev pub stops_with : Option Planned → (ℕ → List PlannedStop) → ℕ → List PlannedStop

@@ -1,39 +1,14 @@
 -- Requests and seals: what they leave of the riders on a driven day, and whom the batch shows.
-use Rattle.std.proofs.Common.{◌≡◌, ◌⊎◌, ℕ, ◌+◌, ◌<◌, ◌≤◌, Bool, true, false, cond, leb, List, [], ◌∷◌, ◌++◌, map, Option, Some, None, refl, sym, ap, ◌∙◌, subst, arith, inl, inr}
-use Rattle.std.specs.Prelude.{option_map, option_and_then}
-use Rattle.std.specs.List.{AllByRecursion, filter_map}
-use Rattle.std.proofs.lemmas.Bool.{cases_eq, le-ltb, le-leb}
-use Rattle.batch_snapshot.specs.declared.promise.Promise.{Promise}
-use Rattle.batch_snapshot.specs.declared.rider.Rider.{Rider}
-use Rattle.batch_snapshot.specs.declared.vehicle.Vehicle.{Vehicle}
-use Rattle.request_book.specs.Consistent.{IsConsistent, NamesNodes}
-use Rattle.request_book.specs.Keyed.{look_up, by_key, KeysDiffer}
-use Rattle.request_book.specs.Rider.{with_status, shown, pool_promise}
-use Rattle.request_book.specs.Sealing.{is_over, after_seal, batch_of, sealed_state}
-use Rattle.request_book.specs.lemmas.Named.{asking}
-use Rattle.request_book.specs.State.{find_rider, find_vehicle}
-use Rattle.request_book.specs.Step.{step}
-use Rattle.request_book.specs.declared.command.Command.{Command}
-use Rattle.request_book.specs.declared.command.Command.TheVariants.{Submit, Seal}
-use Rattle.request_book.specs.declared.outcome.PlannedStop.{PlannedStop}
-use Rattle.request_book.specs.declared.reply.Reply.{Reply}
-use Rattle.request_book.specs.declared.rider.BookRider.{BookRider}
-use Rattle.request_book.specs.declared.rider.Status.{Status}
-use Rattle.request_book.specs.declared.rider.Status.TheVariants.{Waiting, Promised, Aboard, Cancelled, Delivered, Expired}
-use Rattle.request_book.specs.declared.state.State.{State}
-use Rattle.request_book.proofs.lemmas.BatchLemmas.{after_seal-id}
-use Rattle.request_book.proofs.lemmas.ConsistentLemmas.{step-consistent}
-use Rattle.request_book.proofs.lemmas.NamedLemmas.{step-named}
-use Rattle.request_book.proofs.lemmas.KeyedLemmas.{look_up-key, look_up-map, look_up-push_there, look_up-push_here, look_up-push_found, look_up-filter_map, by_key-order, KeysDiffer-map, KeysDiffer-filter_map}
-use Rattle.rider_limits.specs.declared.settings.Settings.{Settings}
-use Rattle.road_network.specs.Roads.{Roads}
-use Rattle.route_drive.specs.work.Serving.{IsOfVehicle, IsRightStop, IsServing, IsDayState, IsKept, HasCalls, calls_of}
-pub use Rattle.route_drive.specs.work.Serving.{LeavesAll, ShowsRiders}
+use Rattle.std.proofs.Common.{◌≡◌, ◌⊎◌, ℕ, ◌+◌, ◌<◌, ◌≤◌, Bool, true, false, cond, leb, List, [], ◌∷◌, ◌++◌, map, Option, Some, None, refl, sym, ap, ◌∙◌, subst, arith, inl, inr, option_map, option_and_then}
+use Rattle.route_drive.proofs.Common.{AllByRecursion, cases_eq, Promise, Rider, Vehicle, IsConsistent, NamesNodes, look_up, by_key, KeysDiffer, with_status, shown, pool_promise, is_over, after_seal, batch_of, sealed_state, asking, find_rider, find_vehicle, step, Command, Submit, Seal, PlannedStop, Reply, BookRider, Status, Waiting, Promised, Aboard, Cancelled, Delivered, Expired, State, after_seal-id, step-consistent, step-named, look_up-key, look_up-map, look_up-push_there, look_up-push_here, look_up-push_found, look_up-filter_map, by_key-order, KeysDiffer-map, KeysDiffer-filter_map, Settings, Roads, IsOfVehicle, IsRightStop, IsServing, IsDayState, IsKept, HasCalls, calls_of}
+use Rattle.std.specs.List.{filter_map}
+use Rattle.std.proofs.lemmas.Bool.{le-ltb, le-leb}
 use Rattle.route_drive.proofs.kept.Lists.{both}
 use Rattle.route_drive.proofs.kept.Riders.{calls_own, calls_other, serves_elsewhere}
 use Rattle.route_drive.proofs.kept.Enter.{picked_up_right}
 use Rattle.route_drive.proofs.kept.Replies.{submit_is}
 use Rattle.route_drive.proofs.kept.States.{IsBoundBy, IsBound, KeepsBounds}
+pub use Rattle.route_drive.specs.work.Serving.{LeavesAll, ShowsRiders}
 
 not_waiting : (w : ℕ) (status : Status) → status ≡ Waiting → IsOfVehicle w status → ⊥
 not_waiting w status e own = subst (IsOfVehicle w) e own

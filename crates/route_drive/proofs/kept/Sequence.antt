@@ -1,27 +1,8 @@
 -- All that is entered before a seal, with requests of any lanes between.
 use Rattle.std.proofs.Common.{◌≡◌, ℕ, ◌<◌, ◌≤◌, Bool, true, false, cond, eqb, List, [], ◌∷◌, ◌++◌, length, map, filter, Option, Some, None, refl, sym, ap, ◌∙◌, subst, arith, inl, inr}
-use Rattle.std.specs.List.{AllByRecursion}
-use Rattle.std.proofs.lemmas.Bool.{cases_eq, eq-eqb, ne_eqb, cond-true, cond-false}
-use Rattle.std.specs.Option.{option_map_or}
+use Rattle.route_drive.proofs.Common.{AllByRecursion, cases_eq, cond-true, cond-false, option_map_or, filter-append, Vehicle, KeysDiffer, find_vehicle, step, Command, Report, Pickup, Dropoff, PlannedStop, Reply, BookRider, State, look_up-here, look_up-there, look_up-nil, Settings, Roads, IsNetwork, Course, AreEntered, IsEntered, due, stop_command, IsServing, IsDayState, course_of, IsReadyForSeal}
+use Rattle.std.proofs.lemmas.Bool.{eq-eqb, ne_eqb}
 use Rattle.std.proofs.lemmas.List.{append-nil}
-use Rattle.std.proofs.lemmas.List.Elements.{filter-append}
-use Rattle.batch_snapshot.specs.declared.vehicle.Vehicle.{Vehicle}
-use Rattle.request_book.specs.Keyed.{KeysDiffer}
-use Rattle.request_book.specs.State.{find_vehicle}
-use Rattle.request_book.specs.Step.{step}
-use Rattle.request_book.specs.declared.command.Command.{Command}
-use Rattle.request_book.specs.declared.command.Command.TheVariants.{Report, Pickup, Dropoff}
-use Rattle.request_book.specs.declared.outcome.PlannedStop.{PlannedStop}
-use Rattle.request_book.specs.declared.reply.Reply.{Reply}
-use Rattle.request_book.specs.declared.rider.BookRider.{BookRider}
-use Rattle.request_book.specs.declared.state.State.{State}
-use Rattle.request_book.proofs.lemmas.KeyedLemmas.{look_up-here, look_up-there, look_up-nil}
-use Rattle.rider_limits.specs.declared.settings.Settings.{Settings}
-use Rattle.road_network.specs.Roads.{Roads, IsNetwork}
-use Rattle.route_drive.specs.declared.course.Course.{Course}
-use Rattle.route_drive.specs.Entering.{AreEntered, IsEntered, due, stop_command}
-use Rattle.route_drive.specs.work.Serving.{IsServing, IsDayState}
-use Rattle.route_drive.specs.work.Kept.{course_of, IsReadyForSeal}
 use Rattle.route_drive.proofs.kept.Lists.{skips, takes, all_weaker}
 use Rattle.route_drive.proofs.kept.States.{vehicle_id}
 use Rattle.route_drive.proofs.kept.Keeping.{OneKeeps}

@@ -1,37 +1,11 @@
 -- What an entry of a driven day leaves of a state: a stop that is entered, a report, a request.
-use Rattle.std.proofs.Common.{◌≡◌, ℕ, ◌+◌, ◌-◌, ◌≤◌, true, false, List, ◌∷◌, map, Some, refl, sym, ap, ◌∙◌, subst, arith, inl, inr}
-use Rattle.std.specs.Prelude.{option_map, option_and_then}
-use Rattle.std.specs.Option.{option_map_or}
-use Rattle.std.proofs.lemmas.Bool.{cases_eq, eq-eqb}
-use Rattle.batch_snapshot.specs.Vehicle.{persons_aboard, HasSeats}
-use Rattle.batch_snapshot.specs.declared.passenger.Passenger.{Passenger}
-use Rattle.batch_snapshot.specs.declared.promise.Promise.{Promise}
-use Rattle.batch_snapshot.specs.declared.vehicle.Vehicle.{Vehicle}
-use Rattle.request_book.specs.Consistent.{IsConsistent, NamesNodes, seat_in}
-use Rattle.request_book.specs.Keyed.{KeysDiffer}
-use Rattle.request_book.specs.Rider.{with_status, passenger_of}
-use Rattle.request_book.specs.State.{find_rider, find_vehicle, find_passenger}
-use Rattle.request_book.specs.Step.{step, rider_becomes, vehicle_becomes}
-use Rattle.request_book.specs.lemmas.Named.{stands_at, takes_in, lets_out}
-use Rattle.request_book.specs.declared.command.Command.{Command}
-use Rattle.request_book.specs.declared.command.Command.TheVariants.{Report, Pickup, Dropoff}
-use Rattle.request_book.specs.declared.outcome.PlannedStop.{PlannedStop}
-use Rattle.request_book.specs.declared.reply.Reply.{Reply}
-use Rattle.request_book.specs.declared.reply.Reply.TheVariants.{Placed, Picked, Dropped}
-use Rattle.request_book.specs.declared.rider.BookRider.{BookRider}
-use Rattle.request_book.specs.declared.rider.Status.{Status}
-use Rattle.request_book.specs.declared.rider.Status.TheVariants.{Promised, Aboard, Delivered}
-use Rattle.request_book.specs.declared.state.State.{State}
-use Rattle.request_book.proofs.lemmas.ConsistentLemmas.{step-consistent}
-use Rattle.request_book.proofs.lemmas.NamedLemmas.{step-named}
-use Rattle.request_book.proofs.lemmas.KeyedLemmas.{look_up-key, look_up-changed_here, look_up-changed_there, All-look_up, map-changed_at}
-use Rattle.rider_limits.specs.declared.settings.Settings.{Settings}
-use Rattle.road_network.specs.Roads.{Roads, has_node}
-use Rattle.route_drive.specs.work.Serving.{AreReached, party_at, IsOfVehicle, IsServing, IsPromiseKept, IsDayState}
-pub use Rattle.route_drive.specs.work.Serving.{IsBoundBy, IsBound, KeepsBounds, LeavesOthers, Then, IsDone}
+use Rattle.std.proofs.Common.{◌≡◌, ℕ, ◌+◌, ◌-◌, ◌≤◌, true, false, List, ◌∷◌, map, Some, refl, sym, ap, ◌∙◌, subst, arith, inl, inr, option_map, option_and_then}
+use Rattle.route_drive.proofs.Common.{option_map_or, cases_eq, persons_aboard, HasSeats, Passenger, Promise, Vehicle, IsConsistent, NamesNodes, seat_in, KeysDiffer, with_status, passenger_of, find_rider, find_vehicle, find_passenger, step, rider_becomes, vehicle_becomes, stands_at, takes_in, lets_out, Command, Report, Pickup, Dropoff, PlannedStop, Reply, Placed, Picked, Dropped, BookRider, Status, Promised, Aboard, Delivered, State, step-consistent, step-named, look_up-key, look_up-changed_here, look_up-changed_there, All-look_up, map-changed_at, Settings, Roads, has_node, AreReached, party_at, IsOfVehicle, IsServing, IsPromiseKept, IsDayState}
+use Rattle.std.proofs.lemmas.Bool.{eq-eqb}
 use Rattle.route_drive.proofs.kept.Riders.{changed, find_other, find_same, found_id, of_one}
 use Rattle.route_drive.proofs.kept.Enter.{others_serve, picked_up_right, dropped_right, serves_on_picked, dropped_is_aboard, serves_on_dropped}
 use Rattle.route_drive.proofs.kept.Replies.{pickup_is, dropoff_is, report_is}
+pub use Rattle.route_drive.specs.work.Serving.{IsBoundBy, IsBound, KeepsBounds, LeavesOthers, Then, IsDone}
 
 pub vehicle_id : (id : ℕ) (vehicles : List Vehicle) (v : Vehicle) → find_vehicle id vehicles ≡ Some v → v.id ≡ id
 vehicle_id id vehicles v e = look_up-key (λ (v : Vehicle). v.id) id vehicles v e

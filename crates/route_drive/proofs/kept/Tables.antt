@@ -1,26 +1,7 @@
 -- Stops that are reached by shortest walks, as visits of a task over a table of travel times.
-use Rattle.std.proofs.Common.{◌≡◌, ℕ, ◌+◌, ◌<◌, ◌≤◌, Bool, true, false, cond, ltb, List, [], ◌∷◌, length, get_or, map, filter, Some, refl, sym, ap, ◌∙◌, subst, arith, inl, inr}
-use Rattle.std.specs.Prelude.{slice_get}
-use Rattle.std.specs.List.{AllByRecursion}
-use Rattle.std.proofs.lemmas.Bool.{cases_Bool}
-use Rattle.std.proofs.lemmas.List.{get_or-map, length-map}
-use Rattle.std.proofs.lemmas.Option.{slice_get_within, get_or_from_slice_get}
-use Rattle.pool_base.specs.TravelTime.{never, IsTravelTime}
-use Rattle.pool_base.specs.Times.{travel_time}
-use Rattle.pool_base.specs.declared.times.Times.{Times}
-use Rattle.promise_check.specs.Requests.{ideal_second}
-use Rattle.request_book.specs.declared.outcome.PlannedStop.{PlannedStop}
-use Rattle.request_book.specs.declared.rider.BookRider.{BookRider}
-use Rattle.road_network.specs.Roads.{Roads, index_in}
-use Rattle.road_network.specs.Walk.{IsTimeBetween}
-use Rattle.stop_orders.proofs.lemmas.ClockLemmas.{AtLeastAsSoon, soon_over, soon_there}
-use Rattle.stop_orders.specs.declared.stop.Stop.{Stop}
-use Rattle.stop_orders.specs.declared.visit.Visit.{Visit}
+use Rattle.std.proofs.Common.{◌≡◌, ℕ, ◌+◌, ◌<◌, ◌≤◌, Bool, true, false, cond, ltb, List, [], ◌∷◌, length, get_or, map, filter, Some, refl, sym, ap, ◌∙◌, subst, arith, inl, inr, slice_get}
+use Rattle.route_drive.proofs.Common.{AllByRecursion, cases_Bool, get_or-map, length-map, slice_get_within, get_or_from_slice_get, never, IsTravelTime, travel_time, Times, ideal_second, PlannedStop, BookRider, Roads, index_in, IsTimeBetween, AtLeastAsSoon, soon_over, soon_there, Stop, Visit, place_of, latest_of, boarding_of, room_after, ServesFrom, AreTravelTimes, ideal_dropoff, AreReached, party_at, seats_after, HasSeatsFor}
 use Rattle.stop_orders.specs.declared.visit.Visit.TheVariants.{Pickup, Dropoff}
-use Rattle.stop_orders.specs.Visit.{place_of, latest_of, boarding_of, room_after, ServesFrom}
-use Rattle.travel_times.specs.Table.{AreTravelTimes}
-use Rattle.route_drive.specs.Counts.{ideal_dropoff}
-use Rattle.route_drive.specs.work.Serving.{AreReached, party_at, seats_after, HasSeatsFor}
 use Rattle.route_drive.proofs.kept.Lists.{takes, skips}
 use Rattle.route_drive.proofs.kept.Walks.{between_unique}
 

@@ -1,22 +1,10 @@
 -- The stops that a plan tells of a serving order: their seconds, their seats, whose they are, and what they promise.
-use Rattle.std.proofs.Common.{◌≡◌, ℕ, zero, suc, ◌+◌, ◌≤◌, Bool, true, false, List, [], ◌∷◌, ◌++◌, length, map, filter, Some, None, refl, sym, ap, ◌∙◌, subst, arith, inl, inr}
-use Rattle.std.specs.Prelude.{slice_get}
-use Rattle.std.specs.List.{AllByRecursion, zip, flat_map}
-use Rattle.std.proofs.lemmas.Bool.{cases_Bool, cases_eq, true≢false}
-use Rattle.pool_base.specs.Times.{travel_time}
-use Rattle.pool_base.specs.declared.times.Times.{Times}
-use Rattle.request_book.specs.Closing.{Pick, trip_picks}
-use Rattle.request_book.specs.Keyed.{look_up}
-use Rattle.request_book.specs.declared.outcome.PlannedStop.{PlannedStop}
-use Rattle.request_book.specs.declared.rider.BookRider.{BookRider}
-use Rattle.request_book.proofs.lemmas.KeyedLemmas.{look_up-here, look_up-there, look_up-nil}
-use Rattle.road_network.specs.Roads.{Roads, index_in}
-use Rattle.stop_orders.specs.declared.stop.Stop.{Stop}
-use Rattle.stop_orders.specs.declared.stop.Stop.TheVariants.{Pick as PickStop, Drop, Alight}
-use Rattle.stop_orders.specs.declared.visit.Visit.{Visit}
-use Rattle.stop_orders.specs.Visit.{place_of, latest_of, boarding_of, room_after, seconds_from, ServesFrom}
-use Rattle.travel_times.specs.Table.{AreTravelTimes}
-use Rattle.route_drive.specs.work.Serving.{AreReached, party_at, seats_after, HasSeatsFor, is_stop_of, calls_of}
+use Rattle.std.proofs.Common.{◌≡◌, ℕ, zero, suc, ◌+◌, ◌≤◌, Bool, true, false, List, [], ◌∷◌, ◌++◌, length, map, filter, Some, None, refl, sym, ap, ◌∙◌, subst, arith, inl, inr, slice_get}
+use Rattle.route_drive.proofs.Common.{AllByRecursion, cases_Bool, cases_eq, travel_time, Times, trip_picks, look_up, PlannedStop, BookRider, look_up-here, look_up-there, look_up-nil, Roads, index_in, Stop, Drop, Alight, Visit, place_of, latest_of, boarding_of, room_after, seconds_from, ServesFrom, AreTravelTimes, AreReached, party_at, seats_after, HasSeatsFor, is_stop_of, calls_of}
+use Rattle.std.specs.List.{zip, flat_map}
+use Rattle.std.proofs.lemmas.Bool.{true≢false}
+use Rattle.request_book.specs.Closing.{Pick}
+use Rattle.stop_orders.specs.declared.stop.Stop.TheVariants.{Pick as PickStop}
 use Rattle.route_drive.proofs.kept.Lists.{takes, skips, all_weaker}
 use Rattle.route_drive.proofs.kept.Walks.{least_between}
 use Rattle.route_drive.proofs.kept.Riders.{calls_own, calls_other, no_pickup}

@@ -1,51 +1,18 @@
 -- The trips that a good plan chooses on a driven day: whose stops they are, and what they promise.
-use Rattle.std.proofs.Common.{◌≡◌, ℕ, zero, suc, ◌+◌, ◌<◌, ◌≤◌, Bool, true, not, eqb, List, [], ◌∷◌, length, get_or, map, filter, Some, refl, sym, ap, ◌∙◌, subst, arith, inl, inr}
-use Rattle.std.specs.Prelude.{slice_get}
-use Rattle.std.specs.List.{AllByRecursion, AllZip, range_with_len}
+use Rattle.std.proofs.Common.{◌≡◌, ℕ, zero, suc, ◌+◌, ◌<◌, ◌≤◌, Bool, true, not, eqb, List, [], ◌∷◌, length, get_or, map, filter, Some, refl, sym, ap, ◌∙◌, subst, arith, inl, inr, slice_get, nat_eq}
+use Rattle.route_drive.proofs.Common.{AllByRecursion, AllZip, range_with_len, length-range_with_len, get_or-range_with_len, slice_get_within, get_or_from_slice_get, slice_get-get_or, travel_time, Times, Batch, Rider, Vehicle, HasGraphsWith, IsGoodPlan, request_at, IsSettled, find_vehicle, PlannedStop, Planned, State, Settings, Roads, index_in, Settled, vehicle_at, AreTravelTimes, IsKept, IsDistinct, cases_eq, cases_lt, get_or-map, length-map, rider_id, IsTripOf, times_served_as_count, choice_at, riders_at, no_row, is_in, IsRowOf, no_request, ChosenTrip, increasing_from_rise, KeysDiffer-from_rise, has_node, IsTrip}
 use Rattle.std.proofs.lemmas.Bool.{eq-eqb}
-use Rattle.std.proofs.lemmas.List.FromFn.{length-range_with_len, get_or-range_with_len}
-use Rattle.std.proofs.lemmas.Option.{slice_get_within, get_or_from_slice_get, slice_get-get_or}
-use Rattle.pool_base.specs.Times.{travel_time}
-use Rattle.pool_base.specs.declared.times.Times.{Times}
-use Rattle.batch_snapshot.specs.Batch.{Batch}
-use Rattle.batch_snapshot.specs.declared.rider.Rider.{Rider}
-use Rattle.batch_snapshot.specs.declared.vehicle.Vehicle.{Vehicle}
-use Rattle.batch_solver.specs.Outcome.{HasGraphsWith, IsGoodPlan}
-use Rattle.batch_solver.specs.declared.point.Point.TheVariants as point
-use Rattle.promise_check.specs.Requests.{request_at}
-use Rattle.promise_check.specs.Settling.{IsSettled}
-use Rattle.request_book.specs.State.{find_vehicle}
-use Rattle.request_book.specs.declared.outcome.PlannedStop.{PlannedStop}
-use Rattle.request_book.specs.declared.outcome.Planned.{Planned}
-use Rattle.request_book.specs.declared.state.State.{State}
-use Rattle.rider_limits.specs.declared.settings.Settings.{Settings}
-use Rattle.road_network.specs.Roads.{Roads, index_in}
-use Rattle.stop_orders.specs.declared.settled.Settled.{Settled}
-use Rattle.stop_orders.specs.Settled.{vehicle_at}
-use Rattle.travel_times.specs.Table.{AreTravelTimes}
-use Rattle.route_drive.specs.work.Serving.{IsKept}
 use Rattle.route_drive.proofs.kept.Sealing.{ShowsRiders}
-use Rattle.std.specs.List.{IsDistinct, zip}
-use Rattle.std.proofs.Common.{nat_eq}
-use Rattle.std.proofs.lemmas.Bool.{cases_eq, cases_lt, ne_eqb}
-use Rattle.std.proofs.lemmas.List.{get_or-map, length-map}
-use Rattle.batch_solver.specs.Told.{rider_id}
-use Rattle.batch_solver.specs.Trips.{IsTripOf}
-use Rattle.plan_rules.proofs.lemmas.GraphLemmas.{times_served_as_count}
+use Rattle.std.specs.List.{zip}
+use Rattle.std.proofs.lemmas.Bool.{ne_eqb}
 use Rattle.plan_rules.proofs.lemmas.PlanLemmas.{plan_choice}
 use Rattle.plan_rules.proofs.lemmas.SumLemmas.{count_below_two}
-use Rattle.plan_rules.specs.Graph.{choice_at, riders_at, no_row, is_in, IsRowOf}
 use Rattle.plan_rules.specs.Plan.{IsLawful}
-use Rattle.promise_check.specs.lemmas.Named.{no_request}
-use Rattle.request_book.specs.declared.outcome.ChosenTrip.{ChosenTrip}
-use Rattle.request_book.proofs.lemmas.BatchLemmas.{increasing_from_rise}
-use Rattle.request_book.proofs.lemmas.KeyedLemmas.{KeysDiffer-from_rise}
-use Rattle.road_network.specs.Roads.{has_node}
-use Rattle.stop_orders.specs.Settled.{IsTrip}
 use Rattle.route_drive.proofs.kept.Batches.{rising_far, distinct_from_rising}
 use Rattle.route_drive.proofs.kept.Lapse.{along_range, not_late}
 use Rattle.route_drive.proofs.kept.Lists.{takes}
 use Rattle.route_drive.proofs.kept.Walks.{index_at}
+use Rattle.batch_solver.specs.declared.point.Point.TheVariants as point
 
 filter_all : {X : Type 0} (p : X → Bool) (xs : List X) → AllByRecursion (λ x. p x ≡ true) xs → filter p xs ≡ xs
 filter_all p [] all = refl

@@ -1,13 +1,7 @@
 -- Shortest walks: their seconds are one number, and what is left of one is one.
 use Rattle.std.proofs.Common.{◌≡◌, ℕ, zero, suc, ◌+◌, ◌<◌, ◌≤◌, Bool, true, false, eqb, List, [], ◌∷◌, ◌++◌, length, get_or, All, Contains, nat_eq, refl, sym, ◌∙◌, subst, arith, inl, inr}
-use Rattle.std.specs.List.{IsDistinct}
-use Rattle.std.proofs.lemmas.Bool.{eqb-true, eq-eqb, ne_eqb, false≢true}
-use Rattle.std.proofs.lemmas.List.Elements.{All-contains, All-from_recursion, Contains-get_or}
-use Rattle.std.proofs.lemmas.List.Sums.{sum_by-append, passes_at_first}
-use Rattle.pool_base.specs.TravelTime.{never}
-use Rattle.road_network.specs.declared.arc.Arc.{Arc}
-use Rattle.road_network.specs.Walk.{IsWalk, walk_seconds, IsLeastTime, IsTimeBetween}
-use Rattle.road_network.specs.Roads.{IsArcAmong, index_in, has_node}
+use Rattle.route_drive.proofs.Common.{IsDistinct, false≢true, All-contains, All-from_recursion, Contains-get_or, sum_by-append, passes_at_first, never, Arc, IsWalk, walk_seconds, IsLeastTime, IsTimeBetween, IsArcAmong, index_in, has_node}
+use Rattle.std.proofs.lemmas.Bool.{eqb-true, eq-eqb, ne_eqb}
 
 pub least_unique : (arcs : List Arc) (a b s t : ℕ) → IsLeastTime arcs a b s → IsLeastTime arcs a b t → s ≡ t
 least_unique arcs a b s t one other =

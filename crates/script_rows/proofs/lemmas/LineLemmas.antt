@@ -1,22 +1,13 @@
 use Rattle.std.proofs.Common.{◌≡◌, ℕ, false, not, ◌&&◌, eqb, nat_lt, List, Result, Ok, subst, arith}
+use Rattle.script_rows.proofs.Common.{not-false, field_at, refused_where, then_ok, refused_where-passed, Command, ScriptFault, Number, LaneRange, RoundBack, UnknownCommand, ExtraField, SealLane, Line, ScriptVersion, party_in, submit_in, three_in, command_in, leaves_empty, is_seal, line_in, IsBehind, MayStand}
 use Rattle.std.specs.Option.{ok_or}
-use Rattle.std.proofs.lemmas.Bool.{ltb-false, eqb-true, not-false}
-use Rattle.pool_io.specs.Table.{field_at}
-use Rattle.pool_base.specs.InOrder.{refused_where}
+use Rattle.std.proofs.lemmas.Bool.{ltb-false, eqb-true}
 use Rattle.pool_base.specs.Numeral.{number_in, number_at}
-use Rattle.pool_base.proofs.lemmas.InOrderLemmas.{then_ok, refused_where-passed}
 use Rattle.pool_base.proofs.lemmas.NumeralLemmas.{number_in-at, number_in-within}
-use Rattle.request_book.specs.declared.command.Command.{Command}
 use Rattle.request_book.specs.declared.command.Command.TheVariants.{Submit as submit, Cancel as cancel, Report as report, Pickup as pickup, Dropoff as dropoff, Seal as seal}
-use Rattle.script_rows.specs.declared.fault.ScriptFault.{ScriptFault}
-use Rattle.script_rows.specs.declared.fault.ScriptFault.TheVariants.{Number, LaneRange, RoundBack, UnknownCommand, ExtraField, SealLane}
-use Rattle.script_rows.specs.declared.line.Line.{Line}
-use Rattle.script_rows.specs.declared.version.ScriptVersion.{ScriptVersion}
 use Rattle.script_rows.specs.declared.word.Word.{Word}
 use Rattle.script_rows.specs.declared.word.Word.TheVariants.{Submit, Cancel, Report, Pickup, Dropoff, Seal}
 use Rattle.script_rows.specs.Word.{word_of}
-use Rattle.script_rows.specs.Line.{party_in, submit_in, three_in, command_in, leaves_empty, is_seal, line_in, IsBehind}
-use Rattle.script_rows.specs.Round.{MayStand}
 
 -- where a step answers with a command that stands, so does its answer
 stands_as : (lane : ℕ) (made command : Command) → ◌≡◌ {A = Result Command ScriptFault} (Ok made) (Ok command) → MayStand lane made → MayStand lane command

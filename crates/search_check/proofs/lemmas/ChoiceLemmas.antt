@@ -1,13 +1,7 @@
 -- How many choices of rows there are.
 use Rattle.std.proofs.Common.{◌≡◌, ℕ, zero, suc, ◌+◌, ◌-◌, ◌*◌, ◌<◌, ◌≤◌, Bool, true, false, length, max, refl, subst, ⊎_elim, arith, eq-eqb, add-suc, add-zero}
+use Rattle.search_check.proofs.Common.{cases_lt, eqb_tells, count_below, Graph, row_vehicle, IsStartOf, is_usable_by, every_row, product_below, choice_count}
 use Rattle.std.proofs.Math.Nat.{mul-le-mul_left}
-use Rattle.std.proofs.lemmas.Bool.{cases_lt}
-use Rattle.std.proofs.lemmas.Bool.Decides.{eqb_tells}
-use Rattle.plan_rules.specs.Sums.{count_below}
-use Rattle.plan_rules.specs.Graph.{Graph, row_vehicle, IsStartOf}
-use Rattle.plan_rules.specs.Multipliers.{is_usable_by}
-use Rattle.plan_rules.specs.Tree.{every_row}
-use Rattle.assignment_search.specs.Growth.{product_below, choice_count}
 
 -- how many of the first n numbers pass a test that those from s to e pass, and no others
 record CountsTo (s e n count : ℕ) : Type 0 where

@@ -1,18 +1,10 @@
 -- A tree that is refused has no value, and one that isn't has one.
 use Rattle.std.proofs.Common.{◌≡◌, ℕ, zero, suc, ℤ, List, [], ◌∷◌, length, take, drop, slice_get, Some, refl, sym, ap, ◌∙◌, subst, arith}
-use Rattle.std.proofs.lemmas.List.{take_all, drop_all, length-drop}
-use Rattle.plan_rules.specs.Graph.{Graph}
-use Rattle.plan_rules.specs.Multipliers.{Usable}
-use Rattle.plan_rules.specs.Tree.{every_row, IsTreeOfValue}
-use Rattle.plan_rules.specs.Reading.{IsSoundNode, coming_after, ReadsTo}
-use Rattle.plan_rules.specs.lemmas.Tree.{IsWholeTree}
-use Rattle.plan_rules.specs.declared.node.Node.{Node}
-use Rattle.plan_rules.specs.declared.node.Node.TheVariants.{Branch, Leaf, Dead}
-use Rattle.plan_rules.proofs.lemmas.SearchTreeLemmas.{reads_of_tree, value_is_read}
+use Rattle.search_check.proofs.Common.{drop_all, Graph, Usable, every_row, IsTreeOfValue, IsSoundNode, coming_after, ReadsTo, IsWholeTree, Node, Branch, Leaf, Dead, reads_of_tree, value_is_read, IsRefusal}
+use Rattle.std.proofs.lemmas.List.{take_all, length-drop}
 use Rattle.bound_checker.specs.Fault.{IsReached, IsTreeFault}
 use Rattle.bound_checker.specs.declared.fault.CheckFault.{CheckFault}
 use Rattle.bound_checker.specs.declared.fault.CheckFault.TheVariants.{BadBranch, BadLeaf, BadDead, Unfinished, Extra, OutOfMemory}
-use Rattle.search_check.specs.work.Refusals.{IsRefusal}
 
 -- a tree has one value
 pub one_value : (g : Graph) (nodes : List Node) (a b : ℤ) → IsTreeOfValue g nodes a → IsTreeOfValue g nodes b → a ≡ b

@@ -1,10 +1,8 @@
 -- The lesser of the costs of the held and the greedy plan, and plans that are no better.
 use Rattle.std.proofs.Common.{◌≡◌, ℕ, ◌≤◌, List, Option, ap, subst, inl, inr, arith}
-use Rattle.plan_rules.specs.Graph.{Graph, IsGoodGraph}
+use Rattle.search_check.proofs.Common.{Graph, IsGoodGraph, IsLawful, cost_of, IsLimit}
 use Rattle.plan_rules.specs.Greedy.{IsGreedy}
-use Rattle.plan_rules.specs.Plan.{IsLawful, cost_of}
 use Rattle.assignment_search.proofs.lemmas.UniqueLemmas.{greedy_unique}
-use Rattle.search_check.specs.work.Nodes.{IsLimit}
 
 module _ (g : Graph) (good : IsGoodGraph g) (greedy : List (Option ℕ)) (is : IsGreedy g greedy) where
   -- there is no lawful greedy plan

@@ -1,20 +1,9 @@
 -- The nodes of a tree, judged one after the other.
 use Rattle.std.proofs.Common.{◌≡◌, ℕ, suc, ◌+◌, ◌<◌, ℤ, pos, ◌≤ℤ◌, ◌<ℤ◌, List, [], ◌∷◌, ◌++◌, length, get_or, take, drop, All, Contains, refl, sym, ap, ◌∙◌, subst, ⊎_elim, arith}
+use Rattle.search_check.proofs.Common.{take_more, Graph, Usable, leaf_value, first_fit_value, cost_of, every_row, Place, rounded_up, IsSoundNode, coming_after, ReadsTo, places_from, IsWholeTree, places_read, Node, Branch, Leaf, Dead, places_append, places_push, Agree, leaf_value_agrees, first_fit_value_agrees, IsFairNode, IsJustified, HasMultipliers, IsLimit}
 use Rattle.std.proofs.Math.Seq.{drop-cons}
-use Rattle.std.proofs.lemmas.List.{take_more, take-append-drop}
+use Rattle.std.proofs.lemmas.List.{take-append-drop}
 use Rattle.std.proofs.lemmas.List.Elements.{All-push, All-contains, Contains-append_right}
-use Rattle.plan_rules.specs.Graph.{Graph}
-use Rattle.plan_rules.specs.Multipliers.{Usable, leaf_value, first_fit_value}
-use Rattle.plan_rules.specs.Plan.{cost_of}
-use Rattle.plan_rules.specs.Tree.{every_row, Place, rounded_up}
-use Rattle.plan_rules.specs.Reading.{IsSoundNode, coming_after, ReadsTo, places_from}
-use Rattle.plan_rules.specs.lemmas.Tree.{IsWholeTree, places_read}
-use Rattle.plan_rules.specs.declared.node.Node.{Node}
-use Rattle.plan_rules.specs.declared.node.Node.TheVariants.{Branch, Leaf, Dead}
-use Rattle.plan_rules.proofs.lemmas.ReadLemmas.{places_append, places_push}
-use Rattle.plan_rules.proofs.lemmas.UsableLemmas.{Agree, leaf_value_agrees, first_fit_value_agrees}
-use Rattle.assignment_search.specs.Found.{IsFairNode, IsJustified}
-use Rattle.search_check.specs.work.Nodes.{HasMultipliers, IsLimit}
 use Rattle.search_check.proofs.lemmas.FaultLemmas.{reads_rest}
 
 pub has_multipliers : (g : Graph) (usable : Usable) (n : Node) → IsSoundNode g usable n → HasMultipliers g n

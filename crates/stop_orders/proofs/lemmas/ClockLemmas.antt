@@ -1,8 +1,5 @@
 use Rattle.std.proofs.Common.{ℕ, ◌+◌, ◌<◌, ◌≤◌, List, [], ◌∷◌, arith}
-use Rattle.pool_base.specs.TravelTime.{never, longest, IsTravelTime}
-use Rattle.stop_orders.specs.declared.visit.Visit.{Visit}
-use Rattle.stop_orders.specs.declared.visit.Visit.TheVariants.{Pickup, Dropoff}
-use Rattle.stop_orders.specs.Visit.{place_of, latest_of, boarding_of, room_after, lateness, ServesFrom, delay_from}
+use Rattle.stop_orders.proofs.Common.{never, longest, IsTravelTime, Visit, Pickup, Dropoff, place_of, latest_of, boarding_of, room_after, lateness, ServesFrom, delay_from}
 
 -- more room stays more room
 pub room_after-le : (v : Visit) (r s owed : ℕ) → boarding_of v ≤ r → r + owed ≤ s → room_after v r + owed ≤ room_after v s

@@ -1,13 +1,7 @@
-use Rattle.std.proofs.Common.{◌≡◌, ℕ, zero, suc, ◌+◌, ◌*◌, ◌^◌, ◌<◌, ◌≤◌, max, Bool, true, false, eqb, List, [], ◌∷◌, length, filter, refl, sym, ap, ◌∙◌, subst, arith, inl, inr}
-use Rattle.std.proofs.lemmas.Bool.{eq-eqb, ne_eqb, cases_eq, cond-true, cond-false}
-use Rattle.std.proofs.lemmas.Nat.Bits.{bit_at-zero, bit_at_or, bit_at-pow_same, bit_at-pow_other, bit_at-lt}
-use Rattle.std.specs.Prelude.{bit_or}
+use Rattle.std.proofs.Common.{◌≡◌, ℕ, zero, suc, ◌+◌, ◌*◌, ◌^◌, ◌<◌, ◌≤◌, max, Bool, true, false, eqb, List, [], ◌∷◌, length, filter, refl, sym, ap, ◌∙◌, subst, arith, inl, inr, bit_or}
+use Rattle.stop_orders.proofs.Common.{cases_eq, cond-true, cond-false, bit_at-zero, bit_at_or, bit_at-pow_same, bit_at-pow_other, bit_at-lt, Stop, Pick, Drop, Alight, is_of_rider, is_of_passenger, IsOrder, has, with_bit, with_stop, IsNextStop, IsAllDone, left_of_rider, left_of_passenger, Completes, sum_below, left_count}
+use Rattle.std.proofs.lemmas.Bool.{eq-eqb, ne_eqb}
 use Rattle.std.specs.Int.{bit_at}
-use Rattle.stop_orders.specs.declared.stop.Stop.{Stop}
-use Rattle.stop_orders.specs.declared.stop.Stop.TheVariants.{Pick, Drop, Alight}
-use Rattle.stop_orders.specs.Order.{is_of_rider, is_of_passenger, IsOrder}
-use Rattle.stop_orders.specs.Done.{has, with_bit, with_stop, IsNextStop, IsAllDone}
-use Rattle.stop_orders.specs.lemmas.Rest.{left_of_rider, left_of_passenger, Completes, sum_below, left_count}
 
 -- nothing is in the empty set
 pub has-none : (k : ℕ) → has 0 k ≡ false

@@ -1,18 +1,7 @@
 use Rattle.std.proofs.Common.{◌≡◌, ℕ, ◌+◌, ◌-◌, ◌<◌, ◌≤◌, Bool, true, false, List, [], ◌∷◌, ◌++◌, length, take, Option, refl, sym, ap, ◌∙◌, subst, arith, append_assoc, length-append}
+use Rattle.stop_orders.proofs.Common.{false≢true, Route, Task, Stop, Pick, Drop, Alight, Visit, place_of, room_after, Reaches, ServesFrom, IsOrderOf, Serves, ReachesAll, order_delay, free_seats, visits_of, bit_of, with_stop, IsNextStop, IsAllDone, Completes, stop_with, NoneBetter, StaysGood, MakesOrders, AllTried}
 use Rattle.std.proofs.lemmas.List.{append-nil, take_at}
-use Rattle.std.proofs.lemmas.Bool.{lt-ltb, le-ltb, false≢true}
-use Rattle.stop_orders.specs.declared.route.Route.{Route}
-use Rattle.stop_orders.specs.declared.task.Task.{Task}
-use Rattle.stop_orders.specs.declared.stop.Stop.{Stop}
-use Rattle.stop_orders.specs.declared.stop.Stop.TheVariants.{Pick, Drop, Alight}
-use Rattle.stop_orders.specs.declared.visit.Visit.{Visit}
-use Rattle.stop_orders.specs.Visit.{place_of, room_after, Reaches, ServesFrom}
-use Rattle.stop_orders.specs.Task.{IsOrderOf, Serves, ReachesAll, order_delay, free_seats, visits_of}
-use Rattle.stop_orders.specs.Done.{bit_of, with_stop, IsNextStop, IsAllDone}
-use Rattle.stop_orders.specs.lemmas.Rest.{Completes}
-use Rattle.stop_orders.specs.work.Rest.{stop_with}
-use Rattle.stop_orders.specs.lemmas.Plain.{NoneBetter, StaysGood, MakesOrders}
-use Rattle.stop_orders.specs.work.Plain.{AllTried}
+use Rattle.std.proofs.lemmas.Bool.{lt-ltb, le-ltb}
 use Rattle.stop_orders.proofs.lemmas.DoneLemmas.{Completes-front, Completes-back, Completes-nil, IsAllDone-from_nil, IsOrder-from_none}
 
 -- what serves reaches all its places

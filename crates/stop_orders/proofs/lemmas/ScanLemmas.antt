@@ -1,13 +1,6 @@
 use Rattle.std.proofs.Common.{◌≡◌, ℕ, zero, suc, ◌+◌, ◌*◌, ◌<◌, ◌≤◌, List, ◌∷◌, length, take, slice_index, refl, sym, ap, ◌∙◌, subst, arith}
-use Rattle.std.specs.List.{AllByRecursion}
-use Rattle.pool_base.specs.TravelTime.{never, longest}
-use Rattle.stop_orders.specs.declared.task.Task.{Task}
-use Rattle.stop_orders.specs.declared.stop.Stop.{Stop}
+use Rattle.stop_orders.proofs.Common.{AllByRecursion, never, longest, Task, Stop, IsKnown, place_of, Reaches, delay_from, seconds_from, IsTask, IsOrderOf, Serves, visit_at, visits_of, ReachesAll, order_delay, seconds_of, first_position, position_after, CanVisitFrom, ServesAt}
 use Rattle.stop_orders.specs.declared.position.Position.{Position}
-use Rattle.stop_orders.specs.Order.{IsKnown}
-use Rattle.stop_orders.specs.Visit.{place_of, Reaches, delay_from, seconds_from}
-use Rattle.stop_orders.specs.Task.{IsTask, IsOrderOf, Serves, visit_at, visits_of, ReachesAll, order_delay, seconds_of}
-use Rattle.stop_orders.specs.work.Position.{first_position, position_after, CanVisitFrom, ServesAt}
 use Rattle.stop_orders.proofs.lemmas.DoneLemmas.{length-IsOrder}
 use Rattle.stop_orders.proofs.lemmas.VisitLemmas.{visit_place, visit_latest, visit_party}
 

@@ -1,10 +1,5 @@
 use Rattle.std.proofs.Common.{ℕ, ◌+◌, ◌<◌, ◌≤◌, length, arith}
-use Rattle.stop_orders.specs.declared.task.Task.{Task}
-use Rattle.stop_orders.specs.declared.stop.Stop.{Stop}
-use Rattle.stop_orders.specs.declared.stop.Stop.TheVariants.{Pick, Drop, Alight}
-use Rattle.stop_orders.specs.Order.{IsKnown}
-use Rattle.stop_orders.specs.Visit.{place_of, latest_of, room_after}
-use Rattle.stop_orders.specs.Task.{no_leg, IsLeg, leg_at, IsTask, visit_at}
+use Rattle.stop_orders.proofs.Common.{Task, Stop, Pick, Drop, Alight, IsKnown, place_of, latest_of, room_after, no_leg, IsLeg, leg_at, IsTask, visit_at}
 
 module _ (points : ℕ) (task : Task) (valid : IsTask points task) where
   pub rider_leg : (i : ℕ) → i < length task.riders.items → IsLeg points (leg_at task.riders.items i)

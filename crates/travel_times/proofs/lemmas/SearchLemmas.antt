@@ -1,16 +1,7 @@
 use Rattle.std.proofs.Common.{◌≡◌, ◌≢◌, ℕ, zero, suc, ◌+◌, ◌*◌, ◌<◌, ◌≤◌, ◌⊎◌, Bool, true, false, cond, eqb, Option, None, Some, IfSome, List, [], ◌∷◌, ◌++◌, length, get_or, slice_index, set, replicate, map, filter, sum, count_by, All, Contains, refl, sym, ap, ◌∙◌, inl, inr, ⊎_elim, arith}
-use Rattle.std.proofs.lemmas.Bool.{cases_eq, cases_lt, cases_Bool, cond_both, eqb-true, eq-eqb, true≢false}
-use Rattle.std.proofs.lemmas.List.{length-set, get_or-set_same, get_or-set_other, get_or-map, length-map, get_or_default, get_or_past, get_or-replicate, length-replicate}
-use Rattle.std.proofs.lemmas.List.Elements.{All-cons, All-nil, All-contains, All-contains_itself, All-filter}
-use Rattle.std.proofs.lemmas.List.Sums.{sum_by-set, sum_by-cons}
-use Rattle.pool_base.specs.TravelTime.{never, longest}
-use Rattle.road_network.specs.declared.arc.Arc.{Arc}
-use Rattle.road_network.specs.declared.hop.Hop.{Hop}
-use Rattle.road_network.specs.Walk.{IsWalk, walk_seconds, IsTimeBetween}
-use Rattle.road_network.specs.Roads.{IsArcAmong, hop_of, leaving}
-use Rattle.travel_times.specs.Near.{AreTimesUpTo, reach}
-use Rattle.travel_times.specs.Search.{waits, IsNextTaken, IsHopRelaxed, RelaxesHops}
-use Rattle.travel_times.specs.lemmas.Search.{HasWalkOf, IsSearching}
+use Rattle.travel_times.proofs.Common.{cases_eq, cases_lt, cases_Bool, cond_both, get_or-map, length-map, get_or_default, get_or_past, get_or-replicate, length-replicate, All-cons, All-nil, All-contains, All-contains_itself, All-filter, sum_by-set, sum_by-cons, never, longest, Arc, Hop, IsWalk, walk_seconds, IsTimeBetween, IsArcAmong, hop_of, leaving, AreTimesUpTo, reach, waits, IsNextTaken, IsHopRelaxed, RelaxesHops, HasWalkOf, IsSearching}
+use Rattle.std.proofs.lemmas.Bool.{eqb-true, eq-eqb, true≢false}
+use Rattle.std.proofs.lemmas.List.{length-set, get_or-set_same, get_or-set_other}
 use Rattle.travel_times.proofs.lemmas.WalkLemmas.{IsWalk-push, walk_seconds-push, short_walk}
 
 -- what a filter keeps passes its test, and what passes is kept

@@ -1,12 +1,7 @@
 use Rattle.std.proofs.Common.{◌≡◌, ℕ, ◌+◌, ◌*◌, ◌<◌, ◌≤◌, Bool, true, false, eqb, List, [], ◌∷◌, ◌++◌, length, All, Contains, refl, sym, ◌∙◌, subst, ⊎_elim, arith}
-use Rattle.std.specs.List.{IsDistinct, list_any, AllByRecursion}
-use Rattle.std.proofs.lemmas.Bool.{cases_Bool, or_cases, or_parts, eqb-true}
-use Rattle.std.proofs.lemmas.List.Elements.{All-contains}
-use Rattle.std.proofs.lemmas.List.Sums.{sum_by-cons, sum_by_push, sum_by-append}
+use Rattle.travel_times.proofs.Common.{IsDistinct, list_any, AllByRecursion, cases_Bool, or_cases, or_parts, All-contains, sum_by-cons, sum_by_push, sum_by-append, Arc, IsWalk, walk_seconds, IsArcAmong}
+use Rattle.std.proofs.lemmas.Bool.{eqb-true}
 use Rattle.std.proofs.lemmas.Map.Steps.{length-le_from_distinct_below}
-use Rattle.road_network.specs.declared.arc.Arc.{Arc}
-use Rattle.road_network.specs.Walk.{IsWalk, walk_seconds}
-use Rattle.road_network.specs.Roads.{IsArcAmong}
 
 -- a walk with one more arc at its end
 pub IsWalk-push : (arcs walk : List Arc) (arc : Arc) (start goal : ℕ) → IsWalk arcs start walk goal → Contains arcs arc → arc.from ≡ goal → IsWalk arcs start (walk ++ arc ∷ []) arc.to

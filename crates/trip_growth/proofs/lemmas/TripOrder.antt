@@ -1,6 +1,6 @@
 use Rattle.std.proofs.Common.{◌≡◌, ℕ, suc, zero, ◌+◌, ◌<◌, ◌≤◌, ◌⊎◌, inl, inr, List, [], ◌∷◌, ◌++◌, length, take, refl, sym, ap, ◌∙◌, subst, arith, ⊎_elim, get_or}
-use Rattle.std.proofs.lemmas.List.{append-nil, take_all, take_more}
-use Rattle.trip_growth.specs.Trip.{IsLower}
+use Rattle.trip_growth.proofs.Common.{take_more, IsLower}
+use Rattle.std.proofs.lemmas.List.{append-nil, take_all}
 
 pub lower_irrefl : (a : List ℕ) → IsLower a a → ⊥
 lower_irrefl [] h = h

@@ -1,13 +1,10 @@
 use Rattle.std.proofs.Common.{◌≡◌, ℕ, ◌+◌, ◌<◌, ◌≤◌, inl, inr, List, [], ◌∷◌, length, get_or, Ordering, refl, sym, ap, ◌∙◌, subst, arith}
+use Rattle.trip_growth.proofs.Common.{cases_lt, length-map, get_or_default, IsLower, IsRising, trips_of, TripOf}
 use Rattle.std.specs.declared.cmp.Ordering.TheVariants.{Less, Equal, Greater}
 use Rattle.std.specs.Ordering.{MatchOrdering, nat_cmp, ordering_then}
 use Rattle.std.specs.Cmp.Lexicographic.{slice_cmp}
 use Rattle.std.specs.List.{All, Contains}
 use Rattle.std.proofs.lemmas.Cmp.{ranked}
-use Rattle.std.proofs.lemmas.Bool.{cases_lt}
-use Rattle.std.proofs.lemmas.List.{length-map, get_or_default}
-use Rattle.trip_growth.specs.Trip.{IsLower, IsRising, trips_of}
-use Rattle.trip_growth.specs.declared.trip_of.TripOf.{TripOf}
 use Rattle.trip_growth.proofs.lemmas.TripOrder.{lower_irrefl, lower_trans}
 use Rattle.trip_growth.proofs.Levels.{trip_at, same_size}
 

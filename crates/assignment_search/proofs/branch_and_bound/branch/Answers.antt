@@ -1,15 +1,6 @@
 use Rattle.std.proofs.Common.{◌≡◌, ◌+◌, ◌-◌, ◌<◌, ◌≤◌, ℕ, suc, take, drop, List, [], ◌∷◌, ◌++◌, length, get_or, Option, ℤ, pos, ◌≤ℤ◌, ◌<ℤ◌, sym, ap, ◌∙◌, subst, arith, to_z, of_z}
-use mir.Syntax.{w128}
-use Rattle.std.proofs.lemmas.Int.{ints, to_z-of_z}
-use Rattle.plan_rules.specs.Plan.{cost_of}
-use Rattle.plan_rules.specs.Tree.{every_row, rounded_up}
-use Rattle.plan_rules.specs.declared.node.Node.{Node}
-use Rattle.plan_rules.specs.declared.node.Node.TheVariants.{Branch, Leaf}
-use Rattle.plan_rules.specs.Size.{IsSmallSum}
-use Rattle.assignment_search.specs.Found.{IsBestNear}
-use Rattle.assignment_search.specs.work.Growth.{IsGrown, IsLowest}
-use Rattle.assignment_search.specs.work.OpenLeaves.{AreOpen}
-use Rattle.assignment_search.specs.work.Next.{IsNext}
+use Rattle.assignment_search.proofs.Common.{w128, ints, cost_of, every_row, rounded_up, Node, Branch, Leaf, IsSmallSum, IsBestNear, IsGrown, IsLowest, AreOpen, IsNext}
+use Rattle.std.proofs.lemmas.Int.{to_z-of_z}
 use Rattle.assignment_search.specs.declared.step.Outcome.{Outcome}
 use Rattle.assignment_search.specs.declared.step.Outcome.TheVariants.{Full, Fixed, Parted}
 use Rattle.assignment_search.proofs.EditLemmas.{edit_length}

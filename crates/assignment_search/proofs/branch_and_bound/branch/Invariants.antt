@@ -1,8 +1,5 @@
 use Rattle.std.proofs.Common.{◌≡◌, ℕ, ◌+◌, ◌-◌, ◌≤◌, List, Option, length}
-use Rattle.plan_rules.specs.Plan.{IsLawful, cost_of}
-use Rattle.plan_rules.specs.Greedy.{IsGreedy}
-use Rattle.assignment_search.specs.work.Found.{IsTreeSoFar}
-use Rattle.assignment_search.specs.work.OpenLeaves.{AreOpen}
+use Rattle.assignment_search.proofs.Common.{IsLawful, cost_of, IsGreedy, IsTreeSoFar, AreOpen}
 use Rattle.assignment_search.proofs.branch_and_bound.branch.Given as goal
 
 abbrev pub invariant-loop-values : goal.invariant-loop-values

@@ -1,7 +1,5 @@
 use Rattle.std.proofs.Common.{◌≡◌, ◌<◌, ℕ, subst, ⊎_elim, arith}
-use Rattle.std.proofs.lemmas.Bool.{cases_eq}
-use Rattle.plan_rules.specs.Multipliers.{usable_of}
-use Rattle.plan_rules.specs.Tree.{MayUse}
+use Rattle.assignment_search.proofs.Common.{cases_eq, usable_of, MayUse}
 use Rattle.assignment_search.proofs.branching.first_branch.Goals as goal
 
 pub loop-vehicle-preserved : goal.loop-vehicle-preserved

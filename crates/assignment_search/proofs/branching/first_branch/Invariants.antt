@@ -1,6 +1,5 @@
 use Rattle.std.proofs.Common.{◌≡◌, ℕ, ◌<◌}
-use Rattle.plan_rules.specs.Multipliers.{usable_of}
-use Rattle.plan_rules.specs.Tree.{MayUse}
+use Rattle.assignment_search.proofs.Common.{usable_of, MayUse}
 use Rattle.assignment_search.proofs.branching.first_branch.Given as goal
 
 abbrev pub invariant-loop-vehicle : goal.invariant-loop-vehicle

@@ -1,4 +1,4 @@
-use Rattle.plan_rules.specs.Multipliers.{usable_of}
+use Rattle.assignment_search.proofs.Common.{usable_of}
 use Rattle.assignment_search.specs.work.Marks.{IsOnlyOf}
 use Rattle.assignment_search.proofs.branching.second_row.Given as goal
 

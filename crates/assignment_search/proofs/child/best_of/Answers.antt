@@ -1,5 +1,5 @@
 use Rattle.std.proofs.Common.{arith}
-use Rattle.std.proofs.lemmas.Int.{ints}
+use Rattle.assignment_search.proofs.Common.{ints}
 use Rattle.assignment_search.proofs.child.best_of.Goals as goal
 
 pub returns-clause-inherited : goal.returns-clause-inherited

@@ -1,7 +1,5 @@
 use Rattle.std.proofs.Common.{sym, subst}
-use Rattle.plan_rules.specs.Multipliers.{usable_of}
-use Rattle.plan_rules.specs.Size.{IsSmallSum}
-use Rattle.assignment_search.specs.work.Growth.{IsJudged}
+use Rattle.assignment_search.proofs.Common.{usable_of, IsSmallSum, IsJudged}
 use Rattle.assignment_search.proofs.ApartLemmas.{value_moved, computed}
 use Rattle.assignment_search.proofs.child.inherited_value.Goals as goal
 

@@ -1,6 +1,5 @@
 use Rattle.std.proofs.Common.{ℕ, ◌<◌}
-use Rattle.plan_rules.specs.Graph.{IsRowOf}
-use Rattle.assignment_search.specs.work.Change.{BettersNothing}
+use Rattle.assignment_search.proofs.Common.{IsRowOf, BettersNothing}
 use Rattle.assignment_search.proofs.exchange.better_change.Given as goal
 
 abbrev pub invariant-loop-vehicle : goal.invariant-loop-vehicle

@@ -1,6 +1,5 @@
 use Rattle.std.proofs.Common.{ℕ, ◌<◌}
-use Rattle.plan_rules.specs.Graph.{IsRowOf}
-use Rattle.assignment_search.specs.work.Change.{BettersNothing}
+use Rattle.assignment_search.proofs.Common.{IsRowOf, BettersNothing}
 use Rattle.assignment_search.proofs.exchange.change_of.Given as goal
 
 abbrev pub invariant-loop-row : goal.invariant-loop-row

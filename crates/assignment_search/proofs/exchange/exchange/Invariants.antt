@@ -1,5 +1,5 @@
 use Rattle.std.proofs.Common.{◌≤◌}
-use Rattle.plan_rules.specs.Plan.{IsLawful, cost_of}
+use Rattle.assignment_search.proofs.Common.{IsLawful, cost_of}
 use Rattle.assignment_search.proofs.exchange.exchange.Given as goal
 
 abbrev pub invariant-loop-best : goal.invariant-loop-best

@@ -1,6 +1,5 @@
 use Rattle.std.proofs.Common.{◌≡◌, ◌==◌, ℕ, true, get_or, subst, eqb-true}
-use Rattle.std.specs.List.{list_any}
-use Rattle.plan_rules.proofs.lemmas.GraphLemmas.{has_at}
+use Rattle.assignment_search.proofs.Common.{list_any, has_at}
 use Rattle.assignment_search.proofs.exchange.meet.Goals as goal
 
 pub loop-rider-init : goal.loop-rider-init

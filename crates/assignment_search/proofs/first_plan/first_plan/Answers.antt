@@ -1,5 +1,5 @@
 use Rattle.std.proofs.Common.{◌≡◌, ap, subst, arith}
-use Rattle.plan_rules.specs.Plan.{IsLawful, cost_of}
+use Rattle.assignment_search.proofs.Common.{IsLawful, cost_of}
 use Rattle.assignment_search.proofs.lemmas.UniqueLemmas.{greedy_unique}
 use Rattle.assignment_search.proofs.first_plan.first_plan.Goals as goal
 

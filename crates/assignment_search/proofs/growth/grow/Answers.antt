@@ -1,7 +1,6 @@
 use Rattle.std.proofs.Common.{◌<◌, ◌+◌, List, length, ℤ, pos, ap, ◌∙◌, arith}
+use Rattle.assignment_search.proofs.Common.{Node, Branch}
 use Rattle.std.specs.List.{insert}
-use Rattle.plan_rules.specs.declared.node.Node.{Node}
-use Rattle.plan_rules.specs.declared.node.Node.TheVariants.{Branch}
 use Rattle.assignment_search.proofs.AnswerLemmas.{small_back}
 use Rattle.assignment_search.proofs.EditLemmas.{edit_replace, edit_keep}
 use Rattle.assignment_search.proofs.growth.grow.Goals as goal

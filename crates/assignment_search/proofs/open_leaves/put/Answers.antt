@@ -1,9 +1,5 @@
 use Rattle.std.proofs.Common.{◌≡◌, ◌+◌, ℤ, [], ◌∷◌, ap, arith}
-use Rattle.std.specs.declared.cmp.Reverse.{Reverse}
-use Rattle.std.proofs.lemmas.List.Sorted.{sum_by_pushed}
-use Rattle.plan_rules.specs.declared.node.Node.{Node}
-use Rattle.assignment_search.specs.declared.open_leaves.OpenLeaf.{OpenLeaf}
-use Rattle.assignment_search.specs.work.OpenLeaves.{leaf_sum}
+use Rattle.assignment_search.proofs.Common.{Reverse, sum_by_pushed, Node, OpenLeaf, leaf_sum}
 use Rattle.assignment_search.proofs.AnswerLemmas.{small_back}
 use Rattle.assignment_search.proofs.open_leaves.put.Goals as goal
 

@@ -1,8 +1,5 @@
 use Rattle.std.proofs.Common.{Bool, false, List, get_or, ap, ◌∙◌}
-use Rattle.plan_rules.specs.Multipliers.{Usable, usable_of}
-use Rattle.plan_rules.specs.Path.{standing_of}
-use Rattle.plan_rules.proofs.lemmas.UsableLemmas.{Agree}
-use Rattle.assignment_search.specs.work.Growth.{IsNewEnd}
+use Rattle.assignment_search.proofs.Common.{Usable, usable_of, standing_of, Agree, IsNewEnd}
 use Rattle.assignment_search.specs.declared.child.End.{End}
 use Rattle.assignment_search.proofs.AnswerLemmas.{if_ok_map, new_end_agrees}
 use Rattle.assignment_search.proofs.parting.end_of.Goals as goal

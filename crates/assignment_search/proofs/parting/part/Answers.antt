@@ -1,8 +1,5 @@
 use Rattle.std.proofs.Common.{◌≡◌, true, List, ◌∷◌, sym, ap, ◌∙◌, subst}
-use Rattle.plan_rules.specs.Multipliers.{Usable}
-use Rattle.plan_rules.specs.Tree.{only_row, without_row}
-use Rattle.plan_rules.specs.Path.{standing_of, IsPathOf}
-use Rattle.assignment_search.specs.work.Growth.{IsNewEnd}
+use Rattle.assignment_search.proofs.Common.{Usable, only_row, without_row, standing_of, IsPathOf, IsNewEnd}
 use Rattle.assignment_search.proofs.StandingLemmas.{coming_entered, path_push, left_next, head_is, tail_is}
 use Rattle.assignment_search.proofs.ApartLemmas.{only_apart, without_apart}
 use Rattle.assignment_search.proofs.parting.part.Goals as goal

@@ -1,7 +1,5 @@
 use Rattle.std.proofs.Common.{◌≡◌, Bool, true, false, List, ℤ, ◌≤ℤ◌, length, get_or, replicate, ap, ◌∙◌, subst, arith}
-use Rattle.std.proofs.lemmas.List.{get_or-replicate}
-use Rattle.plan_rules.specs.Multipliers.{usable_of, first_fit_value}
-use Rattle.assignment_search.specs.work.Growth.{IsJudged}
+use Rattle.assignment_search.proofs.Common.{get_or-replicate, usable_of, first_fit_value, IsJudged}
 use Rattle.assignment_search.proofs.AnswerLemmas.{root_is_good}
 use Rattle.assignment_search.proofs.root.root_leaf.Goals as goal
 

@@ -1,8 +1,5 @@
 use Rattle.std.proofs.Common.{◌<◌, ℕ, true, sym, ap, ◌∙◌, subst}
-use Rattle.plan_rules.specs.Tree.{CanBranch}
-use Rattle.plan_rules.specs.Reading.{IsSoundNode, coming_after}
-use Rattle.plan_rules.specs.Path.{standing_of, IsPathOf}
-use Rattle.plan_rules.specs.declared.node.Node.{Node}
+use Rattle.assignment_search.proofs.Common.{CanBranch, IsSoundNode, coming_after, standing_of, IsPathOf, Node}
 use Rattle.assignment_search.proofs.StandingLemmas.{coming_entered, path_push, left_next}
 use Rattle.assignment_search.proofs.standing.follow.Goals as goal
 

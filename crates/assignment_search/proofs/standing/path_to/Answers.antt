@@ -1,11 +1,5 @@
 use Rattle.std.proofs.Common.{◌≡◌, ◌<◌, ℕ, suc, length, get_or, take, [], ◌∷◌, ◌+◌, List, sym, ◌∙◌, subst, arith, add-one}
-use Rattle.std.proofs.lemmas.List.{get_or_read}
-use Rattle.plan_rules.specs.Multipliers.{Usable}
-use Rattle.plan_rules.specs.Tree.{every_row}
-use Rattle.plan_rules.specs.Reading.{ReadsTo, IsSoundNode, coming_after}
-use Rattle.plan_rules.specs.Path.{standing_of}
-use Rattle.plan_rules.specs.declared.node.Node.{Node}
-use Rattle.plan_rules.specs.declared.node.Node.TheVariants.{Dead}
+use Rattle.assignment_search.proofs.Common.{get_or_read, Usable, every_row, ReadsTo, IsSoundNode, coming_after, standing_of, Node, Dead}
 use Rattle.assignment_search.proofs.StandingLemmas.{coming_start, path_none, next_of, head_is, tail_is}
 use Rattle.assignment_search.proofs.standing.path_to.Goals as goal
 

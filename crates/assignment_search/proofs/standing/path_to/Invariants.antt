@@ -1,7 +1,5 @@
 use Rattle.std.proofs.Common.{◌∷◌, [], take}
-use Rattle.plan_rules.specs.Tree.{every_row}
-use Rattle.plan_rules.specs.Reading.{ReadsTo}
-use Rattle.plan_rules.specs.Path.{standing_of, IsPathOf}
+use Rattle.assignment_search.proofs.Common.{every_row, ReadsTo, standing_of, IsPathOf}
 use Rattle.assignment_search.proofs.standing.path_to.Given as goal
 
 abbrev pub invariant-loop-k : goal.invariant-loop-k

@@ -1,13 +1,5 @@
 use Rattle.std.proofs.Common.{◌≡◌, ◌+◌, ◌<◌, ℕ, Bool, List, ℤ, Option, pos, ◌≤ℤ◌, length, get_or, [], ◌∷◌, sym, ◌∙◌, subst, arith}
-use Rattle.std.proofs.lemmas.List.{get_or_read}
-use Rattle.plan_rules.specs.Plan.{IsLawful, cost_of}
-use Rattle.plan_rules.specs.Multipliers.{usable_of}
-use Rattle.plan_rules.specs.Tree.{every_row, rounded_up, CanBranch}
-use Rattle.plan_rules.specs.Path.{standing_of}
-use Rattle.plan_rules.proofs.lemmas.UsableLemmas.{can_branch_agrees}
-use Rattle.plan_rules.specs.declared.node.Node.{Node}
-use Rattle.plan_rules.specs.declared.node.Node.TheVariants.{Dead}
-use Rattle.assignment_search.specs.work.Growth.{IsFixed, IsSolePlan, IsJudged}
+use Rattle.assignment_search.proofs.Common.{get_or_read, IsLawful, cost_of, usable_of, every_row, rounded_up, CanBranch, standing_of, can_branch_agrees, Node, Dead, IsFixed, IsSolePlan, IsJudged}
 use Rattle.assignment_search.proofs.GrowthLemmas.{grown_reads, grown_length}
 use Rattle.assignment_search.proofs.AnswerLemmas.{small_back, lowest_small, judged_here, fixed_answer, full_answer}
 use Rattle.assignment_search.proofs.step.next.Goals as goal

@@ -1,12 +1,5 @@
 use Rattle.std.proofs.Common.{◌≡◌, ℕ, ◌<◌, List, [], length, refl, sym, ap, subst, arith}
-use Rattle.pool_base.specs.Times.{point_count, travel_time}
-use Rattle.stop_orders.specs.declared.settled_vehicle.SettledVehicle.{SettledVehicle}
-use Rattle.stop_orders.specs.declared.stop.Stop.{Stop}
-use Rattle.stop_orders.specs.declared.task.Task.{Task}
-use Rattle.stop_orders.specs.declared.settled.Settled.{Settled}
-use Rattle.stop_orders.specs.Settled.{trip_task}
-use Rattle.stop_orders.specs.Sound.{IsSound}
-use Rattle.stop_orders.specs.Task.{IsTask, IsOrderOf, ReachesAll}
+use Rattle.batch_solver.proofs.Common.{point_count, travel_time, SettledVehicle, Stop, Task, Settled, trip_task, IsSound, IsTask, IsOrderOf, ReachesAll}
 use Rattle.batch_solver.proofs.TripLemmas.{no_trip, vehicle_read, passengers_few, late_order}
 use Rattle.batch_solver.proofs.late.late_line.Goals as goal
 

@@ -1,7 +1,5 @@
-use Rattle.std.specs.List.{AllZip, filter, range_with_len}
-use Rattle.pool_base.specs.Times.{travel_time}
-use Rattle.stop_orders.specs.Settled.{vehicle_at}
-use Rattle.batch_solver.specs.Trips.{IsLate}
+use Rattle.batch_solver.proofs.Common.{AllZip, range_with_len, travel_time, vehicle_at, IsLate}
+use Rattle.std.specs.List.{filter}
 use Rattle.batch_solver.proofs.late.late_lines.Given as goal
 
 abbrev pub invariant-loop-vehicle : goal.invariant-loop-vehicle

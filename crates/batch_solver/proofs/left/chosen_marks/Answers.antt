@@ -1,5 +1,5 @@
 use Rattle.std.proofs.Common.{ℕ, false, replicate, sym, ap, ◌∙◌, subst}
-use Rattle.batch_solver.specs.work.Left.{MarksChosen}
+use Rattle.batch_solver.proofs.Common.{MarksChosen}
 use Rattle.batch_solver.proofs.LeftLemmas.{marks_none}
 use Rattle.batch_solver.proofs.left.chosen_marks.Goals as goal
 

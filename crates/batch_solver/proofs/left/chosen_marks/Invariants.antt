@@ -1,4 +1,4 @@
-use Rattle.batch_solver.specs.work.Left.{MarksChosen}
+use Rattle.batch_solver.proofs.Common.{MarksChosen}
 use Rattle.batch_solver.proofs.left.chosen_marks.Given as goal
 
 abbrev pub invariant-loop-vehicle : goal.invariant-loop-vehicle

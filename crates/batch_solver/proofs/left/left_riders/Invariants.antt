@@ -1,6 +1,5 @@
 use Rattle.std.proofs.Common.{◌≡◌, ◌==◌, filter}
-use Rattle.std.specs.List.{range_with_len}
-use Rattle.plan_rules.specs.lemmas.Plan.{times_chosen}
+use Rattle.batch_solver.proofs.Common.{range_with_len, times_chosen}
 use Rattle.batch_solver.proofs.left.left_riders.Given as goal
 
 abbrev pub invariant-loop-rider : goal.invariant-loop-rider

@@ -1,5 +1,5 @@
 use Rattle.std.proofs.Common.{take}
-use Rattle.plan_rules.proofs.lemmas.MarkLemmas.{IsMarking}
+use Rattle.batch_solver.proofs.Common.{IsMarking}
 use Rattle.batch_solver.proofs.left.mark.Given as goal
 
 abbrev pub invariant-loop-rider : goal.invariant-loop-rider

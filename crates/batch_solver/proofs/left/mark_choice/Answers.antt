@@ -1,9 +1,5 @@
-use Rattle.std.proofs.Common.{◌≡◌, ◌==◌, ◌||◌, ℕ, List, false, Option, Some, get_or, sym, ap, ◌∙◌, subst}
-use Rattle.std.specs.List.{list_any}
-use Rattle.std.specs.Prelude.{MatchOption}
-use Rattle.plan_rules.specs.Graph.{row_at, riders_at, choice_at, is_in, HasNoRow, IsRowOf}
-use Rattle.plan_rules.specs.declared.row.TripRow.{TripRow}
-use Rattle.plan_rules.proofs.lemmas.GraphLemmas.{row_read}
+use Rattle.std.proofs.Common.{◌≡◌, ◌==◌, ◌||◌, ℕ, List, false, Option, Some, get_or, sym, ap, ◌∙◌, subst, MatchOption}
+use Rattle.batch_solver.proofs.Common.{list_any, row_at, riders_at, choice_at, is_in, HasNoRow, IsRowOf, TripRow, row_read}
 use Rattle.batch_solver.proofs.LeftLemmas.{marks_more, marks_kept}
 use Rattle.batch_solver.proofs.left.mark_choice.Goals as goal
 

@@ -1,5 +1,5 @@
 use Rattle.std.proofs.Common.{◌≡◌, take, map}
-use Rattle.batch_solver.specs.Told.{rider_id}
+use Rattle.batch_solver.proofs.Common.{rider_id}
 use Rattle.batch_solver.proofs.lines.ids_of.Given as goal
 
 abbrev pub invariant-loop-rider : goal.invariant-loop-rider

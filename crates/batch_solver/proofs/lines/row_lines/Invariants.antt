@@ -1,5 +1,5 @@
 use Rattle.std.proofs.Common.{◌≡◌, take, map}
-use Rattle.batch_solver.specs.Told.{row_line}
+use Rattle.batch_solver.proofs.Common.{row_line}
 use Rattle.batch_solver.proofs.lines.row_lines.Given as goal
 
 abbrev pub invariant-loop-row : goal.invariant-loop-row

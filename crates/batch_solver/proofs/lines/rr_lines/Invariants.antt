@@ -1,5 +1,5 @@
 use Rattle.std.proofs.Common.{◌≡◌, take, map}
-use Rattle.batch_solver.specs.Told.{rr_line}
+use Rattle.batch_solver.proofs.Common.{rr_line}
 use Rattle.batch_solver.proofs.lines.rr_lines.Given as goal
 
 abbrev pub invariant-loop-first : goal.invariant-loop-first

@@ -1,5 +1,5 @@
 use Rattle.std.proofs.Common.{◌≡◌, take, map}
-use Rattle.batch_solver.specs.Told.{rv_line}
+use Rattle.batch_solver.proofs.Common.{rv_line}
 use Rattle.batch_solver.proofs.lines.rv_lines.Given as goal
 
 abbrev pub invariant-loop-edge : goal.invariant-loop-edge

@@ -1,8 +1,6 @@
 use Rattle.std.proofs.Common.{map, ap, ◌∙◌}
+use Rattle.batch_solver.proofs.Common.{point_count, travel_time, IsBestMatching, move_line, starts_of, origins_of}
 use Rattle.std.proofs.lemmas.Result.{IfOk-weaker}
-use Rattle.pool_base.specs.Times.{point_count, travel_time}
-use Rattle.rebalancing.specs.Matching.{IsBestMatching}
-use Rattle.batch_solver.specs.Moves.{move_line, starts_of, origins_of}
 use Rattle.batch_solver.proofs.lemmas.MoveLemmas.{starts_within, origins_within, pairs_within, moves_told}
 use Rattle.batch_solver.proofs.moves.best_moves.Goals as goal
 

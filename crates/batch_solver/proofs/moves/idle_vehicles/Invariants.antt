@@ -1,6 +1,5 @@
 use Rattle.std.proofs.Common.{◌≡◌, filter}
-use Rattle.std.specs.List.{range_with_len}
-use Rattle.batch_solver.specs.Moves.{is_idle}
+use Rattle.batch_solver.proofs.Common.{range_with_len, is_idle}
 use Rattle.batch_solver.proofs.moves.idle_vehicles.Given as goal
 
 abbrev pub invariant-loop-vehicle : goal.invariant-loop-vehicle

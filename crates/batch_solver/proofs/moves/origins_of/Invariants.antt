@@ -1,5 +1,5 @@
 use Rattle.std.proofs.Common.{◌≡◌, take}
-use Rattle.batch_solver.specs.Moves.{origins_of}
+use Rattle.batch_solver.proofs.Common.{origins_of}
 use Rattle.batch_solver.proofs.moves.origins_of.Given as goal
 
 abbrev pub invariant-loop-rider : goal.invariant-loop-rider

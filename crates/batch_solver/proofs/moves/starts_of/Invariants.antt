@@ -1,5 +1,5 @@
 use Rattle.std.proofs.Common.{◌≡◌, take}
-use Rattle.batch_solver.specs.Moves.{starts_of}
+use Rattle.batch_solver.proofs.Common.{starts_of}
 use Rattle.batch_solver.proofs.moves.starts_of.Given as goal
 
 abbrev pub invariant-loop-vehicle : goal.invariant-loop-vehicle

@@ -1,6 +1,5 @@
 use Rattle.std.proofs.Common.{◌≡◌, map, take}
-use Rattle.pool_base.specs.Times.{travel_time}
-use Rattle.batch_solver.specs.Moves.{move_line}
+use Rattle.batch_solver.proofs.Common.{travel_time, move_line}
 use Rattle.batch_solver.proofs.moves.told_moves.Given as goal
 
 abbrev pub invariant-loop-place : goal.invariant-loop-place

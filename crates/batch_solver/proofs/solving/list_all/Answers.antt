@@ -1,12 +1,6 @@
 use Rattle.std.proofs.Common.{◌≡◌, ◌<◌, ◌≤◌, ℕ, List, length, map, All, sym, ap, ◌∙◌, subst, arith}
-use Rattle.plan_rules.specs.declared.row.TripRow.{TripRow}
-use Rattle.pool_base.specs.Times.{travel_time}
-use Rattle.request_book.specs.declared.outcome.ChosenTrip.{ChosenTrip}
+use Rattle.batch_solver.proofs.Common.{TripRow, travel_time, ChosenTrip, MoveLine, rider_id, rr_line, row_line, left_riders, AreTrips, AreLate, AreMoves, idle_vehicles}
 use Rattle.request_book.specs.declared.outcome.LateVehicle.{LateVehicle}
-use Rattle.request_book.specs.declared.outcome.MoveLine.{MoveLine}
-use Rattle.batch_solver.specs.Told.{rider_id, rr_line, row_line, left_riders}
-use Rattle.batch_solver.specs.Trips.{AreTrips, AreLate}
-use Rattle.batch_solver.specs.Moves.{AreMoves, idle_vehicles}
 use Rattle.batch_solver.proofs.GraphLemmas.{rows_of_riders, rows_are_few}
 use Rattle.batch_solver.proofs.solving.list_all.Goals as goal
 

@@ -1,9 +1,7 @@
 use Rattle.std.proofs.Common.{◌≡◌, List, Option, ℕ, ◌∙◌, subst, to_z, of_z}
+use Rattle.batch_solver.proofs.Common.{travel_time, Posed, AreLists}
 use mir.Syntax.{w128}
 use Rattle.std.proofs.lemmas.Int.{to_z-of_z}
-use Rattle.pool_base.specs.Times.{travel_time}
-use Rattle.batch_solver.specs.Points.{Posed}
-use Rattle.batch_solver.specs.work.Lists.{AreLists}
 use Rattle.batch_solver.proofs.ListLemmas.{good_plan}
 use Rattle.batch_solver.proofs.solving.planned_of.Goals as goal
 

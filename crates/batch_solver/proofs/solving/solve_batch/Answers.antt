@@ -1,5 +1,5 @@
 use Rattle.std.proofs.Common.{ℕ, List, All, Contains, map, sym, ap, ◌∙◌, subst}
-use Rattle.batch_snapshot.specs.Batch.{Batch}
+use Rattle.batch_solver.proofs.Common.{Batch}
 use Rattle.road_network.specs.Roads.{Roads, index_in}
 use Rattle.travel_times.specs.Table.{AreTravelTimes}
 use Rattle.batch_solver.proofs.lemmas.PointLemmas.{points_known}

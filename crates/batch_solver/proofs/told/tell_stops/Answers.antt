@@ -1,11 +1,6 @@
 use Rattle.std.proofs.Common.{◌≡◌, ◌<◌, ◌+◌, List, get_or, drop, subst, sym, ap, ◌∙◌}
-use Rattle.std.proofs.lemmas.List.{drop_more}
-use Rattle.pool_base.specs.Times.{point_count, travel_time}
-use Rattle.request_book.specs.declared.outcome.PlannedStop.{PlannedStop}
+use Rattle.batch_solver.proofs.Common.{drop_more, point_count, travel_time, PlannedStop, place_of, visit_at, visit_place}
 use Rattle.stop_orders.specs.declared.stop.Stop.TheVariants.{Pick}
-use Rattle.stop_orders.specs.Visit.{place_of}
-use Rattle.stop_orders.specs.Task.{visit_at}
-use Rattle.stop_orders.proofs.lemmas.VisitLemmas.{visit_place}
 use Rattle.batch_solver.proofs.ToldLemmas.{ToldScan, told_first, told_next}
 use Rattle.batch_solver.proofs.told.tell_stops.Goals as goal
 

@@ -1,5 +1,5 @@
 use Rattle.std.proofs.Common.{drop}
-use Rattle.pool_base.specs.Times.{point_count, travel_time}
+use Rattle.batch_solver.proofs.Common.{point_count, travel_time}
 use Rattle.batch_solver.proofs.ToldLemmas.{ToldScan}
 use Rattle.batch_solver.proofs.told.tell_stops.Given as goal
 

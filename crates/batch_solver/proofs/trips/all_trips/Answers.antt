@@ -1,10 +1,6 @@
 use Rattle.std.proofs.Common.{◌≡◌, ℕ, ◌<◌, not, true, false, List, [], ◌∷◌, ◌++◌, length, sym, ap, ◌∙◌, subst}
-use Rattle.std.specs.List.{AllZip, filter, range_with_len}
-use Rattle.pool_base.specs.Times.{travel_time}
-use Rattle.promise_check.proofs.lemmas.Promises.{filter_range_skips, filter_range_takes}
-use Rattle.stop_orders.specs.declared.settled_vehicle.SettledVehicle.{SettledVehicle}
-use Rattle.stop_orders.specs.Settled.{vehicle_at}
-use Rattle.batch_solver.specs.Trips.{IsTripOf}
+use Rattle.batch_solver.proofs.Common.{AllZip, range_with_len, travel_time, filter_range_skips, filter_range_takes, SettledVehicle, vehicle_at, IsTripOf}
+use Rattle.std.specs.List.{filter}
 use Rattle.batch_solver.proofs.TripLemmas.{all_zip_push, vehicle_read}
 use Rattle.batch_solver.proofs.trips.all_trips.Goals as goal
 

@@ -1,8 +1,6 @@
 use Rattle.std.proofs.Common.{not}
-use Rattle.std.specs.List.{AllZip, filter, range_with_len}
-use Rattle.pool_base.specs.Times.{travel_time}
-use Rattle.stop_orders.specs.Settled.{vehicle_at}
-use Rattle.batch_solver.specs.Trips.{IsTripOf}
+use Rattle.batch_solver.proofs.Common.{AllZip, range_with_len, travel_time, vehicle_at, IsTripOf}
+use Rattle.std.specs.List.{filter}
 use Rattle.batch_solver.proofs.trips.all_trips.Given as goal
 
 abbrev pub invariant-loop-vehicle : goal.invariant-loop-vehicle

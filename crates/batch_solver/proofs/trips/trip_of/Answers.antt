@@ -1,13 +1,5 @@
 use Rattle.std.proofs.Common.{◌≡◌, ℕ, List, sym, ap, ◌∙◌, subst}
-use Rattle.pool_base.specs.Times.{travel_time}
-use Rattle.plan_rules.specs.declared.row.TripRow.{TripRow}
-use Rattle.plan_rules.specs.Graph.{riders_at}
-use Rattle.stop_orders.specs.declared.settled_vehicle.SettledVehicle.{SettledVehicle}
-use Rattle.stop_orders.specs.declared.stop.Stop.{Stop}
-use Rattle.stop_orders.specs.declared.task.Task.{Task}
-use Rattle.stop_orders.specs.Settled.{trip_task}
-use Rattle.stop_orders.specs.Task.{Serves}
-use Rattle.batch_solver.specs.Told.{told_stops}
+use Rattle.batch_solver.proofs.Common.{travel_time, TripRow, riders_at, SettledVehicle, Stop, Task, trip_task, Serves, told_stops}
 use Rattle.batch_solver.proofs.TripLemmas.{vehicle_read}
 use Rattle.batch_solver.proofs.RowLemmas.{choice_read, row_read, chosen_long, served_row, trip_found}
 use Rattle.batch_solver.proofs.trips.trip_of.Goals as goal

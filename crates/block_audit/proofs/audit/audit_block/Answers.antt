@@ -1,14 +1,5 @@
 use Rattle.std.proofs.Common.{◌≡◌, ◌≢◌, ◌≤◌, ◌<◌, true, length, sym, ap, ◌∙◌, subst, arith}
-use Rattle.batch_snapshot.specs.Batch.{Batch}
-use Rattle.batch_snapshot.specs.Kept.{IsKept}
-use Rattle.batch_solver.specs.Outcome.{IsGoodOutcome}
-use Rattle.dispatch_report.specs.Block.{block_lines}
-use Rattle.batch_solver.specs.declared.point.Point.{Point}
-use Rattle.request_book.specs.declared.outcome.Outcome.{Outcome}
-use Rattle.block_audit.specs.Block.{BeginsWithGood}
-use Rattle.block_audit.specs.Judged.{CanBeTold, judged_outcome}
-use Rattle.block_audit.specs.Told.{Told, told_by}
-use Rattle.block_audit.specs.work.Judged.{HoldUpTo, IsRight}
+use Rattle.block_audit.proofs.Common.{Batch, IsKept, IsGoodOutcome, block_lines, Point, Outcome, BeginsWithGood, CanBeTold, judged_outcome, Told, told_by, HoldUpTo, IsRight}
 use Rattle.block_audit.proofs.lemmas.AuditLemmas.{begins_good, fails_at_once, fails_first, fails_no_good, fault_no_good, good_is_judged, line_count}
 use Rattle.outcome_check.proofs.lemmas.VerdictLemmas.{last_place}
 use Rattle.block_audit.proofs.NumberedLemmas.{vehicle_ids}

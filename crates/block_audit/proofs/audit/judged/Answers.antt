@@ -1,11 +1,5 @@
 use Rattle.std.proofs.Common.{◌≡◌, ℕ, List, map, min, sym, ap, ◌∙◌, subst, arith}
-use Rattle.batch_snapshot.specs.Batch.{Batch}
-use Rattle.batch_snapshot.specs.declared.vehicle.Vehicle.{Vehicle}
-use Rattle.outcome_check.specs.Verdict.{Meets, IsVerdictOf}
-use Rattle.request_book.specs.declared.outcome.Outcome.{Outcome}
-use Rattle.block_audit.specs.Judged.{CanBeTold, judged_outcome}
-use Rattle.block_audit.specs.work.Judged.{HoldUpTo, IsRight, verdict_place}
-use Rattle.block_audit.specs.work.Told.{told_in}
+use Rattle.block_audit.proofs.Common.{Batch, Vehicle, Meets, IsVerdictOf, Outcome, CanBeTold, judged_outcome, HoldUpTo, IsRight, verdict_place, told_in}
 use Rattle.block_audit.proofs.lemmas.AuditLemmas.{hold_both, verdict_holds}
 use Rattle.block_audit.proofs.NumberedLemmas.{vehicle_ids}
 use Rattle.block_audit.proofs.audit.judged.Goals as goal

@@ -1,5 +1,5 @@
 use Rattle.std.proofs.Common.{◌≡◌, take, map}
-use Rattle.block_audit.specs.Judged.{late_of}
+use Rattle.block_audit.proofs.Common.{late_of}
 use Rattle.block_audit.proofs.judged.lates_of.Given as goal
 
 abbrev pub invariant-loop-line : goal.invariant-loop-line

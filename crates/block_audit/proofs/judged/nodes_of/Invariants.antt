@@ -1,5 +1,5 @@
 use Rattle.std.proofs.Common.{◌≡◌, take, map}
-use Rattle.block_audit.specs.Judged.{node_of}
+use Rattle.block_audit.proofs.Common.{node_of}
 use Rattle.block_audit.proofs.judged.nodes_of.Given as goal
 
 abbrev pub invariant-loop-line : goal.invariant-loop-line

@@ -1,7 +1,5 @@
 use Rattle.std.proofs.Common.{◌≡◌, ℕ, ◌==◌, ◌<◌, ◌≤◌, true, get_or, min, sym, ap, ◌∙◌, subst, arith}
-use Rattle.std.specs.List.{position_or_len}
-use Rattle.std.proofs.lemmas.List.{get_or_default}
-use Rattle.std.proofs.lemmas.List.Sums.{position_or_len_is}
+use Rattle.block_audit.proofs.Common.{position_or_len, get_or_default, position_or_len_is}
 use Rattle.block_audit.proofs.judged.number_among.Goals as goal
 
 pub returns-then-eq : goal.returns-then-eq

@@ -1,5 +1,5 @@
 use Rattle.std.proofs.Common.{◌≡◌, take, map}
-use Rattle.block_audit.specs.Judged.{row_of}
+use Rattle.block_audit.proofs.Common.{row_of}
 use Rattle.block_audit.proofs.judged.rows_of.Given as goal
 
 abbrev pub invariant-loop-line : goal.invariant-loop-line

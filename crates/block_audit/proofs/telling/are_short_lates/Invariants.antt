@@ -1,5 +1,4 @@
-use Rattle.std.proofs.Common.{◌≤◌, length, take}
-use Rattle.std.specs.Prelude.{IfSome}
+use Rattle.std.proofs.Common.{◌≤◌, length, take, IfSome}
 use Rattle.std.specs.List.{All}
 use Rattle.block_audit.proofs.telling.are_short_lates.Given as goal
 

@@ -1,5 +1,5 @@
 use Rattle.std.proofs.Common.{rules, ◌≤◌, length, arith}
-use Rattle.report_lines.specs.declared.row.RowText.{RowText}
+use Rattle.block_audit.proofs.Common.{RowText}
 use Rattle.block_audit.proofs.TellingLemmas.{all_more, all_there}
 use Rattle.block_audit.proofs.telling.are_short_rows.Goals as goal
 

@@ -1,5 +1,5 @@
 use Rattle.std.proofs.Common.{rules, ◌≤◌, length, arith}
-use Rattle.report_lines.specs.declared.trip.TripText.{TripText}
+use Rattle.block_audit.proofs.Common.{TripText}
 use Rattle.block_audit.proofs.TellingLemmas.{all_more, all_there}
 use Rattle.block_audit.proofs.telling.are_short_trips.Goals as goal
 

@@ -1,5 +1,5 @@
 use Rattle.std.proofs.Common.{rules, ◌≤◌, length, arith}
-use Rattle.block_audit.specs.Judged.{NamesRow}
+use Rattle.block_audit.proofs.Common.{NamesRow}
 use Rattle.block_audit.proofs.TellingLemmas.{all_more, all_there}
 use Rattle.block_audit.proofs.telling.name_rows.Goals as goal
 

@@ -1,5 +1,5 @@
 use Rattle.std.proofs.Common.{◌≤◌, length, take}
-use Rattle.block_audit.specs.Judged.{NamesRow}
+use Rattle.block_audit.proofs.Common.{NamesRow}
 use Rattle.std.specs.List.{All}
 use Rattle.block_audit.proofs.telling.name_rows.Given as goal
 

@@ -1,10 +1,6 @@
 use Rattle.std.proofs.Common.{◌≤◌, List, length, IfSome, sym, subst}
+use Rattle.block_audit.proofs.Common.{both_ways, LateText, RowText, TripText, told_in}
 use Rattle.std.specs.List.{All}
-use Rattle.std.proofs.lemmas.Bool.{both_ways}
-use Rattle.report_lines.specs.declared.late.LateText.{LateText}
-use Rattle.report_lines.specs.declared.row.RowText.{RowText}
-use Rattle.report_lines.specs.declared.trip.TripText.{TripText}
-use Rattle.block_audit.specs.work.Told.{told_in}
 use Rattle.block_audit.proofs.TellingLemmas.{untold_rows, untold_late, untold_trips, untold_tree}
 use Rattle.block_audit.proofs.telling.untold_place.Goals as goal
 

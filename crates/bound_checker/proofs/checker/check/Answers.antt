@@ -1,20 +1,10 @@
-use Rattle.std.proofs.Common.{◌≡◌, ◌+◌, ◌<◌, Bool, List, [], ◌∷◌, ◌++◌, Option, ℤ, Some, length, get_or, take, pos, refl, sym, ap, ◌∙◌, subst, arith, to_z, of_z, take_all}
-use Rattle.std.specs.Prelude.{unwrap_or}
-use mir.Syntax.{w128}
+use Rattle.std.proofs.Common.{◌≡◌, ◌+◌, ◌<◌, Bool, List, [], ◌∷◌, ◌++◌, Option, ℤ, Some, length, get_or, take, pos, refl, sym, ap, ◌∙◌, subst, arith, to_z, of_z, take_all, unwrap_or}
+use Rattle.bound_checker.proofs.Common.{w128, take_more, Usable, standing_of, every_row, least_leaf, IsTreeOfValue, ReadsTo, places_read, value_read, IsWholeTree, Node, reads_push, coming_of}
 use Rattle.std.proofs.lemmas.Int.{to_z-of_z}
-use Rattle.std.proofs.lemmas.List.{take_more}
 use Rattle.std.proofs.lemmas.Option.{slice_get-get_or}
-use Rattle.plan_rules.specs.Multipliers.{Usable}
-use Rattle.plan_rules.specs.Path.{standing_of}
 use Rattle.plan_rules.specs.Plan.{IsBound}
-use Rattle.plan_rules.specs.Tree.{every_row, least_leaf, IsTreeOfValue}
-use Rattle.plan_rules.specs.Reading.{ReadsTo}
-use Rattle.plan_rules.specs.lemmas.Tree.{places_read, value_read, IsWholeTree}
-use Rattle.plan_rules.specs.declared.node.Node.{Node}
-use Rattle.plan_rules.proofs.lemmas.ReadLemmas.{reads_push}
 use Rattle.plan_rules.proofs.lemmas.TreeLemmas.{tree_value_bounds}
 use Rattle.plan_rules.proofs.lemmas.SearchTreeLemmas.{tree_of_value}
-use Rattle.bound_checker.specs.lemmas.Visit.{coming_of}
 use Rattle.bound_checker.proofs.lemmas.WalkLemmas.{coming_start, path_none, fault_here, least_more}
 use Rattle.bound_checker.proofs.checker.check.Goals as goal
 

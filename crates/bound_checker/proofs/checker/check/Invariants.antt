@@ -1,9 +1,5 @@
 use Rattle.std.proofs.Common.{◌≡◌, ◌∷◌, [], take}
-use Rattle.plan_rules.specs.Tree.{every_row, least_leaf}
-use Rattle.plan_rules.specs.Reading.{ReadsTo}
-use Rattle.plan_rules.specs.lemmas.Tree.{places_read}
-use Rattle.bound_checker.specs.lemmas.Visit.{coming_of}
-use Rattle.bound_checker.specs.work.Visit.{IsReady}
+use Rattle.bound_checker.proofs.Common.{every_row, least_leaf, ReadsTo, places_read, coming_of, IsReady}
 use Rattle.bound_checker.proofs.checker.check.Given as goal
 
 abbrev pub invariant-loop-place : goal.invariant-loop-place

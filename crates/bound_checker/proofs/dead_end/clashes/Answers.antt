@@ -1,12 +1,8 @@
 use Rattle.std.proofs.Common.{◌≡◌, ◌∙◌, ℕ, List, Some, get_or, sym, ap, subst, ⊎_elim, arith}
-use Rattle.std.proofs.lemmas.Bool.{cases_eq}
-use Rattle.plan_rules.specs.Graph.{row_at, riders_at, choice_at}
-use Rattle.plan_rules.specs.declared.row.TripRow.{TripRow}
-use Rattle.plan_rules.proofs.lemmas.GraphLemmas.{row_read}
-use Rattle.bound_checker.specs.work.DeadEnd.{IsApart, ShareARider}
+use Rattle.bound_checker.proofs.Common.{cases_eq, row_at, riders_at, choice_at, TripRow, row_read, IsApart, ShareARider}
 use Rattle.bound_checker.proofs.DeadEndLemmas.{when_false, apart_rows, none_second, below_end}
-use Rattle.bound_checker.proofs.dead_end.clashes.Goals as goal
 use Rattle.bound_checker.proofs.dead_end.clashes.Goals.{in-Some-sole+else-share_a_rider, in_default-sole}
+use Rattle.bound_checker.proofs.dead_end.clashes.Goals as goal
 
 pub loop-second-preserved : goal.loop-second-preserved
 loop-second-preserved c = λ w low high share.

@@ -1,5 +1,5 @@
 use Rattle.std.proofs.Common.{ℕ, ◌<◌}
-use Rattle.bound_checker.specs.work.DeadEnd.{ShareARider}
+use Rattle.bound_checker.proofs.Common.{ShareARider}
 use Rattle.bound_checker.proofs.dead_end.clashes.Given as goal
 
 abbrev pub invariant-loop-second : goal.invariant-loop-second

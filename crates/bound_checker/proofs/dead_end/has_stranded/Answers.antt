@@ -1,5 +1,5 @@
 use Rattle.std.proofs.Common.{arith}
-use Rattle.std.proofs.lemmas.Bool.{false≢true}
+use Rattle.bound_checker.proofs.Common.{false≢true}
 use Rattle.bound_checker.proofs.DeadEndLemmas.{not_stranded}
 use Rattle.bound_checker.proofs.dead_end.has_stranded.Goals as goal
 

@@ -1,5 +1,5 @@
 use Rattle.std.proofs.Common.{◌≡◌, ℕ, ◌<◌, true, false, IsTrue, get_or}
-use Rattle.plan_rules.specs.Graph.{must_be_served}
+use Rattle.bound_checker.proofs.Common.{must_be_served}
 use Rattle.bound_checker.proofs.dead_end.has_stranded.Given as goal
 
 abbrev pub invariant-loop-rider : goal.invariant-loop-rider

@@ -1,6 +1,5 @@
 use Rattle.std.proofs.Common.{refl, sym, inl, subst}
-use Rattle.plan_rules.specs.Multipliers.{Usable, usable_of}
-use Rattle.bound_checker.specs.work.DeadEnd.{AreSoleRows, MarksStanding}
+use Rattle.bound_checker.proofs.Common.{Usable, usable_of, AreSoleRows, MarksStanding}
 use Rattle.bound_checker.proofs.DeadEndLemmas.{when_true, when_false, clash_of, no_clash, dead_where_stranded}
 use Rattle.bound_checker.proofs.dead_end.is_dead_end.Goals as goal
 

@@ -1,5 +1,5 @@
 use Rattle.std.proofs.Common.{arith}
-use Rattle.plan_rules.proofs.lemmas.MarkLemmas.{marking_none, marking_more}
+use Rattle.bound_checker.proofs.Common.{marking_none, marking_more}
 use Rattle.bound_checker.proofs.dead_end.mark.Goals as goal
 
 pub loop-rider-init : goal.loop-rider-init

@@ -1,5 +1,5 @@
 use Rattle.std.proofs.Common.{take}
-use Rattle.plan_rules.proofs.lemmas.MarkLemmas.{IsMarking}
+use Rattle.bound_checker.proofs.Common.{IsMarking}
 use Rattle.bound_checker.proofs.dead_end.mark.Given as goal
 
 abbrev pub invariant-loop-rider : goal.invariant-loop-rider

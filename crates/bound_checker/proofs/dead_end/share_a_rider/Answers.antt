@@ -1,5 +1,5 @@
 use Rattle.std.proofs.Common.{get_or, sym, ◌∙◌, arith}
-use Rattle.plan_rules.proofs.lemmas.GraphLemmas.{has_at}
+use Rattle.bound_checker.proofs.Common.{has_at}
 use Rattle.bound_checker.proofs.dead_end.share_a_rider.Goals as goal
 
 pub returns-then-contains : goal.returns-then-contains

@@ -1,5 +1,4 @@
-use Rattle.plan_rules.specs.Multipliers.{usable_of}
-use Rattle.bound_checker.specs.work.DeadEnd.{IsOnlyOf}
+use Rattle.bound_checker.proofs.Common.{usable_of, IsOnlyOf}
 use Rattle.bound_checker.proofs.dead_end.sole_row.Given as goal
 
 abbrev pub invariant-loop-row : goal.invariant-loop-row

@@ -1,5 +1,4 @@
-use Rattle.plan_rules.specs.Multipliers.{usable_of}
-use Rattle.bound_checker.specs.work.DeadEnd.{AreSoleRows}
+use Rattle.bound_checker.proofs.Common.{usable_of, AreSoleRows}
 use Rattle.bound_checker.proofs.dead_end.sole_rows.Given as goal
 
 abbrev pub invariant-loop-vehicle : goal.invariant-loop-vehicle

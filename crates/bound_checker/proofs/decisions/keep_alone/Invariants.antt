@@ -1,5 +1,5 @@
 use Rattle.std.proofs.Common.{◌≡◌, ◌==◌, ℕ, ◌<◌, ◌≤◌, ◌&&◌, ◌||◌, not, false, length, get_or}
-use Rattle.plan_rules.specs.Graph.{row_vehicle}
+use Rattle.bound_checker.proofs.Common.{row_vehicle}
 use Rattle.bound_checker.proofs.decisions.keep_alone.Given as goal
 
 abbrev pub invariant-loop-row : goal.invariant-loop-row

@@ -1,7 +1,5 @@
 use Rattle.std.proofs.Common.{List, ◌∷◌, sym, ap, ◌∙◌, subst, arith}
-use Rattle.plan_rules.specs.Path.{Standing, standing_of, IsPathOf}
-use Rattle.plan_rules.specs.declared.path.Decision.{Decision}
-use Rattle.plan_rules.proofs.lemmas.PathLemmas.{standing_start, coming_next}
+use Rattle.bound_checker.proofs.Common.{Standing, standing_of, IsPathOf, Decision, standing_start, coming_next}
 use Rattle.bound_checker.proofs.LeaveLemmas.{none_left, coming_popped, path_popped, path_turned}
 use Rattle.bound_checker.proofs.decisions.leave.Goals as goal
 

@@ -1,6 +1,5 @@
 use Rattle.std.proofs.Common.{◌≡◌, vec_len}
-use Rattle.plan_rules.specs.Graph.{Graph}
-use Rattle.plan_rules.specs.Path.{standing_of, IsPathOf}
+use Rattle.bound_checker.proofs.Common.{Graph, standing_of, IsPathOf}
 use Rattle.bound_checker.proofs.decisions.leave.Given as goal
 
 abbrev pub invariant-loop-last : goal.invariant-loop-last

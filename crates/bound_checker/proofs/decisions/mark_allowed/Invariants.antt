@@ -1,5 +1,5 @@
 use Rattle.std.proofs.Common.{◌≡◌, ℕ, ◌<◌, true, false, length, get_or, take}
-use Rattle.plan_rules.specs.Path.{standing_of}
+use Rattle.bound_checker.proofs.Common.{standing_of}
 use Rattle.bound_checker.proofs.decisions.mark_allowed.Given as goal
 
 abbrev pub invariant-loop-mark : goal.invariant-loop-mark

@@ -1,7 +1,5 @@
 use Rattle.std.proofs.Common.{◌≡◌, ◌+◌, ◌<◌, length, get_or, drop, pos, ◌+ℤ◌, arith, rules, SFits, w64}
-use Rattle.std.proofs.lemmas.Int.{ints}
-use Rattle.std.proofs.lemmas.List.{at_drop_more}
-use Rattle.plan_rules.specs.Multipliers.{multiplier_at, multiplier_sum}
+use Rattle.bound_checker.proofs.Common.{ints, at_drop_more, multiplier_at, multiplier_sum}
 use Rattle.bound_checker.proofs.leaf.cost_left.Goals as goal
 
 pub loop-rider-preserved : goal.loop-rider-preserved

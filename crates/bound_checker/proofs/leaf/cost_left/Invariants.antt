@@ -1,5 +1,5 @@
 use Rattle.std.proofs.Common.{◌≡◌, ◌+◌, ◌*◌, drop, pos, ◌-ℤ◌, neg_ℤ, ◌≤ℤ◌}
-use Rattle.plan_rules.specs.Multipliers.{multiplier_sum}
+use Rattle.bound_checker.proofs.Common.{multiplier_sum}
 use Rattle.bound_checker.proofs.leaf.cost_left.Given as goal
 
 abbrev pub invariant-loop-rider : goal.invariant-loop-rider

@@ -1,8 +1,5 @@
 use Rattle.std.proofs.Common.{◌≡◌, List, Option, ℤ, length, subst, sym, ◌∙◌, arith}
-use Rattle.std.proofs.lemmas.Int.{ints}
-use Rattle.plan_rules.specs.Multipliers.{usable_of, leaf_value, vehicle_term}
-use Rattle.plan_rules.specs.Sums.{int_sum_below}
-use Rattle.bound_checker.specs.work.Leaf.{AreLeast}
+use Rattle.bound_checker.proofs.Common.{ints, usable_of, leaf_value, vehicle_term, int_sum_below, AreLeast}
 use Rattle.bound_checker.proofs.LeafLemmas.{vehicles_sum}
 use Rattle.bound_checker.proofs.leaf.leaf_value.Goals as goal
 

@@ -1,16 +1,10 @@
 use Rattle.std.proofs.Common.{◌≡◌, ◌+◌, ◌*◌, ◌<◌, List, Option, Some, None, ℤ, pos, ◌-ℤ◌, length, get_or, set, sym, ap, ◌∙◌, subst, arith, to_z, of_z}
-use mir.Syntax.{w128}
+use Rattle.bound_checker.proofs.Common.{w128, with_items_is, lesser, row_at, row_vehicle, usable_of, multiplier_sum, reduced_cost, TripRow, row_read, AreLeast}
 use Rattle.std.proofs.lemmas.Int.{to_z-of_z}
-use Rattle.std.proofs.lemmas.List.{length-set, with_items_is}
-use Rattle.plan_rules.specs.Sums.{lesser}
-use Rattle.plan_rules.specs.Graph.{row_at, row_vehicle}
-use Rattle.plan_rules.specs.Multipliers.{usable_of, multiplier_sum, reduced_cost}
-use Rattle.plan_rules.specs.declared.row.TripRow.{TripRow}
-use Rattle.plan_rules.proofs.lemmas.GraphLemmas.{row_read}
-use Rattle.bound_checker.specs.work.Leaf.{AreLeast}
+use Rattle.std.proofs.lemmas.List.{length-set}
 use Rattle.bound_checker.proofs.LeafLemmas.{lesser_small, row_passed, row_taken}
-use Rattle.bound_checker.proofs.leaf.least_costs.Goals as goal
 use Rattle.bound_checker.proofs.leaf.least_costs.Goals.{then-allowed-place, else-allowed-place}
+use Rattle.bound_checker.proofs.leaf.least_costs.Goals as goal
 
 pub loop-place-preserved : goal.loop-place-preserved
 loop-place-preserved c =

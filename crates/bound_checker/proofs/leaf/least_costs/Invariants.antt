@@ -1,5 +1,4 @@
-use Rattle.plan_rules.specs.Multipliers.{usable_of}
-use Rattle.bound_checker.specs.work.Leaf.{AreLeast}
+use Rattle.bound_checker.proofs.Common.{usable_of, AreLeast}
 use Rattle.bound_checker.proofs.leaf.least_costs.Given as goal
 
 abbrev pub invariant-loop-place : goal.invariant-loop-place

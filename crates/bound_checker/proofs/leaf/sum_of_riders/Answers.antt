@@ -1,7 +1,5 @@
 use Rattle.std.proofs.Common.{arith}
-use Rattle.std.proofs.lemmas.Int.{ints}
-use Rattle.plan_rules.specs.Multipliers.{rider_term}
-use Rattle.plan_rules.proofs.lemmas.SumLemmas.{int_sum_more}
+use Rattle.bound_checker.proofs.Common.{ints, rider_term, int_sum_more}
 use Rattle.bound_checker.proofs.leaf.sum_of_riders.Goals as goal
 
 pub loop-rider-preserved : goal.loop-rider-preserved

@@ -1,8 +1,5 @@
-use Rattle.std.proofs.Common.{get_or, None, pos, sym, subst, arith}
-use Rattle.std.specs.Prelude.{unwrap_or}
-use Rattle.std.proofs.lemmas.Int.{ints}
-use Rattle.plan_rules.specs.Size.{IsSmall}
-use Rattle.plan_rules.proofs.lemmas.SumLemmas.{int_sum_more}
+use Rattle.std.proofs.Common.{get_or, None, pos, sym, subst, arith, unwrap_or}
+use Rattle.bound_checker.proofs.Common.{ints, IsSmall, int_sum_more}
 use Rattle.bound_checker.proofs.LeafLemmas.{small_or}
 use Rattle.bound_checker.proofs.leaf.sum_of_vehicles.Goals as goal
 

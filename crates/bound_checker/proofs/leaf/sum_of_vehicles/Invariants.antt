@@ -1,7 +1,5 @@
-use Rattle.std.proofs.Common.{◌≡◌, None, pos}
-use Rattle.std.specs.Prelude.{unwrap_or, slice_index_or}
-use Rattle.plan_rules.specs.Size.{IsSmallSum}
-use Rattle.plan_rules.specs.Sums.{int_sum_below}
+use Rattle.std.proofs.Common.{◌≡◌, None, pos, unwrap_or, slice_index_or}
+use Rattle.bound_checker.proofs.Common.{IsSmallSum, int_sum_below}
 use Rattle.bound_checker.proofs.leaf.sum_of_vehicles.Given as goal
 
 abbrev pub invariant-loop-cost : goal.invariant-loop-cost

@@ -1,6 +1,5 @@
 use Rattle.std.proofs.Common.{◌≡◌, ap, subst, sym, ◌∙◌}
-use Rattle.script_rows.specs.Round.{lane_at}
-use Rattle.dispatch_engine.specs.Lane.{HasRun}
+use Rattle.dispatch_engine.proofs.Common.{lane_at, HasRun}
 use Rattle.dispatch_engine.proofs.CrewLemmas.{lane-run, when-ok}
 use Rattle.dispatch_engine.proofs.crew.work.Goals as goal
 

@@ -1,7 +1,5 @@
 use Rattle.std.proofs.Common.{◌∷◌, [], rules, subst}
-use Rattle.std.proofs.lemmas.Result.{on_ok_weaker, on_err_weaker}
-use Rattle.dispatch_engine.specs.work.Crew.{HasTaken}
-use Rattle.dispatch_engine.specs.lemmas.Lanes.{IsPlain}
+use Rattle.dispatch_engine.proofs.Common.{on_ok_weaker, on_err_weaker, HasTaken, IsPlain}
 use Rattle.dispatch_engine.proofs.PassLemmas.{runs-plain, begun-none}
 use Rattle.dispatch_engine.proofs.lane.run_command.Goals as goal
 

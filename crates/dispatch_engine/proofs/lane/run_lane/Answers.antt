@@ -1,6 +1,6 @@
 use Rattle.std.proofs.Common.{◌≡◌, ◌+◌, ◌∷◌, ◌++◌, [], take, drop, length, ◌<◌, ◌∙◌, refl, ap, subst, arith}
+use Rattle.dispatch_engine.proofs.Common.{HasRun, HasBegun}
 use Rattle.std.proofs.lemmas.List.{take-append-drop}
-use Rattle.dispatch_engine.specs.Lane.{HasRun, HasBegun}
 use Rattle.dispatch_engine.proofs.PassLemmas.{runs-none, runs-more, begun-after}
 use Rattle.dispatch_engine.proofs.RoundLemmas.{on-err, take_next}
 use Rattle.dispatch_engine.proofs.lane.run_lane.Goals as goal

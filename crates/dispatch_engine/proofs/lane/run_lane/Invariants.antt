@@ -1,6 +1,5 @@
 use Rattle.std.proofs.Common.{◌≡◌, take}
-use Rattle.seat_lock.specs.Values.{IsPassOf}
-use Rattle.dispatch_engine.specs.Lane.{HasRun}
+use Rattle.dispatch_engine.proofs.Common.{IsPassOf, HasRun}
 use Rattle.dispatch_engine.proofs.lane.run_lane.Given as goal
 
 abbrev pub invariant-loop-command : goal.invariant-loop-command

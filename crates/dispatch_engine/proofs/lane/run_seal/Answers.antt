@@ -1,8 +1,5 @@
 use Rattle.std.proofs.Common.{◌≡◌, ◌∷◌, [], Some, None, refl, ap, subst, arith}
-use Rattle.std.proofs.lemmas.Result.{on_ok_weaker, on_err_weaker}
-use Rattle.request_book.specs.declared.command.Command.TheVariants.{Seal, Close}
-use Rattle.shared_book.specs.Shared.{HasCalled, with_snapshot}
-use Rattle.dispatch_engine.specs.work.Crew.{HasTaken}
+use Rattle.dispatch_engine.proofs.Common.{on_ok_weaker, on_err_weaker, Seal, Close, HasCalled, with_snapshot, HasTaken}
 use Rattle.dispatch_engine.proofs.PassLemmas.{runs-refused, runs-sealed, begun-none, begun-sealed}
 use Rattle.dispatch_engine.proofs.RoundLemmas.{on-err, snapshot-known}
 use Rattle.dispatch_engine.proofs.lane.run_seal.Goals as goal

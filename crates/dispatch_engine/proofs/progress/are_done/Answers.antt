@@ -1,10 +1,7 @@
 use Rattle.std.proofs.Common.{◌≡◌, [], List, true, false, refl, sym, subst, arith}
-use Rattle.std.proofs.lemmas.Bool.{both_ways}
+use Rattle.dispatch_engine.proofs.Common.{both_ways, IsRest, stand_at, Command, lane_at}
 use borrow.Author.Count.{below_more}
-use Rattle.dispatch_engine.specs.Progress.{IsRest, stand_at}
 use Rattle.dispatch_engine.proofs.lemmas.ProgressLemmas.{done_all}
-use Rattle.request_book.specs.declared.command.Command.{Command}
-use Rattle.script_rows.specs.Round.{lane_at}
 use Rattle.dispatch_engine.proofs.progress.are_done.Goals as goal
 
 pub loop-lane-preserved : goal.loop-lane-preserved

@@ -1,6 +1,5 @@
 use Rattle.std.proofs.Common.{ℕ, ◌<◌, []}
-use Rattle.dispatch_engine.specs.Progress.{IsRest, stand_at}
-use Rattle.script_rows.specs.Round.{lane_at}
+use Rattle.dispatch_engine.proofs.Common.{IsRest, stand_at, lane_at}
 use Rattle.dispatch_engine.proofs.progress.are_done.Given as goal
 
 abbrev pub invariant-loop-lane : goal.invariant-loop-lane

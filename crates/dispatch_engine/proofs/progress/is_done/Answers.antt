@@ -1,6 +1,6 @@
 use Rattle.std.proofs.Common.{◌<◌, ◌≤◌, ℕ, [], Option, length, drop, sym, subst, ⊎_elim}
-use Rattle.std.proofs.lemmas.Bool.{cases_lt, le-leb, leb-true}
-use Rattle.dispatch_engine.specs.Lane.{IsLaneRunFrom}
+use Rattle.dispatch_engine.proofs.Common.{cases_lt, IsLaneRunFrom}
+use Rattle.std.proofs.lemmas.Bool.{le-leb, leb-true}
 use Rattle.dispatch_engine.proofs.lemmas.ProgressLemmas.{rest_none, rest_some}
 use Rattle.dispatch_engine.proofs.progress.is_done.Goals as goal
 

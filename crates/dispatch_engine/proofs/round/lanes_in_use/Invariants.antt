@@ -1,5 +1,5 @@
 use Rattle.std.proofs.Common.{◌≡◌, ◌≤◌, ◌-◌, ℕ, []}
-use Rattle.script_rows.specs.Round.{IsRound, lane_at}
+use Rattle.dispatch_engine.proofs.Common.{IsRound, lane_at}
 use Rattle.dispatch_engine.proofs.round.lanes_in_use.Given as goal
 
 abbrev pub invariant-loop-lanes : goal.invariant-loop-lanes

@@ -1,8 +1,5 @@
 use Rattle.std.proofs.Common.{◌≡◌, All, true, List, length, map, sym, ap, subst, arith}
-use Rattle.std.proofs.lemmas.Result.{IfOk-weaker}
-use Rattle.seat_lock.specs.Values.{AreAllPasses}
-use Rattle.dispatch_engine.specs.work.Crew.{AreInOrder, HaveRunLanes, IsToWork}
-use Rattle.dispatch_engine.specs.declared.crew.LaneWork.{LaneWork}
+use Rattle.dispatch_engine.proofs.Common.{IfOk-weaker, AreAllPasses, AreInOrder, HaveRunLanes, IsToWork, LaneWork}
 use Rattle.dispatch_engine.proofs.CrewLemmas.{rest-ready, rest-in_order, rest-len, passes-all, passes-run}
 use Rattle.dispatch_engine.proofs.round.run_passes.Goals as goal
 

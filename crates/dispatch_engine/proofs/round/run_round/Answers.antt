@@ -1,8 +1,5 @@
 use Rattle.std.proofs.Common.{◌≡◌, sym, ap, subst, ◌∙◌}
-use Rattle.std.proofs.lemmas.Result.{IfOk-weaker}
-use Rattle.request_book.specs.Book.{BookView, IsBook}
-use Rattle.dispatch_engine.specs.Run.{IsReady, IsSameRun}
-use Rattle.dispatch_engine.specs.work.Crew.{IsSharedBy}
+use Rattle.dispatch_engine.proofs.Common.{IfOk-weaker, BookView, IsBook, IsReady, IsSameRun, IsSharedBy}
 use Rattle.dispatch_engine.proofs.RoundLemmas.{same-ready, same-run}
 use Rattle.dispatch_engine.proofs.round.run_round.Goals as goal
 

@@ -1,7 +1,5 @@
 use Rattle.std.proofs.Common.{◌∷◌, [], map, codes}
-use Rattle.dispatch_report.specs.Block.{answer_lines}
-use Rattle.dispatch_report.specs.Words.{numbered}
-use Rattle.std.proofs.lemmas.Result.{err_from_is_err_and}
+use Rattle.dispatch_report.proofs.Common.{answer_lines, numbered, err_from_is_err_and}
 use Rattle.dispatch_report.proofs.LineLemmas.{fails, then}
 use Rattle.dispatch_report.proofs.block.write_block.Goals as goal
 

@@ -1,6 +1,5 @@
 use Rattle.std.proofs.Common.{◌∷◌, [], length, codes}
-use Rattle.dispatch_report.specs.Words.{numbered, signed}
-use Rattle.std.proofs.lemmas.Result.{err_from_is_err_and}
+use Rattle.dispatch_report.proofs.Common.{numbered, signed, err_from_is_err_and}
 use Rattle.dispatch_report.proofs.LineLemmas.{fails, then}
 use Rattle.dispatch_report.proofs.block.write_bound.Goals as goal
 

@@ -1,5 +1,4 @@
-use Rattle.dispatch_report.specs.Words.{numbered}
-use Rattle.std.proofs.lemmas.Result.{err_from_is_err_and}
+use Rattle.dispatch_report.proofs.Common.{numbered, err_from_is_err_and}
 use Rattle.dispatch_report.proofs.LineLemmas.{no_memory, line_is}
 use Rattle.dispatch_report.proofs.block.write_number.Goals as goal
 

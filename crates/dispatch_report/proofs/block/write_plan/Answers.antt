@@ -1,4 +1,4 @@
-use Rattle.std.proofs.lemmas.Result.{err_from_is_err_and}
+use Rattle.dispatch_report.proofs.Common.{err_from_is_err_and}
 use Rattle.dispatch_report.proofs.LineLemmas.{fails, then}
 use Rattle.dispatch_report.proofs.block.write_plan.Goals as goal
 

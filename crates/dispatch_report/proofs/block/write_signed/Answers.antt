@@ -1,5 +1,4 @@
-use Rattle.dispatch_report.specs.Words.{signed}
-use Rattle.std.proofs.lemmas.Result.{err_from_is_err_and}
+use Rattle.dispatch_report.proofs.Common.{signed, err_from_is_err_and}
 use Rattle.dispatch_report.proofs.LineLemmas.{no_memory, line_is}
 use Rattle.dispatch_report.proofs.block.write_signed.Goals as goal
 

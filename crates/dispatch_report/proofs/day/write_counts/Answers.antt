@@ -1,5 +1,4 @@
-use Rattle.std.proofs.lemmas.Result.{err_from_is_err_and}
-use Rattle.dispatch_report.specs.Day.{day_line}
+use Rattle.dispatch_report.proofs.Common.{err_from_is_err_and, day_line}
 use Rattle.dispatch_report.proofs.LineLemmas.{no_memory, line_is}
 use Rattle.dispatch_report.proofs.day.write_counts.Goals as goal
 

@@ -1,7 +1,5 @@
 use Rattle.std.proofs.Common.{◌∷◌, [], codes}
-use Rattle.std.proofs.lemmas.Result.{err_from_is_err_and}
-use Rattle.dispatch_report.specs.Day.{day_end_text}
-use Rattle.dispatch_report.specs.Words.{numbered}
+use Rattle.dispatch_report.proofs.Common.{err_from_is_err_and, day_end_text, numbered}
 use Rattle.dispatch_report.proofs.LineLemmas.{as_text, failed_text, fails, then}
 use Rattle.dispatch_report.proofs.day.write_day_end.Goals as goal
 

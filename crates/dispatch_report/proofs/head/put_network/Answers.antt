@@ -1,6 +1,5 @@
 use Rattle.std.proofs.Common.{◌≡◌, ◌++◌, List, ℕ, length, ap, ◌∙◌, append_assoc, codes}
-use Rattle.std.proofs.lemmas.Result.{IfOk-equal}
-use Rattle.dispatch_report.specs.Words.{numbered}
+use Rattle.dispatch_report.proofs.Common.{IfOk-equal, numbered}
 use Rattle.dispatch_report.proofs.head.put_network.Goals as goal
 
 pub returns : goal.returns

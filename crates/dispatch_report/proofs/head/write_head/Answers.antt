@@ -1,7 +1,5 @@
 use Rattle.std.proofs.Common.{◌∷◌, ◌++◌, [], length, codes}
-use Rattle.dispatch_report.specs.Words.{numbered}
-use Rattle.dispatch_report.specs.Head.{head_text, settings_line}
-use Rattle.std.proofs.lemmas.Result.{err_from_is_err_and}
+use Rattle.dispatch_report.proofs.Common.{numbered, head_text, settings_line, err_from_is_err_and}
 use Rattle.dispatch_report.proofs.LineLemmas.{as_text, failed_text, fails, then}
 use Rattle.dispatch_report.proofs.head.write_head.Goals as goal
 

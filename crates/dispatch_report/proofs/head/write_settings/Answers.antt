@@ -1,5 +1,4 @@
-use Rattle.dispatch_report.specs.Head.{settings_line}
-use Rattle.std.proofs.lemmas.Result.{err_from_is_err_and}
+use Rattle.dispatch_report.proofs.Common.{settings_line, err_from_is_err_and}
 use Rattle.dispatch_report.proofs.LineLemmas.{no_memory, line_is}
 use Rattle.dispatch_report.proofs.head.write_settings.Goals as goal
 

@@ -1,5 +1,5 @@
 use Rattle.std.proofs.Common.{◌<◌, ◌++◌, ◌∷◌, [], map, take, drop, length, suc, ◌+◌, arith}
-use Rattle.std.proofs.lemmas.Result.{err_from_is_err_and}
+use Rattle.dispatch_report.proofs.Common.{err_from_is_err_and}
 use Rattle.dispatch_report.proofs.LineLemmas.{no_lines, then, fails, same_lines, map-at, map-next}
 use Rattle.dispatch_report.proofs.lines.write_lines.Goals as goal
 

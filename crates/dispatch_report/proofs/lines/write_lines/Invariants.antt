@@ -1,6 +1,5 @@
 use Rattle.std.proofs.Common.{Ok, map, take}
-use Rattle.dispatch_report.specs.Written.{sink_seen}
-use Rattle.dispatch_report.specs.work.Lines.{WritesLines}
+use Rattle.dispatch_report.proofs.Common.{sink_seen, WritesLines}
 use Rattle.dispatch_report.proofs.lines.write_lines.Given as goal
 
 abbrev pub invariant-items : goal.invariant-items

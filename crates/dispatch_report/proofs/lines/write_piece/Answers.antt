@@ -1,7 +1,5 @@
 use Rattle.std.proofs.Common.{List, ℕ, Err, ap, subst}
-use Rattle.std.specs.Io.KnownBytes.{Appends}
-use Rattle.std.proofs.lemmas.Result.{err_from_is_err_and}
-use Rattle.pool_io.specs.Sink.{AppendsPart}
+use Rattle.dispatch_report.proofs.Common.{Appends, err_from_is_err_and, AppendsPart}
 use Rattle.dispatch_report.proofs.LineLemmas.{piece_failed, piece_written}
 use Rattle.dispatch_report.proofs.lines.write_piece.Goals as goal
 

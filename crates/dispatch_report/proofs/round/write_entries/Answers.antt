@@ -1,9 +1,7 @@
 use Rattle.std.proofs.Common.{◌<◌, ◌≤◌, ◌++◌, [], drop, length, suc, refl, sym, ap, ◌∙◌, append_assoc, append-nil, add-one, arith}
-use Rattle.std.proofs.lemmas.Result.{err_from_is_err_and}
-use Rattle.dispatch_report.specs.Round.{entries_lines}
+use Rattle.dispatch_report.proofs.Common.{err_from_is_err_and, entries_lines, one_more}
 use Rattle.dispatch_report.proofs.EntryLemmas.{entry_lines, entries_lines-at, entries_lines-end}
 use Rattle.dispatch_report.proofs.LineLemmas.{no_lines, then, fails, same_lines}
-use Rattle.pool_io.specs.Faults.{one_more}
 use Rattle.dispatch_report.proofs.round.write_entries.Goals as goal
 
 pub loop-entry-init : goal.loop-entry-init

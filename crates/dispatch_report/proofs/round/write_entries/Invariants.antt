@@ -1,7 +1,5 @@
 use Rattle.std.proofs.Common.{◌≡◌, ◌++◌, drop, ℕ, List, Ok}
-use Rattle.dispatch_report.specs.Round.{entries_lines}
-use Rattle.dispatch_report.specs.Written.{sink_seen}
-use Rattle.dispatch_report.specs.work.Lines.{WritesLines}
+use Rattle.dispatch_report.proofs.Common.{entries_lines, sink_seen, WritesLines}
 use Rattle.dispatch_report.proofs.round.write_entries.Given as goal
 
 abbrev pub invariant-loop-entry : goal.invariant-loop-entry

@@ -1,5 +1,4 @@
-use Rattle.dispatch_report.specs.Round.{entry_block}
-use Rattle.std.proofs.lemmas.Result.{err_from_is_err_and}
+use Rattle.dispatch_report.proofs.Common.{entry_block, err_from_is_err_and}
 use Rattle.dispatch_report.proofs.LineLemmas.{fails, then}
 use Rattle.dispatch_report.proofs.round.write_entry.Goals as goal
 

@@ -1,5 +1,4 @@
-use Rattle.dispatch_report.specs.Round.{round_text, entries_lines}
-use Rattle.std.proofs.lemmas.Result.{err_from_is_err_and}
+use Rattle.dispatch_report.proofs.Common.{round_text, entries_lines, err_from_is_err_and}
 use Rattle.dispatch_report.proofs.LineLemmas.{as_text, failed_text, fails, then}
 use Rattle.dispatch_report.proofs.round.write_round.Goals as goal
 

@@ -1,4 +1,4 @@
-use Rattle.std.proofs.lemmas.Result.{err_from_is_err_and}
+use Rattle.dispatch_report.proofs.Common.{err_from_is_err_and}
 use Rattle.dispatch_report.proofs.LineLemmas.{as_text, failed_text}
 use Rattle.dispatch_report.proofs.step.write_step.Goals as goal
 

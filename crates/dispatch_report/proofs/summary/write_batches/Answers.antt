@@ -1,6 +1,6 @@
 use Rattle.std.proofs.Common.{◌<◌, ◌+◌, ◌++◌, take, drop, length, suc, arith}
+use Rattle.dispatch_report.proofs.Common.{err_from_is_err_and}
 use Rattle.std.specs.List.{flat_map}
-use Rattle.std.proofs.lemmas.Result.{err_from_is_err_and}
 use Rattle.dispatch_report.proofs.LineLemmas.{no_lines, then, fails, same_lines, flat_map-at, flat_map-next}
 use Rattle.dispatch_report.proofs.SummaryLemmas.{entry_summary}
 use Rattle.dispatch_report.proofs.summary.write_batches.Goals as goal

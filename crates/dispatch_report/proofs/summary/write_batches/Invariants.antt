@@ -1,7 +1,6 @@
 use Rattle.std.proofs.Common.{Ok, take}
+use Rattle.dispatch_report.proofs.Common.{sink_seen, WritesLines}
 use Rattle.std.specs.List.{flat_map}
-use Rattle.dispatch_report.specs.Written.{sink_seen}
-use Rattle.dispatch_report.specs.work.Lines.{WritesLines}
 use Rattle.dispatch_report.proofs.SummaryLemmas.{entry_summary}
 use Rattle.dispatch_report.proofs.summary.write_batches.Given as goal
 

@@ -1,6 +1,5 @@
 use Rattle.std.proofs.Common.{◌++◌, codes}
-use Rattle.dispatch_report.specs.Words.{numbered}
-use Rattle.std.proofs.lemmas.Result.{err_from_is_err_and}
+use Rattle.dispatch_report.proofs.Common.{numbered, err_from_is_err_and}
 use Rattle.dispatch_report.proofs.LineLemmas.{no_memory, line_is}
 use Rattle.dispatch_report.proofs.summary.write_shape.Goals as goal
 

@@ -1,7 +1,6 @@
 use Rattle.std.proofs.Common.{ap}
+use Rattle.dispatch_report.proofs.Common.{err_from_is_err_and, summary_text}
 use Rattle.std.specs.List.{flat_map}
-use Rattle.std.proofs.lemmas.Result.{err_from_is_err_and}
-use Rattle.dispatch_report.specs.Summary.{summary_text}
 use Rattle.dispatch_report.proofs.SummaryLemmas.{entry_summary}
 use Rattle.dispatch_report.proofs.LineLemmas.{as_text, failed_text, same_lines}
 use Rattle.dispatch_report.proofs.summary.write_summary.Goals as goal

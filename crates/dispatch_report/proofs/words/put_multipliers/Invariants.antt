@@ -1,6 +1,6 @@
 use Rattle.std.proofs.Common.{◌≡◌, ◌++◌, take, codes}
+use Rattle.dispatch_report.proofs.Common.{signed}
 use Rattle.std.specs.List.{flat_map}
-use Rattle.dispatch_report.specs.Words.{signed}
 use Rattle.dispatch_report.proofs.words.put_multipliers.Given as goal
 
 abbrev pub invariant-loop-multiplier : goal.invariant-loop-multiplier

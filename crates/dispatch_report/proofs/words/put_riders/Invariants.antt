@@ -1,6 +1,6 @@
 use Rattle.std.proofs.Common.{◌≡◌, ◌++◌, take}
+use Rattle.dispatch_report.proofs.Common.{spaced}
 use Rattle.std.specs.List.{flat_map}
-use Rattle.dispatch_report.specs.Words.{spaced}
 use Rattle.dispatch_report.proofs.words.put_riders.Given as goal
 
 abbrev pub invariant-loop-rider : goal.invariant-loop-rider

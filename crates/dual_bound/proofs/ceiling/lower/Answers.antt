@@ -1,7 +1,6 @@
 use Rattle.std.proofs.Common.{◌≡◌, ℤ, set, sym, subst, w64, to_z, of_z}
+use Rattle.dual_bound.proofs.Common.{usable_of, AreCeilings}
 use Rattle.std.proofs.lemmas.Int.{to_z-of_z}
-use Rattle.plan_rules.specs.Multipliers.{usable_of}
-use Rattle.dual_bound.specs.work.Ceiling.{AreCeilings}
 use Rattle.dual_bound.proofs.CeilingLemmas.{ceilings_lower}
 use Rattle.dual_bound.proofs.ceiling.lower.Goals as goal
 

@@ -1,5 +1,4 @@
-use Rattle.plan_rules.specs.Multipliers.{usable_of}
-use Rattle.dual_bound.specs.work.Ceiling.{AreCeilings}
+use Rattle.dual_bound.proofs.Common.{usable_of, AreCeilings}
 use Rattle.dual_bound.proofs.ceiling.lower_first_rooms.Given as goal
 
 abbrev pub invariant-loop-row : goal.invariant-loop-row

@@ -1,5 +1,4 @@
-use Rattle.plan_rules.specs.Multipliers.{usable_of}
-use Rattle.dual_bound.specs.work.Ceiling.{AreCeilings}
+use Rattle.dual_bound.proofs.Common.{usable_of, AreCeilings}
 use Rattle.dual_bound.proofs.ceiling.lower_for.Given as goal
 
 abbrev pub invariant-loop-rider : goal.invariant-loop-rider

@@ -1,6 +1,5 @@
 use Rattle.std.proofs.Common.{arith}
-use Rattle.std.proofs.lemmas.Int.{ints}
-use Rattle.plan_rules.specs.Multipliers.{usable_of}
+use Rattle.dual_bound.proofs.Common.{ints, usable_of}
 use Rattle.dual_bound.proofs.CeilingLemmas.{ceilings_first, ceiling_of_value, costs_modest}
 use Rattle.dual_bound.proofs.ceiling.quick_ceiling_of.Goals as goal
 

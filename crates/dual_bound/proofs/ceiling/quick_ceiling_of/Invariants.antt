@@ -1,5 +1,4 @@
-use Rattle.plan_rules.specs.Multipliers.{usable_of}
-use Rattle.dual_bound.specs.work.Ceiling.{AreCeilings}
+use Rattle.dual_bound.proofs.Common.{usable_of, AreCeilings}
 use Rattle.dual_bound.proofs.ceiling.quick_ceiling_of.Given as goal
 
 abbrev pub invariant-loop-vehicle : goal.invariant-loop-vehicle

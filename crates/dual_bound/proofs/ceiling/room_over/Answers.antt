@@ -1,9 +1,6 @@
 use Rattle.std.proofs.Common.{◌≡◌, ◌<◌, ℤ, pos, ◌-ℤ◌, ◌*ℤ◌, ap, ◌∙◌, arith, rules, SFits, get_or, w64, to_z, of_z}
+use Rattle.dual_bound.proofs.Common.{row_at, usable_of, least_cost, TripRow, row_read}
 use Rattle.std.proofs.lemmas.Int.{to_z-of_z}
-use Rattle.plan_rules.specs.Graph.{row_at}
-use Rattle.plan_rules.specs.Multipliers.{usable_of, least_cost}
-use Rattle.plan_rules.specs.declared.row.TripRow.{TripRow}
-use Rattle.plan_rules.proofs.lemmas.GraphLemmas.{row_read}
 use Rattle.dual_bound.proofs.CeilingLemmas.{room_fits}
 use Rattle.dual_bound.proofs.ceiling.room_over.Goals as goal
 

@@ -1,6 +1,5 @@
 use Rattle.std.proofs.Common.{get_or, pos, arith, rules, SFits, w64}
-use Rattle.std.proofs.lemmas.Int.{ints}
-use Rattle.plan_rules.proofs.lemmas.SumLemmas.{int_sum_more}
+use Rattle.dual_bound.proofs.Common.{ints, int_sum_more}
 use Rattle.dual_bound.proofs.ceiling.sum_of.Goals as goal
 
 pub loop-number-preserved : goal.loop-number-preserved

@@ -1,5 +1,5 @@
 use Rattle.std.proofs.Common.{◌≡◌, ◌*◌, get_or, pos, neg_ℤ, ◌≤ℤ◌}
-use Rattle.plan_rules.specs.Sums.{int_sum_below}
+use Rattle.dual_bound.proofs.Common.{int_sum_below}
 use Rattle.dual_bound.proofs.ceiling.sum_of.Given as goal
 
 abbrev pub invariant-loop-number : goal.invariant-loop-number

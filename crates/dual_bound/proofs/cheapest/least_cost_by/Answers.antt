@@ -1,7 +1,6 @@
 use Rattle.std.proofs.Common.{◌≡◌, ◌∙◌, List, ℕ, w64, to_z, of_z, sym, subst}
+use Rattle.dual_bound.proofs.Common.{usable_of, AreCheapest}
 use Rattle.std.proofs.lemmas.Int.{to_z-of_z}
-use Rattle.plan_rules.specs.Multipliers.{usable_of}
-use Rattle.dual_bound.specs.Cheapest.{AreCheapest}
 use Rattle.dual_bound.proofs.CheapestLemmas.{cheapest_is_least}
 use Rattle.dual_bound.proofs.cheapest.least_cost_by.Goals as goal
 

@@ -1,15 +1,8 @@
-use Rattle.std.proofs.Common.{◌≡◌, ℕ, Option, Some, IfSome, ℤ, pos, sym, ap, ◌∙◌, subst, arith, to_z, of_z, w64, get_or}
-use Rattle.std.specs.Prelude.{unwrap_or}
+use Rattle.std.proofs.Common.{◌≡◌, ℕ, Option, Some, IfSome, ℤ, pos, sym, ap, ◌∙◌, subst, arith, to_z, of_z, w64, get_or, unwrap_or}
+use Rattle.dual_bound.proofs.Common.{least_below, row_at, cost_at, usable_of, is_usable_by, TripRow, row_read, row_between, IsCost, starts_rise, none_before, none_after, least_taken, least_passed}
 use Rattle.std.proofs.lemmas.Int.{to_z-of_z}
-use Rattle.plan_rules.specs.Sums.{least_below}
-use Rattle.plan_rules.specs.Graph.{row_at, cost_at}
-use Rattle.plan_rules.specs.Multipliers.{usable_of, is_usable_by}
-use Rattle.plan_rules.specs.declared.row.TripRow.{TripRow}
-use Rattle.plan_rules.proofs.lemmas.GraphLemmas.{row_read, row_between}
-use Rattle.dual_bound.specs.work.Size.{IsCost}
-use Rattle.plan_rules.proofs.lemmas.ValueLemmas.{starts_rise, none_before, none_after, least_taken, least_passed}
-use Rattle.dual_bound.proofs.cheapest.least_cost_of.Goals as goal
 use Rattle.dual_bound.proofs.cheapest.least_cost_of.Goals.{then-allowed-row, else-allowed-row}
+use Rattle.dual_bound.proofs.cheapest.least_cost_of.Goals as goal
 
 pub loop-row-init : goal.loop-row-init
 loop-row-init c = record {

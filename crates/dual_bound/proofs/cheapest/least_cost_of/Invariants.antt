@@ -1,8 +1,5 @@
 use Rattle.std.proofs.Common.{◌≡◌, IfSome, pos}
-use Rattle.plan_rules.specs.Sums.{least_below}
-use Rattle.plan_rules.specs.Graph.{cost_at}
-use Rattle.plan_rules.specs.Multipliers.{usable_of, is_usable_by}
-use Rattle.dual_bound.specs.work.Size.{IsCost}
+use Rattle.dual_bound.proofs.Common.{least_below, cost_at, usable_of, is_usable_by, IsCost}
 use Rattle.dual_bound.proofs.cheapest.least_cost_of.Given as goal
 
 abbrev pub invariant-loop-row : goal.invariant-loop-row

@@ -1,7 +1,6 @@
 use Rattle.std.proofs.Common.{◌≡◌, List, length, get_or, pos, ℤ, sym, ap, ◌∙◌, subst, arith, w64, to_z, of_z, ◌++◌, ◌∷◌, []}
+use Rattle.dual_bound.proofs.Common.{usable_of, least_cost, IsCost}
 use Rattle.std.proofs.lemmas.Int.{to_z-of_z}
-use Rattle.plan_rules.specs.Multipliers.{usable_of, least_cost}
-use Rattle.dual_bound.specs.work.Size.{IsCost}
 use Rattle.dual_bound.proofs.lemmas.FirstFitLemmas.{push_all}
 use Rattle.dual_bound.proofs.cheapest.least_costs.Goals as goal
 

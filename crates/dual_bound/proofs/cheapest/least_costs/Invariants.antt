@@ -1,6 +1,5 @@
 use Rattle.std.proofs.Common.{◌≡◌, ℕ, ◌<◌, vec_len, get_or, pos}
-use Rattle.plan_rules.specs.Multipliers.{usable_of, least_cost}
-use Rattle.dual_bound.specs.work.Size.{IsCost}
+use Rattle.dual_bound.proofs.Common.{usable_of, least_cost, IsCost}
 use Rattle.dual_bound.proofs.cheapest.least_costs.Given as goal
 
 abbrev pub invariant-loop-vehicle : goal.invariant-loop-vehicle

@@ -1,7 +1,6 @@
 use Rattle.std.proofs.Common.{◌≡◌, ℕ, List, ◌++◌, length, take, ℤ, pos, ◌≤ℤ◌, ◌+ℤ◌, ◌*ℤ◌, sym, ap, ◌∙◌, subst}
+use Rattle.dual_bound.proofs.Common.{int_sum_below, usable_of, leaf_value, least_cost, first_fit, multiplier_at}
 use Rattle.std.proofs.Math.Seq.{take-append_seam}
-use Rattle.plan_rules.specs.Sums.{int_sum_below}
-use Rattle.plan_rules.specs.Multipliers.{usable_of, leaf_value, least_cost, first_fit, multiplier_at}
 use Rattle.dual_bound.proofs.lemmas.FirstFitValueLemmas.{first_fit_leaves_room, first_fit_value_is}
 use Rattle.dual_bound.proofs.first_fit_pass.first_fit_by.Goals as goal
 

@@ -1,7 +1,6 @@
 use Rattle.std.proofs.Common.{◌≡◌, ℕ, ◌<◌, length, set, ℤ, sym, ap, ◌∙◌, subst, arith, w64, to_z, of_z}
+use Rattle.dual_bound.proofs.Common.{usable_of, multiplier_at, first_fit_below, IsModest}
 use Rattle.std.proofs.lemmas.Int.{to_z-of_z}
-use Rattle.plan_rules.specs.Multipliers.{usable_of, multiplier_at, first_fit_below}
-use Rattle.dual_bound.specs.work.Size.{IsModest}
 use Rattle.dual_bound.proofs.lemmas.FirstFitLemmas.{first_fit_none, first_fit_more, first_fit_done, modest_zero, modest_set}
 use Rattle.dual_bound.proofs.first_fit_pass.fit.Goals as goal
 

@@ -1,6 +1,5 @@
 use Rattle.std.proofs.Common.{◌≡◌, ℕ}
-use Rattle.plan_rules.specs.Multipliers.{usable_of, multiplier_at, first_fit_below}
-use Rattle.dual_bound.specs.work.Size.{IsModest}
+use Rattle.dual_bound.proofs.Common.{usable_of, multiplier_at, first_fit_below, IsModest}
 use Rattle.dual_bound.proofs.first_fit_pass.fit.Given as goal
 
 abbrev pub invariant-loop-rider : goal.invariant-loop-rider

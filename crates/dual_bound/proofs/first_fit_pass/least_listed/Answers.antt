@@ -1,13 +1,10 @@
 use Rattle.std.proofs.Common.{◌≡◌, ◌&&◌, ℕ, ◌+◌, ◌<◌, Bool, false, List, length, get_or, Option, Some, ℤ, IfSome, neg_ℤ, pos, ◌≤ℤ◌, sym, ap, ◌∙◌, subst, arith, w64, to_z, of_z}
+use Rattle.dual_bound.proofs.Common.{lesser, has_rider, usable_of, room_at, list_start}
 use Rattle.std.proofs.lemmas.Int.{to_z-of_z}
-use Rattle.plan_rules.specs.Sums.{lesser}
-use Rattle.plan_rules.specs.Graph.{has_rider}
-use Rattle.plan_rules.specs.Multipliers.{usable_of, room_at}
-use Rattle.dual_bound.specs.Index.{list_start}
 use Rattle.dual_bound.specs.work.Index.{IsRowListed}
 use Rattle.dual_bound.proofs.ListedLemmas.{IsLeastListed, listed_take, listed_pass, listed_done}
-use Rattle.dual_bound.proofs.first_fit_pass.least_listed.Goals as goal
 use Rattle.dual_bound.proofs.first_fit_pass.least_listed.Goals.{in-Some, in_default}
+use Rattle.dual_bound.proofs.first_fit_pass.least_listed.Goals as goal
 
 pub loop-place-preserved : goal.loop-place-preserved
 loop-place-preserved c =

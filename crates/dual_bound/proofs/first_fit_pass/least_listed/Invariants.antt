@@ -1,7 +1,5 @@
 use Rattle.std.proofs.Common.{◌&&◌, length, IfSome, neg_ℤ, pos, ◌≤ℤ◌}
-use Rattle.plan_rules.specs.Graph.{has_rider}
-use Rattle.plan_rules.specs.Multipliers.{usable_of, room_at}
-use Rattle.dual_bound.specs.Index.{list_start}
+use Rattle.dual_bound.proofs.Common.{has_rider, usable_of, room_at, list_start}
 use Rattle.dual_bound.proofs.ListedLemmas.{IsLeastListed}
 use Rattle.dual_bound.proofs.first_fit_pass.least_listed.Given as goal
 

@@ -1,9 +1,6 @@
 use Rattle.std.proofs.Common.{◌≡◌, ◌<◌, ℤ, pos, ◌-ℤ◌, ◌*ℤ◌, ap, ◌∙◌, arith, w64, to_z, of_z}
+use Rattle.dual_bound.proofs.Common.{row_at, usable_of, least_cost, multiplier_sum, TripRow, row_read}
 use Rattle.std.proofs.lemmas.Int.{to_z-of_z}
-use Rattle.plan_rules.specs.Graph.{row_at}
-use Rattle.plan_rules.specs.Multipliers.{usable_of, least_cost, multiplier_sum}
-use Rattle.plan_rules.specs.declared.row.TripRow.{TripRow}
-use Rattle.plan_rules.proofs.lemmas.GraphLemmas.{row_read}
 use Rattle.dual_bound.proofs.lemmas.FirstFitLemmas.{room_from}
 use Rattle.dual_bound.proofs.first_fit_pass.room_of.Goals as goal
 

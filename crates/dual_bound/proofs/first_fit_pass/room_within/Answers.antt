@@ -1,6 +1,5 @@
 use Rattle.std.proofs.Common.{◌≡◌, ap, ◌∙◌, arith}
-use Rattle.std.proofs.lemmas.Int.{ints}
-use Rattle.plan_rules.specs.Multipliers.{multiplier_sum}
+use Rattle.dual_bound.proofs.Common.{ints, multiplier_sum}
 use Rattle.dual_bound.proofs.first_fit_pass.room_within.Goals as goal
 
 pub returns-clause-value : goal.returns-clause-value

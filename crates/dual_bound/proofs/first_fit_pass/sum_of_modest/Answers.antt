@@ -1,7 +1,5 @@
 use Rattle.std.proofs.Common.{◌<◌, length, get_or, pos, arith, rules, SFits, to_z, w64}
-use Rattle.std.proofs.lemmas.Int.{ints}
-use Rattle.plan_rules.specs.Multipliers.{multiplier_sum}
-use Rattle.plan_rules.proofs.lemmas.ValueLemmas.{sum_more}
+use Rattle.dual_bound.proofs.Common.{ints, multiplier_sum, sum_more}
 use Rattle.dual_bound.proofs.first_fit_pass.sum_of_modest.Goals as goal
 
 pub loop-rider-preserved : goal.loop-rider-preserved

@@ -1,5 +1,5 @@
 use Rattle.std.proofs.Common.{◌≡◌, ◌*◌, drop, pos, ◌+ℤ◌, neg_ℤ, ◌≤ℤ◌}
-use Rattle.plan_rules.specs.Multipliers.{multiplier_sum}
+use Rattle.dual_bound.proofs.Common.{multiplier_sum}
 use Rattle.dual_bound.proofs.first_fit_pass.sum_of_modest.Given as goal
 
 abbrev pub invariant-loop-rider : goal.invariant-loop-rider

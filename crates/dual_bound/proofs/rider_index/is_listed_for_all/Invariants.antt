@@ -1,5 +1,5 @@
 use Rattle.std.proofs.Common.{ℕ, suc, ◌<◌, get_or}
-use Rattle.dual_bound.specs.Index.{IsListed}
+use Rattle.dual_bound.proofs.Common.{IsListed}
 use Rattle.dual_bound.proofs.rider_index.is_listed_for_all.Given as goal
 
 abbrev pub invariant-loop-place : goal.invariant-loop-place

@@ -1,6 +1,5 @@
 use Rattle.std.proofs.Common.{ℕ, suc, ◌<◌, length, get_or}
-use Rattle.plan_rules.specs.Graph.{riders_at}
-use Rattle.dual_bound.specs.Index.{IsListed}
+use Rattle.dual_bound.proofs.Common.{riders_at, IsListed}
 use Rattle.dual_bound.proofs.rider_index.lists_all.Given as goal
 
 abbrev pub invariant-loop-row : goal.invariant-loop-row

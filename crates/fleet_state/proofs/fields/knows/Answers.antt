@@ -1,5 +1,5 @@
+use Rattle.fleet_state.proofs.Common.{has_node}
 use Rattle.std.proofs.lemmas.Bool.Decides.{same_from_decides}
-use Rattle.road_network.specs.Roads.{has_node}
 use Rattle.fleet_state.proofs.RowLemmas.{has_node-Decides}
 use Rattle.fleet_state.proofs.fields.knows.Goals as goal
 

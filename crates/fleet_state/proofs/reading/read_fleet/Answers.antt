@@ -1,14 +1,8 @@
 use Rattle.std.proofs.Common.{◌≡◌, ◌↔◌, ◌+◌, ◌<◌, ◌≤◌, [], ◌∷◌, ◌++◌, Contains, true, length, sym, ap, subst, ◌∙◌, arith}
+use Rattle.fleet_state.proofs.Common.{length-insert, All-same, all_or_first-ok, IsFleet, has_node, IsFleetOf, vehicle_of_row, has_vehicle, IsPlaceOf}
 use Rattle.std.specs.List.{insert}
-use Rattle.std.proofs.lemmas.List.Edits.{length-insert}
-use Rattle.std.proofs.lemmas.List.Elements.{All-same}
 use Rattle.std.proofs.lemmas.Result.{err_from_is_err_and}
 use Rattle.pool_io.specs.Table.{record_at}
-use Rattle.pool_base.proofs.lemmas.InOrderLemmas.{all_or_first-ok}
-use Rattle.batch_snapshot.specs.Kept.{IsFleet}
-use Rattle.road_network.specs.Roads.{has_node}
-use Rattle.fleet_state.specs.Fleet.{IsFleetOf, vehicle_of_row}
-use Rattle.fleet_state.specs.work.Place.{has_vehicle, IsPlaceOf}
 use Rattle.fleet_state.proofs.PlaceLemmas.{All-insert, IsFleet-insert}
 use Rattle.fleet_state.proofs.RowLemmas.{IsNewVehicle-vehicle_in}
 use Rattle.fleet_state.proofs.FleetLemmas.{known_more, same_members-insert, vehicle_of_row-new, vehicle_of_row-duplicate, vehicle_of_row-fault, vehicles_of-refused, vehicles_of-all}

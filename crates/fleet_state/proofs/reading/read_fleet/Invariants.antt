@@ -1,11 +1,6 @@
 use Rattle.std.proofs.Common.{◌≡◌, ◌↔◌, ℕ, List, true, Contains, Ok, length}
+use Rattle.fleet_state.proofs.Common.{all_or_first, Vehicle, IsFleet, has_node, vehicle_of_row, has_vehicle}
 use Rattle.std.specs.List.{All}
-use Rattle.pool_base.specs.InOrder.{all_or_first}
-use Rattle.batch_snapshot.specs.declared.vehicle.Vehicle.{Vehicle}
-use Rattle.batch_snapshot.specs.Kept.{IsFleet}
-use Rattle.road_network.specs.Roads.{has_node}
-use Rattle.fleet_state.specs.Fleet.{vehicle_of_row}
-use Rattle.fleet_state.specs.work.Place.{has_vehicle}
 use Rattle.fleet_state.proofs.FleetLemmas.{is_known}
 use Rattle.fleet_state.proofs.reading.read_fleet.Given as goal
 

@@ -1,6 +1,5 @@
 use Rattle.std.proofs.Common.{◌<◌, All, length}
-use Rattle.hub_labels.specs.declared.hub.Hub.{Hub}
-use Rattle.hub_labels.specs.work.Drafts.{HandsOver}
+use Rattle.hub_labels.proofs.Common.{Hub, HandsOver}
 use Rattle.hub_labels.proofs.draft.hand_over.Given as goal
 
 abbrev pub invariant-loop-node : goal.invariant-loop-node

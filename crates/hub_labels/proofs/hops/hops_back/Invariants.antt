@@ -1,6 +1,5 @@
 use Rattle.std.proofs.Common.{length}
-use Rattle.road_network.specs.Roads.{IsNetwork}
-use Rattle.hub_labels.specs.work.Hops.{AreTurnedBefore}
+use Rattle.hub_labels.proofs.Common.{IsNetwork, AreTurnedBefore}
 use Rattle.hub_labels.proofs.hops.hops_back.Given as goal
 
 abbrev pub invariant-loop-node : goal.invariant-loop-node

@@ -1,7 +1,6 @@
 use Rattle.std.proofs.Common.{◌≡◌, ◌<◌, length, drop, ap, ◌∙◌, arith}
-use Rattle.std.proofs.lemmas.List.{length-map, take_at, get_or_default}
-use Rattle.road_network.specs.Roads.{hop_of, leaving}
-use Rattle.travel_times.proofs.lemmas.SearchLemmas.{hops_among}
+use Rattle.hub_labels.proofs.Common.{length-map, get_or_default, hop_of, leaving, hops_among}
+use Rattle.std.proofs.lemmas.List.{take_at}
 use Rattle.hub_labels.proofs.Degrees.{leaving_few, reaching_few, reaching_none, reaching_more, degree_is}
 use Rattle.hub_labels.proofs.rank.degrees_of.Goals as goal
 

@@ -1,11 +1,6 @@
 use Rattle.std.proofs.Common.{◌≡◌, ℕ, ◌<◌, [], List, length, get_or, slice_index, subst, ◌∙◌, arith}
-use Rattle.std.proofs.lemmas.List.{get_or_read}
-use Rattle.std.proofs.lemmas.List.Elements.{All-push}
-use Rattle.travel_times.specs.Search.{IsNextTaken, RelaxesHops}
-use Rattle.hub_labels.specs.declared.hub.Hub.{Hub}
-use Rattle.hub_labels.specs.work.Pruned.{IsTold}
+use Rattle.hub_labels.proofs.Common.{get_or_read, All-push, IsNextTaken, RelaxesHops, Hub, IsTold, none_waits_near}
 use Rattle.hub_labels.proofs.Searching.{hops_within, prune_step, relax_step}
-use Rattle.travel_times.proofs.lemmas.SearchLemmas.{none_waits_near}
 use Rattle.hub_labels.proofs.search.search.Goals as goal
 
 pub loop-node-preserved-then-is_told : goal.loop-node-preserved-then-is_told

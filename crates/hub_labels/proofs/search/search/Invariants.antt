@@ -1,9 +1,5 @@
 use Rattle.std.proofs.Common.{◌≡◌, ◌<◌, List, All, length}
-use Rattle.road_network.specs.declared.arc.Arc.{Arc}
-use Rattle.road_network.specs.Roads.{IsArcAmong}
-use Rattle.travel_times.specs.Search.{work_left}
-use Rattle.hub_labels.specs.work.Hops.{AreNodeHops}
-use Rattle.hub_labels.specs.work.Pruned.{IsPruning}
+use Rattle.hub_labels.proofs.Common.{Arc, IsArcAmong, work_left, AreNodeHops, IsPruning}
 use Rattle.hub_labels.proofs.search.search.Given as goal
 
 abbrev pub invariant-loop-node : goal.invariant-loop-node

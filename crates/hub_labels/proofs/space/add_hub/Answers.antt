@@ -1,12 +1,6 @@
 use Rattle.std.proofs.Common.{◌≡◌, ℕ, ◌<◌, ◌++◌, [], List, All, length, get_or, take, drop, ◌∙◌, ap, arith}
-use Rattle.std.proofs.lemmas.List.{get_or_read, take_at}
-use Rattle.std.proofs.lemmas.List.Elements.{All-nil, All-from_get_or}
-use Rattle.pool_base.specs.TravelTime.{never}
-use Rattle.road_network.specs.declared.arc.Arc.{Arc}
-use Rattle.road_network.specs.Roads.{IsArcAmong}
-use Rattle.hub_labels.specs.work.Hops.{AreNodeHops}
-use Rattle.hub_labels.specs.work.Pruned.{IsPruned}
-use Rattle.hub_labels.specs.work.Drafts.{HasSpread, HandsOver}
+use Rattle.hub_labels.proofs.Common.{get_or_read, All-nil, All-from_get_or, never, Arc, IsArcAmong, AreNodeHops, IsPruned, HasSpread, HandsOver}
+use Rattle.std.proofs.lemmas.List.{take_at}
 use Rattle.hub_labels.proofs.Adding.{adds_hub, handed, found_range}
 use Rattle.hub_labels.proofs.space.add_hub.Goals as goal
 

@@ -1,7 +1,5 @@
 use Rattle.std.proofs.Common.{◌≡◌, ℕ, ◌+◌, ◌/◌, ◌%◌, ◌<◌, length, slice_index}
-use Rattle.road_network.specs.Roads.{Roads}
-use Rattle.road_network.specs.Walk.{IsTimeBetween}
-use Rattle.hub_labels.specs.Labels.{AreLabelsOf}
+use Rattle.hub_labels.proofs.Common.{Roads, IsTimeBetween, AreLabelsOf}
 use Rattle.hub_labels.proofs.ways.write_cells.Given as goal
 
 abbrev pub invariant-loop-place : goal.invariant-loop-place

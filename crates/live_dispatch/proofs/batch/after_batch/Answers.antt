@@ -1,7 +1,5 @@
 use Rattle.std.proofs.Common.{Err, ap, refl, sym, subst}
-use Rattle.live_batch.specs.Phase.{FaultsFrom}
-use Rattle.live_desk.specs.Desk.{outputs_seen}
-use Rattle.rider_notices.specs.Seen.{notifiers_seen}
+use Rattle.live_dispatch.proofs.Common.{FaultsFrom, outputs_seen, notifiers_seen}
 use Rattle.live_dispatch.proofs.EndLemmas.{batch-failed, batch-held, batch-last, batch-out, batch-unread}
 use Rattle.live_dispatch.proofs.batch.after_batch.Goals as goal
 

@@ -1,6 +1,5 @@
 use Rattle.std.proofs.Common.{◌∙◌}
-use Rattle.request_book.specs.declared.journal.Entry.{Entry}
-use Rattle.shared_book.proofs.lemmas.LockedLemmas.{applied-fits}
+use Rattle.live_dispatch.proofs.Common.{Entry, applied-fits}
 use Rattle.live_dispatch.proofs.WriteLemmas.{entry-some}
 use Rattle.live_dispatch.proofs.row.run_command.Goals as goal
 

@@ -1,6 +1,6 @@
 use Rattle.live_dispatch.proofs.WriteLemmas.{start-some, starts-none, starts-other}
-use Rattle.live_dispatch.proofs.row.start_round.Goals as goal
 use Rattle.live_dispatch.proofs.row.start_round.Goals.{in-Some+else-number-round, in_default}
+use Rattle.live_dispatch.proofs.row.start_round.Goals as goal
 
 pub returns : goal.returns
 returns g c = elim c.match-last.branch [

@@ -1,5 +1,5 @@
 use Rattle.std.proofs.Common.{refl}
-use Rattle.live_desk.specs.Desk.{outputs_seen}
+use Rattle.live_dispatch.proofs.Common.{outputs_seen}
 use Rattle.live_dispatch.proofs.TurnLemmas.{counted-ended, start-stands}
 use Rattle.live_dispatch.proofs.turns.dispatch.Goals as goal
 

@@ -1,6 +1,5 @@
 use Rattle.std.proofs.Common.{None}
-use Rattle.live_desk.specs.Desk.{outputs_seen}
-use Rattle.live_dispatch.specs.work.Standing.{moment}
+use Rattle.live_dispatch.proofs.Common.{outputs_seen, moment}
 use Rattle.live_dispatch.proofs.TurnLemmas.{IsBetween}
 use Rattle.live_dispatch.proofs.turns.dispatch.Given as goal
 

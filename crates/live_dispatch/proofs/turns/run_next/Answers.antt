@@ -1,12 +1,5 @@
 use Rattle.std.proofs.Common.{◌≡◌, Some, Err, refl, sym, ap, subst, ◌∙◌}
-use Rattle.live_desk.specs.Desk.{outputs_seen}
-use Rattle.pool_io.specs.Faults.{Rose}
-use Rattle.rider_notices.specs.Seen.{notifiers_seen}
-use Rattle.script_rows.specs.Line.{IsBehind}
-use Rattle.live_dispatch.specs.work.Rows.{last_of}
-use Rattle.live_batch.specs.Phase.{AreRows}
-use Rattle.live_rows.specs.Rows.{ComesBehind}
-use Rattle.live_dispatch.specs.work.Standing.{GivesNext, moment}
+use Rattle.live_dispatch.proofs.Common.{outputs_seen, Rose, notifiers_seen, IsBehind, last_of, AreRows, ComesBehind, GivesNext, moment}
 use Rattle.live_dispatch.proofs.EndLemmas.{all-ended, if-err, if-ok}
 use Rattle.live_dispatch.proofs.TurnLemmas.{next-stands, none-stands, unread-ended}
 use Rattle.live_dispatch.proofs.turns.run_next.Goals as goal

@@ -1,7 +1,5 @@
 use Rattle.std.proofs.Common.{Some, refl, subst}
-use Rattle.live_dispatch.specs.work.Standing.{HasTaken, moment, row_text}
-use Rattle.std.specs.Io.KnownBytes.{Appends}
-use Rattle.live_desk.specs.Desk.{outputs_seen}
+use Rattle.live_dispatch.proofs.Common.{HasTaken, moment, row_text, Appends, outputs_seen}
 use Rattle.live_dispatch.proofs.EndLemmas.{if-err, if-ok}
 use Rattle.live_dispatch.proofs.StepLemmas.{row-stands, sealed-known}
 use Rattle.live_dispatch.proofs.TurnLemmas.{row-ended, row-opens}

@@ -1,6 +1,5 @@
 use Rattle.std.proofs.Common.{◌≡◌, ◌+◌, rules, arith}
-use Rattle.load_maker.specs.lemmas.Parts.{draws_of, fleet_part}
-use Rattle.load_maker.specs.Texts.{vehicle_row}
+use Rattle.load_maker.proofs.Common.{draws_of, fleet_part, vehicle_row}
 use Rattle.load_maker.proofs.PartLemmas.{Writes-each_all}
 use Rattle.load_maker.proofs.fleet.put_fleet.Goals as goal
 

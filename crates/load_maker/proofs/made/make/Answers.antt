@@ -1,6 +1,5 @@
 use Rattle.std.proofs.Common.{List, ℕ, subst}
-use Rattle.load_maker.specs.lemmas.Parts.{draws_of, network_part, fleet_part, script_part}
-use Rattle.load_maker.specs.work.Written.{Writes}
+use Rattle.load_maker.proofs.Common.{draws_of, network_part, fleet_part, script_part, Writes}
 use Rattle.load_maker.proofs.TextLemmas.{texts_of-written}
 use Rattle.load_maker.proofs.made.make.Goals as goal
 

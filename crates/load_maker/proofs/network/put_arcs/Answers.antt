@@ -1,13 +1,7 @@
 use Rattle.std.proofs.Common.{ℕ, ◌+◌, ◌++◌, List, ◌∷◌, [], ap, ◌∙◌}
+use Rattle.load_maker.proofs.Common.{on_ok_weaker, Stream, Number, Field, csv_line, csv_lines, arcs_between}
 use Rattle.std.proofs.lemmas.List.{append_assoc}
-use Rattle.std.proofs.lemmas.Result.{on_ok_weaker}
-use Rattle.rand_core.specs.Stream.{Stream}
-use Rattle.load_maker.specs.declared.row.Field.TheVariants.{Number}
-use Rattle.load_maker.specs.declared.row.Field.{Field}
-use Rattle.load_maker.specs.Row.{csv_line}
-use Rattle.load_maker.specs.lemmas.Parts.{csv_lines}
 use Rattle.load_maker.proofs.PartLemmas.{one_row}
-use Rattle.load_maker.specs.Texts.{arcs_between}
 use Rattle.load_maker.proofs.network.put_arcs.Goals as goal
 
 arc : ℕ → ℕ → ℕ → List Field

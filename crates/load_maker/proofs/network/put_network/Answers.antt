@@ -1,5 +1,5 @@
 use Rattle.std.proofs.Common.{◌≡◌, rules, arith}
-use Rattle.load_maker.specs.lemmas.Parts.{draws_of, arcs_of_row, network_part}
+use Rattle.load_maker.proofs.Common.{draws_of, arcs_of_row, network_part}
 use Rattle.load_maker.proofs.PartLemmas.{Writes-each_all}
 use Rattle.load_maker.proofs.network.put_network.Goals as goal
 

@@ -1,6 +1,4 @@
-use Rattle.load_maker.specs.Part.{each}
-use Rattle.load_maker.specs.lemmas.Parts.{draws_of, arcs_of_row}
-use Rattle.load_maker.specs.work.Written.{Writes}
+use Rattle.load_maker.proofs.Common.{each, draws_of, arcs_of_row, Writes}
 use Rattle.load_maker.proofs.network.put_network.Given as goal
 
 abbrev pub invariant-loop-i : goal.invariant-loop-i

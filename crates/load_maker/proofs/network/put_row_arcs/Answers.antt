@@ -1,6 +1,5 @@
 use Rattle.std.proofs.Common.{arith}
-use Rattle.load_maker.specs.Part.{both}
-use Rattle.load_maker.specs.lemmas.Parts.{draws_of, arcs_right, arcs_down, arcs_of_row}
+use Rattle.load_maker.proofs.Common.{both, draws_of, arcs_right, arcs_down, arcs_of_row}
 use Rattle.load_maker.proofs.PartLemmas.{Writes-each_all}
 use Rattle.load_maker.proofs.network.put_row_arcs.Goals as goal
 

@@ -1,6 +1,4 @@
-use Rattle.load_maker.specs.Part.{both, each}
-use Rattle.load_maker.specs.lemmas.Parts.{draws_of, arcs_right, arcs_down}
-use Rattle.load_maker.specs.work.Written.{Writes}
+use Rattle.load_maker.proofs.Common.{both, each, draws_of, arcs_right, arcs_down, Writes}
 use Rattle.load_maker.proofs.network.put_row_arcs.Given as goal
 
 abbrev pub invariant-loop-j : goal.invariant-loop-j

@@ -1,5 +1,5 @@
 use Rattle.std.proofs.Common.{◌≡◌, ◌++◌, drop}
-use Rattle.load_maker.specs.Row.{csv_line}
+use Rattle.load_maker.proofs.Common.{csv_line}
 use Rattle.load_maker.proofs.row.put_row.Given as goal
 
 abbrev pub invariant-loop-place : goal.invariant-loop-place

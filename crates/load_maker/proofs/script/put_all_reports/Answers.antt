@@ -1,6 +1,5 @@
 use Rattle.std.proofs.Common.{◌≡◌, ◌+◌, rules, arith}
-use Rattle.load_maker.specs.lemmas.Parts.{draws_of, all_reports}
-use Rattle.load_maker.specs.Texts.{report_row}
+use Rattle.load_maker.proofs.Common.{draws_of, all_reports, report_row}
 use Rattle.load_maker.proofs.PartLemmas.{Writes-each_all}
 use Rattle.load_maker.proofs.script.put_all_reports.Goals as goal
 

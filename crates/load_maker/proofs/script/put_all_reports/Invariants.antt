@@ -1,8 +1,5 @@
 use Rattle.std.proofs.Common.{◌+◌}
-use Rattle.load_maker.specs.Part.{each}
-use Rattle.load_maker.specs.lemmas.Parts.{draws_of}
-use Rattle.load_maker.specs.work.Written.{Writes}
-use Rattle.load_maker.specs.Texts.{report_row}
+use Rattle.load_maker.proofs.Common.{each, draws_of, Writes, report_row}
 use Rattle.load_maker.proofs.script.put_all_reports.Given as goal
 
 abbrev pub invariant-loop-n : goal.invariant-loop-n

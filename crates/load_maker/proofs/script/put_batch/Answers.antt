@@ -1,8 +1,5 @@
 use Rattle.std.proofs.Common.{[], ◌∷◌}
-use Rattle.std.proofs.lemmas.Result.{on_ok_weaker}
-use Rattle.load_maker.specs.Part.{plain, both}
-use Rattle.load_maker.specs.lemmas.Parts.{draws_of, seal_row, reports, submits, all_reports}
-use Rattle.load_maker.specs.Texts.{batch_rows}
+use Rattle.load_maker.proofs.Common.{on_ok_weaker, plain, both, draws_of, seal_row, reports, submits, all_reports, batch_rows}
 use Rattle.load_maker.proofs.PartLemmas.{Writes-plain, Writes-both}
 use Rattle.load_maker.proofs.script.put_batch.Goals as goal
 

@@ -1,11 +1,6 @@
 use Rattle.std.proofs.Common.{◌≡◌, ℕ, ◌*◌, ◌++◌, ◌∷◌, [], ap, ◌∙◌, rules}
-use Rattle.std.proofs.lemmas.Result.{on_ok_weaker}
-use Rattle.rand_core.specs.Stream.{Stream}
-use Rattle.load_maker.specs.declared.row.Field.TheVariants.{Number, Report, Empty}
-use Rattle.load_maker.specs.Row.{csv_line}
-use Rattle.load_maker.specs.lemmas.Parts.{draws_of}
+use Rattle.load_maker.proofs.Common.{on_ok_weaker, Stream, Number, Report, Empty, csv_line, draws_of, drawn_node, report_row}
 use Rattle.load_maker.proofs.PartLemmas.{one_row}
-use Rattle.load_maker.specs.Texts.{drawn_node, report_row}
 use Rattle.load_maker.proofs.script.put_report.Goals as goal
 
 pub returns : goal.returns

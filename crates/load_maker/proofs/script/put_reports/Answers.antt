@@ -1,7 +1,6 @@
 use Rattle.std.proofs.Common.{◌≡◌, cond, sym, ap}
+use Rattle.load_maker.proofs.Common.{on_ok_weaker, draws_of, nothing, all_reports, reports}
 use Rattle.std.proofs.lemmas.Bool.{lt-ltb, le-ltb}
-use Rattle.std.proofs.lemmas.Result.{on_ok_weaker}
-use Rattle.load_maker.specs.lemmas.Parts.{draws_of, nothing, all_reports, reports}
 use Rattle.load_maker.proofs.PartLemmas.{Writes-nothing, Writes-same}
 use Rattle.load_maker.proofs.script.put_reports.Goals as goal
 

@@ -1,6 +1,5 @@
 use Rattle.std.proofs.Common.{◌≡◌, rules, arith}
-use Rattle.load_maker.specs.lemmas.Parts.{draws_of, script_part}
-use Rattle.load_maker.specs.Texts.{batch_rows}
+use Rattle.load_maker.proofs.Common.{draws_of, script_part, batch_rows}
 use Rattle.load_maker.proofs.PartLemmas.{Writes-each_all}
 use Rattle.load_maker.proofs.script.put_script.Goals as goal
 

@@ -1,7 +1,4 @@
-use Rattle.load_maker.specs.Part.{each}
-use Rattle.load_maker.specs.lemmas.Parts.{draws_of}
-use Rattle.load_maker.specs.work.Written.{Writes}
-use Rattle.load_maker.specs.Texts.{batch_rows}
+use Rattle.load_maker.proofs.Common.{each, draws_of, Writes, batch_rows}
 use Rattle.load_maker.proofs.script.put_script.Given as goal
 
 abbrev pub invariant-loop-k : goal.invariant-loop-k

@@ -1,12 +1,6 @@
 use Rattle.std.proofs.Common.{◌≡◌, ℕ, ◌+◌, ◌-◌, ◌*◌, ◌%◌, ◌++◌, ◌∷◌, [], ap, ◌∙◌, rules}
-use Rattle.std.proofs.lemmas.Result.{on_ok_weaker}
-use Rattle.rand_core.specs.Stream.{Stream}
-use Rattle.load_maker.specs.declared.row.Field.TheVariants.{Number, Submit}
-use Rattle.load_maker.specs.Row.{csv_line}
-use Rattle.load_maker.specs.Part.{draw}
-use Rattle.load_maker.specs.lemmas.Parts.{draws_of, other_than}
+use Rattle.load_maker.proofs.Common.{on_ok_weaker, Stream, Number, Submit, csv_line, draw, draws_of, other_than, drawn_node, submit_row}
 use Rattle.load_maker.proofs.PartLemmas.{one_row}
-use Rattle.load_maker.specs.Texts.{drawn_node, submit_row}
 use Rattle.load_maker.proofs.script.put_submit.Goals as goal
 
 pub returns : goal.returns

@@ -1,6 +1,5 @@
 use Rattle.std.proofs.Common.{◌≡◌, ◌+◌, rules, arith}
-use Rattle.load_maker.specs.lemmas.Parts.{draws_of, submits}
-use Rattle.load_maker.specs.Texts.{submit_row}
+use Rattle.load_maker.proofs.Common.{draws_of, submits, submit_row}
 use Rattle.load_maker.proofs.PartLemmas.{Writes-each_all}
 use Rattle.load_maker.proofs.script.put_submits.Goals as goal
 

@@ -1,5 +1,5 @@
 use Rattle.std.proofs.Common.{ap, ◌∙◌}
-use Rattle.load_maker.specs.Texts.{texts_of}
+use Rattle.made_inputs.proofs.Common.{texts_of}
 use Rattle.made_inputs.proofs.ReadLemmas.{some_network, some_fleet, some_rounds}
 use Rattle.made_inputs.proofs.ShapeLemmas.{accepted}
 use Rattle.made_inputs.proofs.reading.make_inputs.Goals as goal

@@ -1,5 +1,5 @@
 use Rattle.std.proofs.Common.{rules}
-use Rattle.std.proofs.lemmas.Slice.Eq.{slice_eq-Decides}
+use Rattle.outcome_check.proofs.Common.{slice_eq-Decides}
 use Rattle.outcome_check.proofs.graphs.are_same_riders.Goals as goal
 
 pub returns : goal.returns

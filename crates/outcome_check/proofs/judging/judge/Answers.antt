@@ -1,10 +1,5 @@
 use Rattle.std.proofs.Common.{◌≡◌, ℕ, List, All, Contains, map, sym, ap, ◌∙◌, subst}
-use Rattle.std.proofs.lemmas.Result.{IfOk-weaker}
-use Rattle.batch_snapshot.specs.Batch.{Batch}
-use Rattle.batch_snapshot.specs.Kept.{IsKept}
-use Rattle.pool_base.specs.Times.{point_count, travel_time}
-use Rattle.road_network.specs.Roads.{Roads, index_in}
-use Rattle.travel_times.specs.Table.{AreTravelTimes}
+use Rattle.outcome_check.proofs.Common.{IfOk-weaker, Batch, IsKept, point_count, travel_time, Roads, index_in, AreTravelTimes}
 use Rattle.batch_solver.proofs.lemmas.PointLemmas.{points_known}
 use Rattle.outcome_check.proofs.lemmas.IdLemmas.{own_ids}
 use Rattle.outcome_check.proofs.lemmas.PosedLemmas.{meets_of, verdict_good}

@@ -1,20 +1,10 @@
 use Rattle.std.proofs.Common.{ℕ, List, sym, subst, arith}
-use Rattle.std.proofs.lemmas.Result.{IfOk-weaker}
-use Rattle.batch_laws.proofs.lemmas.GraphLemmas.{graph_or_overflow}
-use Rattle.pair_graph.specs.declared.rv_edge.RvEdge.{RvEdge}
-use Rattle.pair_graph.specs.RrGraph.{IsRrGraph}
-use Rattle.pair_graph.specs.RvGraph.{IsRvGraph}
-use Rattle.pool_base.specs.Times.{travel_time}
-use Rattle.request_book.specs.declared.outcome.Answer.{Answer}
-use Rattle.trip_graph.specs.Answer.{HasMoreRows, IsAnswer}
+use Rattle.outcome_check.proofs.Common.{IfOk-weaker, graph_or_overflow, RvEdge, IsRrGraph, IsRvGraph, travel_time, Answer, HasMoreRows, IsAnswer, AnswersWith, HasGraphsWith, Posed, Holds, IsVerdictOf}
 use Rattle.trip_graph.specs.declared.answer.GraphAnswer.{GraphAnswer}
 use Rattle.trip_graph.specs.declared.answer.GraphAnswer.TheVariants.{Graph as Grown}
-use Rattle.batch_solver.specs.Outcome.{AnswersWith, HasGraphsWith}
-use Rattle.batch_solver.specs.Points.{Posed, Holds}
-use Rattle.outcome_check.specs.Verdict.{IsVerdictOf}
-use Rattle.batch_solver.specs.declared.point.Point.TheVariants as point
 use Rattle.outcome_check.proofs.lemmas.PosedLemmas.{with_graphs, of_graphs}
 use Rattle.outcome_check.proofs.lemmas.VerdictLemmas.{verdict_of_same}
+use Rattle.batch_solver.specs.declared.point.Point.TheVariants as point
 use Rattle.outcome_check.proofs.judging.judge_answer.Goals as goal
 
 pub returns-in-Overflow : goal.returns-in-Overflow

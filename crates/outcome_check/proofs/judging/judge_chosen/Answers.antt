@@ -1,14 +1,8 @@
 use Rattle.std.proofs.Common.{◌≡◌, ℕ, List, Option, sym, ap, ◌∙◌, subst}
-use Rattle.std.proofs.lemmas.Bool.{both_ways}
-use Rattle.pool_base.specs.Times.{travel_time}
-use Rattle.request_book.specs.declared.outcome.MoveLine.{MoveLine}
-use Rattle.assignment_search.specs.Found.{IsBestNear}
-use Rattle.batch_solver.specs.Moves.{AreMoves, idle_vehicles}
-use Rattle.batch_solver.specs.Points.{TellsPlan, Posed, Holds}
-use Rattle.batch_solver.specs.Told.{left_riders}
-use Rattle.batch_solver.specs.declared.point.Point.TheVariants as point
+use Rattle.outcome_check.proofs.Common.{both_ways, travel_time, MoveLine, IsBestNear, AreMoves, idle_vehicles, TellsPlan, Posed, Holds, left_riders}
 use Rattle.outcome_check.proofs.lemmas.ChosenLemmas.{with_plan, at_plan, up_to_tree}
 use Rattle.outcome_check.proofs.lemmas.VerdictLemmas.{hold_more, hold_all}
+use Rattle.batch_solver.specs.declared.point.Point.TheVariants as point
 use Rattle.outcome_check.proofs.judging.judge_chosen.Goals as goal
 
 pub returns-then-not-branch : goal.returns-then-not-branch

@@ -1,12 +1,6 @@
 use Rattle.std.proofs.Common.{◌≡◌, ◌<◌, ℕ, false, true, List, length, get_or, All, rules, sym, ◌∙◌, subst, arith}
-use Rattle.std.specs.List.{AllZip}
-use Rattle.std.proofs.lemmas.Bool.{both_ways}
-use Rattle.std.proofs.lemmas.List.{get_or_default}
+use Rattle.outcome_check.proofs.Common.{AllZip, both_ways, get_or_default, travel_time, LateVehicle, vehicle_at, IsLate}
 use borrow.Author.Count.{below_more}
-use Rattle.pool_base.specs.Times.{travel_time}
-use Rattle.request_book.specs.declared.outcome.LateVehicle.{LateVehicle}
-use Rattle.stop_orders.specs.Settled.{vehicle_at}
-use Rattle.batch_solver.specs.Trips.{IsLate}
 use Rattle.outcome_check.proofs.lemmas.LateLemmas.{no_late}
 use Rattle.outcome_check.proofs.lemmas.TripLemmas.{all_zip_from, all_zip_long, all_zip_at, kept_below}
 use Rattle.outcome_check.proofs.late.are_late.Goals as goal

@@ -1,6 +1,5 @@
 use Rattle.std.proofs.Common.{ℕ, ◌<◌, get_or}
-use Rattle.pool_base.specs.Times.{travel_time}
-use Rattle.batch_solver.specs.Trips.{IsLate}
+use Rattle.outcome_check.proofs.Common.{travel_time, IsLate}
 use Rattle.outcome_check.proofs.lemmas.LateLemmas.{no_late}
 use Rattle.outcome_check.proofs.late.are_late.Given as goal
 

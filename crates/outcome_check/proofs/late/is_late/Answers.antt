@@ -1,12 +1,6 @@
 use Rattle.std.proofs.Common.{◌≡◌, true, false, List, refl, ap, ◌∙◌, subst}
+use Rattle.outcome_check.proofs.Common.{point_count, travel_time, Stop, Task, SettledVehicle, IsOrderOf, ReachesAll, IsLateOrder, HasNoOrder}
 use Rattle.std.proofs.lemmas.Bool.{eq-eqb, eqb-true}
-use Rattle.pool_base.specs.Times.{point_count, travel_time}
-use Rattle.stop_orders.specs.declared.stop.Stop.{Stop}
-use Rattle.stop_orders.specs.declared.task.Task.{Task}
-use Rattle.stop_orders.specs.declared.settled_vehicle.SettledVehicle.{SettledVehicle}
-use Rattle.stop_orders.specs.Task.{IsOrderOf, ReachesAll}
-use Rattle.batch_solver.specs.Trips.{IsLateOrder}
-use Rattle.outcome_check.specs.work.Orders.{HasNoOrder}
 use Rattle.outcome_check.proofs.lemmas.LateLemmas.{same_id, valid_task, late_order_of, late_reaches, one_late_delay}
 use Rattle.outcome_check.proofs.lemmas.OrderLemmas.{vehicle_read}
 use Rattle.outcome_check.proofs.late.is_late.Goals as goal

@@ -1,8 +1,6 @@
 use Rattle.std.proofs.Common.{◌≡◌, true, false, List, sym, ap, ◌∙◌, subst}
+use Rattle.outcome_check.proofs.Common.{travel_time, Stop, ReachesAll, order_delay}
 use Rattle.std.proofs.lemmas.Bool.{eq-eqb, eqb-true}
-use Rattle.pool_base.specs.Times.{travel_time}
-use Rattle.stop_orders.specs.declared.stop.Stop.{Stop}
-use Rattle.stop_orders.specs.Task.{ReachesAll, order_delay}
 use Rattle.outcome_check.proofs.lemmas.LateLemmas.{late_order_of, late_reaches, late_delay, late_from}
 use Rattle.outcome_check.proofs.late.is_late_order.Goals as goal
 

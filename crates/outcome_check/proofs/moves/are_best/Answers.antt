@@ -1,11 +1,5 @@
 use Rattle.std.proofs.Common.{◌≡◌, ◌<◌, ℕ, true, false, List, All, AllPairs, map, sym, ◌∙◌, subst}
-use Rattle.std.proofs.lemmas.Bool.{both_ways}
-use Rattle.std.proofs.lemmas.List.Elements.{All-map}
-use Rattle.std.proofs.lemmas.Result.{IfOk-weaker}
-use Rattle.pool_base.specs.Times.{point_count, travel_time}
-use Rattle.rebalancing.specs.Matching.{IsBestMatching}
-use Rattle.stop_orders.specs.Settled.{rider_at, vehicle_at}
-use Rattle.outcome_check.specs.work.Moves.{IsRisingMatching, TellsMoves}
+use Rattle.outcome_check.proofs.Common.{both_ways, All-map, IfOk-weaker, point_count, travel_time, IsBestMatching, rider_at, vehicle_at, IsRisingMatching, TellsMoves}
 use Rattle.outcome_check.proofs.lemmas.MatchLemmas.{moves_best, moves_tell}
 use Rattle.outcome_check.proofs.moves.are_best.Goals as goal
 

@@ -1,13 +1,7 @@
 use Rattle.std.proofs.Common.{◌≡◌, ◌==◌, ◌<◌, ◌≤◌, ℕ, List, [], All, length, sym, ap, ◌∙◌, subst, arith}
-use Rattle.std.specs.List.Sorted.{IsStrictlyIncreasing}
+use Rattle.outcome_check.proofs.Common.{IsStrictlyIncreasing, nil_from_length, IfOk-weaker, point_count, travel_time, MoveLine, AreMoves, idle_vehicles, is_idle, no_moves}
 use Rattle.std.proofs.lemmas.Bool.{eq-eqb, eqb-true}
-use Rattle.std.proofs.lemmas.List.{nil_from_length}
-use Rattle.std.proofs.lemmas.Result.{IfOk-weaker}
 use Rattle.plan_rules.specs.lemmas.Plan.{times_chosen}
-use Rattle.pool_base.specs.Times.{point_count, travel_time}
-use Rattle.request_book.specs.declared.outcome.MoveLine.{MoveLine}
-use Rattle.batch_solver.specs.Moves.{AreMoves, idle_vehicles, is_idle}
-use Rattle.batch_solver.proofs.lemmas.MoveLemmas.{no_moves}
 use Rattle.outcome_check.proofs.lemmas.IdleLemmas.{own_places, kept_few, none_move}
 use Rattle.outcome_check.proofs.lemmas.TripLemmas.{kept_below, kept_rises}
 use Rattle.outcome_check.proofs.moves.are_moves.Goals as goal

@@ -1,6 +1,6 @@
 use Rattle.std.proofs.Common.{◌≡◌, ℕ, true, false, List, length, sym, ap, ◌∙◌, arith}
+use Rattle.outcome_check.proofs.Common.{travel_time}
 use Rattle.std.proofs.lemmas.Bool.{eq-eqb, eqb-true}
-use Rattle.pool_base.specs.Times.{travel_time}
 use Rattle.outcome_check.proofs.lemmas.MatchLemmas.{best_alike, best_long, best_total, rising_short}
 use Rattle.outcome_check.proofs.moves.is_best.Goals as goal
 

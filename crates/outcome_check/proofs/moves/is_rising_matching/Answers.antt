@@ -1,7 +1,5 @@
 use Rattle.std.proofs.Common.{◌≡◌, ◌<◌, ℕ, false, length, get_or, sym, ◌∙◌, arith}
-use Rattle.std.proofs.lemmas.List.{get_or_default}
-use Rattle.pool_base.specs.Times.{travel_time}
-use Rattle.rebalancing.specs.Matching.{pair_seconds}
+use Rattle.outcome_check.proofs.Common.{get_or_default, travel_time, pair_seconds}
 use Rattle.outcome_check.proofs.lemmas.MatchLemmas.{scan_next}
 use Rattle.outcome_check.proofs.moves.is_rising_matching.Goals as goal
 

@@ -1,4 +1,4 @@
-use Rattle.pool_base.specs.Times.{travel_time}
+use Rattle.outcome_check.proofs.Common.{travel_time}
 use Rattle.outcome_check.proofs.lemmas.MatchLemmas.{IsScanned}
 use Rattle.outcome_check.proofs.moves.is_rising_matching.Given as goal
 

@@ -1,4 +1,4 @@
-use Rattle.pool_base.specs.Times.{travel_time}
+use Rattle.outcome_check.proofs.Common.{travel_time}
 use Rattle.outcome_check.proofs.lemmas.MatchLemmas.{tells_next, tells_not}
 use Rattle.outcome_check.proofs.moves.pairs_of.Goals as goal
 

@@ -1,6 +1,5 @@
 use Rattle.std.proofs.Common.{take}
-use Rattle.pool_base.specs.Times.{travel_time}
-use Rattle.outcome_check.specs.work.Moves.{TellsMoves}
+use Rattle.outcome_check.proofs.Common.{travel_time, TellsMoves}
 use Rattle.outcome_check.proofs.moves.pairs_of.Given as goal
 
 abbrev pub invariant-loop-step : goal.invariant-loop-step

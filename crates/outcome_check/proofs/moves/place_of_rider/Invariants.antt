@@ -1,5 +1,5 @@
 use Rattle.std.proofs.Common.{◌≡◌, ℕ, ◌<◌, get_or}
-use Rattle.batch_solver.specs.Told.{rider_id}
+use Rattle.outcome_check.proofs.Common.{rider_id}
 use Rattle.outcome_check.proofs.moves.place_of_rider.Given as goal
 
 abbrev pub invariant-loop-place : goal.invariant-loop-place

@@ -1,6 +1,5 @@
 use Rattle.std.proofs.Common.{◌≡◌, ◌≤◌, ◌*◌, take}
-use Rattle.pool_base.specs.Times.{travel_time}
-use Rattle.rebalancing.specs.Matching.{total_of}
+use Rattle.outcome_check.proofs.Common.{travel_time, total_of}
 use Rattle.outcome_check.proofs.moves.total_of.Given as goal
 
 abbrev pub invariant-loop-place : goal.invariant-loop-place

@@ -1,5 +1,5 @@
 use Rattle.std.proofs.Common.{◌≡◌, ℕ, ◌<◌, get_or}
-use Rattle.batch_solver.specs.Told.{rider_id}
+use Rattle.outcome_check.proofs.Common.{rider_id}
 use Rattle.outcome_check.proofs.orders.number_in_trip.Given as goal
 
 abbrev pub invariant-loop-number : goal.invariant-loop-number

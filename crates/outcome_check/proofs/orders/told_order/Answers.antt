@@ -1,11 +1,5 @@
 use Rattle.std.proofs.Common.{◌≡◌, List, sym, ap, ◌∙◌, subst}
-use Rattle.std.proofs.lemmas.Bool.{both_ways}
-use Rattle.pool_base.specs.Times.{travel_time}
-use Rattle.stop_orders.specs.declared.stop.Stop.{Stop}
-use Rattle.stop_orders.specs.declared.task.Task.{Task}
-use Rattle.stop_orders.specs.Settled.{trip_task}
-use Rattle.stop_orders.specs.Task.{IsOrderOf}
-use Rattle.batch_solver.specs.Told.{told_stops}
+use Rattle.outcome_check.proofs.Common.{both_ways, travel_time, Stop, Task, trip_task, IsOrderOf, told_stops}
 use Rattle.outcome_check.proofs.orders.told_order.Goals as goal
 
 pub returns-in_default-clause-none : goal.returns-in_default-clause-none

@@ -1,5 +1,5 @@
 use Rattle.std.proofs.Common.{◌≡◌, ℕ, ◌<◌, length, get_or, Some, None}
-use Rattle.plan_rules.specs.Graph.{choice_at}
+use Rattle.outcome_check.proofs.Common.{choice_at}
 use Rattle.outcome_check.proofs.trips.plan_of_rows.Given as goal
 
 abbrev pub invariant-loop-place : goal.invariant-loop-place

@@ -1,9 +1,5 @@
 use Rattle.std.proofs.Common.{◌≡◌, ◌<◌, ℕ, not, List, All, length, get_or, Some, None, Contains, sym, ap, ◌∙◌, subst, arith}
-use Rattle.std.specs.List.Sorted.{IsStrictlyIncreasing}
-use Rattle.plan_rules.specs.Graph.{choice_at}
-use Rattle.pool_base.specs.Times.{travel_time}
-use Rattle.stop_orders.specs.Settled.{vehicle_at}
-use Rattle.outcome_check.specs.work.Trips.{HasNoRowFor, GiveRows}
+use Rattle.outcome_check.proofs.Common.{IsStrictlyIncreasing, choice_at, travel_time, vehicle_at, HasNoRowFor, GiveRows}
 use Rattle.outcome_check.proofs.lemmas.TripLemmas.{kept_below, kept_rises, no_plan_short, no_plan, plan_given}
 use Rattle.outcome_check.proofs.trips.plan_of_trips.Goals as goal
 

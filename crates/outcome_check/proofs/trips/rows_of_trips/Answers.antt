@@ -1,5 +1,5 @@
 use Rattle.std.proofs.Common.{◌<◌, length, arith}
-use Rattle.pool_base.specs.Times.{travel_time}
+use Rattle.outcome_check.proofs.Common.{travel_time}
 use Rattle.outcome_check.proofs.lemmas.GivenLemmas.{tell_next}
 use Rattle.outcome_check.proofs.trips.rows_of_trips.Goals as goal
 

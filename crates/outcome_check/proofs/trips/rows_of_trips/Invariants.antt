@@ -1,7 +1,5 @@
 use Rattle.std.proofs.Common.{◌≡◌, ℕ, ◌<◌, length, get_or}
-use Rattle.pool_base.specs.Times.{travel_time}
-use Rattle.plan_rules.specs.Graph.{IsRowOf}
-use Rattle.outcome_check.specs.work.Trips.{TellsRow, no_chosen}
+use Rattle.outcome_check.proofs.Common.{travel_time, IsRowOf, TellsRow, no_chosen}
 use Rattle.outcome_check.proofs.trips.rows_of_trips.Given as goal
 
 abbrev pub invariant-loop-place : goal.invariant-loop-place

@@ -1,11 +1,6 @@
 use Rattle.std.proofs.Common.{◌≡◌, true, false, List, sym, ap, ◌∙◌, subst}
-use Rattle.std.proofs.lemmas.Bool.{both_ways, eq-eqb, eqb-true}
-use Rattle.plan_rules.specs.declared.row.TripRow.{TripRow}
-use Rattle.plan_rules.specs.Graph.{riders_at}
-use Rattle.pool_base.specs.Times.{travel_time}
-use Rattle.stop_orders.specs.declared.settled_vehicle.SettledVehicle.{SettledVehicle}
-use Rattle.stop_orders.specs.declared.stop.Stop.{Stop}
-use Rattle.stop_orders.specs.Task.{ReachesAll, Serves, order_delay}
+use Rattle.outcome_check.proofs.Common.{both_ways, TripRow, riders_at, travel_time, SettledVehicle, Stop, ReachesAll, Serves, order_delay}
+use Rattle.std.proofs.lemmas.Bool.{eq-eqb, eqb-true}
 use Rattle.stop_orders.proofs.lemmas.PlainLemmas.{ReachesAll-from_serves}
 use Rattle.outcome_check.proofs.lemmas.LateLemmas.{same_id}
 use Rattle.outcome_check.proofs.lemmas.OrderLemmas.{vehicle_read}

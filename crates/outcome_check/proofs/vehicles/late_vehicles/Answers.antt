@@ -1,7 +1,5 @@
 use Rattle.std.proofs.Common.{◌≡◌, ℕ, ◌<◌, true, false, List, [], ◌∷◌, ◌++◌, length, sym, ap, ◌∙◌, subst}
-use Rattle.promise_check.proofs.lemmas.Promises.{filter_range_skips, filter_range_takes}
-use Rattle.stop_orders.specs.declared.settled_vehicle.SettledVehicle.{SettledVehicle}
-use Rattle.stop_orders.specs.Settled.{vehicle_at}
+use Rattle.outcome_check.proofs.Common.{filter_range_skips, filter_range_takes, SettledVehicle, vehicle_at}
 use Rattle.outcome_check.proofs.lemmas.OrderLemmas.{vehicle_read}
 use Rattle.outcome_check.proofs.vehicles.late_vehicles.Goals as goal
 

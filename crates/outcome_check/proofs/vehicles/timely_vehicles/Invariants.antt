@@ -1,6 +1,6 @@
 use Rattle.std.proofs.Common.{◌≡◌, not}
-use Rattle.std.specs.List.{filter, range_with_len}
-use Rattle.stop_orders.specs.Settled.{vehicle_at}
+use Rattle.outcome_check.proofs.Common.{range_with_len, vehicle_at}
+use Rattle.std.specs.List.{filter}
 use Rattle.outcome_check.proofs.vehicles.timely_vehicles.Given as goal
 
 abbrev pub invariant-loop-vehicle : goal.invariant-loop-vehicle

@@ -1,6 +1,5 @@
 use Rattle.std.proofs.Common.{ℕ, ◌+◌, length, ap, arith}
-use Rattle.pool_base.specs.Times.{travel_time}
-use Rattle.stop_orders.specs.Settled.{IsRrEdge}
+use Rattle.pair_graph.proofs.Common.{travel_time, IsRrEdge}
 use Rattle.pair_graph.proofs.lemmas.Listing.{lists_next, lists_skipped}
 use Rattle.pair_graph.proofs.Graphs.{rr_lists, rr_upto}
 use Rattle.pair_graph.proofs.rider_rider_graph.add_first.Goals as goal

@@ -1,5 +1,4 @@
-use Rattle.pool_base.specs.Times.{travel_time}
-use Rattle.pair_graph.specs.work.RrGraph.{IsRrGraphUpTo, IsTaskOfFirst}
+use Rattle.pair_graph.proofs.Common.{travel_time, IsRrGraphUpTo, IsTaskOfFirst}
 use Rattle.pair_graph.proofs.rider_rider_graph.add_first.Given as goal
 
 abbrev pub invariant-loop-second : goal.invariant-loop-second

@@ -1,5 +1,4 @@
-use Rattle.pool_base.specs.Times.{travel_time}
-use Rattle.pair_graph.specs.work.RrGraph.{IsRrGraphUpTo}
+use Rattle.pair_graph.proofs.Common.{travel_time, IsRrGraphUpTo}
 use Rattle.pair_graph.proofs.rider_rider_graph.all_pairs.Given as goal
 
 abbrev pub invariant-loop-first : goal.invariant-loop-first

@@ -1,10 +1,8 @@
 use Rattle.std.proofs.Common.{◌<◌, ℕ, ap, sym, subst, inl, arith}
+use Rattle.pair_graph.proofs.Common.{point_count, travel_time, IsServable, pair_task, rider_at, IsRrEdge}
 use Rattle.std.specs.Bool.{MatchBool}
 use Rattle.std.specs.Result.{IfOk}
 use Rattle.std.proofs.lemmas.Result.{IfOk-weaker}
-use Rattle.pool_base.specs.Times.{point_count, travel_time}
-use Rattle.stop_orders.specs.Task.{IsServable}
-use Rattle.stop_orders.specs.Settled.{pair_task, rider_at, IsRrEdge}
 use Rattle.pair_graph.proofs.PairTasks.{rider_read, pair_needs_seats, pair_valid, origins_within, no_edge_from, rr_answer}
 use Rattle.pair_graph.proofs.rider_rider_graph.is_edge.Goals as goal
 

@@ -1,7 +1,5 @@
 use Rattle.std.proofs.Common.{◌≡◌, ap}
-use Rattle.pool_base.specs.Times.{travel_time}
-use Rattle.stop_orders.specs.declared.task.Task.{Task}
-use Rattle.stop_orders.specs.Settled.{pair_task}
+use Rattle.pair_graph.proofs.Common.{travel_time, Task, pair_task}
 use Rattle.pair_graph.proofs.PairTasks.{found_serves}
 use Rattle.pair_graph.proofs.rider_rider_graph.starts_at.Goals as goal
 

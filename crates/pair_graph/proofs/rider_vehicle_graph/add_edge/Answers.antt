@@ -1,9 +1,5 @@
 use Rattle.std.proofs.Common.{refl}
-use Rattle.pool_base.specs.Times.{travel_time}
-use Rattle.stop_orders.specs.Settled.{IsRvEdge}
-use Rattle.pair_graph.specs.declared.rv_edge.RvEdge.{RvEdge}
-use Rattle.pair_graph.specs.RvGraph.{no_edge}
-use Rattle.pair_graph.specs.lemmas.Edge.{pair_of}
+use Rattle.pair_graph.proofs.Common.{travel_time, IsRvEdge, RvEdge, no_edge, pair_of}
 use Rattle.pair_graph.proofs.lemmas.Listing.{lists_taken, lists_passed}
 use Rattle.pair_graph.proofs.Graphs.{rv_lists, rv_upto}
 use Rattle.pair_graph.proofs.rider_vehicle_graph.add_edge.Goals as goal

@@ -1,5 +1,4 @@
-use Rattle.pool_base.specs.Times.{travel_time}
-use Rattle.pair_graph.specs.work.RvGraph.{IsRvGraphUpTo}
+use Rattle.pair_graph.proofs.Common.{travel_time, IsRvGraphUpTo}
 use Rattle.pair_graph.proofs.rider_vehicle_graph.add_vehicle.Given as goal
 
 abbrev pub invariant-loop-rider : goal.invariant-loop-rider

@@ -1,6 +1,5 @@
 use Rattle.std.proofs.Common.{[], ◌∷◌, subst, sym, arith}
-use Rattle.pool_base.specs.Times.{point_count, travel_time}
-use Rattle.stop_orders.specs.Task.{IsTask}
+use Rattle.pair_graph.proofs.Common.{point_count, travel_time, IsTask}
 use Rattle.pair_graph.proofs.PairTasks.{found_serves, one_trip, rv_answer}
 use Rattle.pair_graph.proofs.rider_vehicle_graph.can_serve.Goals as goal
 

@@ -1,14 +1,9 @@
 use Rattle.std.proofs.Common.{◌≡◌, ◌||◌, ◌==◌, ℕ, ◌+◌, List, true, false, length, get_or, refl, sym, ap, ◌∙◌, subst, arith}
-use Rattle.std.specs.List.{list_any}
-use Rattle.std.proofs.lemmas.Bool.{false≢true}
-use Rattle.plan_rules.specs.Graph.{row_at, riders_at}
-use Rattle.plan_rules.specs.Multipliers.{usable_of}
-use Rattle.plan_rules.specs.declared.row.TripRow.{TripRow}
+use Rattle.plan_rules.proofs.Common.{list_any, false≢true, row_at, riders_at, usable_of, TripRow, MarksSole}
 use Rattle.plan_rules.proofs.lemmas.GraphLemmas.{row_read}
-use Rattle.plan_rules.specs.work.DeadEnd.{MarksSole}
 use Rattle.plan_rules.proofs.DeadEndLemmas.{AddsRow, sole_more, sole_kept, clash_from, no_clash}
-use Rattle.plan_rules.proofs.dead_end.has_clash.Goals as goal
 use Rattle.plan_rules.proofs.dead_end.has_clash.Goals.{in-Some+else-is_any_marked, in-None}
+use Rattle.plan_rules.proofs.dead_end.has_clash.Goals as goal
 
 pub returns-then-is_any_marked-clause-value : goal.returns-then-is_any_marked-clause-value
 returns-then-is_any_marked-clause-value c =

@@ -1,6 +1,5 @@
 use Rattle.std.proofs.Common.{◌≡◌, length}
-use Rattle.plan_rules.specs.Multipliers.{usable_of}
-use Rattle.plan_rules.specs.work.DeadEnd.{MarksSole}
+use Rattle.plan_rules.proofs.Common.{usable_of, MarksSole}
 use Rattle.plan_rules.proofs.dead_end.has_clash.Given as goal
 
 abbrev pub invariant-loop-vehicle : goal.invariant-loop-vehicle

@@ -1,6 +1,5 @@
 use Rattle.std.proofs.Common.{arith}
-use Rattle.std.proofs.lemmas.Bool.{false≢true}
-use Rattle.plan_rules.specs.Multipliers.{usable_of}
+use Rattle.plan_rules.proofs.Common.{false≢true, usable_of}
 use Rattle.plan_rules.proofs.DeadEndLemmas.{not_stranded}
 use Rattle.plan_rules.proofs.dead_end.has_stranded.Goals as goal
 

@@ -1,7 +1,5 @@
 use Rattle.std.proofs.Common.{ℕ, ◌<◌, IsTrue}
-use Rattle.plan_rules.specs.Graph.{must_be_served}
-use Rattle.plan_rules.specs.Multipliers.{usable_of}
-use Rattle.plan_rules.specs.work.DeadEnd.{StandsInUsable}
+use Rattle.plan_rules.proofs.Common.{must_be_served, usable_of, StandsInUsable}
 use Rattle.plan_rules.proofs.dead_end.has_stranded.Given as goal
 
 abbrev pub invariant-loop-rider : goal.invariant-loop-rider

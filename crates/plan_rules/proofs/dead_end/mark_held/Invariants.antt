@@ -1,6 +1,5 @@
 use Rattle.std.proofs.Common.{◌≡◌, length}
-use Rattle.plan_rules.specs.Multipliers.{usable_of}
-use Rattle.plan_rules.specs.work.DeadEnd.{MarksSomeUsable}
+use Rattle.plan_rules.proofs.Common.{usable_of, MarksSomeUsable}
 use Rattle.plan_rules.proofs.dead_end.mark_held.Given as goal
 
 abbrev pub invariant-loop-vehicle : goal.invariant-loop-vehicle

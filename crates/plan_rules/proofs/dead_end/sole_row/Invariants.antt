@@ -1,5 +1,4 @@
-use Rattle.plan_rules.specs.Multipliers.{usable_of}
-use Rattle.plan_rules.specs.work.DeadEnd.{IsOnlyOf}
+use Rattle.plan_rules.proofs.Common.{usable_of, IsOnlyOf}
 use Rattle.plan_rules.proofs.dead_end.sole_row.Given as goal
 
 abbrev pub invariant-loop-row : goal.invariant-loop-row

@@ -1,7 +1,6 @@
 use Rattle.std.proofs.Common.{◌≡◌, ℕ, List, Option, Bool, None, false, length, replicate, sym, ap, ◌∙◌, subst, arith}
+use Rattle.plan_rules.proofs.Common.{IsGreedy, IsTaken, IsSelection}
 use Rattle.std.proofs.lemmas.List.{take_at}
-use Rattle.plan_rules.specs.Greedy.{IsGreedy, IsTaken}
-use Rattle.plan_rules.specs.work.Rank.{IsSelection}
 use Rattle.plan_rules.proofs.lemmas.GreedyLemmas.{selection_none, none_taken}
 use Rattle.plan_rules.proofs.greedy_plan.greedy.Goals as goal
 

@@ -1,7 +1,6 @@
 use Rattle.std.proofs.Common.{◌+◌, All, get_or, arith}
+use Rattle.plan_rules.proofs.Common.{parts_of, rank_of}
 use Rattle.std.proofs.lemmas.List.Sorted.{All-permutation, Contains-permutation, IsNonDecreasingBy-from_all_adjacent}
-use Rattle.plan_rules.specs.work.Rank.{parts_of}
-use Rattle.plan_rules.specs.lemmas.Rank.{rank_of}
 use Rattle.plan_rules.proofs.lemmas.GreedyLemmas.{IsOfRow, in_order, of_rows}
 use Rattle.plan_rules.proofs.greedy_plan.ranking.Goals as goal
 

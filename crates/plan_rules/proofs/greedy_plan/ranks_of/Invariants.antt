@@ -1,5 +1,5 @@
 use Rattle.std.proofs.Common.{◌≡◌, ℕ, ◌<◌, vec_len, get_or}
-use Rattle.plan_rules.specs.work.Rank.{parts_of}
+use Rattle.plan_rules.proofs.Common.{parts_of}
 use Rattle.plan_rules.proofs.greedy_plan.ranks_of.Given as goal
 
 abbrev pub invariant-loop-k : goal.invariant-loop-k

@@ -1,13 +1,9 @@
 use Rattle.std.proofs.Common.{◌≡◌, ◌==◌, ◌||◌, ℕ, false, List, get_or, set, Some, None, sym, ap, ◌∙◌, subst, inr}
-use Rattle.std.specs.List.{list_any}
-use Rattle.std.proofs.lemmas.Bool.{both_ways}
-use Rattle.plan_rules.specs.Graph.{row_at, riders_at, row_vehicle, choice_at}
-use Rattle.plan_rules.specs.work.Rank.{IsSelection}
-use Rattle.plan_rules.specs.declared.row.TripRow.{TripRow}
+use Rattle.plan_rules.proofs.Common.{list_any, both_ways, row_at, riders_at, row_vehicle, choice_at, IsSelection, TripRow}
 use Rattle.plan_rules.proofs.lemmas.GraphLemmas.{row_read, some_choice}
 use Rattle.plan_rules.proofs.lemmas.GreedyLemmas.{selection_more, way_by_vehicle, way_by_rider}
-use Rattle.plan_rules.proofs.greedy_plan.take_row.Goals as goal
 use Rattle.plan_rules.proofs.greedy_plan.take_row.Goals.{else-is_free-via-then-is_free+else-not-is_any_marked, else-is_free-via-else-is_free}
+use Rattle.plan_rules.proofs.greedy_plan.take_row.Goals as goal
 
 pub returns-then-not-is_any_marked-clause-selection : goal.returns-then-not-is_any_marked-clause-selection
 returns-then-not-is_any_marked-clause-selection c =

@@ -1,9 +1,5 @@
 use Rattle.std.proofs.Common.{◌≡◌, ℕ, ◌<◌, ◌≤◌, length, sym, ap, ◌∙◌, subst, ⊎_elim, arith}
-use Rattle.std.proofs.lemmas.Bool.{cases_eq}
-use Rattle.std.proofs.lemmas.List.{get_or_default}
-use Rattle.plan_rules.specs.Greedy.{IsTaken, IsTriedBefore, IsApart}
-use Rattle.plan_rules.specs.lemmas.Rank.{rank_of}
-use Rattle.plan_rules.specs.work.Rank.{row_of, parts_of}
+use Rattle.plan_rules.proofs.Common.{cases_eq, get_or_default, IsTaken, IsTriedBefore, IsApart, rank_of, row_of, parts_of}
 use Rattle.plan_rules.proofs.lemmas.GreedyLemmas.{settled_more, greedy_from}
 use Rattle.plan_rules.proofs.greedy_plan.take_rows.Goals as goal
 

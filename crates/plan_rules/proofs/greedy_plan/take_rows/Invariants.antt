@@ -1,7 +1,5 @@
 use Rattle.std.proofs.Common.{ℕ, ◌<◌, ◌≤◌, length}
-use Rattle.plan_rules.specs.Greedy.{IsTaken, IsTriedBefore, IsApart}
-use Rattle.plan_rules.specs.lemmas.Rank.{rank_of}
-use Rattle.plan_rules.specs.work.Rank.{row_of, IsSelection}
+use Rattle.plan_rules.proofs.Common.{IsTaken, IsTriedBefore, IsApart, rank_of, row_of, IsSelection}
 use Rattle.plan_rules.proofs.greedy_plan.take_rows.Given as goal
 
 abbrev pub invariant-loop-rank : goal.invariant-loop-rank

@@ -1,7 +1,6 @@
 use Rattle.std.proofs.Common.{◌≡◌, length, sym, subst, refl, arith}
+use Rattle.plan_rules.proofs.Common.{MarksHeld, graph_of}
 use Rattle.std.proofs.lemmas.List.{take_at}
-use Rattle.plan_rules.specs.work.Graph.{MarksHeld}
-use Rattle.plan_rules.specs.Parts.{graph_of}
 use Rattle.plan_rules.proofs.lemmas.HeldLemmas.{marks_none, holds_more}
 use Rattle.plan_rules.proofs.held.mark_held.Goals as goal
 

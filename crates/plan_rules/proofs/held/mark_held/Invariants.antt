@@ -1,7 +1,5 @@
 use Rattle.std.proofs.Common.{ℕ, ◌<◌}
-use Rattle.plan_rules.specs.work.Graph.{MarksHeld}
-use Rattle.plan_rules.specs.Graph.{HoldsRightly}
-use Rattle.plan_rules.specs.Parts.{graph_of}
+use Rattle.plan_rules.proofs.Common.{MarksHeld, HoldsRightly, graph_of}
 use Rattle.plan_rules.proofs.held.mark_held.Given as goal
 
 abbrev pub invariant-loop-vehicle : goal.invariant-loop-vehicle

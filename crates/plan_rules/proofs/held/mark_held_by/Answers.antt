@@ -1,10 +1,5 @@
 use Rattle.std.proofs.Common.{◌≡◌, ◌==◌, ◌||◌, ℕ, ◌+◌, ◌<◌, false, true, List, length, Option, Some, None, get_or, slice_index, refl, sym, ap, ◌∙◌, arith}
-use Rattle.std.specs.List.{list_any}
-use Rattle.std.proofs.lemmas.Bool.{false≢true}
-use Rattle.std.proofs.lemmas.List.{get_or_read}
-use Rattle.plan_rules.specs.Graph.{row_at, riders_at, choice_at, is_in}
-use Rattle.plan_rules.specs.Parts.{graph_of}
-use Rattle.plan_rules.specs.declared.row.TripRow.{TripRow}
+use Rattle.plan_rules.proofs.Common.{list_any, false≢true, get_or_read, row_at, riders_at, choice_at, is_in, graph_of, TripRow}
 use Rattle.plan_rules.proofs.lemmas.GraphLemmas.{row_between, row_read}
 use Rattle.plan_rules.proofs.lemmas.HeldLemmas.{marks_more, marks_kept, unmarked_apart, marked_held, holds_at, held_at}
 use Rattle.plan_rules.proofs.held.mark_held_by.Goals as goal

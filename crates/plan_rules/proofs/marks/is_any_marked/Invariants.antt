@@ -1,5 +1,5 @@
 use Rattle.std.proofs.Common.{◌≡◌, false, take, get_or}
-use Rattle.std.specs.List.{list_any}
+use Rattle.plan_rules.proofs.Common.{list_any}
 use Rattle.plan_rules.proofs.marks.is_any_marked.Given as goal
 
 abbrev pub invariant-loop-rider : goal.invariant-loop-rider

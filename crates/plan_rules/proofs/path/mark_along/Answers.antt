@@ -1,10 +1,9 @@
 use Rattle.std.proofs.Common.{List, Bool, false, length, get_or, sym, ap, ◌∙◌, arith}
+use Rattle.plan_rules.proofs.Common.{Standing, Decision}
 use Rattle.std.proofs.Math.ListN.{length-set}
-use Rattle.plan_rules.specs.Path.{Standing}
-use Rattle.plan_rules.specs.declared.path.Decision.{Decision}
 use Rattle.plan_rules.proofs.lemmas.PathLemmas.{standing_start, along_alone, along_without}
-use Rattle.plan_rules.proofs.path.mark_along.Goals as goal
 use Rattle.plan_rules.proofs.path.mark_along.Goals.{then-decision, else-decision}
+use Rattle.plan_rules.proofs.path.mark_along.Goals as goal
 
 pub loop-decision-init : goal.loop-decision-init
 loop-decision-init c = record {

@@ -1,5 +1,5 @@
 use Rattle.std.proofs.Common.{◌≡◌, ℕ, ◌<◌, true, false, length, get_or, take}
-use Rattle.plan_rules.specs.Path.{standing_of}
+use Rattle.plan_rules.proofs.Common.{standing_of}
 use Rattle.plan_rules.proofs.path.mark_along.Given as goal
 
 abbrev pub invariant-loop-may : goal.invariant-loop-may

@@ -1,6 +1,5 @@
 use Rattle.std.proofs.Common.{◌≡◌, ℕ, ◌<◌, ◌≤◌}
-use Rattle.plan_rules.specs.Graph.{row_vehicle}
-use Rattle.plan_rules.specs.Parts.{graph_of}
+use Rattle.plan_rules.proofs.Common.{row_vehicle, graph_of}
 use Rattle.plan_rules.proofs.row_index.end_of_vehicle.Given as goal
 
 abbrev pub invariant-loop-k : goal.invariant-loop-k

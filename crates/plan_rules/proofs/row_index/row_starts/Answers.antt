@@ -1,7 +1,5 @@
 use Rattle.std.proofs.Common.{◌≡◌, ℕ, ◌+◌, List, length, get_or, sym, ap, ◌∙◌, subst, arith}
-use Rattle.std.proofs.lemmas.List.{length_push}
-use Rattle.plan_rules.specs.Graph.{IsStartOf}
-use Rattle.plan_rules.specs.Parts.{graph_of}
+use Rattle.plan_rules.proofs.Common.{length_push, IsStartOf, graph_of}
 use Rattle.plan_rules.proofs.RowLemmas.{start_next, starts_push}
 use Rattle.plan_rules.proofs.row_index.row_starts.Goals as goal
 

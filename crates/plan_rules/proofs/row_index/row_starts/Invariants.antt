@@ -1,6 +1,5 @@
 use Rattle.std.proofs.Common.{◌≡◌, ℕ, ◌<◌, vec_len, get_or}
-use Rattle.plan_rules.specs.Graph.{IsStartOf}
-use Rattle.plan_rules.specs.Parts.{graph_of}
+use Rattle.plan_rules.proofs.Common.{IsStartOf, graph_of}
 use Rattle.plan_rules.proofs.row_index.row_starts.Given as goal
 
 abbrev pub invariant-loop-vehicle : goal.invariant-loop-vehicle

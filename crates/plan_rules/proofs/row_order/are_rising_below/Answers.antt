@@ -1,8 +1,8 @@
 use Rattle.std.proofs.Common.{inl, inr, arith}
-use Rattle.std.proofs.lemmas.Bool.{false≢true}
+use Rattle.plan_rules.proofs.Common.{false≢true}
 use Rattle.plan_rules.proofs.RowLemmas.{not_rising}
-use Rattle.plan_rules.proofs.row_order.are_rising_below.Goals as goal
 use Rattle.plan_rules.proofs.row_order.are_rising_below.Goals.{then-rider-least-via-then-rider-least, then-rider-least-via-else-rider-least+then-rider-riders}
+use Rattle.plan_rules.proofs.row_order.are_rising_below.Goals as goal
 
 pub returns-then-rider-least : goal.returns-then-rider-least
 returns-then-rider-least c = (

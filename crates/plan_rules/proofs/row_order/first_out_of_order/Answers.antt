@@ -1,6 +1,5 @@
 use Rattle.std.proofs.Common.{◌≡◌, ◌-◌, sym, ap₂, ◌∙◌, refl, arith}
-use Rattle.plan_rules.specs.Graph.{row_at, row_cmp}
-use Rattle.plan_rules.specs.Parts.{graph_of}
+use Rattle.plan_rules.proofs.Common.{row_at, row_cmp, graph_of}
 use Rattle.plan_rules.proofs.lemmas.GraphLemmas.{row_read}
 use Rattle.plan_rules.proofs.RowLemmas.{first_unordered, not_less_index}
 use Rattle.plan_rules.proofs.row_order.first_out_of_order.Goals as goal

@@ -1,6 +1,5 @@
 use Rattle.std.proofs.Common.{ℕ, suc, ◌<◌}
-use Rattle.plan_rules.specs.Graph.{IsInOrder}
-use Rattle.plan_rules.specs.Parts.{graph_of}
+use Rattle.plan_rules.proofs.Common.{IsInOrder, graph_of}
 use Rattle.plan_rules.proofs.row_order.first_out_of_order.Given as goal
 
 abbrev pub invariant-loop-k : goal.invariant-loop-k

@@ -1,6 +1,5 @@
 use Rattle.std.proofs.Common.{ℕ, ◌<◌}
-use Rattle.plan_rules.specs.Graph.{IsGraphRow, row_at}
-use Rattle.plan_rules.specs.Parts.{graph_of}
+use Rattle.plan_rules.proofs.Common.{IsGraphRow, row_at, graph_of}
 use Rattle.plan_rules.proofs.row_order.first_out_of_range.Given as goal
 
 abbrev pub invariant-loop-k : goal.invariant-loop-k

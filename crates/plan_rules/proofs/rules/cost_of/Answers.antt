@@ -1,8 +1,5 @@
 use Rattle.std.proofs.Common.{◌≡◌, ◌-◌, ◌*◌, ℕ, List, Option, ap, ap₂, ◌∙◌, arith}
-use Rattle.plan_rules.specs.Graph.{choice_at}
-use Rattle.plan_rules.specs.Sums.{sum_below}
-use Rattle.plan_rules.specs.Plan.{cost_of, choice_cost}
-use Rattle.plan_rules.specs.lemmas.Plan.{left_out}
+use Rattle.plan_rules.proofs.Common.{choice_at, sum_below, cost_of, choice_cost, left_out}
 use Rattle.plan_rules.proofs.rules.cost_of.Goals as goal
 
 pub returns : goal.returns

@@ -1,7 +1,5 @@
 use Rattle.std.proofs.Common.{◌≡◌, ◌*◌, ◌≤◌}
-use Rattle.plan_rules.specs.Graph.{choice_at}
-use Rattle.plan_rules.specs.Plan.{choice_cost}
-use Rattle.plan_rules.specs.Sums.{sum_below}
+use Rattle.plan_rules.proofs.Common.{choice_at, choice_cost, sum_below}
 use Rattle.plan_rules.proofs.rules.cost_of_rows.Given as goal
 
 abbrev pub invariant-loop-choice : goal.invariant-loop-choice

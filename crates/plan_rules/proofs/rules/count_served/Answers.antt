@@ -1,8 +1,5 @@
 use Rattle.std.proofs.Common.{◌≡◌, ◌+◌, ℕ, arith, ap, ◌∙◌}
-use Rattle.plan_rules.specs.Graph.{choice_at}
-use Rattle.plan_rules.specs.Sums.{sum_below}
-use Rattle.plan_rules.specs.lemmas.Plan.{left_out}
-use Rattle.plan_rules.specs.work.Plan.{choice_size}
+use Rattle.plan_rules.proofs.Common.{choice_at, sum_below, left_out, choice_size}
 use Rattle.plan_rules.proofs.lemmas.ServedLemmas.{served_or_left}
 use Rattle.plan_rules.proofs.rules.count_served.Goals as goal
 

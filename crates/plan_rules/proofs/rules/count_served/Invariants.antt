@@ -1,7 +1,5 @@
 use Rattle.std.proofs.Common.{◌≡◌, ◌*◌, ◌≤◌}
-use Rattle.plan_rules.specs.Graph.{choice_at}
-use Rattle.plan_rules.specs.Sums.{sum_below}
-use Rattle.plan_rules.specs.work.Plan.{choice_size}
+use Rattle.plan_rules.proofs.Common.{choice_at, sum_below, choice_size}
 use Rattle.plan_rules.proofs.rules.count_served.Given as goal
 
 abbrev pub invariant-loop-choice : goal.invariant-loop-choice

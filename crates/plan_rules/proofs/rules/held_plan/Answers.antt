@@ -1,5 +1,5 @@
 use Rattle.std.proofs.Common.{◌∙◌, subst, sym}
-use Rattle.plan_rules.specs.Plan.{IsLawful}
+use Rattle.plan_rules.proofs.Common.{IsLawful}
 use Rattle.plan_rules.proofs.lemmas.PlanLemmas.{held_is_lawful}
 use Rattle.plan_rules.proofs.rules.held_plan.Goals as goal
 

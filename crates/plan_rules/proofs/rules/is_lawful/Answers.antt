@@ -1,12 +1,9 @@
 use Rattle.std.proofs.Common.{◌≡◌, ◌<◌, refl, ap, subst, sym, ◌∙◌, arith}
-use Rattle.std.proofs.lemmas.Bool.{both_ways}
-use Rattle.plan_rules.specs.Plan.{IsPlan}
-use Rattle.plan_rules.specs.lemmas.Plan.{times_chosen}
-use Rattle.plan_rules.specs.work.Plan.{IsServedOnce}
+use Rattle.plan_rules.proofs.Common.{both_ways, IsPlan, times_chosen, IsServedOnce}
 use Rattle.plan_rules.proofs.lemmas.PlanLemmas.{lawful_from}
 use Rattle.plan_rules.proofs.lemmas.ServedLemmas.{served_at_first, kept_more, marked_once}
-use Rattle.plan_rules.proofs.rules.is_lawful.Goals as goal
 use Rattle.plan_rules.proofs.rules.is_lawful.Goals.{else-must-via-then-must+else-not-served-rider, else-must-via-else-must}
+use Rattle.plan_rules.proofs.rules.is_lawful.Goals as goal
 
 pub serves_once-requires-clause-clear : goal.serves_once-requires-clause-clear
 serves_once-requires-clause-clear c = served_at_first c.args.graph.now c.chosen-chosen.result.now 1000 (omega (arith, c.rider_count-riders.ensures.within, c.rider_count-riders.ensures.value))

@@ -1,6 +1,5 @@
 use Rattle.std.proofs.Common.{◌≡◌, ℕ, ◌<◌, IsTrue}
-use Rattle.plan_rules.specs.Graph.{must_be_served}
-use Rattle.plan_rules.specs.lemmas.Plan.{times_chosen}
+use Rattle.plan_rules.proofs.Common.{must_be_served, times_chosen}
 use Rattle.plan_rules.proofs.rules.is_lawful.Given as goal
 
 abbrev pub invariant-loop-rider : goal.invariant-loop-rider

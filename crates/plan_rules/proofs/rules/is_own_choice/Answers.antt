@@ -1,5 +1,5 @@
 use Rattle.std.proofs.Common.{ℕ, Option, MatchOption, arith, eq-eqb, eqb-true, subst, sym}
-use Rattle.plan_rules.specs.Graph.{HasNoRow, IsRowOf, IsStartOf}
+use Rattle.plan_rules.proofs.Common.{HasNoRow, IsRowOf, IsStartOf}
 use Rattle.plan_rules.proofs.lemmas.GraphLemmas.{no_row_between, starts_meet}
 use Rattle.plan_rules.proofs.rules.is_own_choice.Goals as goal
 

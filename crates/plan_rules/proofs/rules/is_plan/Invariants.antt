@@ -1,5 +1,5 @@
 use Rattle.std.proofs.Common.{ℕ, ◌<◌, MatchOption}
-use Rattle.plan_rules.specs.Graph.{IsRowOf, HasNoRow, choice_at}
+use Rattle.plan_rules.proofs.Common.{IsRowOf, HasNoRow, choice_at}
 use Rattle.plan_rules.proofs.rules.is_plan.Given as goal
 
 abbrev pub invariant-loop-vehicle : goal.invariant-loop-vehicle

@@ -1,14 +1,10 @@
 use Rattle.std.proofs.Common.{◌≡◌, ◌==◌, ◌||◌, ◌+◌, ◌<◌, ℕ, true, false, List, length, get_or, Option, Some, refl, sym, ap, ◌∙◌, subst, arith}
-use Rattle.std.specs.List.{list_any}
-use Rattle.std.proofs.lemmas.Bool.{false≢true}
-use Rattle.plan_rules.specs.Graph.{row_at, riders_at, choice_at, is_in}
-use Rattle.plan_rules.specs.work.Plan.{IsServedOnce, MarksServed}
-use Rattle.plan_rules.specs.declared.row.TripRow.{TripRow}
+use Rattle.plan_rules.proofs.Common.{list_any, false≢true, row_at, riders_at, choice_at, is_in, IsServedOnce, MarksServed, TripRow}
 use Rattle.plan_rules.proofs.lemmas.GraphLemmas.{row_read}
 use Rattle.plan_rules.proofs.lemmas.PlanLemmas.{plan_rows}
 use Rattle.plan_rules.proofs.lemmas.ServedLemmas.{once_at_first, served_more, served_kept, once_kept, once_apart, served_twice}
-use Rattle.plan_rules.proofs.rules.serves_once.Goals as goal
 use Rattle.plan_rules.proofs.rules.serves_once.Goals.{in-Some+else-is_any_marked, in_default}
+use Rattle.plan_rules.proofs.rules.serves_once.Goals as goal
 
 pub loop-choice-init : goal.loop-choice-init
 loop-choice-init c = record { marked = c.requires.clear; once = once_at_first c.args.graph.now c.args.chosen.now }

@@ -1,4 +1,4 @@
-use Rattle.plan_rules.specs.work.Plan.{IsServedOnce, MarksServed}
+use Rattle.plan_rules.proofs.Common.{IsServedOnce, MarksServed}
 use Rattle.plan_rules.proofs.rules.serves_once.Given as goal
 
 abbrev pub invariant-loop-choice : goal.invariant-loop-choice

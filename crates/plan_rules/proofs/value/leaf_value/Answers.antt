@@ -1,6 +1,5 @@
 use Rattle.std.proofs.Common.{arith}
-use Rattle.std.proofs.lemmas.Int.{ints}
-use Rattle.plan_rules.specs.Multipliers.{leaf_value}
+use Rattle.plan_rules.proofs.Common.{ints, leaf_value}
 use Rattle.plan_rules.proofs.value.leaf_value.Goals as goal
 
 pub returns-clause-value : goal.returns-clause-value

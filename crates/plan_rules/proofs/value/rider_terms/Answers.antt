@@ -1,6 +1,5 @@
 use Rattle.std.proofs.Common.{arith}
-use Rattle.std.proofs.lemmas.Int.{ints}
-use Rattle.plan_rules.specs.Multipliers.{rider_term}
+use Rattle.plan_rules.proofs.Common.{ints, rider_term}
 use Rattle.plan_rules.proofs.lemmas.SumLemmas.{int_sum_more}
 use Rattle.plan_rules.proofs.value.rider_terms.Goals as goal
 

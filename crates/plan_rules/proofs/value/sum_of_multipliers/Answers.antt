@@ -1,7 +1,5 @@
 use Rattle.std.proofs.Common.{◌<◌, length, get_or, pos, arith, rules, SFits, to_z, w64}
-use mir.Syntax.{w128}
-use Rattle.std.proofs.lemmas.Int.{ints}
-use Rattle.plan_rules.specs.Multipliers.{multiplier_sum}
+use Rattle.plan_rules.proofs.Common.{w128, ints, multiplier_sum}
 use Rattle.plan_rules.proofs.lemmas.ValueLemmas.{sum_more}
 use Rattle.plan_rules.proofs.value.sum_of_multipliers.Goals as goal
 

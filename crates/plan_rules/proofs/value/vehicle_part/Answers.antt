@@ -1,17 +1,11 @@
-use Rattle.std.proofs.Common.{◌≡◌, ℕ, Option, Some, IfSome, ℤ, pos, sym, ap, ◌∙◌, subst, arith, to_z, of_z}
-use Rattle.std.specs.Prelude.{unwrap_or}
-use mir.Syntax.{w128}
+use Rattle.std.proofs.Common.{◌≡◌, ℕ, Option, Some, IfSome, ℤ, pos, sym, ap, ◌∙◌, subst, arith, to_z, of_z, unwrap_or}
+use Rattle.plan_rules.proofs.Common.{w128, least_below, lesser, row_at, usable_of, is_usable_by, reduced_cost, TripRow, IsSmall}
 use Rattle.std.proofs.lemmas.Int.{to_z-of_z}
-use Rattle.plan_rules.specs.Sums.{least_below, lesser}
-use Rattle.plan_rules.specs.Graph.{row_at}
-use Rattle.plan_rules.specs.Multipliers.{usable_of, is_usable_by, reduced_cost}
-use Rattle.plan_rules.specs.declared.row.TripRow.{TripRow}
 use Rattle.plan_rules.proofs.lemmas.GraphLemmas.{row_read, row_between}
-use Rattle.plan_rules.specs.Size.{IsSmall}
 use Rattle.plan_rules.specs.work.Size.{reduced_cost_of}
 use Rattle.plan_rules.proofs.lemmas.ValueLemmas.{starts_rise, none_before, none_after, least_taken, least_passed}
-use Rattle.plan_rules.proofs.value.vehicle_part.Goals as goal
 use Rattle.plan_rules.proofs.value.vehicle_part.Goals.{then-allowed-row, else-allowed-row}
+use Rattle.plan_rules.proofs.value.vehicle_part.Goals as goal
 
 pub loop-row-init : goal.loop-row-init
 loop-row-init c = record {

@@ -1,7 +1,5 @@
 use Rattle.std.proofs.Common.{◌≡◌, IfSome}
-use Rattle.plan_rules.specs.Sums.{least_below}
-use Rattle.plan_rules.specs.Multipliers.{usable_of, is_usable_by, reduced_cost}
-use Rattle.plan_rules.specs.Size.{IsSmall}
+use Rattle.plan_rules.proofs.Common.{least_below, usable_of, is_usable_by, reduced_cost, IsSmall}
 use Rattle.plan_rules.proofs.value.vehicle_part.Given as goal
 
 abbrev pub invariant-loop-row : goal.invariant-loop-row

@@ -1,7 +1,5 @@
 use Rattle.std.proofs.Common.{◌≡◌}
-use Rattle.plan_rules.specs.Sums.{int_sum_below}
-use Rattle.plan_rules.specs.Multipliers.{usable_of, vehicle_term}
-use Rattle.plan_rules.specs.Size.{IsSmallSum}
+use Rattle.plan_rules.proofs.Common.{int_sum_below, usable_of, vehicle_term, IsSmallSum}
 use Rattle.plan_rules.proofs.value.vehicle_terms.Given as goal
 
 abbrev pub invariant-loop-vehicle : goal.invariant-loop-vehicle

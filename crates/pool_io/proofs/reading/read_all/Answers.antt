@@ -1,6 +1,6 @@
 use Rattle.std.proofs.Common.{◌+◌, ◌≤◌, arith, take, length, ◌∙◌}
+use Rattle.pool_io.proofs.Common.{Consumes-kept}
 use Rattle.std.proofs.lemmas.List.{length-take-le}
-use Rattle.std.proofs.KnownBytes.{Consumes-kept}
 use Rattle.pool_io.proofs.Pieces.{Consumes-take}
 use Rattle.pool_io.proofs.reading.read_all.Goals as goal
 

@@ -1,5 +1,5 @@
 use Rattle.std.proofs.Common.{◌≡◌, ◌+◌, ◌-◌, ◌≤◌, take, vec_len}
-use Rattle.std.specs.Io.KnownBytes.{Consumes}
+use Rattle.pool_io.proofs.Common.{Consumes}
 use Rattle.pool_io.proofs.reading.read_all.Given as goal
 
 abbrev pub invariant-reads : goal.invariant-reads

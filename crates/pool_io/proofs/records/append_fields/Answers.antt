@@ -1,7 +1,6 @@
 use Rattle.std.proofs.Common.{[], ◌∷◌, ◌<◌, take, length, arith, sym, ◌∙◌, append_assoc}
+use Rattle.pool_io.proofs.Common.{take_more, fields_of}
 use Rattle.pool_io.proofs.UnderHeader.{on_ok}
-use Rattle.std.proofs.lemmas.List.{take_more}
-use Rattle.csv.specs.Records.{fields_of}
 use Rattle.pool_io.proofs.FieldGet.{field_is_there, field_is}
 use Rattle.pool_io.proofs.records.append_fields.Goals as goal
 

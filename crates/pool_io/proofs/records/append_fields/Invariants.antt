@@ -1,5 +1,5 @@
 use Rattle.std.proofs.Common.{◌≡◌, ◌++◌, [], take}
-use Rattle.csv.specs.Records.{fields_of, partial_of}
+use Rattle.pool_io.proofs.Common.{fields_of, partial_of}
 use Rattle.pool_io.proofs.records.append_fields.Given as goal
 
 abbrev pub invariant-loop-place : goal.invariant-loop-place

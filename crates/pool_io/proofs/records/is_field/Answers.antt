@@ -1,5 +1,4 @@
-use Rattle.std.proofs.lemmas.Slice.Eq.{bytes_eq-Decides}
-use Rattle.csv.specs.Records.{fields_of}
+use Rattle.pool_io.proofs.Common.{bytes_eq-Decides, fields_of}
 use Rattle.pool_io.proofs.FieldGet.{field_is, field_is_none}
 use Rattle.pool_io.proofs.records.is_field.Goals as goal
 

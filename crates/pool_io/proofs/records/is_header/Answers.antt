@@ -1,6 +1,6 @@
 use Rattle.std.proofs.Common.{◌≡◌, ℕ, List, [], Bor, length, map, refl, arith}
-use Rattle.std.proofs.lemmas.List.{ext_get_or, length-map}
-use Rattle.csv.specs.Records.{fields_of}
+use Rattle.pool_io.proofs.Common.{length-map, fields_of}
+use Rattle.std.proofs.lemmas.List.{ext_get_or}
 use Rattle.pool_io.proofs.records.is_header.Goals as goal
 
 pub returns : goal.returns

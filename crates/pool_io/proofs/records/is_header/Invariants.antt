@@ -1,5 +1,5 @@
 use Rattle.std.proofs.Common.{◌≡◌, ℕ, ◌<◌, List, [], Bor, get_or, map}
-use Rattle.csv.specs.Records.{fields_of}
+use Rattle.pool_io.proofs.Common.{fields_of}
 use Rattle.pool_io.proofs.records.is_header.Given as goal
 
 abbrev pub invariant-loop-place : goal.invariant-loop-place

@@ -1,4 +1,4 @@
-use Rattle.csv.specs.Records.{fields_of}
+use Rattle.pool_io.proofs.Common.{fields_of}
 use Rattle.pool_io.proofs.NextRecord.{read_on}
 use Rattle.pool_io.proofs.records.read_next.Goals as goal
 

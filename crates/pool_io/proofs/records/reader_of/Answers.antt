@@ -1,5 +1,5 @@
 use Rattle.std.proofs.Common.{inr, refl, sym, ◌∙◌}
-use Rattle.csv.specs.Reading.{Reached, strip_bom}
+use Rattle.pool_io.proofs.Common.{Reached, strip_bom}
 use Rattle.pool_io.proofs.records.reader_of.Goals as goal
 
 pub returns : goal.returns

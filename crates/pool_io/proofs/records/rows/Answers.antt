@@ -1,8 +1,5 @@
 use Rattle.std.proofs.Common.{◌≡◌, ℕ, List, [], ◌∷◌, Bor, length, map, refl, sym, ◌∙◌, arith}
-use Rattle.std.proofs.lemmas.Bool.{false≢true}
-use Rattle.std.proofs.lemmas.List.{length-map}
-use Rattle.csv.specs.Records.{fields_of}
-use Rattle.pool_io.specs.Table.{header_fields}
+use Rattle.pool_io.proofs.Common.{false≢true, length-map, fields_of, header_fields}
 use Rattle.pool_io.proofs.RecordList.{records_of-begin}
 use Rattle.pool_io.proofs.IsRecord.{is_record-other}
 use Rattle.pool_io.proofs.UnderHeader.{table_under, refused_under}

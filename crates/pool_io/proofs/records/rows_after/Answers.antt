@@ -1,6 +1,5 @@
 use Rattle.std.proofs.Common.{◌≡◌, ◌≢◌, ◌+◌, ◌*◌, ◌∷◌, length, arith, length-append, add-one}
-use Rattle.csv.specs.Records.{fields_of}
-use Rattle.pool_io.specs.work.Cutting.{cut_rows}
+use Rattle.pool_io.proofs.Common.{fields_of, cut_rows}
 use Rattle.pool_io.proofs.CutRows.{cut_rows-append}
 use Rattle.pool_io.proofs.EvenRows.{even_rows-all, even_rows-uneven}
 use Rattle.pool_io.proofs.records.rows_after.Goals as goal

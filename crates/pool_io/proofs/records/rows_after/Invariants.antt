@@ -1,7 +1,5 @@
 use Rattle.std.proofs.Common.{◌≡◌, ℕ, ◌*◌, ◌^◌, ◌<◌, List, [], ◌∷◌, length}
-use Rattle.csv.specs.Records.{fields_of, partial_of}
-use Rattle.pool_io.specs.work.Cutting.{cut_rows}
-use Rattle.pool_io.specs.work.Progress.{HasRead}
+use Rattle.pool_io.proofs.Common.{fields_of, partial_of, cut_rows, HasRead}
 use Rattle.pool_io.proofs.records.rows_after.Given as goal
 
 abbrev pub invariant-records : goal.invariant-records

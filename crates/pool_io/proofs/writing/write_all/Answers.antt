@@ -1,5 +1,5 @@
 use Rattle.std.proofs.Common.{arith}
-use Rattle.std.proofs.lemmas.List.{take_rest}
+use Rattle.pool_io.proofs.Common.{take_rest}
 use Rattle.pool_io.proofs.Pieces.{Appends-take}
 use Rattle.pool_io.proofs.writing.write_all.Goals as goal
 

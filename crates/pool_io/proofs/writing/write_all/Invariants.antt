@@ -1,5 +1,5 @@
 use Rattle.std.proofs.Common.{◌-◌, ◌≤◌, length, take}
-use Rattle.std.specs.Io.KnownBytes.{Appends}
+use Rattle.pool_io.proofs.Common.{Appends}
 use Rattle.pool_io.proofs.writing.write_all.Given as goal
 
 abbrev pub invariant-writes : goal.invariant-writes

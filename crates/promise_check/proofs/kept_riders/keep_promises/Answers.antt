@@ -1,10 +1,6 @@
 use Rattle.std.proofs.Common.{◌≡◌, ◌<◌, ◌+◌, length, take, slice_index_or, set, sym, ap, ◌∙◌, subst, refl, arith}
+use Rattle.promise_check.proofs.Common.{Rider, SettledRider, no_rider, request_at, kept_rider, AreKept}
 use Rattle.std.specs.List.{Contains}
-use Rattle.batch_snapshot.specs.declared.rider.Rider.{Rider}
-use Rattle.stop_orders.specs.declared.settled_rider.SettledRider.{SettledRider}
-use Rattle.stop_orders.specs.Settled.{no_rider}
-use Rattle.promise_check.specs.Requests.{request_at}
-use Rattle.promise_check.specs.work.Promised.{kept_rider, AreKept}
 use Rattle.promise_check.proofs.lemmas.Promises.{kept_more, request_read, rider_read}
 use Rattle.promise_check.proofs.kept_riders.keep_promises.Goals as goal
 

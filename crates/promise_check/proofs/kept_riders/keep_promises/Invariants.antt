@@ -1,6 +1,6 @@
 use Rattle.std.proofs.Common.{take}
+use Rattle.promise_check.proofs.Common.{AreKept}
 use Rattle.std.specs.List.{Contains}
-use Rattle.promise_check.specs.work.Promised.{AreKept}
 use Rattle.promise_check.proofs.kept_riders.keep_promises.Given as goal
 
 abbrev pub invariant-loop-number : goal.invariant-loop-number

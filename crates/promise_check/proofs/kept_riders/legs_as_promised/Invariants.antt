@@ -1,5 +1,5 @@
 use Rattle.std.proofs.Common.{◌≡◌, take}
-use Rattle.promise_check.specs.Promised.{kept_legs}
+use Rattle.promise_check.proofs.Common.{kept_legs}
 use Rattle.promise_check.proofs.kept_riders.legs_as_promised.Given as goal
 
 abbrev pub invariant-loop-number : goal.invariant-loop-number

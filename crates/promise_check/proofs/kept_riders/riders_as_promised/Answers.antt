@@ -1,6 +1,6 @@
 use Rattle.std.proofs.Common.{◌≡◌, ℕ, List, subst}
+use Rattle.promise_check.proofs.Common.{AreKept}
 use Rattle.std.specs.List.{Contains}
-use Rattle.promise_check.specs.work.Promised.{AreKept}
 use Rattle.promise_check.proofs.lemmas.Promises.{kept_by_more}
 use Rattle.promise_check.proofs.kept_riders.riders_as_promised.Goals as goal
 

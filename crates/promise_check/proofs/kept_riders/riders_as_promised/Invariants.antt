@@ -1,5 +1,5 @@
 use Rattle.std.proofs.Common.{take}
-use Rattle.promise_check.specs.work.Promised.{AreKept, IsHeld}
+use Rattle.promise_check.proofs.Common.{AreKept, IsHeld}
 use Rattle.promise_check.proofs.kept_riders.riders_as_promised.Given as goal
 
 abbrev pub invariant-loop-vehicle : goal.invariant-loop-vehicle

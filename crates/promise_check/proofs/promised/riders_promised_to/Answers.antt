@@ -1,9 +1,5 @@
 use Rattle.std.proofs.Common.{◌≡◌, ℕ, ◌+◌, true, false, List, [], ◌∷◌, ◌++◌, length, filter, sym, ap, ◌∙◌, arith}
-use Rattle.std.specs.List.{range_with_len}
-use Rattle.std.proofs.lemmas.List.{length_push}
-use Rattle.batch_snapshot.specs.declared.rider.Rider.{Rider}
-use Rattle.promise_check.specs.Requests.{request_at}
-use Rattle.promise_check.specs.Promised.{is_promised_to}
+use Rattle.promise_check.proofs.Common.{range_with_len, length_push, Rider, request_at, is_promised_to}
 use Rattle.promise_check.proofs.lemmas.Promises.{filter_range_skips, filter_range_takes, filter_range_all, request_read}
 use Rattle.promise_check.proofs.promised.riders_promised_to.Goals as goal
 

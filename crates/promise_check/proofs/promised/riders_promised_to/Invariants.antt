@@ -1,7 +1,5 @@
 use Rattle.std.proofs.Common.{◌≡◌, ◌≤◌, length, filter}
-use Rattle.std.specs.List.{range_with_len}
-use Rattle.promise_check.specs.Requests.{request_at}
-use Rattle.promise_check.specs.Promised.{is_promised_to}
+use Rattle.promise_check.proofs.Common.{range_with_len, request_at, is_promised_to}
 use Rattle.promise_check.proofs.promised.riders_promised_to.Given as goal
 
 abbrev pub invariant-loop-number : goal.invariant-loop-number

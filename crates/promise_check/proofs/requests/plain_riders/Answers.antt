@@ -1,9 +1,5 @@
 use Rattle.std.proofs.Common.{◌+◌, ℕ, sym, ap, ◌∙◌, subst, arith}
-use Rattle.pool_base.specs.Times.{travel_time}
-use Rattle.std.proofs.lemmas.List.{length_push}
-use Rattle.batch_snapshot.specs.declared.rider.Rider.{Rider}
-use Rattle.stop_orders.specs.Settled.{no_rider}
-use Rattle.promise_check.specs.work.Requests.{IsPlain, IsBetweenPlaces}
+use Rattle.promise_check.proofs.Common.{travel_time, length_push, Rider, no_rider, IsPlain, IsBetweenPlaces}
 use Rattle.promise_check.proofs.Pairing.{pairs_more, pairs_all}
 use Rattle.promise_check.proofs.requests.plain_riders.Goals as goal
 

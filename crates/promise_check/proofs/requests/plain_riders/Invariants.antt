@@ -1,9 +1,6 @@
 use Rattle.std.proofs.Common.{◌≡◌, ℕ, ◌<◌, length, Some, slice_index_or}
+use Rattle.promise_check.proofs.Common.{travel_time, Rider, no_rider, IsPlain}
 use Rattle.std.specs.List.{slice_get}
-use Rattle.pool_base.specs.Times.{travel_time}
-use Rattle.batch_snapshot.specs.declared.rider.Rider.{Rider}
-use Rattle.stop_orders.specs.Settled.{no_rider}
-use Rattle.promise_check.specs.work.Requests.{IsPlain}
 use Rattle.promise_check.proofs.requests.plain_riders.Given as goal
 
 abbrev pub invariant-loop-request : goal.invariant-loop-request

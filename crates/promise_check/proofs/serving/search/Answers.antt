@@ -1,4 +1,4 @@
-use Rattle.pool_base.specs.Times.{travel_time}
+use Rattle.promise_check.proofs.Common.{travel_time}
 use Rattle.promise_check.proofs.Searches.{found_serves}
 use Rattle.promise_check.proofs.serving.search.Goals as goal
 

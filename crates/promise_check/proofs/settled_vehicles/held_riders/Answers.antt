@@ -1,13 +1,6 @@
 use Rattle.std.proofs.Common.{◌<◌, ◌≤◌, ℕ, List, length, sym, ap, ◌∙◌, subst, arith, slice_index_or}
+use Rattle.promise_check.proofs.Common.{length-map, point_count, Leg, IsTask, no_rider, vehicle_task, request_at, kept_legs, kept_leg}
 use Rattle.std.specs.List.{All}
-use Rattle.std.proofs.lemmas.List.{length-map}
-use Rattle.pool_base.specs.Times.{point_count}
-use Rattle.stop_orders.specs.declared.leg.Leg.{Leg}
-use Rattle.stop_orders.specs.Task.{IsTask}
-use Rattle.stop_orders.specs.Settled.{no_rider, vehicle_task}
-use Rattle.promise_check.specs.Requests.{request_at}
-use Rattle.promise_check.specs.Promised.{kept_legs}
-use Rattle.promise_check.specs.lemmas.Named.{kept_leg}
 use Rattle.promise_check.proofs.lemmas.Promises.{promised_trip}
 use Rattle.promise_check.proofs.Seats.{kept_legs_valid, task_with_legs}
 use Rattle.promise_check.proofs.settled_vehicles.held_riders.Goals as goal

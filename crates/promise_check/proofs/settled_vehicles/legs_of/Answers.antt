@@ -1,14 +1,6 @@
 use Rattle.std.proofs.Common.{◌≡◌, ◌+◌, ℕ, length, take, [], ◌∷◌, ◌++◌, sym, ap, ◌∙◌, subst, arith}
+use Rattle.promise_check.proofs.Common.{travel_time, length_push, take_more, All-push, Passenger, Leg, IsLeg, no_leg, IsShort, IsLegOf, IsBetweenPlaces}
 use Rattle.std.specs.List.{sum_by}
-use Rattle.pool_base.specs.Times.{travel_time}
-use Rattle.std.proofs.lemmas.List.{length_push, take_more}
-use Rattle.std.proofs.lemmas.List.Elements.{All-push}
-use Rattle.batch_snapshot.specs.declared.passenger.Passenger.{Passenger}
-use Rattle.stop_orders.specs.declared.leg.Leg.{Leg}
-use Rattle.stop_orders.specs.Task.{IsLeg, no_leg}
-use Rattle.stop_orders.specs.Sound.{IsShort}
-use Rattle.promise_check.specs.Requests.{IsLegOf}
-use Rattle.promise_check.specs.work.Requests.{IsBetweenPlaces}
 use Rattle.promise_check.proofs.Pairing.{pairs_more, pairs_all}
 use Rattle.promise_check.proofs.Seats.{sum_by_push}
 use Rattle.promise_check.proofs.settled_vehicles.legs_of.Goals as goal

@@ -1,10 +1,6 @@
 use Rattle.std.proofs.Common.{◌≡◌, ℕ, ◌<◌, length, take, Some}
+use Rattle.promise_check.proofs.Common.{travel_time, Passenger, IsLeg, leg_at, persons, IsShort, IsLegOf}
 use Rattle.std.specs.List.{All, slice_get, sum_by}
-use Rattle.pool_base.specs.Times.{travel_time}
-use Rattle.batch_snapshot.specs.declared.passenger.Passenger.{Passenger}
-use Rattle.stop_orders.specs.Task.{IsLeg, leg_at, persons}
-use Rattle.stop_orders.specs.Sound.{IsShort}
-use Rattle.promise_check.specs.Requests.{IsLegOf}
 use Rattle.promise_check.proofs.settled_vehicles.legs_of.Given as goal
 
 abbrev pub invariant-loop-passenger : goal.invariant-loop-passenger

@@ -1,8 +1,5 @@
 use Rattle.std.proofs.Common.{◌<◌, ℕ, length, sym, subst, slice_index_or}
-use Rattle.pool_base.specs.Times.{travel_time}
-use Rattle.stop_orders.specs.Settled.{no_rider}
-use Rattle.promise_check.specs.Requests.{request_at}
-use Rattle.promise_check.specs.work.Requests.{CanBeKept}
+use Rattle.promise_check.proofs.Common.{travel_time, no_rider, request_at, CanBeKept}
 use Rattle.promise_check.proofs.Seats.{plain_can_be_kept}
 use Rattle.promise_check.proofs.settled_vehicles.settled_vehicle.Goals as goal
 

@@ -1,8 +1,5 @@
 use Rattle.std.proofs.Common.{◌+◌, ℕ, sym, ap, ◌∙◌, subst, arith}
-use Rattle.pool_base.specs.Times.{travel_time}
-use Rattle.std.proofs.lemmas.List.{length_push}
-use Rattle.stop_orders.specs.Settled.{no_vehicle}
-use Rattle.promise_check.specs.work.Settling.{IsSettledVehicle, HasVehiclePlaces}
+use Rattle.promise_check.proofs.Common.{travel_time, length_push, no_vehicle, IsSettledVehicle, HasVehiclePlaces}
 use Rattle.promise_check.proofs.Pairing.{pairs_more, pairs_all}
 use Rattle.promise_check.proofs.settled_vehicles.settled_vehicles.Goals as goal
 

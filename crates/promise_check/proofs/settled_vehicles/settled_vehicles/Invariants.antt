@@ -1,9 +1,6 @@
 use Rattle.std.proofs.Common.{◌≡◌, ℕ, ◌<◌, length, Some, slice_index_or}
+use Rattle.promise_check.proofs.Common.{travel_time, Vehicle, no_vehicle, IsSettledVehicle}
 use Rattle.std.specs.List.{slice_get}
-use Rattle.pool_base.specs.Times.{travel_time}
-use Rattle.batch_snapshot.specs.declared.vehicle.Vehicle.{Vehicle}
-use Rattle.stop_orders.specs.Settled.{no_vehicle}
-use Rattle.promise_check.specs.work.Settling.{IsSettledVehicle}
 use Rattle.promise_check.proofs.settled_vehicles.settled_vehicles.Given as goal
 
 abbrev pub invariant-loop-vehicle : goal.invariant-loop-vehicle

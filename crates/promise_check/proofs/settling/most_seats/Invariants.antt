@@ -1,5 +1,5 @@
 use Rattle.std.proofs.Common.{◌≡◌, max, map, drop}
-use Rattle.stop_orders.specs.Settled.{greatest}
+use Rattle.promise_check.proofs.Common.{greatest}
 use Rattle.promise_check.proofs.settling.most_seats.Given as goal
 
 abbrev pub invariant-loop-vehicle : goal.invariant-loop-vehicle

@@ -1,15 +1,7 @@
 use Rattle.std.proofs.Common.{ℕ, List, sym, subst}
+use Rattle.promise_check.proofs.Common.{travel_time, Rider, Vehicle, Batch, ArePoints, IsSound, IsBetweenPlaces, ArePlain, IsSettled, HasVehiclePlaces, AreSettledVehicles}
 use Rattle.std.specs.List.{All}
-use Rattle.pool_base.specs.Times.{travel_time}
-use Rattle.batch_snapshot.specs.declared.rider.Rider.{Rider}
-use Rattle.batch_snapshot.specs.declared.vehicle.Vehicle.{Vehicle}
-use Rattle.batch_snapshot.specs.Batch.{Batch}
-use Rattle.batch_snapshot.specs.Points.{ArePoints}
 use Rattle.batch_snapshot.specs.Vehicle.{HasSeats}
-use Rattle.stop_orders.specs.Sound.{IsSound}
-use Rattle.promise_check.specs.work.Requests.{IsBetweenPlaces, ArePlain}
-use Rattle.promise_check.specs.Settling.{IsSettled}
-use Rattle.promise_check.specs.work.Settling.{HasVehiclePlaces, AreSettledVehicles}
 use Rattle.promise_check.proofs.Places.{rider_places, vehicle_places}
 use Rattle.promise_check.proofs.Assembly.{held_numbers, assembled, settled_right, settled_sound}
 use Rattle.promise_check.proofs.settling.settle.Goals as goal

@@ -1,6 +1,6 @@
 use Rattle.rebalancing.proofs.Choosing.{IsChosen-skip, IsChosen-push}
-use Rattle.rebalancing.proofs.best_moves.chosen_pairs.Goals as goal
 use Rattle.rebalancing.proofs.best_moves.chosen_pairs.Goals.{in-Some+in_ok-push, in_default}
+use Rattle.rebalancing.proofs.best_moves.chosen_pairs.Goals as goal
 
 pub loop-vehicle-preserved : goal.loop-vehicle-preserved
 loop-vehicle-preserved c =

@@ -1,4 +1,4 @@
-use Rattle.rebalancing.specs.work.Chosen.{IsChosen}
+use Rattle.rebalancing.proofs.Common.{IsChosen}
 use Rattle.rebalancing.proofs.best_moves.chosen_pairs.Given as goal
 
 abbrev pub invariant-loop-vehicle : goal.invariant-loop-vehicle

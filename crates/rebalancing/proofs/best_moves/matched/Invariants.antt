@@ -1,5 +1,4 @@
-use Rattle.rebalancing.specs.work.Prices.{IsPricedMatching, IsSized, IsSameProblem}
-use Rattle.rebalancing.specs.work.SearchTree.{HasRoom}
+use Rattle.rebalancing.proofs.Common.{IsPricedMatching, IsSized, IsSameProblem, HasRoom}
 use Rattle.rebalancing.proofs.best_moves.matched.Given as goal
 
 abbrev pub invariant-loop-vehicle : goal.invariant-loop-vehicle

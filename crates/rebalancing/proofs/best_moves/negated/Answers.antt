@@ -1,5 +1,6 @@
 use Rattle.std.proofs.Common.{◌≡◌, ℕ, ℤ, w64, [], ◌∷◌, ◌++◌, map, take, pos, neg_ℤ, to_z, of_z, sym, ap, ◌∙◌, arith}
-use Rattle.std.proofs.lemmas.List.{map_more, take_all}
+use Rattle.rebalancing.proofs.Common.{map_more}
+use Rattle.std.proofs.lemmas.List.{take_all}
 use Rattle.std.proofs.lemmas.Int.{to_z-of_z}
 use Rattle.rebalancing.proofs.best_moves.negated.Goals as goal
 

@@ -1,8 +1,5 @@
 use Rattle.std.proofs.Common.{◌≡◌, ℕ, ◌<◌, ◌≤◌, length, slice_index, map, pos, neg_ℤ, ◌∙◌, arith}
-use Rattle.pool_base.specs.Times.{travel_time}
-use Rattle.rebalancing.specs.work.Weights.{weight_of}
-use Rattle.rebalancing.specs.work.Prices.{IsPricedMatching, weight_in}
-use Rattle.rebalancing.specs.Matching.{IsMatching}
+use Rattle.rebalancing.proofs.Common.{travel_time, weight_of, IsPricedMatching, weight_in, IsMatching}
 use Rattle.rebalancing.proofs.Choosing.{IsMatching-chosen, total-chosen, ArePotentials-chosen}
 use Rattle.rebalancing.proofs.MatchingLaw.{IsMatching-short, best_by_prices, ArePrices-from_potentials}
 use Rattle.rebalancing.proofs.best_moves.rebalance.Goals as goal

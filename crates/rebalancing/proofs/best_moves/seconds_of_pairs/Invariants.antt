@@ -1,6 +1,5 @@
 use Rattle.std.proofs.Common.{◌≡◌, ◌*◌, ◌≤◌, take, sum_by}
-use Rattle.rebalancing.specs.work.Chosen.{seconds_in}
-use Rattle.rebalancing.specs.Potentials.{pair_worth}
+use Rattle.rebalancing.proofs.Common.{seconds_in, pair_worth}
 use Rattle.rebalancing.proofs.best_moves.seconds_of_pairs.Given as goal
 
 abbrev pub invariant-loop-vehicle : goal.invariant-loop-vehicle

@@ -1,4 +1,4 @@
-use Rattle.pool_base.specs.Times.{travel_time}
+use Rattle.rebalancing.proofs.Common.{travel_time}
 use Rattle.rebalancing.proofs.MatchingLaw.{best_by_prices, ArePrices-from_potentials}
 use Rattle.rebalancing.proofs.law.potentials_show_best.Goals as goal
 

@@ -1,7 +1,7 @@
 use Rattle.std.proofs.Common.{◌≡◌, ◌+◌, ◌-◌, ◌<◌, ◌≤◌, slice_index, length, inl, inr, refl, arith}
 use Rattle.rebalancing.proofs.Relaxing.{IsRelaxing-skip, IsRelaxing-more}
-use Rattle.rebalancing.proofs.tree.relax.Goals as goal
 use Rattle.rebalancing.proofs.tree.relax.Goals.{then-place-rider-eq0+then-nearest-riders, then-nearest-riders-via-then-nearest-riders, then-nearest-riders-via-else-nearest-riders+then-tight_at-rider, then-place-rider-eq0+else-nearest-riders+else-tight_at-rider, else-place-rider-eq0}
+use Rattle.rebalancing.proofs.tree.relax.Goals as goal
 
 pub loop-rider-preserved : goal.loop-rider-preserved
 loop-rider-preserved c =

@@ -1,6 +1,5 @@
 use Rattle.std.proofs.Common.{◌≡◌, ◌++◌, map, take}
-use Rattle.pool_base.specs.Times.{travel_time}
-use Rattle.rebalancing.specs.work.Weights.{weight_of}
+use Rattle.rebalancing.proofs.Common.{travel_time, weight_of}
 use Rattle.rebalancing.proofs.weights.push_row.Given as goal
 
 abbrev pub invariant-loop-other : goal.invariant-loop-other

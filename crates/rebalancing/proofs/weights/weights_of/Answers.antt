@@ -1,7 +1,5 @@
 use Rattle.std.proofs.Common.{ℕ, length, map, slice_index}
-use Rattle.std.proofs.lemmas.List.{length-map, get_or-map}
-use Rattle.pool_base.specs.Times.{travel_time}
-use Rattle.rebalancing.specs.work.Weights.{weight_of}
+use Rattle.rebalancing.proofs.Common.{length-map, get_or-map, travel_time, weight_of}
 use Rattle.rebalancing.proofs.Rows.{rows_more}
 use Rattle.rebalancing.proofs.weights.weights_of.Goals as goal
 

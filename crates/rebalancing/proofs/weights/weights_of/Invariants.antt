@@ -1,6 +1,5 @@
 use Rattle.std.proofs.Common.{◌≡◌, ℕ, ◌*◌, ◌<◌, length, slice_index}
-use Rattle.pool_base.specs.Times.{travel_time}
-use Rattle.rebalancing.specs.work.Weights.{weight_at, weight_of}
+use Rattle.rebalancing.proofs.Common.{travel_time, weight_at, weight_of}
 use Rattle.rebalancing.proofs.weights.weights_of.Given as goal
 
 abbrev pub invariant-loop-place : goal.invariant-loop-place

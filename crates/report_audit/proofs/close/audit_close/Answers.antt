@@ -1,7 +1,5 @@
 use Rattle.std.proofs.Common.{ap, subst}
-use Rattle.batch_snapshot.specs.Batch.{Batch}
-use Rattle.batch_snapshot.specs.Kept.{IsKept}
-use Rattle.request_book.specs.declared.outcome.Outcome.{Outcome}
+use Rattle.report_audit.proofs.Common.{Batch, IsKept, Outcome}
 use Rattle.report_audit.proofs.ClosingLemmas.{batch_known, takes_close}
 use Rattle.report_audit.proofs.close.audit_close.Goals as goal
 

@@ -1,7 +1,5 @@
 use Rattle.std.proofs.Common.{sym, subst, arith}
-use Rattle.std.proofs.lemmas.Bool.{both_ways}
-use Rattle.report_audit.specs.declared.stop.Stop.{Stop}
-use Rattle.report_audit.specs.work.Ends.{EndStops}
+use Rattle.report_audit.proofs.Common.{both_ways, Stop, EndStops}
 use Rattle.report_audit.proofs.EndLemmas.{end_gap, end_match, end_other}
 use Rattle.report_audit.proofs.end.audit_end.Goals as goal
 

@@ -1,5 +1,5 @@
 use Rattle.std.proofs.Common.{◌≡◌, Some}
-use Rattle.batch_snapshot.specs.Batch.{Batch}
+use Rattle.report_audit.proofs.Common.{Batch}
 use Rattle.report_audit.proofs.ReadLemmas.{closing_read, closing_stops}
 use Rattle.report_audit.proofs.entry.audit_closing.Goals as goal
 

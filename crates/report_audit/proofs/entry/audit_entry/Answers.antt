@@ -1,9 +1,5 @@
 use Rattle.std.proofs.Common.{sym, subst}
-use Rattle.dispatch_engine.specs.Run.{journal_of}
-use Rattle.report_lines.specs.Next.{IsNextLine}
-use Rattle.report_lines.specs.declared.next.NextLine.{NextLine}
-use Rattle.report_audit.specs.declared.stop.Stop.{Stop}
-use Rattle.report_audit.specs.work.Steps.{StopsWithin}
+use Rattle.report_audit.proofs.Common.{journal_of, IsNextLine, NextLine, Stop, StopsWithin}
 use Rattle.report_audit.proofs.EntryLemmas.{beyond_stops, gap_stops, other_stops}
 use Rattle.report_audit.proofs.entry.audit_entry.Goals as goal
 

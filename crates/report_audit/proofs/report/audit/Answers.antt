@@ -1,14 +1,7 @@
 use Rattle.std.proofs.Common.{◌≡◌, ℕ, ◌<◌, ◌^◌, List, length, Some, None, sym, ap, subst, ◌∙◌, arith}
-use Rattle.batch_snapshot.specs.declared.vehicle.Vehicle.{Vehicle}
+use Rattle.report_audit.proofs.Common.{Vehicle, HeadFails, sizes_of, AreSizes, BeginsWithHead, Settings, HasFault, AuditFault, fault_of}
 use Rattle.report_audit.proofs.HeadFaults.{head_fails_once}
 use Rattle.report_lines.proofs.lemmas.WholeHead.{no_head as fails_no_head}
-use Rattle.report_lines.specs.HeadFault.{HeadFails, sizes_of}
-use Rattle.report_lines.specs.HeadLines.{AreSizes}
-use Rattle.report_lines.specs.Head.{BeginsWithHead}
-use Rattle.rider_limits.specs.declared.settings.Settings.{Settings}
-use Rattle.report_audit.specs.Fault.{HasFault}
-use Rattle.report_audit.specs.declared.fault.AuditFault.{AuditFault}
-use Rattle.report_audit.specs.work.Faults.{fault_of}
 use Rattle.report_audit.proofs.FaultLemmas.{accepted, fault_of_heads, has_fault, head_fault, left_of, no_head, only_fault, refused}
 use Rattle.report_audit.proofs.report.audit.Goals as goal
 

@@ -1,5 +1,4 @@
-use Rattle.request_book.specs.Book.{opening}
-use Rattle.std.proofs.lemmas.Bool.{both_ways}
+use Rattle.report_audit.proofs.Common.{opening, both_ways}
 use Rattle.report_audit.proofs.WholeLemmas.{entry_at_start, memory_at_start}
 use Rattle.report_audit.proofs.report.audit_behind.Goals as goal
 

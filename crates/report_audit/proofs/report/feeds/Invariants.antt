@@ -1,5 +1,4 @@
-use Rattle.std.proofs.Common.{◌≡◌, ◌≤◌, ◌==◌, take}
-use Rattle.std.specs.Prelude.{count_by}
+use Rattle.std.proofs.Common.{◌≡◌, ◌≤◌, ◌==◌, take, count_by}
 use Rattle.report_audit.proofs.report.feeds.Given as goal
 
 abbrev pub invariant-loop-byte : goal.invariant-loop-byte

@@ -1,6 +1,5 @@
 use Rattle.std.proofs.Common.{refl}
-use Rattle.std.proofs.lemmas.Bool.{both_ways}
-use Rattle.dispatch_engine.specs.Run.{journal_of}
+use Rattle.report_audit.proofs.Common.{both_ways, journal_of}
 use Rattle.report_audit.proofs.RoundLemmas.{entries_done, entries_stop, read_more, read_none, stop_of_entries, within_start}
 use Rattle.report_audit.proofs.round.audit_entries.Goals as goal
 

@@ -1,5 +1,5 @@
 use Rattle.std.proofs.Common.{length}
-use Rattle.report_audit.specs.work.Rounds.{EntriesSoFar}
+use Rattle.report_audit.proofs.Common.{EntriesSoFar}
 use Rattle.report_audit.proofs.round.audit_entries.Given as goal
 
 abbrev pub invariant-entries : goal.invariant-entries

@@ -1,9 +1,5 @@
-use Rattle.std.proofs.Common.{ℕ, List, ap, ◌∙◌, subst}
-use Rattle.std.specs.Prelude.{count_by}
-use Rattle.request_book.specs.declared.journal.Entry.{Entry}
-use Rattle.request_book.specs.declared.journal.Journal.{Journal}
-use Rattle.report_audit.specs.Report.{closes}
-use Rattle.report_audit.specs.work.Rounds.{HasRoundLine, IsNoRoundLine}
+use Rattle.std.proofs.Common.{ℕ, List, ap, ◌∙◌, subst, count_by}
+use Rattle.report_audit.proofs.Common.{Entry, Journal, closes, HasRoundLine, IsNoRoundLine}
 use Rattle.report_audit.proofs.RoundLemmas.{next_start, round_read, round_stops_before, round_stops_entries}
 use Rattle.report_audit.proofs.round.audit_round.Goals as goal
 

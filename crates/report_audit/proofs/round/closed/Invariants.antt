@@ -1,6 +1,5 @@
-use Rattle.std.proofs.Common.{◌≡◌, ◌≤◌, take}
-use Rattle.std.specs.Prelude.{count_by}
-use Rattle.report_audit.specs.Report.{closes}
+use Rattle.std.proofs.Common.{◌≡◌, ◌≤◌, take, count_by}
+use Rattle.report_audit.proofs.Common.{closes}
 use Rattle.report_audit.proofs.round.closed.Given as goal
 
 abbrev pub invariant-loop-entry : goal.invariant-loop-entry

@@ -1,7 +1,5 @@
 use Rattle.std.proofs.Common.{sym, subst, arith}
-use Rattle.std.proofs.lemmas.Bool.{both_ways}
-use Rattle.report_audit.specs.declared.stop.Stop.{Stop}
-use Rattle.report_audit.specs.work.Rounds.{IsNoRoundLine}
+use Rattle.report_audit.proofs.Common.{both_ways, Stop, IsNoRoundLine}
 use Rattle.report_audit.proofs.RoundLemmas.{round_line_not}
 use Rattle.report_audit.proofs.round.round_line.Goals as goal
 

@@ -1,5 +1,5 @@
 use Rattle.std.proofs.Common.{◌+◌, ℕ, drop, refl, sym, subst, take, ◌∙◌, arith}
-use Rattle.report_audit.specs.work.Whole.{HasComeTo}
+use Rattle.report_audit.proofs.Common.{HasComeTo}
 use Rattle.report_audit.proofs.WholeLemmas.{come_all, come_next, come_start, first_next, read_all, stops_at_end, stops_next}
 use Rattle.report_audit.proofs.rounds.audit_rounds.Goals as goal
 

@@ -1,5 +1,5 @@
 use Rattle.std.proofs.Common.{drop, take}
-use Rattle.report_audit.specs.work.Whole.{HasComeTo}
+use Rattle.report_audit.proofs.Common.{HasComeTo}
 use Rattle.report_audit.proofs.rounds.audit_rounds.Given as goal
 
 abbrev pub invariant-loop-round : goal.invariant-loop-round

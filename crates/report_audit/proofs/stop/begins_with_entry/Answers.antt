@@ -1,6 +1,5 @@
 use Rattle.std.proofs.Common.{subst}
-use Rattle.report_lines.specs.Next.{IsNextLine}
-use Rattle.report_lines.specs.declared.next.NextLine.{NextLine}
+use Rattle.report_audit.proofs.Common.{IsNextLine, NextLine}
 use Rattle.report_audit.proofs.NextLemmas.{first_entry, no_entry_gap}
 use Rattle.report_audit.proofs.stop.begins_with_entry.Goals as goal
 

@@ -1,4 +1,4 @@
-use Rattle.std.proofs.lemmas.Result.{err_from_is_err_and}
+use Rattle.report_lines.proofs.Common.{err_from_is_err_and}
 use Rattle.report_lines.proofs.BlockLemmas.{block_begins, block_more}
 use Rattle.report_lines.proofs.block.read_block.Goals as goal
 

@@ -1,5 +1,5 @@
 use Rattle.std.proofs.Common.{◌≡◌, false, sym, ap, ◌∙◌}
-use Rattle.report_lines.specs.Order.{may_follow_at}
+use Rattle.report_lines.proofs.Common.{may_follow_at}
 use Rattle.report_lines.proofs.OneLine.{block_line_of_one}
 use Rattle.report_lines.proofs.block.read_following.Goals as goal
 

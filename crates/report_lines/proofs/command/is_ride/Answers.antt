@@ -1,6 +1,4 @@
-use Rattle.report_lines.specs.Reply.{IsReply}
-use Rattle.report_lines.specs.work.Commands.{three_text, AreThree}
-use Rattle.report_lines.specs.work.Replies.{spaced_reply}
+use Rattle.report_lines.proofs.Common.{IsReply, three_text, AreThree, spaced_reply}
 use Rattle.report_lines.proofs.CommandLemmas.{reply_ends, three_once}
 use Rattle.report_lines.proofs.ToldLemmas.{no_head, tail_told, both_told}
 use Rattle.report_lines.proofs.command.is_ride.Goals as goal

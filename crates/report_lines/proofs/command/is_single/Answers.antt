@@ -1,7 +1,5 @@
 use Rattle.std.proofs.Common.{◌≤◌, ◌<◌, ◌^◌, arith}
-use Rattle.dispatch_report.specs.Words.{numbered}
-use Rattle.report_lines.specs.Reply.{IsReply}
-use Rattle.report_lines.specs.work.Replies.{spaced_reply}
+use Rattle.report_lines.proofs.Common.{numbered, IsReply, spaced_reply}
 use Rattle.report_lines.proofs.CommandLemmas.{reply_ends}
 use Rattle.report_lines.proofs.ToldLemmas.{no_head, tail_told, both_told}
 use Rattle.report_lines.proofs.lemmas.ReadingLemmas.{numbered_once}

@@ -1,4 +1,4 @@
-use Rattle.report_lines.specs.work.Commands.{four_text, AreFour, ending_text, IsEnding}
+use Rattle.report_lines.proofs.Common.{four_text, AreFour, ending_text, IsEnding}
 use Rattle.report_lines.proofs.CommandLemmas.{ending_ends, four_once}
 use Rattle.report_lines.proofs.ToldLemmas.{no_head, tail_told, both_told}
 use Rattle.report_lines.proofs.command.is_submit.Goals as goal

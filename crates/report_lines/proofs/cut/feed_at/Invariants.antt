@@ -1,5 +1,5 @@
 use Rattle.std.proofs.Common.{◌≡◌, true, take}
-use Rattle.report_lines.specs.Cut.{is_one_line}
+use Rattle.report_lines.proofs.Common.{is_one_line}
 use Rattle.report_lines.proofs.cut.feed_at.Given as goal
 
 abbrev pub invariant-loop-place : goal.invariant-loop-place

@@ -1,5 +1,5 @@
 use Rattle.std.proofs.Common.{inl, inr, refl}
-use Rattle.std.proofs.lemmas.Result.{err_from_is_err_and}
+use Rattle.report_lines.proofs.Common.{err_from_is_err_and}
 use Rattle.report_lines.proofs.lemmas.WholeHead.{passed, settled}
 use Rattle.report_lines.proofs.head.head_behind.Goals as goal
 

@@ -1,6 +1,5 @@
 use Rattle.std.proofs.Common.{ℕ, ◌<◌, ◌^◌, subst, arith}
-use Rattle.report_lines.specs.HeadFault.{LinesFail, head_lines}
-use Rattle.report_lines.specs.work.Head.{HasHead}
+use Rattle.report_lines.proofs.Common.{LinesFail, head_lines, HasHead}
 use Rattle.report_lines.proofs.lemmas.WholeHead.{no_head, head_only, head_read}
 use Rattle.report_lines.proofs.head.read_head.Goals as goal
 

@@ -1,5 +1,5 @@
 use Rattle.std.proofs.Common.{◌≤◌, ◌<◌, ◌^◌, codes, arith}
-use Rattle.dispatch_report.specs.Words.{numbered}
+use Rattle.report_lines.proofs.Common.{numbered}
 use Rattle.report_lines.proofs.lemmas.HeadLemmas.{arcs_end}
 use Rattle.report_lines.proofs.lemmas.ReadingLemmas.{head_none, tail_none, head_and_tail, numbered_once}
 use Rattle.report_lines.proofs.head_lines.read_sizes.Goals as goal

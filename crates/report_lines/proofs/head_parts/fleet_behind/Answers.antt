@@ -1,5 +1,5 @@
 use Rattle.std.proofs.Common.{◌<◌, ◌≤◌, ◌^◌, codes, refl, ap, ◌∙◌, arith}
-use Rattle.dispatch_report.specs.Words.{numbered}
+use Rattle.report_lines.proofs.Common.{numbered}
 use Rattle.report_lines.proofs.FormLemmas.{no_fleet_line, other_fleet}
 use Rattle.report_lines.proofs.head_parts.fleet_behind.Goals as goal
 

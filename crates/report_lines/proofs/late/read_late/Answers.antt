@@ -1,7 +1,5 @@
 use Rattle.std.proofs.Common.{codes, arith}
-use Rattle.dispatch_report.specs.Words.{numbered}
-use Rattle.report_lines.specs.Ids.{IsId}
-use Rattle.report_lines.specs.work.Late.{order_text}
+use Rattle.report_lines.proofs.Common.{numbered, IsId, order_text}
 use Rattle.report_lines.proofs.LateLemmas.{order_ends}
 use Rattle.report_lines.proofs.lemmas.ReadingLemmas.{head_none, tail_none, numbered_once}
 use Rattle.report_lines.proofs.late.read_late.Goals as goal

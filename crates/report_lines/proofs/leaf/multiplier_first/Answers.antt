@@ -1,5 +1,5 @@
 use Rattle.std.proofs.Common.{codes, sym, subst}
-use Rattle.report_lines.specs.Signed.{IsLong}
+use Rattle.report_lines.proofs.Common.{IsLong}
 use Rattle.report_lines.proofs.SignedLemmas.{not_long, wide_same}
 use Rattle.report_lines.proofs.leaf.multiplier_first.Goals as goal
 

@@ -1,7 +1,6 @@
 use Rattle.std.proofs.Common.{◌≡◌, ℤ, to_z, of_z, w64, List, codes, sym, ◌∙◌, subst}
+use Rattle.report_lines.proofs.Common.{signed, IsLong}
 use Rattle.std.specs.List.{flat_map, All}
-use Rattle.dispatch_report.specs.Words.{signed}
-use Rattle.report_lines.specs.Signed.{IsLong}
 use Rattle.report_lines.proofs.ListLemmas.{ReadSoFar, so_far_none, so_far_done, so_far_stuck, so_far_given, shorter_after}
 use Rattle.report_lines.proofs.SignedLemmas.{signed_apart, signed_some, long_once, long_same}
 use Rattle.report_lines.proofs.leaf.multipliers_to_end.Goals as goal

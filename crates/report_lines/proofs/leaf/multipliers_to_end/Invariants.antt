@@ -1,6 +1,5 @@
 use Rattle.std.proofs.Common.{codes, length}
-use Rattle.dispatch_report.specs.Words.{signed}
-use Rattle.report_lines.specs.Signed.{IsLong}
+use Rattle.report_lines.proofs.Common.{signed, IsLong}
 use Rattle.report_lines.proofs.ListLemmas.{ReadSoFar}
 use Rattle.report_lines.proofs.leaf.multipliers_to_end.Given as goal
 

@@ -1,6 +1,5 @@
 use Rattle.std.proofs.Common.{◌≤◌, codes, sym, ◌∙◌, arith}
-use Rattle.dispatch_report.specs.Words.{numbered, spaced}
-use Rattle.report_lines.specs.Both.{both_texts, BothAre}
+use Rattle.report_lines.proofs.Common.{numbered, spaced, both_texts, BothAre}
 use Rattle.report_lines.proofs.lemmas.ReadingLemmas.{line_more, pair_once}
 use Rattle.report_lines.proofs.moves.read_branch.Goals as goal
 

@@ -1,7 +1,5 @@
 use Rattle.std.proofs.Common.{codes, arith}
-use Rattle.dispatch_report.specs.Words.{numbered, spaced}
-use Rattle.report_lines.specs.Ids.{IsId}
-use Rattle.report_lines.specs.Both.{both_texts, BothAre}
+use Rattle.report_lines.proofs.Common.{numbered, spaced, IsId, both_texts, BothAre}
 use Rattle.report_lines.proofs.lemmas.ReadingLemmas.{head_none, tail_none, pair_once, spaced_ends}
 use Rattle.report_lines.proofs.moves.read_move.Goals as goal
 

@@ -1,6 +1,5 @@
 use Rattle.std.proofs.Common.{◌≡◌, true, take}
-use Rattle.std.specs.Char.{is_ascii_digit}
-use Rattle.std.specs.List.{list_all}
+use Rattle.report_lines.proofs.Common.{is_ascii_digit, list_all}
 use Rattle.report_lines.proofs.numeral.digits_end.Given as goal
 
 abbrev pub invariant-loop-place : goal.invariant-loop-place

@@ -1,6 +1,5 @@
 use Rattle.std.proofs.Common.{◌≡◌, drop}
-use Rattle.pool_base.specs.Number.{value_of}
-use Rattle.pool_base.specs.lemmas.Number.{value_after}
+use Rattle.report_lines.proofs.Common.{value_of, value_after}
 use Rattle.report_lines.proofs.numeral.value_of_digits.Given as goal
 
 abbrev pub invariant-loop-digit : goal.invariant-loop-digit

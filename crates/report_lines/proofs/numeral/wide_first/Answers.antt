@@ -1,8 +1,5 @@
 use Rattle.std.proofs.Common.{◌≡◌, decimal, ap, ◌∙◌, sym, arith}
-use Rattle.std.specs.Char.{is_ascii_digit}
-use Rattle.std.specs.List.{list_all}
-use Rattle.pool_base.specs.Number.{value_of}
-use Rattle.report_lines.specs.Reading.{ends_number}
+use Rattle.report_lines.proofs.Common.{is_ascii_digit, list_all, value_of, ends_number}
 use Rattle.report_lines.proofs.lemmas.NumeralLemmas.{begins_with_large, begins_with_other}
 use Rattle.report_lines.proofs.numeral.wide_first.Goals as goal
 

@@ -1,7 +1,5 @@
 use Rattle.std.proofs.Common.{sym, ◌∙◌, arith}
-use Rattle.dispatch_report.specs.Block.{pair_line}
-use Rattle.dispatch_report.specs.Words.{numbered, spaced}
-use Rattle.report_lines.specs.Ids.{IsId, AreIds}
+use Rattle.report_lines.proofs.Common.{pair_line, numbered, spaced, IsId, AreIds}
 use Rattle.report_lines.proofs.lemmas.ReadingLemmas.{line_more, both_once, numbered_once, spaced_apart}
 use Rattle.report_lines.proofs.pairs.read_pair.Goals as goal
 

@@ -1,7 +1,6 @@
 use Rattle.std.proofs.Common.{◌≡◌, ℕ, List, sym, ◌∙◌, subst}
+use Rattle.report_lines.proofs.Common.{spaced, IsId}
 use Rattle.std.specs.List.{flat_map, All}
-use Rattle.dispatch_report.specs.Words.{spaced}
-use Rattle.report_lines.specs.Ids.{IsId}
 use Rattle.report_lines.proofs.lemmas.ReadingLemmas.{spaced_apart}
 use Rattle.report_lines.proofs.ListLemmas.{ReadSoFar, so_far_none, so_far_done, so_far_stuck, shorter_after, spaced_some, spaced_once, so_far_given}
 use Rattle.report_lines.proofs.riders.riders_to_end.Goals as goal

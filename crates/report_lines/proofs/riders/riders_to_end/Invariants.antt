@@ -1,6 +1,5 @@
 use Rattle.std.proofs.Common.{length}
-use Rattle.dispatch_report.specs.Words.{spaced}
-use Rattle.report_lines.specs.Ids.{IsId}
+use Rattle.report_lines.proofs.Common.{spaced, IsId}
 use Rattle.report_lines.proofs.ListLemmas.{ReadSoFar}
 use Rattle.report_lines.proofs.riders.riders_to_end.Given as goal
 

@@ -1,10 +1,8 @@
 use Rattle.std.proofs.Common.{◌≤◌, codes, arith}
+use Rattle.report_lines.proofs.Common.{numbered, spaced, both_texts, BothAre, IsId}
 use Rattle.std.specs.List.{flat_map}
-use Rattle.dispatch_report.specs.Words.{numbered, spaced}
-use Rattle.report_lines.specs.Both.{both_texts, BothAre}
 use Rattle.report_lines.proofs.ListLemmas.{many_end}
 use Rattle.report_lines.proofs.lemmas.ReadingLemmas.{head_none, tail_none, pair_once, spaced_apart}
-use Rattle.report_lines.specs.Ids.{IsId}
 use Rattle.report_lines.proofs.row.read_row.Goals as goal
 
 pub returns-in_default : goal.returns-in_default

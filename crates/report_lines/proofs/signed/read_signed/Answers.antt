@@ -1,6 +1,5 @@
 use Rattle.std.proofs.Common.{◌≡◌, ℤ, sym, ◌∙◌, subst}
-use Rattle.dispatch_report.specs.Words.{signed}
-use Rattle.report_lines.specs.Signed.{IsWide}
+use Rattle.report_lines.proofs.Common.{signed, IsWide}
 use Rattle.report_lines.proofs.lemmas.ReadingLemmas.{line_none, line_more, line_whole}
 use Rattle.report_lines.proofs.SignedLemmas.{signed_words_once, wide_same}
 use Rattle.report_lines.proofs.signed.read_signed.Goals as goal

@@ -1,9 +1,7 @@
 use Rattle.std.proofs.Common.{◌≡◌, List, refl, sym, ◌∙◌, subst}
+use Rattle.report_lines.proofs.Common.{stop_text, FitsStop, PlannedStop}
 use Rattle.std.specs.List.{flat_map, All}
-use Rattle.dispatch_report.specs.Block.{stop_text}
-use Rattle.report_lines.specs.Stops.{FitsStop}
 use Rattle.report_lines.proofs.StopLemmas.{stop_apart, stop_once, stop_some}
-use Rattle.request_book.specs.declared.outcome.PlannedStop.{PlannedStop}
 use Rattle.report_lines.proofs.ListLemmas.{ReadSoFar, so_far_none, so_far_done, so_far_stuck, shorter_after, so_far_given}
 use Rattle.report_lines.proofs.stops.stops_to_end.Goals as goal
 

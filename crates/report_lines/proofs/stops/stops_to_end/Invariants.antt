@@ -1,6 +1,5 @@
 use Rattle.std.proofs.Common.{length}
-use Rattle.dispatch_report.specs.Block.{stop_text}
-use Rattle.report_lines.specs.Stops.{FitsStop}
+use Rattle.report_lines.proofs.Common.{stop_text, FitsStop}
 use Rattle.report_lines.proofs.ListLemmas.{ReadSoFar}
 use Rattle.report_lines.proofs.stops.stops_to_end.Given as goal
 

@@ -1,9 +1,6 @@
 use Rattle.std.proofs.Common.{◌≤◌, codes, arith}
-use Rattle.dispatch_report.specs.Block.{stop_text}
-use Rattle.dispatch_report.specs.Words.{numbered, spaced}
+use Rattle.report_lines.proofs.Common.{stop_text, numbered, spaced, FitsStop, both_texts, BothAre}
 use Rattle.std.specs.List.{flat_map}
-use Rattle.report_lines.specs.Stops.{FitsStop}
-use Rattle.report_lines.specs.Both.{both_texts, BothAre}
 use Rattle.report_lines.proofs.ListLemmas.{many_end}
 use Rattle.report_lines.proofs.lemmas.ReadingLemmas.{head_none, tail_none, pair_once}
 use Rattle.report_lines.proofs.StopLemmas.{stop_apart}

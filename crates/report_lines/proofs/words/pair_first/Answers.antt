@@ -1,5 +1,5 @@
 use Rattle.std.proofs.Common.{◌≤◌, ◌<◌, ◌^◌, arith}
-use Rattle.dispatch_report.specs.Words.{numbered, spaced}
+use Rattle.report_lines.proofs.Common.{numbered, spaced}
 use Rattle.report_lines.proofs.lemmas.ReadingLemmas.{both_none_first, both_none_second, numbered_once, spaced_apart}
 use Rattle.report_lines.proofs.words.pair_first.Goals as goal
 

@@ -1,5 +1,5 @@
 use Rattle.std.proofs.Common.{◌≤◌, ◌<◌, ◌^◌, sym, ◌∙◌, arith}
-use Rattle.dispatch_report.specs.Words.{numbered}
+use Rattle.report_lines.proofs.Common.{numbered}
 use Rattle.report_lines.proofs.lemmas.ReadingLemmas.{line_none, line_more, numbered_once}
 use Rattle.report_lines.proofs.words.read_numbered.Goals as goal
 

@@ -1,8 +1,6 @@
 use Rattle.std.proofs.Common.{◌++◌, ◌∷◌, [], eqb, get_or, take, sym, ap, ◌∙◌, arith}
-use Rattle.std.specs.List.{list_any}
+use Rattle.request_book.proofs.Common.{list_any, take_more, position-Some}
 use Rattle.std.proofs.lemmas.Bool.{eqb-true}
-use Rattle.std.proofs.lemmas.List.{take_more}
-use Rattle.std.proofs.lemmas.List.Quantifiers.{position-Some}
 use Rattle.request_book.proofs.lemmas.BookLemmas.{list_any-take}
 use Rattle.request_book.proofs.lemmas.RegisterLemmas.{eqb_comm, list_any-agree}
 use Rattle.request_book.proofs.book.listed_nodes.Goals as goal

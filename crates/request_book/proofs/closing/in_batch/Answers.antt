@@ -1,5 +1,5 @@
 use Rattle.std.proofs.Common.{◌∙◌, rules}
-use Rattle.std.proofs.lemmas.List.Sorted.{answers_always}
+use Rattle.request_book.proofs.Common.{answers_always}
 use Rattle.request_book.proofs.lemmas.CloseLemmas.{keyed_sought}
 use Rattle.request_book.proofs.closing.in_batch.Goals as goal
 

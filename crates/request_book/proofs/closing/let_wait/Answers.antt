@@ -1,5 +1,5 @@
 use Rattle.std.proofs.Common.{set, Some, None, sym, ap, ◌∙◌}
-use Rattle.request_book.specs.work.Closing.{waits_again}
+use Rattle.request_book.proofs.Common.{waits_again}
 use Rattle.request_book.proofs.lemmas.KeyedLemmas.{set-changed_at, changed_at-absent}
 use Rattle.request_book.proofs.lemmas.RegisterLemmas.{found_by_keys, named_by_keys, eqb_comm}
 use Rattle.request_book.proofs.closing.let_wait.Goals as goal

@@ -1,7 +1,5 @@
 use Rattle.std.proofs.Common.{◌+◌, drop, sym, ap, ◌∙◌, arith}
-use Rattle.request_book.specs.declared.outcome.ChosenTrip.{ChosenTrip}
-use Rattle.request_book.specs.Closing.{picks, trip_picks}
-use Rattle.request_book.specs.work.Closing.{promised_in_turn}
+use Rattle.request_book.proofs.Common.{ChosenTrip, picks, trip_picks, promised_in_turn}
 use Rattle.request_book.proofs.lemmas.CloseLemmas.{trips-more, trips-all}
 use Rattle.request_book.proofs.closing.promise_all.Goals as goal
 

@@ -1,10 +1,5 @@
 use Rattle.std.proofs.Common.{Bool, cond, ◌&&◌, set, Some, None, sym, ap, ◌∙◌}
-use Rattle.request_book.specs.declared.rider.BookRider.{BookRider}
-use Rattle.request_book.specs.declared.rider.Status.TheVariants.{Promised}
-use Rattle.request_book.specs.Closing.{Pick}
-use Rattle.request_book.specs.work.Closing.{takes_promise}
-use Rattle.request_book.specs.Rider.{with_status}
-use Rattle.request_book.specs.work.Closing.{is_waiting}
+use Rattle.request_book.proofs.Common.{BookRider, Promised, Pick, takes_promise, with_status, is_waiting}
 use Rattle.request_book.proofs.lemmas.KeyedLemmas.{set-changed_at, changed_at-absent}
 use Rattle.request_book.proofs.lemmas.RegisterLemmas.{found_by_keys, named_by_keys, eqb_comm}
 use Rattle.request_book.proofs.closing.promise_one.Goals as goal

@@ -1,13 +1,9 @@
 use Rattle.std.proofs.Common.{◌+◌, drop, map, Vec, Global, vec_len, vec_capacity, sym, ap, subst, ◌∙◌, arith}
-use Rattle.request_book.specs.declared.rider.BookRider.{BookRider}
-use Rattle.request_book.specs.declared.outcome.PlannedStop.{PlannedStop}
-use Rattle.request_book.specs.Closing.{Pick, trip_picks}
-use Rattle.request_book.specs.work.Closing.{promised_in_turn, takes_promise}
-use Rattle.request_book.specs.Keyed.{changed_at, KeysDiffer}
+use Rattle.request_book.proofs.Common.{BookRider, PlannedStop, Pick, trip_picks, promised_in_turn, takes_promise, changed_at, KeysDiffer}
 use Rattle.request_book.proofs.lemmas.CloseLemmas.{stops-pick, stops-drop, stops-all, takes_promise-id}
 use Rattle.request_book.proofs.lemmas.KeyedLemmas.{KeysDiffer-changed_at, map-changed_at}
-use Rattle.request_book.proofs.closing.promise_trip.Goals as goal
 use Rattle.request_book.proofs.closing.promise_trip.Goals.{then-stop, else-stop}
+use Rattle.request_book.proofs.closing.promise_trip.Goals as goal
 
 pub loop-stop-preserved : goal.loop-stop-preserved
 loop-stop-preserved c =

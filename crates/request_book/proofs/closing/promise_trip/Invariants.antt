@@ -1,8 +1,5 @@
-use Rattle.std.proofs.Common.{◌≡◌, drop, map}
-use Rattle.std.specs.Prelude.{vec_len, vec_capacity}
-use Rattle.request_book.specs.Closing.{trip_picks}
-use Rattle.request_book.specs.work.Closing.{promised_in_turn}
-use Rattle.request_book.specs.Keyed.{KeysDiffer}
+use Rattle.std.proofs.Common.{◌≡◌, drop, map, vec_len, vec_capacity}
+use Rattle.request_book.proofs.Common.{trip_picks, promised_in_turn, KeysDiffer}
 use Rattle.request_book.proofs.closing.promise_trip.Given as goal
 
 abbrev pub invariant-loop-stop : goal.invariant-loop-stop

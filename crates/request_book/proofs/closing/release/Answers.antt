@@ -1,8 +1,5 @@
 use Rattle.std.proofs.Common.{◌+◌, drop, map, sym, ap, subst, ◌∙◌, arith}
-use Rattle.std.proofs.lemmas.List.{at_drop_more, drop_all}
-use Rattle.request_book.specs.work.Closing.{waits_again}
-use Rattle.request_book.specs.Keyed.{changed_at, KeysDiffer}
-use Rattle.request_book.specs.work.Keyed.{changed_in_turn}
+use Rattle.request_book.proofs.Common.{at_drop_more, drop_all, waits_again, changed_at, KeysDiffer, changed_in_turn}
 use Rattle.request_book.proofs.lemmas.CloseLemmas.{waits_again-id}
 use Rattle.request_book.proofs.lemmas.KeyedLemmas.{KeysDiffer-changed_at, map-changed_at}
 use Rattle.request_book.proofs.closing.release.Goals as goal

@@ -1,8 +1,5 @@
-use Rattle.std.proofs.Common.{◌≡◌, drop, map}
-use Rattle.std.specs.Prelude.{vec_len, vec_capacity}
-use Rattle.request_book.specs.work.Closing.{waits_again}
-use Rattle.request_book.specs.Keyed.{KeysDiffer}
-use Rattle.request_book.specs.work.Keyed.{changed_in_turn}
+use Rattle.std.proofs.Common.{◌≡◌, drop, map, vec_len, vec_capacity}
+use Rattle.request_book.proofs.Common.{waits_again, KeysDiffer, changed_in_turn}
 use Rattle.request_book.proofs.closing.release.Given as goal
 
 abbrev pub invariant-loop-rider : goal.invariant-loop-rider

@@ -1,6 +1,5 @@
 use Rattle.std.proofs.Common.{[], sym, ap, ◌∙◌}
-use Rattle.request_book.specs.Closing.{picks, after_answer}
-use Rattle.request_book.specs.work.Closing.{promised_in_turn}
+use Rattle.request_book.proofs.Common.{picks, after_answer, promised_in_turn}
 use Rattle.request_book.proofs.lemmas.CloseLemmas.{released, promised-all}
 use Rattle.request_book.proofs.closing.settle.Goals as goal
 

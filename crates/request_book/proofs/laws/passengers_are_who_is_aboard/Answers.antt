@@ -1,5 +1,4 @@
-use Rattle.request_book.specs.Book.{opening}
-use Rattle.request_book.specs.Replay.{state_after}
+use Rattle.request_book.proofs.Common.{opening, state_after}
 use Rattle.request_book.proofs.lemmas.LawLemmas.{reached-consistent, passengers-exactly}
 use Rattle.request_book.proofs.laws.passengers_are_who_is_aboard.Goals as goal
 

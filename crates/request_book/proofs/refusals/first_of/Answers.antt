@@ -1,7 +1,6 @@
-use Rattle.std.proofs.Common.{◌≡◌, true, false, Option, Some, None, get_or, refl, sym, ap, ◌∙◌, arith}
-use Rattle.std.specs.Prelude.{is_some}
+use Rattle.std.proofs.Common.{◌≡◌, true, false, Option, Some, None, get_or, refl, sym, ap, ◌∙◌, arith, is_some}
+use Rattle.request_book.proofs.Common.{BookRefusal}
 use Rattle.std.proofs.lemmas.Bool.{true≢false}
-use Rattle.request_book.specs.declared.reply.BookRefusal.{BookRefusal}
 use Rattle.request_book.proofs.lemmas.RegisterLemmas.{first_of-more, first_of-here, first_of-all}
 use Rattle.request_book.proofs.refusals.first_of.Goals as goal
 

@@ -1,5 +1,5 @@
 use Rattle.std.proofs.Common.{◌≡◌, drop}
-use Rattle.request_book.specs.lemmas.Refusals.{first_of}
+use Rattle.request_book.proofs.Common.{first_of}
 use Rattle.request_book.proofs.refusals.first_of.Given as goal
 
 abbrev pub invariant-loop-refusal : goal.invariant-loop-refusal

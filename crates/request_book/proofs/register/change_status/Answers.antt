@@ -1,5 +1,5 @@
 use Rattle.std.proofs.Common.{◌≡◌, get_or, set, Some, None, sym, ap, ◌∙◌}
-use Rattle.request_book.specs.Rider.{with_status}
+use Rattle.request_book.proofs.Common.{with_status}
 use Rattle.request_book.proofs.lemmas.KeyedLemmas.{set-changed_at, changed_at-absent}
 use Rattle.request_book.proofs.lemmas.RegisterLemmas.{found_by_keys, named_by_keys, eqb_comm}
 use Rattle.request_book.proofs.register.change_status.Goals as goal

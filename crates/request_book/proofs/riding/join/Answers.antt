@@ -1,12 +1,10 @@
-use Rattle.std.proofs.Common.{◌≡◌, ℕ, List, Result, Ok, Err, true, ap, ◌∙◌, subst}
-use Rattle.std.specs.Prelude.{is_ok}
+use Rattle.std.proofs.Common.{◌≡◌, ℕ, List, Result, Ok, Err, true, ap, ◌∙◌, subst, is_ok}
+use Rattle.request_book.proofs.Common.{IsBinarySearchResult, cond-true}
 use Rattle.std.specs.List.{insert}
-use Rattle.std.specs.List.Sorted.{IsBinarySearchResult}
 use Rattle.std.specs.Ordering.{nat_cmp}
-use Rattle.std.proofs.lemmas.Bool.{cond-true}
 use Rattle.request_book.proofs.lemmas.RegisterLemmas.{insert_sought, present_sought}
-use Rattle.request_book.proofs.riding.join.Goals as goal
 use Rattle.request_book.proofs.riding.join.Goals.{in-Ok, in-Err}
+use Rattle.request_book.proofs.riding.join.Goals as goal
 
 pub returns-clause-items : goal.returns-clause-items
 returns-clause-items c =

@@ -1,5 +1,5 @@
 use Rattle.std.proofs.Common.{ℕ, List, Result, Ok, Err, subst, sym, ◌∙◌}
-use Rattle.std.specs.List.Sorted.{IsBinarySearchResult}
+use Rattle.request_book.proofs.Common.{IsBinarySearchResult}
 use Rattle.std.specs.Ordering.{nat_cmp}
 use Rattle.request_book.proofs.lemmas.RegisterLemmas.{remove_sought, without_sought}
 use Rattle.request_book.proofs.riding.leave.Goals as goal

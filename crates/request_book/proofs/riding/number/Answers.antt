@@ -1,7 +1,5 @@
-use Rattle.std.proofs.Common.{◌≡◌, ◌++◌, ◌∷◌, [], false, eqb, Result, Ok, Err, ◌∙◌}
-use Rattle.std.specs.Prelude.{IsOk, IfOk}
-use Rattle.std.specs.List.{list_any}
-use Rattle.std.proofs.lemmas.Bool.{cond-false, false≢true}
+use Rattle.std.proofs.Common.{◌≡◌, ◌++◌, ◌∷◌, [], false, eqb, Result, Ok, Err, ◌∙◌, IsOk, IfOk}
+use Rattle.request_book.proofs.Common.{list_any, cond-false, false≢true}
 use Rattle.request_book.proofs.lemmas.RegisterLemmas.{eqb_comm, list_any-agree}
 use Rattle.request_book.proofs.riding.number.Goals as goal
 

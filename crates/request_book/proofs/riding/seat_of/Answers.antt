@@ -1,5 +1,5 @@
 use Rattle.std.proofs.Common.{◌≡◌, eqb, false, sym, ap, ◌∙◌, arith}
-use Rattle.std.proofs.lemmas.Bool.{eqb-false}
+use Rattle.request_book.proofs.Common.{eqb-false}
 use Rattle.request_book.proofs.lemmas.RegisterLemmas.{look_up-drop_more, look_up-drop_all}
 use Rattle.request_book.proofs.riding.seat_of.Goals as goal
 

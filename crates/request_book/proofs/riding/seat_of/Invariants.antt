@@ -1,5 +1,5 @@
 use Rattle.std.proofs.Common.{◌≡◌, drop}
-use Rattle.request_book.specs.State.{find_passenger}
+use Rattle.request_book.proofs.Common.{find_passenger}
 use Rattle.request_book.proofs.riding.seat_of.Given as goal
 
 abbrev pub invariant-loop-seat : goal.invariant-loop-seat

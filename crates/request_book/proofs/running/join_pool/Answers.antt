@@ -1,10 +1,10 @@
 use Rattle.std.proofs.Common.{◌≡◌, ℕ, List, Result, Ok, Err, ap, ◌∙◌, subst}
+use Rattle.request_book.proofs.Common.{IsBinarySearchResult}
 use Rattle.std.specs.List.{insert}
-use Rattle.std.specs.List.Sorted.{IsBinarySearchResult}
 use Rattle.std.specs.Ordering.{nat_cmp}
 use Rattle.request_book.proofs.lemmas.RegisterLemmas.{insert_sought, present_sought}
-use Rattle.request_book.proofs.running.join_pool.Goals as goal
 use Rattle.request_book.proofs.running.join_pool.Goals.{in-Ok, in-Err}
+use Rattle.request_book.proofs.running.join_pool.Goals as goal
 
 pub returns-clause-items : goal.returns-clause-items
 returns-clause-items c =

@@ -1,6 +1,5 @@
 use Rattle.std.proofs.Common.{◌≡◌, ◌++◌, ◌∷◌, [], false, eqb, ◌∙◌}
-use Rattle.std.specs.List.{list_any}
-use Rattle.std.proofs.lemmas.Bool.{cond-false}
+use Rattle.request_book.proofs.Common.{list_any, cond-false}
 use Rattle.request_book.proofs.lemmas.RegisterLemmas.{eqb_comm, list_any-agree}
 use Rattle.request_book.proofs.running.list_vehicle.Goals as goal
 

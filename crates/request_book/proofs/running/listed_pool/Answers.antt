@@ -1,11 +1,6 @@
-use Rattle.std.proofs.Common.{◌≡◌, ℕ, [], ◌∷◌, ◌++◌, ◌+◌, None, take, sym, ap, subst, ◌∙◌, arith}
-use Rattle.std.specs.Prelude.{option_and_then}
-use Rattle.std.proofs.lemmas.List.{take_more, take_all}
-use Rattle.request_book.specs.declared.rider.BookRider.{BookRider}
-use Rattle.request_book.specs.Keyed.{look_up, KeysRise}
-use Rattle.request_book.specs.Rider.{is_active}
-use Rattle.request_book.specs.State.{find_rider}
-use Rattle.request_book.specs.work.Register.{pool_id}
+use Rattle.std.proofs.Common.{◌≡◌, ℕ, [], ◌∷◌, ◌++◌, ◌+◌, None, take, sym, ap, subst, ◌∙◌, arith, option_and_then}
+use Rattle.request_book.proofs.Common.{take_more, BookRider, look_up, KeysRise, is_active, find_rider, pool_id}
+use Rattle.std.proofs.lemmas.List.{take_all}
 use Rattle.request_book.proofs.lemmas.KeyedLemmas.{look_up-nil, look_up-take}
 use Rattle.request_book.proofs.lemmas.IndexLemmas.{IsPool-entered, IsPool-same, rise-entered}
 use Rattle.request_book.proofs.running.listed_pool.Goals as goal

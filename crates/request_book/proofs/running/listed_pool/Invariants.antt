@@ -1,6 +1,5 @@
-use Rattle.std.proofs.Common.{◌≤◌, take}
-use Rattle.std.specs.Prelude.{vec_capacity}
-use Rattle.request_book.specs.Keyed.{KeysRise}
+use Rattle.std.proofs.Common.{◌≤◌, take, vec_capacity}
+use Rattle.request_book.proofs.Common.{KeysRise}
 use Rattle.request_book.proofs.lemmas.IndexLemmas.{IsPool}
 use Rattle.request_book.proofs.running.listed_pool.Given as goal
 

@@ -1,9 +1,6 @@
-use Rattle.std.proofs.Common.{◌≡◌, ℕ, ◌++◌, ◌∷◌, [], Bool, eqb, get_or, map, take, refl, sym, ap, ◌∙◌, arith}
-use Rattle.std.specs.Prelude.{is_some}
-use Rattle.std.specs.List.{list_any}
-use Rattle.std.proofs.lemmas.List.{take_more, take_all, map-append}
-use Rattle.request_book.specs.declared.rider.BookRider.{BookRider}
-use Rattle.request_book.specs.Keyed.{look_up}
+use Rattle.std.proofs.Common.{◌≡◌, ℕ, ◌++◌, ◌∷◌, [], Bool, eqb, get_or, map, take, refl, sym, ap, ◌∙◌, arith, is_some}
+use Rattle.request_book.proofs.Common.{list_any, take_more, map-append, BookRider, look_up}
+use Rattle.std.proofs.lemmas.List.{take_all}
 use Rattle.request_book.proofs.lemmas.KeyedLemmas.{look_up-list_any, look_up-take}
 use Rattle.request_book.proofs.running.listed_riders.Goals as goal
 

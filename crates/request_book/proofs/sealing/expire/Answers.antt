@@ -1,8 +1,5 @@
 use Rattle.std.proofs.Common.{◌+◌, drop, map, refl, sym, ap, subst, ◌∙◌, arith}
-use Rattle.request_book.specs.Keyed.{changed_at, KeysDiffer}
-use Rattle.request_book.specs.work.Keyed.{changed_in_turn}
-use Rattle.request_book.specs.Rider.{with_status}
-use Rattle.request_book.specs.declared.rider.Status.TheVariants.{Expired}
+use Rattle.request_book.proofs.Common.{changed_at, KeysDiffer, changed_in_turn, with_status, Expired}
 use Rattle.request_book.proofs.lemmas.KeyedLemmas.{KeysDiffer-changed_at, map-changed_at}
 use Rattle.request_book.proofs.lemmas.SealLemmas.{changed_in_turn-more, changed_in_turn-all}
 use Rattle.request_book.proofs.sealing.expire.Goals as goal

@@ -1,9 +1,5 @@
-use Rattle.std.proofs.Common.{◌≡◌, drop, map}
-use Rattle.std.specs.Prelude.{vec_len, vec_capacity}
-use Rattle.request_book.specs.Keyed.{KeysDiffer}
-use Rattle.request_book.specs.work.Keyed.{changed_in_turn}
-use Rattle.request_book.specs.Rider.{with_status}
-use Rattle.request_book.specs.declared.rider.Status.TheVariants.{Expired}
+use Rattle.std.proofs.Common.{◌≡◌, drop, map, vec_len, vec_capacity}
+use Rattle.request_book.proofs.Common.{KeysDiffer, changed_in_turn, with_status, Expired}
 use Rattle.request_book.proofs.sealing.expire.Given as goal
 
 abbrev pub invariant-loop-rider : goal.invariant-loop-rider

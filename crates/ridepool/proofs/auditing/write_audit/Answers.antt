@@ -1,5 +1,5 @@
 use Rattle.std.proofs.Common.{refl}
-use Rattle.ridepool.specs.work.Auditing.{IsAuditFault}
+use Rattle.ridepool.proofs.Common.{IsAuditFault}
 use Rattle.ridepool.proofs.AuditLemmas.{judged, unjudged}
 use Rattle.ridepool.proofs.auditing.write_audit.Goals as goal
 

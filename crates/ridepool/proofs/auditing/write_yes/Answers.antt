@@ -1,6 +1,5 @@
 use Rattle.std.proofs.Common.{Err, ap, ◌∙◌}
-use Rattle.ridepool.specs.Audit.{yes_text}
-use Rattle.ridepool.specs.work.Writing.{IsTextFault}
+use Rattle.ridepool.proofs.Common.{yes_text, IsTextFault}
 use Rattle.ridepool.proofs.WriteLemmas.{appends_of, nothing_of, part_as, some_yes}
 use Rattle.ridepool.proofs.auditing.write_yes.Goals as goal
 

@@ -1,7 +1,5 @@
 use Rattle.std.proofs.Common.{Err, ap, refl, sym, subst, length, map, ◌∙◌}
-use Rattle.std.proofs.lemmas.List.{length-map}
-use Rattle.rider_notices.specs.Notices.{notices}
-use Rattle.ridepool.specs.work.Writing.{IsUnput, added_by}
+use Rattle.ridepool.proofs.Common.{length-map, notices, IsUnput, added_by}
 use Rattle.ridepool.proofs.HeldLemmas.{heard_held}
 use Rattle.ridepool.proofs.WriteLemmas.{text_unwritten}
 use Rattle.ridepool.proofs.held_day.put_held.Goals as goal

@@ -1,8 +1,5 @@
-use Rattle.std.proofs.Common.{◌<◌, ◌≤◌, ◌≡◌, ◌+◌, ◌-◌, ◌^◌, min, length, refl, sym, subst, ◌∙◌, ap, arith}
-use Rattle.std.specs.Prelude.{ℕ}
-use Rattle.std.proofs.lemmas.Result.{err_from_is_err_and}
-use Rattle.request_book.specs.Book.{next_position}
-use Rattle.ridepool.specs.work.Held.{HoldsRound}
+use Rattle.std.proofs.Common.{◌<◌, ◌≤◌, ◌≡◌, ◌+◌, ◌-◌, ◌^◌, min, length, refl, sym, subst, ◌∙◌, ap, arith, ℕ}
+use Rattle.ridepool.proofs.Common.{err_from_is_err_and, next_position, HoldsRound}
 use Rattle.ridepool.proofs.HeldLemmas.{zip-at, zip-size}
 use Rattle.ridepool.proofs.WriteLemmas.{put_none, put_next, put_whole, position_next, stops_next}
 use Rattle.ridepool.proofs.held_day.write_held.Goals as goal

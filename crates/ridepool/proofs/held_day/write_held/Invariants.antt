@@ -1,13 +1,5 @@
-use Rattle.std.proofs.Common.{◌≡◌, ◌≤◌, false, length, map, take}
-use Rattle.std.specs.Prelude.{Bool, List}
-use Rattle.dispatch_engine.specs.Run.{position_after_run}
-use Rattle.rider_limits.specs.declared.settings.Settings.{Settings}
-use Rattle.rider_notices.specs.Seen.{notifier_seen}
-use Rattle.road_network.specs.Roads.{Roads}
-use Rattle.route_drive.specs.declared.day_run.DayRound.{DayRound}
-use Rattle.ridepool.specs.Report.{journals_of}
-use Rattle.ridepool.specs.work.Held.{HoldsRounds}
-use Rattle.ridepool.specs.work.Writing.{HasPut}
+use Rattle.std.proofs.Common.{◌≡◌, ◌≤◌, false, length, map, take, Bool, List}
+use Rattle.ridepool.proofs.Common.{position_after_run, Settings, notifier_seen, Roads, DayRound, journals_of, HoldsRounds, HasPut}
 use Rattle.ridepool.proofs.held_day.write_held.Given as goal
 
 abbrev pub invariant-loop-round : goal.invariant-loop-round

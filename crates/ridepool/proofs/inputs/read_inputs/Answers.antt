@@ -1,6 +1,5 @@
 use Rattle.std.proofs.Common.{refl}
-use Rattle.std.proofs.lemmas.Result.{err_from_is_err_and}
-use Rattle.ridepool.specs.Seen.{Sources, source_seen}
+use Rattle.ridepool.proofs.Common.{err_from_is_err_and, Sources, source_seen}
 use Rattle.ridepool.proofs.InputLemmas.{network_stop, fleet_stop, script_stop, stop_hides}
 use Rattle.ridepool.proofs.inputs.read_inputs.Goals as goal
 

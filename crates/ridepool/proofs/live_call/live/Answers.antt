@@ -1,5 +1,5 @@
 use Rattle.std.proofs.Common.{inl, refl}
-use Rattle.ridepool.specs.Live.{ExplainsLive}
+use Rattle.ridepool.proofs.Common.{ExplainsLive}
 use Rattle.ridepool.proofs.LiveLemmas.{answers-live, ends-hide}
 use Rattle.ridepool.proofs.live_call.live.Goals as goal
 

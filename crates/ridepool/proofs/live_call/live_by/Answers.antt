@@ -1,8 +1,5 @@
 use Rattle.std.proofs.Common.{◌≡◌, sym, ap, arith}
-use Rattle.dispatch_report.specs.Written.{SinkView, sink_seen}
-use Rattle.live_rows.specs.Lines.{Streamed}
-use Rattle.request_book.specs.Book.{BookView}
-use Rattle.ridepool.specs.Live.{LiveInputs}
+use Rattle.ridepool.proofs.Common.{SinkView, sink_seen, Streamed, BookView, LiveInputs}
 use Rattle.ridepool.proofs.LiveLemmas.{ready-live, rows-ended, stopped-as}
 use Rattle.ridepool.proofs.live_call.live_by.Goals as goal
 

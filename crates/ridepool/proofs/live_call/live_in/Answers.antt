@@ -1,5 +1,5 @@
 use Rattle.std.proofs.Common.{rules, inl, refl}
-use Rattle.ridepool.specs.Live.{EndsLive}
+use Rattle.ridepool.proofs.Common.{EndsLive}
 use Rattle.ridepool.proofs.live_call.live_in.Goals as goal
 
 pub invariant_of-setup : goal.invariant_of-setup

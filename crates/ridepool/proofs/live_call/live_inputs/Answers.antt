@@ -1,12 +1,11 @@
 use Rattle.std.proofs.Common.{map, inl, refl}
-use Rattle.pool_base.specs.declared.which.Which.TheVariants as file
+use Rattle.ridepool.proofs.Common.{LiveCall, words_of_run, source_seen}
 use Rattle.std.specs.String.{string_bytes}
-use Rattle.ridepool.specs.Live.{LiveCall, words_of_run}
-use Rattle.ridepool.specs.Seen.{source_seen}
 use Rattle.ridepool.proofs.LiveLemmas.{fleet-stops, network-stops, stop-limited, words-hide, words-stop}
 use Rattle.ridepool.proofs.ExitLemmas.{untouched_within}
 use Rattle.ridepool.proofs.InputLemmas.{stop_hides}
 use Rattle.ridepool.proofs.ReadingLemmas.{reads_within}
+use Rattle.pool_base.specs.declared.which.Which.TheVariants as file
 use Rattle.ridepool.proofs.live_call.live_inputs.Goals as goal
 
 pub returns-in-Err-clause-got : goal.returns-in-Err-clause-got

@@ -1,6 +1,5 @@
 use Rattle.std.proofs.Common.{Err, inl, refl, ap, arith}
-use Rattle.dispatch_report.specs.Written.{sink_seen}
-use Rattle.ridepool.specs.Live.{EndsLive, LiveInputs, LiveSeen}
+use Rattle.ridepool.proofs.Common.{sink_seen, EndsLive, LiveInputs, LiveSeen}
 use Rattle.ridepool.proofs.LiveLemmas.{head-stops, start-stops}
 use Rattle.ridepool.proofs.live_call.start_live.Goals as goal
 

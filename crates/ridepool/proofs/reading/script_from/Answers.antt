@@ -1,5 +1,4 @@
-use Rattle.std.proofs.lemmas.Result.{err_from_is_err_and}
-use Rattle.ridepool.specs.work.Reading.{StopsAt}
+use Rattle.ridepool.proofs.Common.{err_from_is_err_and, StopsAt}
 use Rattle.ridepool.proofs.ReadingLemmas.{script_read}
 use Rattle.ridepool.proofs.reading.script_from.Goals as goal
 

@@ -1,5 +1,5 @@
 use Rattle.std.proofs.Common.{refl}
-use Rattle.ridepool.specs.Seen.{source_seen}
+use Rattle.ridepool.proofs.Common.{source_seen}
 use Rattle.ridepool.proofs.ExitLemmas.{words_answer, input_answer, done_answer, written_answer, yes_answer, no_answer, got_is_day}
 use Rattle.ridepool.proofs.run.ridepool.Goals as goal
 

@@ -1,5 +1,5 @@
 use Rattle.std.proofs.Common.{Err, ap, refl}
-use Rattle.ridepool.specs.work.Writing.{IsUnput}
+use Rattle.ridepool.proofs.Common.{IsUnput}
 use Rattle.ridepool.proofs.WriteLemmas.{text_unwritten}
 use Rattle.ridepool.proofs.writing.put_round.Goals as goal
 

@@ -1,5 +1,5 @@
 use Rattle.std.proofs.Common.{Err, length, ap}
-use Rattle.ridepool.specs.work.Writing.{first_text, BeginsRounds, EndsRounds, day_ending}
+use Rattle.ridepool.proofs.Common.{first_text, BeginsRounds, EndsRounds, day_ending}
 use Rattle.ridepool.proofs.WriteLemmas.{behind_head, unbegun}
 use Rattle.ridepool.proofs.writing.write_day.Goals as goal
 

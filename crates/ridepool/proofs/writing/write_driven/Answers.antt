@@ -1,8 +1,7 @@
 use Rattle.std.proofs.Common.{Err, List, ap, refl, subst, sym}
+use Rattle.ridepool.proofs.Common.{HoldsRounds, BeginsRounds, EndsRounds, day_ending}
 use Rattle.dispatch_report.specs.Day.{day_end_text}
 use Rattle.ridepool.specs.declared.held_day.HeldRound.{HeldRound}
-use Rattle.ridepool.specs.work.Held.{HoldsRounds}
-use Rattle.ridepool.specs.work.Writing.{BeginsRounds, EndsRounds, day_ending}
 use Rattle.ridepool.proofs.WriteLemmas.{stops_fault, written_all, end_unwritten}
 use Rattle.ridepool.proofs.writing.write_driven.Goals as goal
 

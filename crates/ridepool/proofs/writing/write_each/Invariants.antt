@@ -1,5 +1,5 @@
 use Rattle.std.proofs.Common.{◌≤◌, map, take}
-use Rattle.rider_notices.specs.Seen.{notifier_seen}
+use Rattle.ridepool.proofs.Common.{notifier_seen}
 use Rattle.ridepool.proofs.WriteLemmas.{HasWritten}
 use Rattle.ridepool.proofs.writing.write_each.Given as goal
 

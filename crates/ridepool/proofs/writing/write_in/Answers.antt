@@ -1,4 +1,4 @@
-use Rattle.ridepool.specs.Inputs.{Inputs}
+use Rattle.ridepool.proofs.Common.{Inputs}
 use Rattle.ridepool.proofs.WriteLemmas.{nothing_written}
 use Rattle.ridepool.proofs.writing.write_in.Goals as goal
 

@@ -1,6 +1,5 @@
 use Rattle.std.proofs.Common.{refl}
-use Rattle.std.proofs.KnownBytes.{Keeps-refl}
-use Rattle.ridepool.specs.work.Writing.{IsRoundFault}
+use Rattle.ridepool.proofs.Common.{Keeps-refl, IsRoundFault}
 use Rattle.ridepool.proofs.WriteLemmas.{next_journal, wrote_round, puts_numbered, unput_numbered}
 use Rattle.ridepool.proofs.writing.write_next.Goals as goal
 

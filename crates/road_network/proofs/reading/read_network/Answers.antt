@@ -1,14 +1,8 @@
 use Rattle.std.proofs.Common.{◌≡◌, ◌+◌, ◌<◌, ◌≤◌, [], Ok, true, length, take, map, sym, ap, ◌∙◌, arith}
+use Rattle.road_network.proofs.Common.{length-map, All-more, All-same, record_at, IsArcAmong, most_nodes, most_arcs, greatest_name, longest_arc, arc_in, arc_seconds, with_row, TooManyNodes}
 use Rattle.std.specs.Result.{is_ok}
-use Rattle.std.proofs.lemmas.List.{take_all, length-map}
-use Rattle.std.proofs.lemmas.List.Elements.{All-more, All-same}
+use Rattle.std.proofs.lemmas.List.{take_all}
 use Rattle.std.proofs.lemmas.Result.{err_from_is_err_and}
-use Rattle.pool_io.specs.Table.{record_at}
-use Rattle.road_network.specs.Roads.{IsArcAmong}
-use Rattle.road_network.specs.lemmas.Limits.{most_nodes, most_arcs, greatest_name, longest_arc}
-use Rattle.road_network.specs.Reading.{arc_in, arc_seconds}
-use Rattle.road_network.specs.work.Numbering.{with_row}
-use Rattle.road_network.specs.declared.fault.NetworkFault.TheVariants.{TooManyNodes}
 use Rattle.road_network.proofs.Names.{All-with_node}
 use Rattle.road_network.proofs.Refusals.{first_refusal-next, first_refusal-field, first_refusal-nodes, first_refusal-end, network_of-refused, network_of-accepted, network_of-too_many}
 use Rattle.road_network.proofs.Sorted.{length-by_start-all}

@@ -1,8 +1,5 @@
-use Rattle.std.proofs.Common.{◌≡◌, ◌≤◌, None, length, map, take}
-use Rattle.std.specs.Prelude.{All}
-use Rattle.pool_base.specs.InOrder.{first_fault}
-use Rattle.road_network.specs.lemmas.Limits.{most_nodes, longest_arc, greatest_name}
-use Rattle.road_network.specs.Reading.{arc_in, refusal_at, nodes_of, arc_seconds}
+use Rattle.std.proofs.Common.{◌≡◌, ◌≤◌, None, length, map, take, All}
+use Rattle.road_network.proofs.Common.{first_fault, most_nodes, longest_arc, greatest_name, arc_in, refusal_at, nodes_of, arc_seconds}
 use Rattle.road_network.proofs.Numbering.{IsRowNumbered}
 use Rattle.road_network.proofs.reading.read_network.Given as goal
 

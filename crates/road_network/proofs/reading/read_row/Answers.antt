@@ -1,9 +1,5 @@
 use Rattle.std.proofs.Common.{◌≡◌, ◌^◌, ◌-◌, None, Some, true, false, nat_lt, refl, sym, arith}
-use Rattle.std.proofs.lemmas.Bool.Decides.{nat_tests}
-use Rattle.pool_base.specs.Numeral.{number_up_to}
-use Rattle.pool_io.specs.Table.{record_at, field_at}
-use Rattle.road_network.specs.lemmas.Limits.{greatest_name, longest_arc}
-use Rattle.road_network.specs.Reading.{field_refusal}
+use Rattle.road_network.proofs.Common.{nat_tests, number_up_to, record_at, field_at, greatest_name, longest_arc, field_refusal}
 use Rattle.road_network.proofs.reading.read_row.Goals as goal
 
 pub returns-in_default-clause-refused : goal.returns-in_default-clause-refused

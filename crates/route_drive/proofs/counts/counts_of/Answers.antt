@@ -1,7 +1,5 @@
-use Rattle.std.proofs.Common.{◌≡◌, ℕ, ◌<◌, ◌^◌, length, sym, ap, ◌∙◌, subst, arith}
-use Rattle.std.specs.Prelude.{List, All}
-use Rattle.request_book.specs.Consistent.{IsNode}
-use Rattle.road_network.specs.Roads.{Roads}
+use Rattle.std.proofs.Common.{◌≡◌, ℕ, ◌<◌, ◌^◌, length, sym, ap, ◌∙◌, subst, arith, List, All}
+use Rattle.route_drive.proofs.Common.{IsNode, Roads}
 use Rattle.route_drive.proofs.EntryLemmas.{counts_are}
 use Rattle.route_drive.proofs.counts.counts_of.Goals as goal
 

@@ -1,10 +1,5 @@
-use Rattle.std.proofs.Common.{◌≡◌, ◌-◌, refl, sym, subst, arith}
-use Rattle.std.specs.Prelude.{ℕ, Option, Some, None, MatchOption}
-use Rattle.request_book.specs.Consistent.{IsNode}
-use Rattle.request_book.specs.declared.rider.BookRider.{BookRider}
-use Rattle.road_network.specs.Roads.{index_in}
-use Rattle.road_network.specs.Walk.{IsTimeBetween}
-use Rattle.route_drive.specs.Counts.{ideal_dropoff}
+use Rattle.std.proofs.Common.{◌≡◌, ◌-◌, refl, sym, subst, arith, ℕ, Option, Some, None, MatchOption}
+use Rattle.route_drive.proofs.Common.{IsNode, BookRider, index_in, IsTimeBetween, ideal_dropoff}
 use Rattle.route_drive.proofs.EntryLemmas.{found_rider}
 use Rattle.route_drive.proofs.counts.delay_of.Goals as goal
 

@@ -1,7 +1,5 @@
-use Rattle.std.proofs.Common.{◌<◌, ◌≤◌, length, subst, arith}
-use Rattle.std.specs.Prelude.{List}
-use Rattle.request_book.specs.declared.journal.Entry.{Entry}
-use Rattle.route_drive.specs.work.Counting.{AddsServed}
+use Rattle.std.proofs.Common.{◌<◌, ◌≤◌, length, subst, arith, List}
+use Rattle.route_drive.proofs.Common.{Entry, AddsServed}
 use Rattle.route_drive.proofs.EnterLemmas.{take_all}
 use Rattle.route_drive.proofs.EntryLemmas.{adds_none, adds_more}
 use Rattle.route_drive.proofs.counts.note_entries.Goals as goal

@@ -1,5 +1,5 @@
 use Rattle.std.proofs.Common.{take}
-use Rattle.route_drive.specs.work.Counting.{AddsServed}
+use Rattle.route_drive.proofs.Common.{AddsServed}
 use Rattle.route_drive.proofs.counts.note_entries.Given as goal
 
 abbrev pub invariant-loop-entry : goal.invariant-loop-entry

@@ -1,6 +1,5 @@
 use Rattle.std.proofs.Common.{◌≡◌, ◌<◌, length, slice_index, nat_eq, sym, ◌∙◌, arith}
-use Rattle.std.proofs.lemmas.List.{get_or_read}
-use Rattle.road_network.specs.Roads.{index_in}
+use Rattle.route_drive.proofs.Common.{get_or_read, index_in}
 use Rattle.route_drive.proofs.EntryLemmas.{node_known}
 use Rattle.route_drive.proofs.TreeLemmas.{position-is}
 use Rattle.route_drive.proofs.counts.seconds_between.Goals as goal

@@ -1,8 +1,5 @@
-use Rattle.std.proofs.Common.{◌≡◌, ◌-◌, ap, sym, ◌∙◌, arith}
-use Rattle.std.specs.Prelude.{Option}
-use Rattle.std.specs.Option.{option_map_or}
-use Rattle.request_book.specs.declared.rider.BookRider.{BookRider}
-use Rattle.route_drive.specs.work.Counting.{waited}
+use Rattle.std.proofs.Common.{◌≡◌, ◌-◌, ap, sym, ◌∙◌, arith, Option}
+use Rattle.route_drive.proofs.Common.{option_map_or, BookRider, waited}
 use Rattle.route_drive.proofs.counts.wait_of.Goals as goal
 
 pub returns-in-Some : goal.returns-in-Some

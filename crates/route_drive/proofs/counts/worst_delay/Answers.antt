@@ -1,10 +1,5 @@
-use Rattle.std.proofs.Common.{◌≡◌, ◌+◌, ◌<◌, ◌≤◌, ◌∷◌, [], ◌++◌, max, length, take, refl, sym, ap, ◌∙◌, subst, arith}
-use Rattle.std.specs.Prelude.{List, ℕ}
-use Rattle.std.specs.List.{AllZip}
-use Rattle.std.proofs.lemmas.List.{take_more}
-use Rattle.stop_orders.specs.Settled.{greatest}
-use Rattle.route_drive.specs.declared.counts.ServedRider.{ServedRider}
-use Rattle.route_drive.specs.work.Counting.{IsDelayed}
+use Rattle.std.proofs.Common.{◌≡◌, ◌+◌, ◌<◌, ◌≤◌, ◌∷◌, [], ◌++◌, max, length, take, refl, sym, ap, ◌∙◌, subst, arith, List, ℕ}
+use Rattle.route_drive.proofs.Common.{AllZip, take_more, greatest, ServedRider, IsDelayed}
 use Rattle.route_drive.proofs.EnterLemmas.{take_all}
 use Rattle.route_drive.proofs.EntryLemmas.{greatest-push, zip-push}
 use Rattle.route_drive.proofs.counts.worst_delay.Goals as goal

@@ -1,8 +1,5 @@
-use Rattle.std.proofs.Common.{◌≡◌, take}
-use Rattle.std.specs.Prelude.{List, ℕ}
-use Rattle.std.specs.List.{AllZip}
-use Rattle.stop_orders.specs.Settled.{greatest}
-use Rattle.route_drive.specs.work.Counting.{IsDelayed}
+use Rattle.std.proofs.Common.{◌≡◌, take, List, ℕ}
+use Rattle.route_drive.proofs.Common.{AllZip, greatest, IsDelayed}
 use Rattle.route_drive.proofs.counts.worst_delay.Given as goal
 
 abbrev pub invariant-loop-served : goal.invariant-loop-served

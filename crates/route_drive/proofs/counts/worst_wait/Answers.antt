@@ -1,8 +1,5 @@
-use Rattle.std.proofs.Common.{◌≡◌, ◌<◌, ◌≤◌, max, length, map, take, sym, ap, ◌∙◌, arith}
-use Rattle.std.specs.Prelude.{List, ℕ}
-use Rattle.stop_orders.specs.Settled.{greatest}
-use Rattle.route_drive.specs.declared.counts.ServedRider.{ServedRider}
-use Rattle.route_drive.specs.work.Counting.{waited}
+use Rattle.std.proofs.Common.{◌≡◌, ◌<◌, ◌≤◌, max, length, map, take, sym, ap, ◌∙◌, arith, List, ℕ}
+use Rattle.route_drive.proofs.Common.{greatest, ServedRider, waited}
 use Rattle.route_drive.proofs.EnterLemmas.{take_all}
 use Rattle.route_drive.proofs.EntryLemmas.{greatest_more}
 use Rattle.route_drive.proofs.counts.worst_wait.Goals as goal

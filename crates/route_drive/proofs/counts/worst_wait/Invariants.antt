@@ -1,6 +1,5 @@
 use Rattle.std.proofs.Common.{◌≡◌, map, take}
-use Rattle.stop_orders.specs.Settled.{greatest}
-use Rattle.route_drive.specs.work.Counting.{waited}
+use Rattle.route_drive.proofs.Common.{greatest, waited}
 use Rattle.route_drive.proofs.counts.worst_wait.Given as goal
 
 abbrev pub invariant-loop-served : goal.invariant-loop-served

@@ -1,6 +1,5 @@
 use Rattle.std.proofs.Common.{◌≡◌, ◌<◌, length, Some, None, rules, arith}
-use Rattle.pool_base.proofs.lemmas.InOrderLemmas.{first_fault-some, first_fault-none}
-use Rattle.route_drive.specs.Day.{lane_fault}
+use Rattle.route_drive.proofs.Common.{first_fault-some, first_fault-none, lane_fault}
 use Rattle.route_drive.proofs.day.check_lanes.Goals as goal
 
 pub returns-then-has_foreign : goal.returns-then-has_foreign

@@ -1,6 +1,5 @@
 use Rattle.std.proofs.Common.{◌≡◌, None}
-use Rattle.pool_base.specs.InOrder.{first_fault}
-use Rattle.route_drive.specs.Day.{lane_fault}
+use Rattle.route_drive.proofs.Common.{first_fault, lane_fault}
 use Rattle.route_drive.proofs.day.check_lanes.Given as goal
 
 abbrev pub invariant-loop-lane : goal.invariant-loop-lane

@@ -1,6 +1,5 @@
 use Rattle.std.proofs.Common.{◌<◌, length, ◌∙◌, arith}
-use Rattle.pool_base.proofs.lemmas.InOrderLemmas.{first_fault-some, first_fault-none}
-use Rattle.route_drive.specs.work.Drive.{fault_at}
+use Rattle.route_drive.proofs.Common.{first_fault-some, first_fault-none, fault_at}
 use Rattle.route_drive.proofs.DayLemmas.{fault_here, latest-more}
 use Rattle.route_drive.proofs.day.is_day.Goals as goal
 

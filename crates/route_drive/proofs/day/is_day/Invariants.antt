@@ -1,7 +1,5 @@
 use Rattle.std.proofs.Common.{◌≡◌, take, None}
-use Rattle.pool_base.specs.InOrder.{first_fault}
-use Rattle.route_drive.specs.Day.{latest_seal}
-use Rattle.route_drive.specs.work.Drive.{fault_at}
+use Rattle.route_drive.proofs.Common.{first_fault, latest_seal, fault_at}
 use Rattle.route_drive.proofs.day.is_day.Given as goal
 
 abbrev pub invariant-loop-round : goal.invariant-loop-round

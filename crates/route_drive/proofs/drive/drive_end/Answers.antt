@@ -1,8 +1,6 @@
-use Rattle.std.proofs.Common.{◌≡◌, ◌+◌, ◌<◌, length, subst, arith, ap, ◌∙◌}
+use Rattle.std.proofs.Common.{◌≡◌, ◌+◌, ◌<◌, length, subst, arith, ap, ◌∙◌, ℕ}
+use Rattle.route_drive.proofs.Common.{number_after, IsLastLate}
 use Rattle.std.proofs.lemmas.Grind.{common_steps}
-use Rattle.std.specs.Prelude.{ℕ}
-use Rattle.route_drive.specs.Driven.{number_after}
-use Rattle.route_drive.specs.work.Drive.{IsLastLate}
 use Rattle.route_drive.proofs.DriveLemmas.{end_of, if_err_map, if_ok_map, number_after_is}
 use Rattle.route_drive.proofs.drive.drive_end.Goals as goal
 

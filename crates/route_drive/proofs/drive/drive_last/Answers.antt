@@ -1,7 +1,5 @@
 use Rattle.std.proofs.Common.{◌≡◌, Err, ap, sym, subst}
-use Rattle.route_drive.specs.declared.day_run.DriveFault.{DriveFault}
-use Rattle.route_drive.specs.declared.day_run.DriveFault.TheVariants.{OutOfMemory}
-use Rattle.route_drive.specs.work.Drive.{IsLastLate}
+use Rattle.route_drive.proofs.Common.{DriveFault, OutOfMemory, IsLastLate}
 use Rattle.route_drive.proofs.DriveLemmas.{if_err_map, stopped_last}
 use Rattle.route_drive.proofs.drive.drive_last.Goals as goal
 

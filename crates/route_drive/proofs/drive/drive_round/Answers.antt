@@ -1,7 +1,5 @@
 use Rattle.std.proofs.Common.{◌≡◌, ℕ, Err, Some, ap, sym, subst}
-use Rattle.route_drive.specs.declared.day_run.DriveFault.{DriveFault}
-use Rattle.route_drive.specs.declared.day_run.DriveFault.TheVariants.{OutOfMemory}
-use Rattle.route_drive.specs.work.Drive.{IsRoundLate}
+use Rattle.route_drive.proofs.Common.{DriveFault, OutOfMemory, IsRoundLate}
 use Rattle.route_drive.proofs.DriveLemmas.{if_err_map, stopped_late}
 use Rattle.route_drive.proofs.drive.drive_round.Goals as goal
 

@@ -1,7 +1,5 @@
 use Rattle.std.proofs.Common.{◌≡◌, ◌<◌, ◌≤◌, ◌∷◌, [], ◌++◌, length, take, drop, suc, ◌+◌, sym, ap, ◌∙◌, subst, arith, List}
-use Rattle.std.proofs.lemmas.List.{take_more}
-use Rattle.script_rows.specs.Round.{NumberedLanes}
-use Rattle.route_drive.specs.work.Drive.{HasCome}
+use Rattle.route_drive.proofs.Common.{take_more, NumberedLanes, HasCome}
 use Rattle.route_drive.proofs.EnterLemmas.{take_all}
 use Rattle.route_drive.proofs.DriveLemmas.{come_none, come_more, round_late, rounds_at}
 use Rattle.route_drive.proofs.drive.drive_rounds.Goals as goal

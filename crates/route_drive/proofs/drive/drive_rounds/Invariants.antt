@@ -1,5 +1,5 @@
 use Rattle.std.proofs.Common.{take}
-use Rattle.route_drive.specs.work.Drive.{HasCome}
+use Rattle.route_drive.proofs.Common.{HasCome}
 use Rattle.route_drive.proofs.drive.drive_rounds.Given as goal
 
 abbrev pub invariant-loop-round : goal.invariant-loop-round

@@ -1,7 +1,5 @@
 use Rattle.std.proofs.Common.{List, subst}
-use Rattle.script_rows.specs.Round.{NumberedLanes}
-use Rattle.route_drive.specs.Driven.{IsLateAnswer}
-use Rattle.route_drive.specs.work.Drive.{IsCounted}
+use Rattle.route_drive.proofs.Common.{NumberedLanes, IsLateAnswer, IsCounted}
 use Rattle.route_drive.proofs.DriveLemmas.{day_ends, end_late, if_ok_map}
 use Rattle.route_drive.proofs.drive.driven_day.Goals as goal
 

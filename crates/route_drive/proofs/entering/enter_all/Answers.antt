@@ -1,4 +1,4 @@
-use Rattle.route_drive.specs.work.Places.{told_by}
+use Rattle.route_drive.proofs.Common.{told_by}
 use Rattle.route_drive.proofs.EnterLemmas.{on_ok_both, placed_entered, placed_late, placed-size}
 use Rattle.route_drive.proofs.entering.enter_all.Goals as goal
 

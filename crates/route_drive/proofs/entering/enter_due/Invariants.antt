@@ -1,6 +1,5 @@
 use Rattle.std.proofs.Common.{map, take}
-use Rattle.route_drive.specs.Entering.{due, stop_command}
-use Rattle.route_drive.specs.work.Rounds.{Adds}
+use Rattle.route_drive.proofs.Common.{due, stop_command, Adds}
 use Rattle.route_drive.proofs.entering.enter_due.Given as goal
 
 abbrev pub invariant-loop-stop : goal.invariant-loop-stop

@@ -1,7 +1,5 @@
 use Rattle.std.proofs.Common.{◌<◌, length, take, arith, sym}
-use Rattle.std.proofs.lemmas.List.Elements.{All-append}
-use Rattle.route_drive.specs.Entering.{IsInTime}
-use Rattle.route_drive.specs.work.Places.{told_by, told_of}
+use Rattle.route_drive.proofs.Common.{All-append, IsInTime, told_by, told_of}
 use Rattle.route_drive.proofs.EnterLemmas.{told-more, Adds-trans}
 use Rattle.route_drive.proofs.entering.enter_places.Goals as goal
 

@@ -1,8 +1,6 @@
 use Rattle.std.proofs.Common.{take}
+use Rattle.route_drive.proofs.Common.{IsInTime, told_by, Adds}
 use Rattle.std.specs.List.{All}
-use Rattle.route_drive.specs.Entering.{IsInTime}
-use Rattle.route_drive.specs.work.Places.{told_by}
-use Rattle.route_drive.specs.work.Rounds.{Adds}
 use Rattle.route_drive.proofs.entering.enter_places.Given as goal
 
 abbrev pub invariant-loop-k : goal.invariant-loop-k

@@ -1,5 +1,5 @@
 use Rattle.std.proofs.Common.{◌≡◌, drop}
-use Rattle.route_drive.specs.work.Drive.{step_from}
+use Rattle.route_drive.proofs.Common.{step_from}
 use Rattle.route_drive.proofs.places.first_step.Given as goal
 
 abbrev pub invariant-loop-step : goal.invariant-loop-step

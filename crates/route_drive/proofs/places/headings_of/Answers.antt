@@ -1,7 +1,6 @@
-use Rattle.std.proofs.Common.{◌<◌, ◌∷◌, [], ◌++◌, length, take, ap, ◌∙◌, sym, arith}
-use Rattle.std.specs.Prelude.{List}
+use Rattle.std.proofs.Common.{◌<◌, ◌∷◌, [], ◌++◌, length, take, ap, ◌∙◌, sym, arith, List}
+use Rattle.route_drive.proofs.Common.{headings_of}
 use Rattle.route_drive.specs.declared.course.Heading.{Heading}
-use Rattle.route_drive.specs.work.Places.{headings_of}
 use Rattle.route_drive.proofs.EnterLemmas.{headings-more}
 use Rattle.route_drive.proofs.places.headings_of.Goals as goal
 

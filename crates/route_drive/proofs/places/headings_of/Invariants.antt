@@ -1,5 +1,5 @@
 use Rattle.std.proofs.Common.{◌≡◌, take}
-use Rattle.route_drive.specs.work.Places.{headings_of}
+use Rattle.route_drive.proofs.Common.{headings_of}
 use Rattle.route_drive.proofs.places.headings_of.Given as goal
 
 abbrev pub invariant-loop-k : goal.invariant-loop-k

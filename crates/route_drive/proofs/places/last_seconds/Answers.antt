@@ -1,7 +1,5 @@
 use Rattle.std.proofs.Common.{◌≤◌, ◌<◌, length, get_or, take, sym, ap, ◌∙◌, arith}
-use Rattle.std.proofs.lemmas.List.{take_more}
-use Rattle.route_drive.specs.declared.walk.WalkStep.{WalkStep}
-use Rattle.route_drive.specs.Entering.{walk_end}
+use Rattle.route_drive.proofs.Common.{take_more, WalkStep, walk_end}
 use Rattle.route_drive.proofs.EnterLemmas.{take_all, walk_end-push}
 use Rattle.route_drive.proofs.places.last_seconds.Goals as goal
 

@@ -1,5 +1,5 @@
 use Rattle.std.proofs.Common.{◌≡◌, take}
-use Rattle.route_drive.specs.Entering.{walk_end}
+use Rattle.route_drive.proofs.Common.{walk_end}
 use Rattle.route_drive.proofs.places.last_seconds.Given as goal
 
 abbrev pub invariant-loop-step : goal.invariant-loop-step

@@ -1,5 +1,5 @@
 use Rattle.std.proofs.Common.{◌<◌, ◌+◌, arith}
-use Rattle.route_drive.specs.Entering.{walk_end}
+use Rattle.route_drive.proofs.Common.{walk_end}
 use Rattle.route_drive.proofs.EnterLemmas.{step_there}
 use Rattle.route_drive.proofs.places.on_walk.Goals as goal
 

@@ -1,8 +1,5 @@
 use Rattle.std.proofs.Common.{◌≡◌, ℕ, ◌≤◌, ◌+◌, max, inl, inr, ap, arith}
-use Rattle.std.proofs.lemmas.Bool.{cases_lt}
-use Rattle.route_drive.specs.declared.course.NodeAt.{NodeAt}
-use Rattle.route_drive.specs.Walk.{IsShortestWalk}
-use Rattle.route_drive.specs.Entering.{is_cut_off, walks, arrived, walk_end}
+use Rattle.route_drive.proofs.Common.{cases_lt, NodeAt, IsShortestWalk, is_cut_off, walks, arrived, walk_end}
 use Rattle.route_drive.proofs.places.reported.Goals as goal
 
 pub returns-in_default-2 : goal.returns-in_default-2

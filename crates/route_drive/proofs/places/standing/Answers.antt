@@ -1,12 +1,9 @@
 use Rattle.std.proofs.Common.{◌≡◌, ◌<◌, ◌+◌, length, get_or, leb, true, false, take, sym, ap, ◌∙◌, arith}
+use Rattle.route_drive.proofs.Common.{PlannedStop, Stay, due, standing_after, reported_place}
 use Rattle.std.proofs.lemmas.Bool.{le-leb}
-use Rattle.request_book.specs.declared.outcome.PlannedStop.{PlannedStop}
-use Rattle.route_drive.specs.declared.course.Stay.{Stay}
-use Rattle.route_drive.specs.Entering.{due, standing_after}
-use Rattle.route_drive.specs.work.Drive.{reported_place}
 use Rattle.route_drive.proofs.EnterLemmas.{filter_more, filter_same, lt-leb, standing-push}
-use Rattle.route_drive.proofs.places.standing.Goals as goal
 use Rattle.route_drive.proofs.places.standing.Goals.{then-stop-now, else-stop-now}
+use Rattle.route_drive.proofs.places.standing.Goals as goal
 
 pub loop-stop-preserved : goal.loop-stop-preserved
 loop-stop-preserved c =

@@ -1,7 +1,5 @@
 use Rattle.std.proofs.Common.{◌≡◌, ◌≤◌, ◌+◌, take}
-use Rattle.pool_base.specs.TravelTime.{longest}
-use Rattle.route_drive.specs.Entering.{due, standing_after}
-use Rattle.route_drive.specs.work.Drive.{reported_place}
+use Rattle.route_drive.proofs.Common.{longest, due, standing_after, reported_place}
 use Rattle.route_drive.proofs.places.standing.Given as goal
 
 abbrev pub invariant-loop-stop : goal.invariant-loop-stop

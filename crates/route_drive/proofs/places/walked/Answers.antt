@@ -1,6 +1,5 @@
-use Rattle.std.proofs.Common.{ap, ◌∙◌}
-use Rattle.std.specs.Prelude.{IfOk}
-use Rattle.std.specs.List.{AllZip}
+use Rattle.std.proofs.Common.{ap, ◌∙◌, IfOk}
+use Rattle.route_drive.proofs.Common.{AllZip}
 use Rattle.rayon.proofs.ListFacts.{AllZip-weaken}
 use Rattle.rayon.proofs.ToStd.{slice-AllZip}
 use Rattle.pool_base.specs.declared.memory.OutOfMemory.{OutOfMemory}

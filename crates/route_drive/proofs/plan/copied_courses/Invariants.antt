@@ -1,5 +1,5 @@
 use Rattle.std.proofs.Common.{◌≡◌, None, map, take}
-use Rattle.route_drive.specs.Driven.{left_course}
+use Rattle.route_drive.proofs.Common.{left_course}
 use Rattle.route_drive.proofs.plan.copied_courses.Given as goal
 
 abbrev pub invariant-loop-course : goal.invariant-loop-course

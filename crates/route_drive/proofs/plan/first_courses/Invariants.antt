@@ -1,5 +1,5 @@
 use Rattle.std.proofs.Common.{◌≡◌, map, take}
-use Rattle.route_drive.specs.work.Drive.{at_rest}
+use Rattle.route_drive.proofs.Common.{at_rest}
 use Rattle.route_drive.proofs.plan.first_courses.Given as goal
 
 abbrev pub invariant-loop-vehicle : goal.invariant-loop-vehicle

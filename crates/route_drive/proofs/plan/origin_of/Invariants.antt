@@ -1,6 +1,5 @@
-use Rattle.std.proofs.Common.{◌≡◌, drop}
-use Rattle.std.specs.Prelude.{find, ◌==◌}
-use Rattle.request_book.specs.declared.rider.BookRider.{BookRider}
+use Rattle.std.proofs.Common.{◌≡◌, drop, find, ◌==◌}
+use Rattle.route_drive.proofs.Common.{BookRider}
 use Rattle.route_drive.proofs.plan.origin_of.Given as goal
 
 abbrev pub invariant-loop-found : goal.invariant-loop-found

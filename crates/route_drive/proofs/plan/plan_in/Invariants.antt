@@ -1,5 +1,5 @@
 use Rattle.std.proofs.Common.{◌≡◌, drop}
-use Rattle.route_drive.specs.Driven.{plan_in}
+use Rattle.route_drive.proofs.Common.{plan_in}
 use Rattle.route_drive.proofs.plan.plan_in.Given as goal
 
 abbrev pub invariant-loop-entry : goal.invariant-loop-entry

@@ -1,5 +1,5 @@
 use Rattle.std.proofs.Common.{refl}
-use Rattle.request_book.specs.Keyed.{look_up}
+use Rattle.route_drive.proofs.Common.{look_up}
 use Rattle.route_drive.proofs.plan.planned_course.Goals as goal
 
 pub returns : goal.returns

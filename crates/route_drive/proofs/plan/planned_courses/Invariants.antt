@@ -1,5 +1,5 @@
 use Rattle.std.proofs.Common.{◌≡◌, map, take}
-use Rattle.route_drive.specs.Driven.{planned_course}
+use Rattle.route_drive.proofs.Common.{planned_course}
 use Rattle.route_drive.proofs.plan.planned_courses.Given as goal
 
 abbrev pub invariant-loop-vehicle : goal.invariant-loop-vehicle

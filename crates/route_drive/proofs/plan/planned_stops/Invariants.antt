@@ -1,6 +1,5 @@
-use Rattle.std.proofs.Common.{◌≡◌, drop}
-use Rattle.std.specs.Prelude.{find, ◌==◌}
-use Rattle.request_book.specs.declared.outcome.ChosenTrip.{ChosenTrip}
+use Rattle.std.proofs.Common.{◌≡◌, drop, find, ◌==◌}
+use Rattle.route_drive.proofs.Common.{ChosenTrip}
 use Rattle.route_drive.proofs.plan.planned_stops.Given as goal
 
 abbrev pub invariant-loop-trip : goal.invariant-loop-trip

@@ -1,7 +1,5 @@
-use Rattle.std.proofs.Common.{◌≡◌, ◌<◌, true, List, length, get_or, Some, sym, ap, ◌∙◌, subst, arith}
-use Rattle.std.specs.Prelude.{◌==◌, find, option_and_then, option_map}
-use Rattle.request_book.specs.declared.outcome.MoveLine.{MoveLine}
-use Rattle.request_book.specs.declared.rider.BookRider.{BookRider}
+use Rattle.std.proofs.Common.{◌≡◌, ◌<◌, true, List, length, get_or, Some, sym, ap, ◌∙◌, subst, arith, ◌==◌, find, option_and_then, option_map}
+use Rattle.route_drive.proofs.Common.{MoveLine, BookRider}
 use Rattle.route_drive.proofs.EnterLemmas.{find_hit}
 use Rattle.route_drive.proofs.plan.planned_target.Goals as goal
 

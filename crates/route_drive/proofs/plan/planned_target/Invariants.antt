@@ -1,6 +1,5 @@
-use Rattle.std.proofs.Common.{◌≡◌, drop}
-use Rattle.std.specs.Prelude.{find, ◌==◌}
-use Rattle.request_book.specs.declared.outcome.MoveLine.{MoveLine}
+use Rattle.std.proofs.Common.{◌≡◌, drop, find, ◌==◌}
+use Rattle.route_drive.proofs.Common.{MoveLine}
 use Rattle.route_drive.proofs.plan.planned_target.Given as goal
 
 abbrev pub invariant-loop-line : goal.invariant-loop-line

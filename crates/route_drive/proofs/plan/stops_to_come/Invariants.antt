@@ -1,5 +1,5 @@
 use Rattle.std.proofs.Common.{◌≡◌, ◌≤◌, length, take}
-use Rattle.route_drive.specs.Entering.{to_come}
+use Rattle.route_drive.proofs.Common.{to_come}
 use Rattle.route_drive.proofs.plan.stops_to_come.Given as goal
 
 abbrev pub invariant-loop-stop : goal.invariant-loop-stop

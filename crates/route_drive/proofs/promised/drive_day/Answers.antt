@@ -1,8 +1,5 @@
-use Rattle.std.proofs.Common.{subst}
-use Rattle.std.specs.Prelude.{All}
-use Rattle.script_rows.specs.Round.{IsRound}
-use Rattle.route_drive.specs.Counts.{entries_of}
-use Rattle.route_drive.specs.Promises.{EntriesKeep}
+use Rattle.std.proofs.Common.{subst, All}
+use Rattle.route_drive.proofs.Common.{IsRound, entries_of, EntriesKeep}
 use Rattle.route_drive.proofs.DriveLemmas.{if_ok_map}
 use Rattle.route_drive.proofs.WorstLemmas.{day_in_time}
 use Rattle.route_drive.proofs.kept.Promised.{new_book_keeps}

@@ -1,5 +1,5 @@
 use Rattle.std.proofs.Common.{ℕ, ◌<◌, slice_index_or}
-use Rattle.script_rows.specs.Round.{IsRound, NumberedLanes}
+use Rattle.route_drive.proofs.Common.{IsRound, NumberedLanes}
 use Rattle.route_drive.proofs.promised.rounds_hold.Given as goal
 
 abbrev pub invariant-loop-round : goal.invariant-loop-round

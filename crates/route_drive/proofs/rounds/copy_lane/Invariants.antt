@@ -1,5 +1,5 @@
 use Rattle.std.proofs.Common.{take}
-use Rattle.route_drive.specs.work.Rounds.{Adds}
+use Rattle.route_drive.proofs.Common.{Adds}
 use Rattle.route_drive.proofs.rounds.copy_lane.Given as goal
 
 abbrev pub invariant-loop-command : goal.invariant-loop-command

@@ -1,5 +1,5 @@
 use Rattle.std.proofs.Common.{◌≡◌, ℕ, ◌<◌, ◌≤◌, ◌++◌, length}
-use Rattle.script_rows.specs.Round.{lane_at}
+use Rattle.route_drive.proofs.Common.{lane_at}
 use Rattle.route_drive.proofs.rounds.copy_lanes.Given as goal
 
 abbrev pub invariant-loop-lane : goal.invariant-loop-lane

@@ -1,7 +1,5 @@
 use Rattle.std.proofs.Common.{◌<◌, length, inl, inr, arith}
-use Rattle.std.proofs.lemmas.Bool.{cases_lt, false≢true}
-use Rattle.pool_base.specs.TravelTime.{longest}
-use Rattle.route_drive.specs.Entering.{IsTooLate, stop_command}
+use Rattle.route_drive.proofs.Common.{cases_lt, false≢true, longest, IsTooLate, stop_command}
 use Rattle.route_drive.proofs.EnterLemmas.{any_mapped, late_stop}
 use Rattle.route_drive.proofs.rounds.enter_left.Goals as goal
 

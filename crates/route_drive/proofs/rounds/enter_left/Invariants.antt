@@ -1,7 +1,6 @@
 use Rattle.std.proofs.Common.{map, take}
+use Rattle.route_drive.proofs.Common.{IsInTime, stop_command, Adds}
 use Rattle.std.specs.List.{All}
-use Rattle.route_drive.specs.Entering.{IsInTime, stop_command}
-use Rattle.route_drive.specs.work.Rounds.{Adds}
 use Rattle.route_drive.proofs.rounds.enter_left.Given as goal
 
 abbrev pub invariant-loop-stop : goal.invariant-loop-stop

@@ -1,7 +1,6 @@
 use Rattle.std.proofs.Common.{◌≡◌, ◌<◌, Err, length, map, take, ap, arith}
-use Rattle.std.proofs.lemmas.List.Elements.{All-append}
+use Rattle.route_drive.proofs.Common.{All-append, IsInTime, IsTooLate, left_commands, stop_command}
 use Rattle.route_drive.specs.declared.entering.Stopped.TheVariants.{TooLate}
-use Rattle.route_drive.specs.Entering.{IsInTime, IsTooLate, left_commands, stop_command}
 use Rattle.route_drive.proofs.EnterLemmas.{Adds-trans, left_late, left-more}
 use Rattle.route_drive.proofs.rounds.last_round.Goals as goal
 

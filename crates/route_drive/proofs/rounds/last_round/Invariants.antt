@@ -1,7 +1,6 @@
 use Rattle.std.proofs.Common.{take}
+use Rattle.route_drive.proofs.Common.{IsInTime, left_commands, Adds}
 use Rattle.std.specs.List.{All}
-use Rattle.route_drive.specs.Entering.{IsInTime, left_commands}
-use Rattle.route_drive.specs.work.Rounds.{Adds}
 use Rattle.route_drive.proofs.rounds.last_round.Given as goal
 
 abbrev pub invariant-loop-k : goal.invariant-loop-k

@@ -1,9 +1,6 @@
 use Rattle.std.proofs.Common.{◌≡◌, ℕ, ◌<◌, ◌≤◌, length, map, slice_index, get_or, set, true, false, sym, ap, ◌∙◌, arith, rules}
-use Rattle.std.proofs.lemmas.List.{get_or_read, get_or-set_same}
-use Rattle.road_network.specs.declared.hop.Hop.{Hop}
-use Rattle.road_network.specs.Roads.{hop_of, leaving}
-use Rattle.route_drive.specs.declared.tree.Found.{Found}
-use Rattle.route_drive.specs.work.Tree.{no_found, found_at, is_seen, AreHopsOpened}
+use Rattle.route_drive.proofs.Common.{get_or_read, Hop, hop_of, leaving, Found, no_found, found_at, is_seen, AreHopsOpened}
+use Rattle.std.proofs.lemmas.List.{get_or-set_same}
 use Rattle.route_drive.proofs.TreeLemmas.{IsTree-mark, Grows-mark, Grows-none, AreHopsOpened-more, IsOpened-all, IsTight-hop, hop_among}
 use Rattle.route_drive.proofs.tree.open.Goals.{then-there-most+then-here-hop+then-not-index+in_ok-mark, else-there-most, else-there-most-via-then-there-most+then-here-hop+else-not-index, else-there-most-via-then-there-most+else-here-hop, else-there-most-via-else-there-most}
 use Rattle.route_drive.proofs.tree.open.Goals as goal

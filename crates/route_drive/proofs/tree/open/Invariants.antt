@@ -1,4 +1,4 @@
-use Rattle.route_drive.specs.work.Tree.{AreHopsOpened, Grows, IsTree}
+use Rattle.route_drive.proofs.Common.{AreHopsOpened, Grows, IsTree}
 use Rattle.route_drive.proofs.tree.open.Given as goal
 
 abbrev pub invariant-loop-hop : goal.invariant-loop-hop

@@ -1,5 +1,5 @@
 use Rattle.std.proofs.Common.{◌≡◌, ◌<◌, ◌≤◌, length, slice_index, arith}
-use Rattle.pool_base.specs.TravelTime.{never}
+use Rattle.route_drive.proofs.Common.{never}
 use Rattle.route_drive.proofs.TreeLemmas.{IsGrowing-start, IsGrowing-more, start_is_near, is_found}
 use Rattle.route_drive.proofs.tree.shortest_tree.Goals as goal
 

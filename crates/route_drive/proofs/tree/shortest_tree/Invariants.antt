@@ -1,5 +1,5 @@
 use Rattle.std.proofs.Common.{◌-◌, length}
-use Rattle.route_drive.specs.work.Tree.{IsGrowing}
+use Rattle.route_drive.proofs.Common.{IsGrowing}
 use Rattle.route_drive.proofs.tree.shortest_tree.Given as goal
 
 abbrev pub invariant-loop-next : goal.invariant-loop-next

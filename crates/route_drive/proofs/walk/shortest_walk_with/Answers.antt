@@ -1,5 +1,5 @@
 use Rattle.std.proofs.Common.{◌≡◌, ◌<◌, length, nat_eq, sym, ◌∙◌}
-use Rattle.road_network.specs.Roads.{index_in}
+use Rattle.route_drive.proofs.Common.{index_in}
 use Rattle.route_drive.proofs.TreeLemmas.{walk_told, position-is}
 use Rattle.route_drive.proofs.walk.shortest_walk_with.Goals as goal
 

@@ -1,6 +1,5 @@
 use Rattle.std.proofs.Common.{◌≡◌, ◌<◌, length, arith}
-use Rattle.std.proofs.lemmas.List.{get_or_read}
-use Rattle.route_drive.specs.work.Tree.{no_found, found_at}
+use Rattle.route_drive.proofs.Common.{get_or_read, no_found, found_at}
 use Rattle.route_drive.proofs.TreeLemmas.{IsWalkBack-more, reverse-push}
 use Rattle.route_drive.proofs.walk.steps_to.Goals as goal
 

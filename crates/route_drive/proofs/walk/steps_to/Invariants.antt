@@ -1,5 +1,5 @@
 use Rattle.std.proofs.Common.{◌<◌, length, reverse}
-use Rattle.route_drive.specs.work.Tree.{IsWalkBack, found_at}
+use Rattle.route_drive.proofs.Common.{IsWalkBack, found_at}
 use Rattle.route_drive.proofs.walk.steps_to.Given as goal
 
 abbrev pub invariant-loop-at : goal.invariant-loop-at

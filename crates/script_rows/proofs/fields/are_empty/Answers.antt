@@ -1,7 +1,5 @@
 use Rattle.std.proofs.Common.{◌≡◌, ◌+◌, ◌-◌, ◌&&◌, true, length, eqb, sym, ap, ◌∙◌}
-use Rattle.std.specs.List.{list_all, range_with_len}
-use Rattle.pool_io.specs.Table.{record_at}
-use Rattle.script_rows.specs.work.Words.{is_empty_in}
+use Rattle.script_rows.proofs.Common.{list_all, range_with_len, record_at, is_empty_in}
 use Rattle.script_rows.proofs.RangeLemmas.{range_with_len-first}
 use Rattle.script_rows.proofs.fields.are_empty.Goals as goal
 

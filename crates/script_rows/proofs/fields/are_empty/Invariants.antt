@@ -1,7 +1,5 @@
 use Rattle.std.proofs.Common.{◌≡◌, ◌-◌}
-use Rattle.std.specs.List.{list_all, range_with_len}
-use Rattle.pool_io.specs.Table.{record_at}
-use Rattle.script_rows.specs.work.Words.{is_empty_in}
+use Rattle.script_rows.proofs.Common.{list_all, range_with_len, record_at, is_empty_in}
 use Rattle.script_rows.proofs.fields.are_empty.Given as goal
 
 abbrev pub invariant-loop-column : goal.invariant-loop-column

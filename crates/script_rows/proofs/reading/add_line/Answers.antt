@@ -1,6 +1,5 @@
 use Rattle.std.proofs.Common.{◌≡◌, ◌-◌, ◌++◌, [], ◌∷◌, true, false, length, set, sym, ap, ◌∙◌}
-use Rattle.std.proofs.lemmas.Result.{on_ok_weaker}
-use Rattle.script_rows.specs.work.Building.{joins}
+use Rattle.script_rows.proofs.Common.{on_ok_weaker, joins}
 use Rattle.script_rows.proofs.ScriptLemmas.{with_line-begins, added_to_last}
 use Rattle.script_rows.proofs.reading.add_line.Goals as goal
 

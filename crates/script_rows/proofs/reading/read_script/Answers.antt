@@ -1,9 +1,5 @@
 use Rattle.std.proofs.Common.{◌≡◌, suc, ◌+◌, ◌<◌, ◌≤◌, [], ◌∷◌, ◌++◌, length, refl, Ok, Err, sym, ap, subst, ◌∙◌, arith}
-use Rattle.std.proofs.lemmas.Result.{err_from_is_err_and}
-use Rattle.pool_io.specs.Table.{record_at}
-use Rattle.pool_base.proofs.lemmas.InOrderLemmas.{all_or_first-ok}
-use Rattle.script_rows.specs.Script.{round_before}
-use Rattle.script_rows.specs.lemmas.Named.{line_at}
+use Rattle.script_rows.proofs.Common.{err_from_is_err_and, record_at, all_or_first-ok, round_before, line_at}
 use Rattle.script_rows.proofs.lemmas.LineLemmas.{IsRead-line_in}
 use Rattle.script_rows.proofs.ScriptLemmas.{Built, Built-none, Built-more, line_at-read, script_of-refused, script_of-all}
 use Rattle.script_rows.proofs.reading.read_script.Goals as goal

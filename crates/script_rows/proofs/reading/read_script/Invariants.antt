@@ -1,10 +1,5 @@
 use Rattle.std.proofs.Common.{◌≡◌, ℕ, List, Ok}
-use Rattle.pool_base.specs.InOrder.{all_or_first}
-use Rattle.script_rows.specs.declared.line.Line.{Line}
-use Rattle.script_rows.specs.declared.version.ScriptVersion.{ScriptVersion}
-use Rattle.script_rows.specs.Round.{NumberedLanes}
-use Rattle.script_rows.specs.Script.{round_before}
-use Rattle.script_rows.specs.lemmas.Named.{line_at}
+use Rattle.script_rows.proofs.Common.{all_or_first, Line, ScriptVersion, NumberedLanes, round_before, line_at}
 use Rattle.script_rows.proofs.ScriptLemmas.{Built}
 use Rattle.script_rows.proofs.reading.read_script.Given as goal
 

@@ -1,8 +1,7 @@
 use Rattle.std.proofs.Common.{◌≡◌, ◌↔◌, Bool, true, false, IsTrue, Result, Ok, Err, IfOk, sym, ap, ◌∙◌, of_z}
+use Rattle.search_check.proofs.Common.{ShowsBound, IsRefusal}
 use mir.Syntax.{w128}
-use Rattle.assignment_search.specs.Found.{ShowsBound}
 use Rattle.search_check.proofs.lemmas.FaultLemmas.{one_value, whole_of_value, no_tree}
-use Rattle.search_check.specs.work.Refusals.{IsRefusal}
 use Rattle.pool_base.specs.declared.memory.OutOfMemory.{OutOfMemory as NoMemory}
 use Rattle.search_check.proofs.bound.shows_bound.Goals as goal
 

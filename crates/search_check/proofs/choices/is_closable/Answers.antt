@@ -1,7 +1,5 @@
 use Rattle.std.proofs.Common.{◌≡◌, ◌≤◌, ℕ, false, true, sym, ap, ◌∙◌, arith}
-use Rattle.std.proofs.lemmas.Bool.Decides.{nat_tests}
-use Rattle.plan_rules.specs.Tree.{every_row}
-use Rattle.assignment_search.specs.Growth.{choice_count, product_below}
+use Rattle.search_check.proofs.Common.{nat_tests, every_row, choice_count, product_below}
 use Rattle.search_check.proofs.lemmas.ChoiceLemmas.{row_choices, choices_all, choices_more}
 use Rattle.search_check.proofs.choices.is_closable.Goals as goal
 

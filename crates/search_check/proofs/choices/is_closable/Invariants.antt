@@ -1,8 +1,5 @@
 use Rattle.std.proofs.Common.{◌≡◌, ◌≤◌, length, max}
-use Rattle.plan_rules.specs.Sums.{count_below}
-use Rattle.plan_rules.specs.Multipliers.{is_usable_by}
-use Rattle.plan_rules.specs.Tree.{every_row}
-use Rattle.assignment_search.specs.Growth.{product_below}
+use Rattle.search_check.proofs.Common.{count_below, is_usable_by, every_row, product_below}
 use Rattle.search_check.proofs.choices.is_closable.Given as goal
 
 abbrev pub invariant-loop-vehicle : goal.invariant-loop-vehicle

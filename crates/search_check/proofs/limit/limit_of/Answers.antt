@@ -1,6 +1,5 @@
 use Rattle.std.proofs.Common.{◌≡◌, ap, ◌∙◌, arith}
-use Rattle.std.proofs.lemmas.Bool.{both_ways}
-use Rattle.plan_rules.specs.Plan.{cost_of}
+use Rattle.search_check.proofs.Common.{both_ways, cost_of}
 use Rattle.search_check.proofs.lemmas.LimitLemmas.{limit_held, limit_greedy, limit_dear}
 use Rattle.search_check.proofs.limit.limit_of.Goals as goal
 

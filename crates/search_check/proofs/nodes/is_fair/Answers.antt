@@ -1,18 +1,5 @@
 use Rattle.std.proofs.Common.{◌≡◌, ◌∷◌, [], ◌++◌, ◌+◌, ◌<◌, Bool, true, false, List, length, get_or, take, All, rules, sym, ap, ◌∙◌, subst, arith, take_all}
-use Rattle.std.proofs.lemmas.Bool.{both_ways}
-use Rattle.std.proofs.lemmas.List.{take_more, with_items_is}
-use Rattle.plan_rules.specs.Multipliers.{Usable, usable_of}
-use Rattle.plan_rules.specs.Path.{standing_of}
-use Rattle.plan_rules.specs.Reading.{ReadsTo}
-use Rattle.plan_rules.specs.lemmas.Tree.{places_read}
-use Rattle.plan_rules.specs.Tree.{every_row, Place}
-use Rattle.plan_rules.specs.declared.node.Node.{Node}
-use Rattle.plan_rules.proofs.lemmas.ReadLemmas.{reads_push}
-use Rattle.plan_rules.proofs.lemmas.SearchTreeLemmas.{places_are}
-use Rattle.plan_rules.proofs.lemmas.UsableLemmas.{Agree, agree_back}
-use Rattle.assignment_search.specs.Found.{IsFairNode}
-use Rattle.bound_checker.specs.lemmas.Visit.{coming_of}
-use Rattle.bound_checker.proofs.lemmas.WalkLemmas.{coming_start, path_none}
+use Rattle.search_check.proofs.Common.{both_ways, take_more, with_items_is, Usable, usable_of, standing_of, ReadsTo, places_read, every_row, Place, Node, reads_push, places_are, Agree, agree_back, IsFairNode, coming_of, coming_start, path_none}
 use Rattle.search_check.proofs.lemmas.FaultLemmas.{whole_of_value}
 use Rattle.search_check.proofs.lemmas.NodeLemmas.{has_multipliers, fair_agrees, fair_at, sound_at, places_more}
 use Rattle.search_check.proofs.nodes.is_fair.Goals as goal

@@ -1,10 +1,5 @@
 use Rattle.std.proofs.Common.{◌≡◌, ◌∷◌, [], length, take, All}
-use Rattle.plan_rules.specs.Tree.{every_row}
-use Rattle.plan_rules.specs.Path.{IsPathOf}
-use Rattle.plan_rules.specs.Reading.{ReadsTo}
-use Rattle.plan_rules.specs.lemmas.Tree.{places_read}
-use Rattle.bound_checker.specs.lemmas.Visit.{coming_of}
-use Rattle.assignment_search.specs.Found.{IsFairNode}
+use Rattle.search_check.proofs.Common.{every_row, IsPathOf, ReadsTo, places_read, coming_of, IsFairNode}
 use Rattle.search_check.proofs.nodes.is_fair.Given as goal
 
 abbrev pub invariant-loop-node : goal.invariant-loop-node

@@ -1,9 +1,6 @@
 use Rattle.std.proofs.Common.{◌≡◌, Bool, true, false, List, length, replicate, get_or, ap, ◌∙◌, arith}
-use Rattle.std.proofs.lemmas.List.{get_or-replicate}
+use Rattle.search_check.proofs.Common.{get_or-replicate, usable_of, every_row, rounded_up, Agree, first_fit_value_agrees}
 use Rattle.std.proofs.lemmas.Result.{IfOk-weaker}
-use Rattle.plan_rules.specs.Multipliers.{usable_of}
-use Rattle.plan_rules.specs.Tree.{every_row, rounded_up}
-use Rattle.plan_rules.proofs.lemmas.UsableLemmas.{Agree, first_fit_value_agrees}
 use Rattle.search_check.proofs.tight.root_value.Goals as goal
 
 pub returns : goal.returns

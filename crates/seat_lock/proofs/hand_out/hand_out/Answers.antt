@@ -1,5 +1,5 @@
 use Rattle.std.proofs.Common.{rules, arith, ◌≡◌, ℕ, ◌+◌, ◌<◌, [], get_or, ap, ◌∙◌, sym, subst}
-use Rattle.seat_lock.specs.work.Passes.{new_pass}
+use Rattle.seat_lock.proofs.Common.{new_pass}
 use Rattle.seat_lock.proofs.Keeps.{cuts}
 use Rattle.seat_lock.proofs.Handing.{IsPass-at, pass_value-at, given_is, kept_is, pushed_each}
 use Rattle.seat_lock.proofs.hand_out.hand_out.Goals as goal

@@ -1,6 +1,5 @@
 use Rattle.std.proofs.Common.{◌≡◌, ℕ, ◌<◌, ◌-◌, [], vec_len, vec_capacity, slice_index_or}
-use Rattle.seat_lock.specs.work.Views.{lanes_view}
-use Rattle.seat_lock.specs.work.Passes.{new_pass}
+use Rattle.seat_lock.proofs.Common.{lanes_view, new_pass}
 use Rattle.seat_lock.proofs.hand_out.hand_out.Given as goal
 
 abbrev pub invariant-loop-lane : goal.invariant-loop-lane

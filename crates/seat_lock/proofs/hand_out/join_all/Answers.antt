@@ -1,5 +1,5 @@
 use Rattle.std.proofs.Common.{rules, ◌≡◌, ◌<◌, ◌++◌, length, ap, ◌∙◌, sym, subst}
-use Rattle.seat_lock.specs.work.Passes.{claim_of}
+use Rattle.seat_lock.proofs.Common.{claim_of}
 use Rattle.seat_lock.proofs.Keeps.{glues}
 use Rattle.seat_lock.proofs.Handing.{All-middle, some_mapped}
 use Rattle.seat_lock.proofs.hand_out.join_all.Goals as goal

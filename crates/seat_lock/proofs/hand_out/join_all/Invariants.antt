@@ -1,6 +1,5 @@
 use Rattle.std.proofs.Common.{◌≡◌, ◌<◌, List, [], ◌++◌, map, length, vec_len}
-use Rattle.seat_lock.specs.declared.view.Stage.TheVariants.{Idle}
-use Rattle.seat_lock.specs.work.Passes.{claim_of}
+use Rattle.seat_lock.proofs.Common.{Idle, claim_of}
 use Rattle.seat_lock.proofs.hand_out.join_all.Given as goal
 
 abbrev pub invariant-loop-pass : goal.invariant-loop-pass

@@ -1,5 +1,5 @@
 use Rattle.std.proofs.Common.{rules, ◌∷◌, sym, ap, ◌∙◌, Some}
-use Rattle.atomic_table.specs.Table.{rest}
+use Rattle.seat_lock.proofs.Common.{rest}
 use Rattle.seat_lock.proofs.steps.take_out.Goals as goal
 
 pub exchange-requires : goal.exchange-requires

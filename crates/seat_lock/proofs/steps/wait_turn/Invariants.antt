@@ -1,5 +1,5 @@
 use Rattle.std.proofs.Common.{◌≡◌}
-use Rattle.seat_lock.specs.work.Turns.{IsSameSeat}
+use Rattle.seat_lock.proofs.Common.{IsSameSeat}
 use Rattle.seat_lock.proofs.steps.wait_turn.Given as goal
 
 abbrev pub invariant-loop : goal.invariant-loop

@@ -1,7 +1,5 @@
 use Rattle.std.proofs.Common.{◌≡◌, ◌+◌, ◌*◌, ◌≤◌, length}
-use Rattle.pool_base.specs.Times.{travel_time}
-use Rattle.stop_orders.specs.lemmas.Rest.{sum_below}
-use Rattle.small_routing.specs.work.Ahead.{rider_late, passenger_late}
+use Rattle.small_routing.proofs.Common.{travel_time, sum_below, rider_late, passenger_late}
 use Rattle.small_routing.proofs.ahead.look_ahead.Given as goal
 
 abbrev pub invariant-loop-i : goal.invariant-loop-i

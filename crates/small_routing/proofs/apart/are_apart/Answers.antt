@@ -1,10 +1,5 @@
 use Rattle.std.proofs.Common.{◌≡◌, ◌+◌, ◌∷◌, [], ◌++◌, List, length, get_or, inl, inr, ap, ◌∙◌, subst, arith}
-use Rattle.std.proofs.lemmas.List.{length_push}
-use Rattle.pool_base.specs.Times.{point_count, travel_time}
-use Rattle.stop_orders.specs.declared.leg.Leg.{Leg}
-use Rattle.stop_orders.specs.Task.{no_leg}
-use Rattle.small_routing.specs.work.Label.{IsRoutableLeg}
-use Rattle.small_routing.specs.Apart.{with_leg}
+use Rattle.small_routing.proofs.Common.{length_push, point_count, travel_time, Leg, no_leg, IsRoutableLeg, with_leg}
 use Rattle.small_routing.proofs.LabelLemmas.{routable_leg}
 use Rattle.small_routing.proofs.ApartLemmas.{first_of_two, second_of_two, one_follows_first}
 use Rattle.small_routing.proofs.apart.are_apart.Goals as goal

@@ -1,14 +1,6 @@
-use Rattle.std.proofs.Common.{◌≡◌, ◌+◌, ◌<◌, ◌≤◌, ◌∷◌, ◌++◌, [], Result, Ok, Err, OnOk, subst, sym, ◌∙◌, arith}
-use Rattle.std.specs.Prelude.{All}
+use Rattle.std.proofs.Common.{◌≡◌, ◌+◌, ◌<◌, ◌≤◌, ◌∷◌, ◌++◌, [], Result, Ok, Err, OnOk, subst, sym, ◌∙◌, arith, All}
+use Rattle.small_routing.proofs.Common.{All-push, point_count, travel_time, left_count, IsAllDone-at, IsAllDone-not_at, task_riders, task_passengers, labels_of, IsLabelPlaced, IsLabelDone, route_of, Priced}
 use Rattle.std.proofs.lemmas.Bool.{true≢false}
-use Rattle.std.proofs.lemmas.List.Elements.{All-push}
-use Rattle.pool_base.specs.Times.{point_count, travel_time}
-use Rattle.stop_orders.specs.lemmas.Rest.{left_count}
-use Rattle.stop_orders.proofs.lemmas.PlainLemmas.{IsAllDone-at, IsAllDone-not_at}
-use Rattle.small_routing.specs.work.Label.{task_riders, task_passengers}
-use Rattle.small_routing.specs.work.Kept.{labels_of, IsLabelPlaced}
-use Rattle.small_routing.specs.work.Search.{IsLabelDone}
-use Rattle.small_routing.specs.work.Cost.{route_of, Priced}
 use Rattle.small_routing.proofs.CostLemmas.{next_small, prices_more, prices_searched, exhausted_persons, priced_better}
 use Rattle.small_routing.proofs.cost.+try_costs.Goals as goal
 

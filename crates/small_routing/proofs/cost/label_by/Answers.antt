@@ -1,8 +1,5 @@
 use Rattle.std.proofs.Common.{◌≡◌, ap, ◌∙◌, arith}
-use Rattle.pool_base.specs.Times.{point_count, travel_time}
-use Rattle.small_routing.specs.work.Label.{next_label, label_at}
-use Rattle.small_routing.specs.work.Kept.{labels_of}
-use Rattle.small_routing.specs.work.Cost.{route_of}
+use Rattle.small_routing.proofs.Common.{point_count, travel_time, next_label, label_at, labels_of, route_of}
 use Rattle.small_routing.proofs.LabelLemmas.{known_next, second_most}
 use Rattle.small_routing.proofs.SearchLemmas.{exhausted_none, exhausted_bound, exhausted_dominated, tried_never}
 use Rattle.small_routing.proofs.CostLemmas.{tried_only, tried_next, next_small}

@@ -1,9 +1,5 @@
 use Rattle.std.proofs.Common.{subst, sym, refl}
-use Rattle.pool_base.specs.Times.{point_count, travel_time}
-use Rattle.stop_orders.specs.lemmas.Rest.{left_count}
-use Rattle.stop_orders.specs.Task.{free_seats}
-use Rattle.small_routing.specs.work.Label.{task_riders, task_passengers, IsSmallLabel}
-use Rattle.small_routing.specs.work.Kept.{labels_of}
+use Rattle.small_routing.proofs.Common.{point_count, travel_time, left_count, free_seats, task_riders, task_passengers, IsSmallLabel, labels_of}
 use Rattle.small_routing.proofs.LabelLemmas.{routable, small_first}
 use Rattle.small_routing.proofs.CostLemmas.{never_first, priced_least, priced_none}
 use Rattle.small_routing.proofs.cost.least_cost_with.Goals as goal

@@ -1,11 +1,5 @@
-use Rattle.std.proofs.Common.{ℕ, ◌≤◌, List, Option, None, Some}
-use Rattle.std.specs.Prelude.{IfSome, IfNone}
-use Rattle.pool_base.specs.Times.{point_count, travel_time}
-use Rattle.stop_orders.specs.declared.route.Route.{Route}
-use Rattle.stop_orders.specs.declared.stop.Stop.{Stop}
-use Rattle.stop_orders.specs.declared.task.Task.{Task}
-use Rattle.stop_orders.specs.Task.{Serves, order_delay}
-use Rattle.stop_orders.specs.lemmas.Plain.{NoneBetter}
+use Rattle.std.proofs.Common.{ℕ, ◌≤◌, List, Option, None, Some, IfSome, IfNone}
+use Rattle.small_routing.proofs.Common.{point_count, travel_time, Route, Stop, Task, Serves, order_delay, NoneBetter}
 use Rattle.small_routing.proofs.LabelLemmas.{small_first, left_first, leads_first}
 use Rattle.small_routing.proofs.SearchLemmas.{least_none}
 use Rattle.small_routing.proofs.least.least_route.Goals as goal

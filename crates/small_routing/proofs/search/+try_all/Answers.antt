@@ -1,18 +1,7 @@
-use Rattle.std.proofs.Common.{◌≡◌, ℕ, ◌<◌, ◌≤◌, ◌+◌, ◌∷◌, ◌++◌, [], List, length, get_or, length-append, Result, Ok, Err, OnOk, refl, subst, sym, ap, ◌∙◌, arith}
-use Rattle.std.specs.Prelude.{All}
+use Rattle.std.proofs.Common.{◌≡◌, ℕ, ◌<◌, ◌≤◌, ◌+◌, ◌∷◌, ◌++◌, [], List, length, get_or, length-append, Result, Ok, Err, OnOk, refl, subst, sym, ap, ◌∙◌, arith, All}
+use Rattle.small_routing.proofs.Common.{get_or_default, All-push, point_count, travel_time, Pick, with_stop, left_count, left_count-falls, IsAllDone-at, IsAllDone-not_at, path_back, Candidate, task_riders, task_passengers, next_label, label_at, IsSmallLabel, labels_of, IsLabelPlaced, LeadsTo, IsCandidate, IsTried, IsLabelDone, Searched}
 use Rattle.std.proofs.lemmas.Bool.{true≢false}
-use Rattle.std.proofs.lemmas.List.{take_all, get_or_default}
-use Rattle.std.proofs.lemmas.List.Elements.{All-push}
-use Rattle.pool_base.specs.Times.{point_count, travel_time}
-use Rattle.stop_orders.specs.declared.stop.Stop.TheVariants.{Pick}
-use Rattle.stop_orders.specs.Done.{with_stop}
-use Rattle.stop_orders.specs.lemmas.Rest.{left_count}
-use Rattle.stop_orders.proofs.lemmas.DoneLemmas.{left_count-falls}
-use Rattle.stop_orders.proofs.lemmas.PlainLemmas.{IsAllDone-at, IsAllDone-not_at, path_back}
-use Rattle.small_routing.specs.declared.candidate.Candidate.{Candidate}
-use Rattle.small_routing.specs.work.Label.{task_riders, task_passengers, next_label, label_at, IsSmallLabel}
-use Rattle.small_routing.specs.work.Kept.{labels_of, IsLabelPlaced}
-use Rattle.small_routing.specs.work.Search.{LeadsTo, IsCandidate, IsTried, IsLabelDone, Searched}
+use Rattle.std.proofs.lemmas.List.{take_all}
 use Rattle.small_routing.proofs.LabelLemmas.{known_next, second_most, small_next, leads_next}
 use Rattle.small_routing.proofs.SearchLemmas.{searched_better, searched_no_better, exhausted_tried, tried_searched, tries_more}
 use Rattle.small_routing.proofs.search.+try_all.Goals as goal

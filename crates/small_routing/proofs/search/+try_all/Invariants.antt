@@ -1,8 +1,5 @@
 use Rattle.std.proofs.Common.{take}
-use Rattle.pool_base.specs.Times.{point_count, travel_time}
-use Rattle.stop_orders.specs.lemmas.Rest.{left_count}
-use Rattle.small_routing.specs.work.Label.{task_riders, task_passengers}
-use Rattle.small_routing.specs.work.Kept.{labels_of}
+use Rattle.small_routing.proofs.Common.{point_count, travel_time, left_count, task_riders, task_passengers, labels_of}
 use Rattle.small_routing.proofs.SearchLemmas.{TriesAll}
 use Rattle.small_routing.proofs.search.+try_all.Given as goal
 

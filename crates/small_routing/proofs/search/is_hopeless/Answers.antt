@@ -1,5 +1,4 @@
-use Rattle.pool_base.specs.Times.{point_count, travel_time}
-use Rattle.small_routing.specs.work.Kept.{labels_of}
+use Rattle.small_routing.proofs.Common.{point_count, travel_time, labels_of}
 use Rattle.small_routing.proofs.SearchLemmas.{exhausted_none, exhausted_bound, exhausted_dominated}
 use Rattle.small_routing.proofs.search.is_hopeless.Goals as goal
 

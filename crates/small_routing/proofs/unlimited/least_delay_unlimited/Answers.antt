@@ -1,12 +1,6 @@
-use Rattle.std.proofs.Common.{◌≡◌, ◌≤◌, List, Option, Result, Ok, Err, subst, sym}
-use Rattle.std.specs.Prelude.{IfOk, IfSome, IfNone}
+use Rattle.std.proofs.Common.{◌≡◌, ◌≤◌, List, Option, Result, Ok, Err, subst, sym, IfOk, IfSome, IfNone}
+use Rattle.small_routing.proofs.Common.{point_count, travel_time, Route, Stop, Serves, ReachesAll, IsOrderOf, order_delay, IsRoutable, without_limits}
 use Rattle.pool_base.specs.declared.memory.OutOfMemory.{OutOfMemory}
-use Rattle.pool_base.specs.Times.{point_count, travel_time}
-use Rattle.stop_orders.specs.declared.route.Route.{Route}
-use Rattle.stop_orders.specs.declared.stop.Stop.{Stop}
-use Rattle.stop_orders.specs.Task.{Serves, ReachesAll, IsOrderOf, order_delay}
-use Rattle.small_routing.specs.work.Label.{IsRoutable}
-use Rattle.small_routing.specs.work.Unlimited.{without_limits}
 use Rattle.small_routing.proofs.UnlimitedLemmas.{routable_unlimited, unlimited_order, unlimited_reaches, unlimited_delay, unlimited_least, unlimited_none}
 use Rattle.small_routing.proofs.unlimited.least_delay_unlimited.Goals as goal
 

@@ -1,5 +1,5 @@
 use Rattle.std.proofs.Common.{◌≡◌, take, map}
-use Rattle.small_routing.specs.work.Unlimited.{without_latest}
+use Rattle.small_routing.proofs.Common.{without_latest}
 use Rattle.small_routing.proofs.unlimited.without_latest_of.Given as goal
 
 abbrev pub invariant-loop-leg : goal.invariant-loop-leg

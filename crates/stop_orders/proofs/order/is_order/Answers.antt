@@ -1,10 +1,5 @@
 use Rattle.std.proofs.Common.{◌≡◌, ◌∷◌, Bool, IsTrue, ◌↔◌, ℕ, ◌+◌, ◌<◌, ◌≤◌, List, length, get_or, drop, subst, sym, ◌∙◌, arith}
-use Rattle.std.proofs.lemmas.List.{drop_more}
-use Rattle.stop_orders.specs.declared.stop.Stop.{Stop}
-use Rattle.stop_orders.specs.declared.stop.Stop.TheVariants.{Pick}
-use Rattle.stop_orders.specs.Order.{IsOrder}
-use Rattle.stop_orders.specs.Done.{IsNextStop, with_stop}
-use Rattle.stop_orders.specs.lemmas.Rest.{Completes}
+use Rattle.stop_orders.proofs.Common.{drop_more, Stop, Pick, IsOrder, IsNextStop, with_stop, Completes}
 use Rattle.stop_orders.proofs.lemmas.DoneLemmas.{Completes-none, IsOrder-from_none, Completes-front, Completes-back}
 use Rattle.stop_orders.proofs.order.is_order.Invariants.{Scans}
 use Rattle.stop_orders.proofs.order.is_order.Goals as goal

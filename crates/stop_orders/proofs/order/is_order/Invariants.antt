@@ -1,7 +1,5 @@
 use Rattle.std.proofs.Common.{ℕ, ◌≤◌, List, length, drop}
-use Rattle.stop_orders.specs.declared.stop.Stop.{Stop}
-use Rattle.stop_orders.specs.Order.{IsOrder}
-use Rattle.stop_orders.specs.lemmas.Rest.{Completes}
+use Rattle.stop_orders.proofs.Common.{Stop, IsOrder, Completes}
 use Rattle.stop_orders.proofs.order.is_order.Given as goal
 
 -- the stops are an order exactly where the rest completes what is done

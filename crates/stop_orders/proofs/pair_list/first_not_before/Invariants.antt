@@ -1,5 +1,5 @@
 use Rattle.std.proofs.Common.{ℕ, ◌-◌, ◌<◌, ◌≤◌, List, length, slice_index_or}
-use Rattle.stop_orders.specs.PairList.{IsBefore}
+use Rattle.stop_orders.proofs.Common.{IsBefore}
 use Rattle.stop_orders.proofs.pair_list.first_not_before.Given as goal
 
 -- what comes before the pair, and what doesn't

@@ -1,8 +1,5 @@
-use Rattle.std.proofs.Common.{◌≡◌, ℕ, ◌<◌, ◌≤◌, List, length, slice_index_or, refl, subst, ◌∙◌, arith, inl, inr}
-use Rattle.std.specs.Prelude.{Contains}
-use Rattle.std.proofs.lemmas.List.{get_or_default}
-use Rattle.std.proofs.lemmas.Bool.{cases_lt}
-use Rattle.stop_orders.specs.PairList.{ArePairs, IsBefore}
+use Rattle.std.proofs.Common.{◌≡◌, ℕ, ◌<◌, ◌≤◌, List, length, slice_index_or, refl, subst, ◌∙◌, arith, inl, inr, Contains}
+use Rattle.stop_orders.proofs.Common.{get_or_default, cases_lt, ArePairs, IsBefore}
 use Rattle.stop_orders.proofs.PairLemmas.{pairs_before}
 use Rattle.stop_orders.proofs.pair_list.has_pair.Goals as goal
 

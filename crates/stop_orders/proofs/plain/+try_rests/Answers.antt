@@ -1,20 +1,10 @@
 use Rattle.std.proofs.Common.{◌≡◌, ◌<◌, ◌≤◌, ◌+◌, ◌∷◌, ◌++◌, [], List, length, length-append, Option, subst, sym, ap, ◌∙◌, arith, inl, inr, ℕ}
-use Rattle.std.proofs.lemmas.Bool.{cases_eq}
-use Rattle.pool_base.specs.Times.{travel_time}
-use Rattle.stop_orders.specs.declared.stop.Stop.{Stop}
-use Rattle.stop_orders.specs.declared.route.Route.{Route}
-use Rattle.stop_orders.specs.declared.task.Task.{Task}
-use Rattle.stop_orders.specs.Task.{IsOrderOf, Serves, order_delay}
-use Rattle.stop_orders.specs.Done.{bit_of, IsNextStop, with_stop}
-use Rattle.stop_orders.specs.lemmas.Rest.{left_count}
-use Rattle.stop_orders.specs.work.Rest.{stop_with}
-use Rattle.stop_orders.specs.lemmas.Plain.{NoneBetter, MakesOrders, StaysGood, IsFound}
-use Rattle.stop_orders.specs.work.Plain.{AllTried}
+use Rattle.stop_orders.proofs.Common.{cases_eq, travel_time, Stop, Route, Task, IsOrderOf, Serves, order_delay, bit_of, IsNextStop, with_stop, left_count, stop_with, NoneBetter, MakesOrders, StaysGood, IsFound, AllTried}
 use Rattle.stop_orders.proofs.lemmas.DoneLemmas.{left_count-falls}
 use Rattle.stop_orders.proofs.lemmas.PlainLemmas.{MakesOrders-all, MakesOrders-next, AllTried-all, AllTried-next, AllTried-kept, IsNextStop-at, IsNextStop-not_at, IsAllDone-at, IsAllDone-not_at, stop_with-bit_of, path_back}
 use Rattle.stop_orders.proofs.plain.+try_rests.Invariants.{NextTried}
-use Rattle.stop_orders.proofs.plain.+try_rests.Goals as goal
 use Rattle.stop_orders.proofs.plain.+try_rests.Goals.{then-is_next, else-is_next}
+use Rattle.stop_orders.proofs.plain.+try_rests.Goals as goal
 
 pub keep_better-requires-clause-order : goal.keep_better-requires-clause-order
 keep_better-requires-clause-order t c =

@@ -1,12 +1,5 @@
 use Rattle.std.proofs.Common.{◌≡◌, ℕ, ◌<◌, ◌++◌, List, [], ◌∷◌, Option, length}
-use Rattle.pool_base.specs.Times.{travel_time}
-use Rattle.stop_orders.specs.declared.route.Route.{Route}
-use Rattle.stop_orders.specs.declared.stop.Stop.{Stop}
-use Rattle.stop_orders.specs.declared.task.Task.{Task}
-use Rattle.stop_orders.specs.Done.{bit_of, IsNextStop, with_stop}
-use Rattle.stop_orders.specs.lemmas.Rest.{left_count}
-use Rattle.stop_orders.specs.lemmas.Plain.{IsFound, StaysGood}
-use Rattle.stop_orders.specs.work.Plain.{AllTried}
+use Rattle.stop_orders.proofs.Common.{travel_time, Route, Stop, Task, bit_of, IsNextStop, with_stop, left_count, IsFound, StaysGood, AllTried}
 use Rattle.stop_orders.proofs.plain.+try_rests.Given as goal
 
 -- all next stops with a lower bit were tried

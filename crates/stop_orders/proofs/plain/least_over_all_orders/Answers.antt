@@ -1,11 +1,5 @@
-use Rattle.std.proofs.Common.{◌≡◌, ℕ, ◌≤◌, List, [], length, Option, None, Some, subst, sym, ap, arith}
-use Rattle.std.specs.Prelude.{IfSome, IfNone}
-use Rattle.stop_orders.specs.declared.route.Route.{Route}
-use Rattle.stop_orders.specs.declared.stop.Stop.{Stop}
-use Rattle.stop_orders.specs.declared.task.Task.{Task}
-use Rattle.stop_orders.specs.Task.{Serves, order_delay}
-use Rattle.stop_orders.specs.lemmas.Plain.{MakesOrders, NoneBetter}
-use Rattle.stop_orders.specs.work.Plain.{AllTried}
+use Rattle.std.proofs.Common.{◌≡◌, ℕ, ◌≤◌, List, [], length, Option, None, Some, subst, sym, ap, arith, IfSome, IfNone}
+use Rattle.stop_orders.proofs.Common.{Route, Stop, Task, Serves, order_delay, MakesOrders, NoneBetter, AllTried}
 use Rattle.stop_orders.proofs.lemmas.DoneLemmas.{left_count-most, Completes-none}
 use Rattle.stop_orders.proofs.lemmas.PlainLemmas.{MakesOrders-none}
 use Rattle.stop_orders.proofs.plain.least_over_all_orders.Goals as goal

@@ -1,5 +1,5 @@
 use Rattle.std.proofs.Common.{drop}
-use Rattle.pool_base.specs.Times.{point_count, travel_time}
+use Rattle.stop_orders.proofs.Common.{point_count, travel_time}
 use Rattle.stop_orders.proofs.lemmas.ScanLemmas.{DelayScan}
 use Rattle.stop_orders.proofs.serving.delay_of.Given as goal
 

@@ -1,8 +1,5 @@
 use Rattle.std.proofs.Common.{◌≡◌, ◌+◌, get_or, drop, subst}
-use Rattle.std.proofs.lemmas.List.{drop_more}
-use Rattle.pool_base.specs.Times.{point_count, travel_time}
-use Rattle.stop_orders.specs.declared.stop.Stop.TheVariants.{Pick}
-use Rattle.stop_orders.specs.work.Position.{CanVisitFrom, position_after}
+use Rattle.stop_orders.proofs.Common.{drop_more, point_count, travel_time, Pick, CanVisitFrom, position_after}
 use Rattle.stop_orders.proofs.lemmas.ScanLemmas.{ServingScan, serving_first, serving_next}
 use Rattle.stop_orders.proofs.serving.serves.Goals as goal
 

@@ -1,16 +1,6 @@
 use Rattle.std.proofs.Common.{◌≡◌, ℕ, zero, suc, ◌+◌, ◌-◌, ◌<◌, ◌≤◌, List, ◌∷◌, length, get_or, take, drop, slice_index, Option, Some, None, MatchOption, subst, sym, ap, ◌∙◌, arith, length-take, add-one}
-use Rattle.std.proofs.lemmas.List.{drop_more, get_or-take}
-use Rattle.std.proofs.lemmas.List.Elements.{All-from_recursion}
-use Rattle.std.specs.List.{AllByRecursion}
-use Rattle.pool_base.specs.Times.{point_count, travel_time}
-use Rattle.pool_base.specs.TravelTime.{never, longest}
-use Rattle.stop_orders.specs.declared.task.Task.{Task}
-use Rattle.stop_orders.specs.declared.visit.Visit.{Visit}
-use Rattle.stop_orders.specs.declared.stop.Stop.{Stop}
-use Rattle.stop_orders.specs.declared.stop.Stop.TheVariants.{Pick}
-use Rattle.stop_orders.specs.Order.{IsKnown}
-use Rattle.stop_orders.specs.Visit.{place_of}
-use Rattle.stop_orders.specs.Task.{IsTask, visit_at, ReachesAll, seconds_of}
+use Rattle.stop_orders.proofs.Common.{drop_more, All-from_recursion, AllByRecursion, point_count, travel_time, never, longest, Task, Visit, Stop, Pick, IsKnown, place_of, IsTask, visit_at, ReachesAll, seconds_of}
+use Rattle.std.proofs.lemmas.List.{get_or-take}
 use Rattle.stop_orders.proofs.lemmas.VisitLemmas.{visit_place}
 use Rattle.stop_orders.proofs.lemmas.ScanLemmas.{SecondScan, second_first, second_next, second_stuck, second_last}
 use Rattle.stop_orders.proofs.serving.stop_second.Goals as goal

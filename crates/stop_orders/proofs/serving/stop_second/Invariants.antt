@@ -1,5 +1,5 @@
 use Rattle.std.proofs.Common.{drop, ◌-◌}
-use Rattle.pool_base.specs.Times.{point_count, travel_time}
+use Rattle.stop_orders.proofs.Common.{point_count, travel_time}
 use Rattle.stop_orders.proofs.lemmas.ScanLemmas.{SecondScan}
 use Rattle.stop_orders.proofs.serving.stop_second.Given as goal
 

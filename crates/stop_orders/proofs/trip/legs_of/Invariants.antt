@@ -1,5 +1,5 @@
 use Rattle.std.proofs.Common.{◌≡◌, take, map, slice_index_or}
-use Rattle.stop_orders.specs.Settled.{no_rider}
+use Rattle.stop_orders.proofs.Common.{no_rider}
 use Rattle.stop_orders.proofs.trip.legs_of.Given as goal
 
 abbrev pub invariant-loop-rider : goal.invariant-loop-rider

@@ -1,8 +1,6 @@
-use Rattle.std.proofs.Common.{refl, subst}
-use Rattle.std.specs.Prelude.{All}
+use Rattle.std.proofs.Common.{refl, subst, All}
+use Rattle.stop_orders.proofs.Common.{All-more, IsLeg}
 use Rattle.std.proofs.lemmas.List.{take_all}
-use Rattle.std.proofs.lemmas.List.Elements.{All-more}
-use Rattle.stop_orders.specs.Task.{IsLeg}
 use Rattle.stop_orders.proofs.validity.are_legs.Goals as goal
 
 pub loop-leg-preserved : goal.loop-leg-preserved

@@ -1,6 +1,5 @@
-use Rattle.std.proofs.Common.{take}
-use Rattle.std.specs.Prelude.{All}
-use Rattle.stop_orders.specs.Task.{IsLeg}
+use Rattle.std.proofs.Common.{take, All}
+use Rattle.stop_orders.proofs.Common.{IsLeg}
 use Rattle.stop_orders.proofs.validity.are_legs.Given as goal
 
 abbrev pub invariant-loop-leg : goal.invariant-loop-leg

@@ -1,5 +1,5 @@
 use Rattle.std.proofs.Common.{◌≡◌, ◌*◌, ◌≤◌, take}
-use Rattle.stop_orders.specs.Task.{persons}
+use Rattle.stop_orders.proofs.Common.{persons}
 use Rattle.stop_orders.proofs.validity.persons_of.Given as goal
 
 abbrev pub invariant-loop-leg : goal.invariant-loop-leg

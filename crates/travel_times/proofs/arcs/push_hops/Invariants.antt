@@ -1,4 +1,4 @@
-use Rattle.std.specs.Prelude.{◌≡◌, ◌++◌, take}
+use Rattle.std.proofs.Common.{◌≡◌, ◌++◌, take}
 use Rattle.travel_times.proofs.arcs.push_hops.Given as goal
 
 abbrev pub invariant-loop-hop : goal.invariant-loop-hop

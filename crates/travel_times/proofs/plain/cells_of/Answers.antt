@@ -1,5 +1,5 @@
 use Rattle.std.proofs.Common.{◌≡◌, ◌+◌, length, slice_index, map, arith}
-use Rattle.travel_times.specs.work.Table.{AreRows}
+use Rattle.travel_times.proofs.Common.{AreRows}
 use Rattle.travel_times.proofs.Tables.{AreRows-append, AreRows-one}
 use Rattle.travel_times.proofs.plain.cells_of.Goals as goal
 

@@ -1,4 +1,4 @@
-use Rattle.travel_times.specs.work.Table.{AreRows}
+use Rattle.travel_times.proofs.Common.{AreRows}
 use Rattle.travel_times.proofs.plain.cells_of.Given as goal
 
 abbrev pub invariant-loop-start : goal.invariant-loop-start

@@ -1,9 +1,8 @@
 use Rattle.std.proofs.Common.{◌≡◌, ◌<◌, length, get_or, inl, inr, refl, arith}
-use Rattle.std.proofs.lemmas.List.{get_or_default}
-use Rattle.road_network.specs.declared.hop.Hop.{Hop}
+use Rattle.travel_times.proofs.Common.{get_or_default, Hop}
 use Rattle.travel_times.proofs.lemmas.SearchLemmas.{RelaxesHops-take, RelaxesHops-skip}
-use Rattle.travel_times.proofs.plain.relax.Goals as goal
 use Rattle.travel_times.proofs.plain.relax.Goals.{then-through-seconds+then-through-le-LONGEST, else-through-seconds, else-through-seconds-via-then-through-seconds+else-through-le-LONGEST, else-through-seconds-via-else-through-seconds}
+use Rattle.travel_times.proofs.plain.relax.Goals as goal
 
 pub loop-hop-preserved : goal.loop-hop-preserved
 loop-hop-preserved c =

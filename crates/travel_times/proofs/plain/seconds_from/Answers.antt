@@ -1,9 +1,5 @@
 use Rattle.std.proofs.Common.{◌≡◌, ℕ, ◌<◌, false, length, slice_index, set, map, replicate, arith}
-use Rattle.std.specs.Vec.{with_item}
-use Rattle.std.proofs.lemmas.List.{with_items_is, get_or_read, get_or-replicate, length-replicate}
-use Rattle.pool_base.specs.TravelTime.{never}
-use Rattle.road_network.specs.Roads.{hop_of, leaving}
-use Rattle.travel_times.specs.Search.{IsNextTaken, RelaxesHops}
+use Rattle.travel_times.proofs.Common.{with_item, with_items_is, get_or_read, get_or-replicate, length-replicate, never, hop_of, leaving, IsNextTaken, RelaxesHops}
 use Rattle.travel_times.proofs.lemmas.SearchLemmas.{IsSearching-start, IsSearching-step, IsTimeBetween-settled, IsNextTaken-set, hops_among, none_waits, none_waits_near}
 use Rattle.travel_times.proofs.plain.seconds_from.Goals as goal
 

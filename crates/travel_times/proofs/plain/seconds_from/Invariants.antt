@@ -1,7 +1,5 @@
 use Rattle.std.proofs.Common.{length}
-use Rattle.road_network.specs.Roads.{IsNetwork}
-use Rattle.travel_times.specs.Search.{work_left}
-use Rattle.travel_times.specs.lemmas.Search.{IsSearching}
+use Rattle.travel_times.proofs.Common.{IsNetwork, work_left, IsSearching}
 use Rattle.travel_times.proofs.plain.seconds_from.Given as goal
 
 abbrev pub invariant-loop-node : goal.invariant-loop-node

@@ -1,5 +1,5 @@
 use Rattle.std.proofs.Common.{◌≡◌, ℕ, ◌+◌, ◌*◌, ◌<◌, slice_index}
-use Rattle.pool_base.specs.TravelTime.{never}
+use Rattle.travel_times.proofs.Common.{never}
 use Rattle.travel_times.proofs.rows.are_computed.Given as goal
 
 abbrev pub invariant-loop-row : goal.invariant-loop-row

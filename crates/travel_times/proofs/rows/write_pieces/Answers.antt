@@ -1,6 +1,5 @@
 use Rattle.std.proofs.Common.{◌*◌, length, subst, arith}
-use Rattle.std.specs.Fork.{slice_chunk}
-use Rattle.travel_times.specs.work.Table.{IsPieceWritten}
+use Rattle.travel_times.proofs.Common.{slice_chunk, IsPieceWritten}
 use Rattle.travel_times.proofs.Pieces.{piece_of_chunk, written_of_chunks}
 use Rattle.travel_times.proofs.rows.write_pieces.Goals as goal
 

@@ -1,5 +1,5 @@
 use Rattle.std.proofs.Common.{◌≡◌, ℕ, ◌<◌, true, slice_index}
-use Rattle.travel_times.specs.Search.{waits}
+use Rattle.travel_times.proofs.Common.{waits}
 use Rattle.travel_times.proofs.search.first_near.Given as goal
 
 abbrev pub invariant-loop-node : goal.invariant-loop-node

@@ -1,8 +1,8 @@
 use Rattle.std.proofs.Common.{◌≡◌, ◌+◌, ◌<◌, length, get_or, inl, inr, arith}
-use Rattle.road_network.specs.declared.hop.Hop.{Hop}
+use Rattle.travel_times.proofs.Common.{Hop}
 use Rattle.travel_times.proofs.lemmas.SearchLemmas.{RelaxesHops-take, RelaxesHops-skip}
-use Rattle.travel_times.proofs.search.relax.Goals as goal
 use Rattle.travel_times.proofs.search.relax.Goals.{then-through-seconds+then-through-le-LONGEST+in_ok-push, else-through-seconds, else-through-seconds-via-then-through-seconds+else-through-le-LONGEST, else-through-seconds-via-else-through-seconds}
+use Rattle.travel_times.proofs.search.relax.Goals as goal
 
 pub loop-hop-preserved : goal.loop-hop-preserved
 loop-hop-preserved c =

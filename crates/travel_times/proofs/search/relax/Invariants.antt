@@ -1,4 +1,4 @@
-use Rattle.travel_times.specs.Search.{RelaxesHops}
+use Rattle.travel_times.proofs.Common.{RelaxesHops}
 use Rattle.travel_times.proofs.search.relax.Given as goal
 
 abbrev pub invariant-loop-hop : goal.invariant-loop-hop

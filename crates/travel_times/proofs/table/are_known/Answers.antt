@@ -1,6 +1,5 @@
 use Rattle.std.proofs.Common.{◌≡◌, ◌≢◌, ◌<◌, length, get_or, refl, sym, ap, ◌∙◌, ⊎_elim, arith}
-use Rattle.std.proofs.lemmas.Bool.{cases_eq, false≢true}
-use Rattle.std.proofs.lemmas.List.{get_or_default}
+use Rattle.travel_times.proofs.Common.{cases_eq, false≢true, get_or_default}
 use Rattle.travel_times.proofs.table.are_known.Goals as goal
 
 pub returns-then-not-has_node : goal.returns-then-not-has_node

@@ -1,7 +1,6 @@
 use Rattle.std.proofs.Common.{◌≡◌, ℕ, ◌+◌, ◌*◌, ◌<◌, ◌++◌, length, slice_index, take, drop, ap, sym, ◌∙◌, subst, arith}
-use Rattle.std.proofs.lemmas.List.{take_at, length-replicate}
-use Rattle.pool_base.specs.TravelTime.{never}
-use Rattle.travel_times.specs.work.Table.{AreRows}
+use Rattle.travel_times.proofs.Common.{length-replicate, never, AreRows}
+use Rattle.std.proofs.lemmas.List.{take_at}
 use Rattle.travel_times.proofs.Pieces.{rows_of_written}
 use Rattle.travel_times.proofs.table.cells_between.Goals as goal
 

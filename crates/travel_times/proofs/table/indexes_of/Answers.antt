@@ -1,7 +1,5 @@
 use Rattle.std.proofs.Common.{◌≡◌, ◌<◌, length, nat_eq, refl, sym, ◌∙◌, arith}
-use Rattle.std.proofs.lemmas.List.{map_more}
-use Rattle.std.proofs.lemmas.List.Elements.{All-push}
-use Rattle.road_network.specs.Roads.{index_in}
+use Rattle.travel_times.proofs.Common.{map_more, All-push, index_in}
 use Rattle.travel_times.proofs.Tables.{position-is}
 use Rattle.travel_times.proofs.table.indexes_of.Goals as goal
 

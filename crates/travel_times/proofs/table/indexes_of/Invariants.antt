@@ -1,5 +1,5 @@
 use Rattle.std.proofs.Common.{◌≡◌, ◌<◌, All, length, map, take}
-use Rattle.road_network.specs.Roads.{index_in}
+use Rattle.travel_times.proofs.Common.{index_in}
 use Rattle.travel_times.proofs.table.indexes_of.Given as goal
 
 abbrev pub invariant-loop-node : goal.invariant-loop-node

@@ -1,9 +1,5 @@
 use Rattle.std.proofs.Common.{◌≡◌, ℕ, ◌+◌, ◌-◌, ◌<◌, List, [], ◌∷◌, ◌++◌, length, get_or, refl, sym, ap, ◌∙◌, subst, arith}
-use Rattle.pool_base.specs.Times.{travel_time}
-use Rattle.std.proofs.lemmas.List.{get_or_default}
-use Rattle.stop_orders.specs.declared.settled.Settled.{Settled}
-use Rattle.trip_growth.specs.declared.trip_of.TripOf.{TripOf}
-use Rattle.trip_graph.specs.work.Levels.{AreLevelsUpTo, AreLevels}
+use Rattle.trip_graph.proofs.Common.{travel_time, get_or_default, Settled, TripOf, AreLevelsUpTo, AreLevels}
 use Rattle.trip_graph.proofs.LevelSteps as step
 use Rattle.trip_graph.proofs.all_levels.all_levels.Goals as goal
 

@@ -1,6 +1,5 @@
 use Rattle.std.proofs.Common.{◌≡◌, ◌+◌, ◌≤◌}
-use Rattle.pool_base.specs.Times.{travel_time}
-use Rattle.trip_graph.specs.work.Levels.{AreLevels, level_total}
+use Rattle.trip_graph.proofs.Common.{travel_time, AreLevels, level_total}
 use Rattle.trip_graph.proofs.all_levels.all_levels.Given as goal
 
 abbrev pub invariant-loop-size : goal.invariant-loop-size

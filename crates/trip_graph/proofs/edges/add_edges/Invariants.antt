@@ -1,5 +1,5 @@
 use Rattle.std.proofs.Common.{◌≡◌, ◌++◌, map, take}
-use Rattle.trip_graph.specs.work.Edges.{single_edge}
+use Rattle.trip_graph.proofs.Common.{single_edge}
 use Rattle.trip_graph.proofs.edges.add_edges.Given as goal
 
 abbrev pub invariant-loop-row : goal.invariant-loop-row

@@ -1,5 +1,5 @@
 use Rattle.std.proofs.Common.{◌≡◌}
-use Rattle.trip_graph.specs.work.Edges.{edges_upto}
+use Rattle.trip_graph.proofs.Common.{edges_upto}
 use Rattle.trip_graph.proofs.edges.edges_of.Given as goal
 
 abbrev pub invariant-loop-vehicle : goal.invariant-loop-vehicle

@@ -1,13 +1,7 @@
 use Rattle.std.proofs.Common.{◌≡◌, ℕ, ◌+◌, ◌<◌, ◌≤◌, List, ◌++◌, length, get_or, sym, ap, ◌∙◌, subst, arith}
-use Rattle.std.proofs.lemmas.List.{get_or_default}
-use Rattle.pool_base.specs.Times.{point_count, travel_time}
-use Rattle.stop_orders.specs.declared.settled_vehicle.SettledVehicle.{SettledVehicle}
-use Rattle.stop_orders.specs.Settled.{vehicle_at, no_vehicle}
-use Rattle.trip_graph.specs.work.Levels.{AreRowsUpTo}
-use Rattle.trip_graph.specs.Answer.{HoldRows}
-use Rattle.trip_graph.specs.work.Rows.{vehicle_rows}
-use Rattle.trip_graph.proofs.GraphSteps as step
+use Rattle.trip_graph.proofs.Common.{get_or_default, point_count, travel_time, SettledVehicle, vehicle_at, no_vehicle, AreRowsUpTo, HoldRows, vehicle_rows}
 use Rattle.trip_graph.proofs.RowOrder.{none_in_order, more_in_order}
+use Rattle.trip_graph.proofs.GraphSteps as step
 use Rattle.trip_graph.proofs.GraphFaults as faults
 use Rattle.trip_graph.proofs.graph_growth.graph_of.Goals as goal
 

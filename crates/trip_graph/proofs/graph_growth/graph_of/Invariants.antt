@@ -1,7 +1,5 @@
 use Rattle.std.proofs.Common.{◌≡◌, length}
-use Rattle.pool_base.specs.Times.{travel_time}
-use Rattle.trip_graph.specs.work.Levels.{AreRowsUpTo, total_upto}
-use Rattle.trip_graph.specs.Answer.{HoldRows}
+use Rattle.trip_graph.proofs.Common.{travel_time, AreRowsUpTo, total_upto, HoldRows}
 use Rattle.trip_graph.proofs.RowOrder.{AreInOrder}
 use Rattle.trip_graph.proofs.graph_growth.graph_of.Given as goal
 

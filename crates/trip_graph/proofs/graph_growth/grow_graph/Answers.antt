@@ -1,11 +1,5 @@
 use Rattle.std.proofs.Common.{◌≡◌, ℕ, ◌+◌, ◌<◌, ◌≤◌, List, [], length, get_or, sym, ◌∙◌, subst, arith}
-use Rattle.std.proofs.lemmas.List.{get_or_default}
-use Rattle.pool_base.specs.Times.{travel_time}
-use Rattle.pair_graph.specs.RvGraph.{IsRvGraph}
-use Rattle.pair_graph.specs.declared.rv_edge.RvEdge.{RvEdge}
-use Rattle.stop_orders.specs.declared.settled.Settled.{Settled}
-use Rattle.trip_growth.specs.declared.trip_of.TripOf.{TripOf}
-use Rattle.trip_graph.specs.work.Levels.{AreLevels, AreLevelsUpTo}
+use Rattle.trip_graph.proofs.Common.{get_or_default, travel_time, IsRvGraph, RvEdge, Settled, TripOf, AreLevels, AreLevelsUpTo}
 use Rattle.trip_graph.proofs.SingleEdges.{have_one, rv_of_singles}
 use Rattle.trip_graph.proofs.graph_growth.grow_graph.Goals as goal
 

@@ -1,13 +1,9 @@
 use Rattle.std.proofs.Common.{◌≡◌, ℕ, ◌+◌, ◌-◌, ◌<◌, ◌∷◌, [], ◌++◌, length, get_or, drop, ap, ◌∙◌, subst, arith}
+use Rattle.trip_graph.proofs.Common.{length_push, AreRowsOfSize, IsLevelOf, batch_of, tau_of, AreLevelsUpTo, row_total, AreNext}
 use Rattle.std.proofs.lemmas.Iterator.Adapters.{YieldsList-from_vec}
 use Rattle.std.proofs.lemmas.Iterator.Consumers.{YieldsList-turn, YieldsList-end}
-use Rattle.std.proofs.lemmas.List.{length_push}
-use Rattle.trip_growth.specs.Rows.{AreRowsOfSize, IsLevelOf}
-use Rattle.trip_graph.specs.work.Growth.{batch_of, tau_of}
-use Rattle.trip_graph.specs.work.Levels.{AreLevelsUpTo, row_total}
-use Rattle.trip_graph.specs.work.Runs.{AreNext}
-use Rattle.trip_graph.proofs.LevelSteps as step
 use Rattle.trip_graph.proofs.Runs.{IsFirst, next_end, next_first, next_last}
+use Rattle.trip_graph.proofs.LevelSteps as step
 use Rattle.trip_graph.proofs.levels.add_run.Goals as goal
 
 pub skip_to-requires-clause-on : goal.skip_to-requires-clause-on

@@ -1,7 +1,5 @@
 use Rattle.std.proofs.Common.{◌≡◌, ◌+◌, ◌≤◌, drop, length}
-use Rattle.trip_graph.specs.work.Growth.{batch_of, tau_of}
-use Rattle.trip_graph.specs.work.Levels.{AreLevelsUpTo, row_total}
-use Rattle.trip_graph.specs.work.Runs.{AreNext}
+use Rattle.trip_graph.proofs.Common.{batch_of, tau_of, AreLevelsUpTo, row_total, AreNext}
 use Rattle.trip_graph.proofs.levels.add_run.Given as goal
 
 abbrev pub invariant-loop-level : goal.invariant-loop-level

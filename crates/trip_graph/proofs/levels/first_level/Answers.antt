@@ -1,6 +1,5 @@
 use Rattle.std.proofs.Common.{◌≡◌, ℕ, ◌+◌, length, sym, ap, ◌∙◌, subst, arith}
-use Rattle.pool_base.specs.Times.{travel_time}
-use Rattle.trip_graph.specs.work.Levels.{AreLevelsUpTo}
+use Rattle.trip_graph.proofs.Common.{travel_time, AreLevelsUpTo}
 use Rattle.trip_graph.proofs.LevelSteps as step
 use Rattle.trip_graph.proofs.levels.first_level.Goals as goal
 

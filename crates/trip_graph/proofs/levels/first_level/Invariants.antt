@@ -1,6 +1,5 @@
 use Rattle.std.proofs.Common.{◌≡◌, ◌≤◌}
-use Rattle.pool_base.specs.Times.{travel_time}
-use Rattle.trip_graph.specs.work.Levels.{AreLevelsUpTo, row_total}
+use Rattle.trip_graph.proofs.Common.{travel_time, AreLevelsUpTo, row_total}
 use Rattle.trip_graph.proofs.levels.first_level.Given as goal
 
 abbrev pub invariant-loop-vehicle : goal.invariant-loop-vehicle

@@ -1,6 +1,5 @@
 use Rattle.std.proofs.Common.{◌≡◌, ◌+◌, ◌-◌, ◌≤◌, length}
-use Rattle.trip_graph.specs.work.Growth.{batch_of, tau_of}
-use Rattle.trip_graph.specs.work.Levels.{AreLevelsUpTo, row_total}
+use Rattle.trip_graph.proofs.Common.{batch_of, tau_of, AreLevelsUpTo, row_total}
 use Rattle.trip_graph.proofs.levels.next_level.Given as goal
 
 abbrev pub invariant-runs : goal.invariant-runs

@@ -1,7 +1,5 @@
 use Rattle.std.proofs.Common.{◌≡◌, ℕ, ◌+◌, ◌<◌, [], length, subst, arith}
-use Rattle.pool_base.specs.Times.{point_count}
-use Rattle.trip_graph.specs.work.Growth.{batch_of, tau_of}
-use Rattle.trip_graph.specs.work.Levels.{AreLevelsUpTo}
+use Rattle.trip_graph.proofs.Common.{point_count, batch_of, tau_of, AreLevelsUpTo}
 use Rattle.trip_graph.proofs.LevelSteps as step
 use Rattle.trip_graph.proofs.levels.skip_to.Goals as goal
 

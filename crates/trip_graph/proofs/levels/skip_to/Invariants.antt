@@ -1,6 +1,5 @@
 use Rattle.std.proofs.Common.{◌≡◌, ◌+◌, ◌≤◌}
-use Rattle.trip_graph.specs.work.Growth.{batch_of, tau_of}
-use Rattle.trip_graph.specs.work.Levels.{AreLevelsUpTo, row_total}
+use Rattle.trip_graph.proofs.Common.{batch_of, tau_of, AreLevelsUpTo, row_total}
 use Rattle.trip_graph.proofs.levels.skip_to.Given as goal
 
 abbrev pub invariant-loop-vehicle : goal.invariant-loop-vehicle

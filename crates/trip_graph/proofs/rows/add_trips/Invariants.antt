@@ -1,5 +1,5 @@
 use Rattle.std.proofs.Common.{◌≡◌, ◌++◌, map, take}
-use Rattle.trip_graph.specs.work.Rows.{trip_row}
+use Rattle.trip_graph.proofs.Common.{trip_row}
 use Rattle.trip_graph.proofs.rows.add_trips.Given as goal
 
 abbrev pub invariant-loop-trip : goal.invariant-loop-trip

@@ -1,8 +1,5 @@
 use Rattle.std.proofs.Common.{◌≡◌, ℕ, ◌+◌, ◌<◌, List, [], ◌∷◌, ◌++◌, length, get_or, map, take, sym, ap, ◌∙◌, subst}
-use Rattle.std.proofs.lemmas.List.{take_more, get_or_default, flat_map_more}
-use Rattle.trip_growth.specs.declared.trip_of.TripOf.{TripOf}
-use Rattle.plan_rules.specs.declared.row.TripRow.{TripRow}
-use Rattle.trip_graph.specs.work.Rows.{trip_row, vehicle_rows}
+use Rattle.trip_graph.proofs.Common.{take_more, get_or_default, flat_map_more, TripOf, TripRow, trip_row, vehicle_rows}
 use Rattle.trip_graph.proofs.rows.add_vehicle.Goals as goal
 
 rows_more : (levels : List (List (List TripOf))) (i v : ℕ) (lists : List (List TripOf)) (trips : List TripOf) (before rows : List TripRow)

@@ -1,5 +1,5 @@
 use Rattle.std.proofs.Common.{◌≡◌, ◌++◌, take}
-use Rattle.trip_graph.specs.work.Rows.{vehicle_rows}
+use Rattle.trip_graph.proofs.Common.{vehicle_rows}
 use Rattle.trip_graph.proofs.rows.add_vehicle.Given as goal
 
 abbrev pub invariant-loop-level : goal.invariant-loop-level

@@ -1,5 +1,5 @@
 use Rattle.std.proofs.Common.{◌≡◌, ℕ, ◌<◌, ◌≤◌, slice_index_or}
-use Rattle.plan_rules.specs.Graph.{no_row}
+use Rattle.trip_graph.proofs.Common.{no_row}
 use Rattle.trip_graph.proofs.rows.row_with.Given as goal
 
 abbrev pub invariant-loop-k : goal.invariant-loop-k

@@ -1,10 +1,9 @@
 use Rattle.std.proofs.Common.{◌≡◌, ◌<◌, ◌∷◌, [], List, length, get_or, refl, sym, ap, ◌∙◌, arith}
+use Rattle.trip_graph.proofs.Common.{get_or_default, TripOf}
 use Rattle.std.proofs.lemmas.Bool.{eqb-true}
-use Rattle.std.proofs.lemmas.List.{get_or_default}
-use Rattle.trip_growth.specs.declared.trip_of.TripOf.{TripOf}
 use Rattle.trip_graph.proofs.Runs.{next_none, next_skip, next_take}
-use Rattle.trip_graph.proofs.run.next_run.Goals as goal
 use Rattle.trip_graph.proofs.run.next_run.Goals.{then-not-is_empty, else-not-is_empty}
+use Rattle.trip_graph.proofs.run.next_run.Goals as goal
 
 nothing : (rows : List TripOf) → length rows ≡ 0 → rows ≡ []
 nothing [] none = refl

@@ -1,5 +1,5 @@
 use Rattle.std.proofs.Common.{◌+◌, ◌-◌, ◌≤◌, length}
-use Rattle.trip_graph.specs.work.Runs.{AreNext}
+use Rattle.trip_graph.proofs.Common.{AreNext}
 use Rattle.trip_graph.proofs.run.next_run.Given as goal
 
 abbrev pub invariant-vehicles : goal.invariant-vehicles

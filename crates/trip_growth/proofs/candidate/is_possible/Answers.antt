@@ -1,5 +1,5 @@
 use Rattle.std.proofs.Common.{subst, arith}
-use Rattle.trip_growth.specs.work.Growth.{serves}
+use Rattle.trip_growth.proofs.Common.{serves}
 use Rattle.trip_growth.proofs.lemmas.TripSearch.{two_riders}
 use Rattle.trip_growth.proofs.candidate.is_possible.Goals as goal
 

@@ -1,11 +1,6 @@
 use Rattle.std.proofs.Common.{[], ◌∷◌, subst, arith}
-use Rattle.pool_base.specs.Times.{travel_time}
-use Rattle.stop_orders.specs.declared.task.Task.{Task}
-use Rattle.stop_orders.specs.Task.{IsLeastDelay}
-use Rattle.stop_orders.specs.Settled.{CanServe}
-use Rattle.trip_growth.specs.work.Growth.{CostsLeast}
+use Rattle.trip_growth.proofs.Common.{travel_time, Task, IsLeastDelay, CanServe, CostsLeast, TripOf}
 use Rattle.trip_growth.proofs.RowGrowth.{row_of}
-use Rattle.trip_growth.specs.declared.trip_of.TripOf.{TripOf}
 use Rattle.trip_growth.proofs.AllRows.{rows_of_level}
 use Rattle.trip_growth.proofs.Joined.{level_of_empty}
 use Rattle.trip_growth.proofs.level_growth.empty_level.Goals as goal

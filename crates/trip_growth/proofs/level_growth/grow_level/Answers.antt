@@ -1,5 +1,5 @@
 use Rattle.std.proofs.Common.{◌-◌}
-use Rattle.pool_base.specs.Times.{point_count, travel_time}
+use Rattle.trip_growth.proofs.Common.{point_count, travel_time}
 use Rattle.trip_growth.proofs.AllRows.{below_of_rows, more_of_level}
 use Rattle.trip_growth.proofs.Rule.{rule_of, edge_of}
 use Rattle.trip_growth.proofs.level_growth.grow_level.Goals as goal

@@ -1,8 +1,5 @@
 use Rattle.std.proofs.Common.{[], ◌∷◌, ◌++◌, sym, ◌∙◌, subst, arith}
-use Rattle.std.proofs.lemmas.List.{length_push}
-use Rattle.pool_base.specs.Times.{point_count, travel_time}
-use Rattle.stop_orders.specs.Task.{IsTask, IsServable, IsLeastDelay}
-use Rattle.trip_growth.specs.work.Growth.{serves, costs, rider_count}
+use Rattle.trip_growth.proofs.Common.{length_push, point_count, travel_time, IsTask, IsServable, IsLeastDelay, serves, costs, rider_count}
 use Rattle.trip_growth.proofs.Levels.{taken, passed}
 use Rattle.trip_growth.proofs.RowGrowth.{row_of, one_too_many, longer_task}
 use Rattle.trip_growth.proofs.row_growth.add_trip.Goals as goal

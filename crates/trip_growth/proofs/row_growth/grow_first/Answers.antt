@@ -1,7 +1,6 @@
 use Rattle.std.proofs.Common.{[], ◌∷◌, ◌<◌, ℕ, length, subst, arith, ap}
+use Rattle.trip_growth.proofs.Common.{serves, costs, rider_count, IsLevelUpTo}
 use Rattle.std.proofs.lemmas.Bool.Decides.{nat_tests}
-use Rattle.trip_growth.specs.work.Growth.{serves, costs, rider_count}
-use Rattle.trip_growth.specs.work.Level.{IsLevelUpTo}
 use Rattle.trip_growth.proofs.Levels.{first_begun, ended}
 use Rattle.trip_growth.proofs.RowGrowth.{none_first, at_least_once}
 use Rattle.trip_growth.proofs.row_growth.grow_first.Goals as goal

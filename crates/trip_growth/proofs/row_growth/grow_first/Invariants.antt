@@ -1,6 +1,5 @@
 use Rattle.std.proofs.Common.{◌≡◌, ◌+◌, ◌≤◌, [], ◌∷◌, length}
-use Rattle.trip_growth.specs.work.Level.{IsLevelUpTo}
-use Rattle.trip_growth.specs.work.Growth.{serves, costs, task_of_trip}
+use Rattle.trip_growth.proofs.Common.{IsLevelUpTo, serves, costs, task_of_trip}
 use Rattle.trip_growth.proofs.row_growth.grow_first.Given as goal
 
 abbrev pub invariant-loop-rider : goal.invariant-loop-rider

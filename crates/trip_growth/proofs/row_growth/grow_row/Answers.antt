@@ -1,5 +1,5 @@
 use Rattle.std.proofs.Common.{◌+◌, ℕ, List, length, take, sym, ap, ◌∙◌, arith, refl}
-use Rattle.trip_growth.specs.work.Growth.{serves, costs, rider_count}
+use Rattle.trip_growth.proofs.Common.{serves, costs, rider_count}
 use Rattle.trip_growth.proofs.lemmas.TripSearch.{size_of}
 use Rattle.trip_growth.proofs.RowGrowth.{opened_at, advanced_at, closed_at, siblings_rise, last_within, upto_as_read, upto_as_stored, more_as_stored, below_as_read, trip_as_read, read_at, same_front}
 use Rattle.trip_growth.proofs.row_growth.grow_row.Goals as goal

@@ -1,7 +1,5 @@
 use Rattle.std.proofs.Common.{◌≡◌, ◌+◌, ◌-◌, ◌<◌, ◌≤◌, [], ◌∷◌, ◌++◌, length, take, slice_index, slice_index_or}
-use Rattle.trip_growth.specs.Trip.{trips_of}
-use Rattle.trip_growth.specs.work.Level.{IsLevelUpTo}
-use Rattle.trip_growth.specs.work.Growth.{serves, costs, task_of_trip}
+use Rattle.trip_growth.proofs.Common.{trips_of, IsLevelUpTo, serves, costs, task_of_trip}
 use Rattle.trip_growth.proofs.row_growth.grow_row.Given as goal
 
 abbrev pub invariant-loop-at : goal.invariant-loop-at

@@ -1,5 +1,5 @@
 use Rattle.std.proofs.Common.{arith}
-use Rattle.trip_growth.specs.work.Growth.{serves, costs, rider_count}
+use Rattle.trip_growth.proofs.Common.{serves, costs, rider_count}
 use Rattle.trip_growth.proofs.RowGrowth.{begun_at, ended_at}
 use Rattle.trip_growth.proofs.row_growth.grow_rows.Goals as goal
 

@@ -1,7 +1,5 @@
 use Rattle.std.proofs.Common.{◌+◌, ◌*◌, ◌≤◌, [], ◌∷◌, length, slice_index_or}
-use Rattle.trip_growth.specs.Trip.{trips_of}
-use Rattle.trip_growth.specs.work.Level.{IsLevelUpTo}
-use Rattle.trip_growth.specs.work.Growth.{serves, costs, rider_count}
+use Rattle.trip_growth.proofs.Common.{trips_of, IsLevelUpTo, serves, costs, rider_count}
 use Rattle.trip_growth.proofs.row_growth.grow_rows.Given as goal
 
 abbrev pub invariant-loop-row : goal.invariant-loop-row

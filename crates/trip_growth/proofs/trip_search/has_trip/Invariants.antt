@@ -1,5 +1,5 @@
 use Rattle.std.proofs.Common.{ℕ, ◌-◌, ◌<◌, ◌≤◌, [], length, slice_index_or}
-use Rattle.trip_growth.specs.Trip.{IsLower, trips_of}
+use Rattle.trip_growth.proofs.Common.{IsLower, trips_of}
 use Rattle.trip_growth.proofs.trip_search.has_trip.Given as goal
 
 abbrev pub invariant-loop-low : goal.invariant-loop-low

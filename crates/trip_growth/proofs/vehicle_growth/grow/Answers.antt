@@ -1,9 +1,6 @@
 use Rattle.std.proofs.Common.{◌≡◌, ℕ, ◌+◌, ◌-◌, List, ◌++◌, length, ap, ◌∙◌, subst, arith}
+use Rattle.trip_growth.proofs.Common.{travel_time, CanServe, CostsLeast, AreRowsOfSize}
 use Rattle.std.proofs.lemmas.List.{length-append}
-use Rattle.pool_base.specs.Times.{travel_time}
-use Rattle.stop_orders.specs.Settled.{CanServe}
-use Rattle.trip_growth.specs.work.Growth.{CostsLeast}
-use Rattle.trip_growth.specs.Rows.{AreRowsOfSize}
 use Rattle.trip_growth.proofs.AllRows.{level_of_rows, level_of_more, more_within}
 use Rattle.trip_growth.proofs.Joined.{smaller_none, smaller_joined, more_joined}
 use Rattle.trip_growth.proofs.StepBound.{steps_so_far, more_steps, rows_of_all}

@@ -1,8 +1,5 @@
 use Rattle.std.proofs.Common.{◌+◌, ◌*◌, ◌≤◌, length}
-use Rattle.pool_base.specs.Times.{travel_time}
-use Rattle.stop_orders.specs.Settled.{CanServe}
-use Rattle.trip_growth.specs.work.Growth.{CostsLeast}
-use Rattle.trip_growth.specs.Rows.{AreRowsOfSize}
+use Rattle.trip_growth.proofs.Common.{travel_time, CanServe, CostsLeast, AreRowsOfSize}
 use Rattle.trip_growth.proofs.Joined.{AreSmaller}
 use Rattle.trip_growth.proofs.vehicle_growth.grow.Given as goal
 

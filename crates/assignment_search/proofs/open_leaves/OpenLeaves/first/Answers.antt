@@ -1,6 +1,6 @@
 use Rattle.std.proofs.Common.{◌≡◌, ◌<◌, ℕ, List, length, get_or, refl, sym, ap, subst, arith}
+use Rattle.assignment_search.proofs.Common.{both_ways}
 use Rattle.std.specs.BinaryHeap.{heap_items}
-use Rattle.std.proofs.lemmas.Bool.{both_ways}
 use Rattle.assignment_search.proofs.OpenLemmas.{some_open, open_number, lowest_is, top_inside}
 use Rattle.assignment_search.proofs.open_leaves.OpenLeaves.first.Goals as goal
 

@@ -1,9 +1,7 @@
 use Rattle.std.proofs.Common.{◌≡◌, ◌++◌, ℕ, ℤ, List, [], ◌∷◌, ap, ◌∙◌, arith}
-use Rattle.std.specs.declared.cmp.Reverse.{Reverse}
+use Rattle.assignment_search.proofs.Common.{Reverse, sum_by_pushed, OpenLeaf}
 use Rattle.std.specs.List.{sum_by}
 use Rattle.std.specs.BinaryHeap.{heap_items}
-use Rattle.std.proofs.lemmas.List.Sorted.{sum_by_pushed}
-use Rattle.assignment_search.specs.declared.open_leaves.OpenLeaf.{OpenLeaf}
 use Rattle.assignment_search.proofs.AnswerLemmas.{small_back}
 use Rattle.assignment_search.proofs.OpenLemmas.{open_start}
 use Rattle.assignment_search.proofs.open_leaves.OpenLeaves.new.Goals as goal

@@ -1,7 +1,7 @@
 use Rattle.std.proofs.Common.{◌≡◌, ◌+◌, ◌++◌, ℕ, suc, List, [], ◌∷◌, length, take, drop, get_or, ap, ◌∙◌, arith}
+use Rattle.assignment_search.proofs.Common.{leaf_sum}
 use Rattle.std.specs.List.{insert}
 use Rattle.std.specs.BinaryHeap.{heap_items}
-use Rattle.assignment_search.specs.work.OpenLeaves.{leaf_sum}
 use Rattle.assignment_search.proofs.EditLemmas.{edit_keep}
 use Rattle.assignment_search.proofs.OpenLemmas.{open_parted, top_inside}
 use Rattle.assignment_search.proofs.open_leaves.OpenLeaves.part.Goals as goal

@@ -1,10 +1,5 @@
 use Rattle.std.proofs.Common.{◌≡◌, ◌<◌, Bool, List, true, false, length, get_or, refl, sym, ap, ◌∙◌, subst, arith}
-use Rattle.std.proofs.lemmas.List.{with_items_is}
-use Rattle.plan_rules.specs.Multipliers.{Usable, usable_of}
-use Rattle.plan_rules.specs.Path.{standing_of, IsPathOf}
-use Rattle.plan_rules.specs.declared.path.Decision.{Decision}
-use Rattle.plan_rules.proofs.lemmas.UsableLemmas.{Agree, can_branch_agrees}
-use Rattle.bound_checker.specs.lemmas.Visit.{coming_of}
+use Rattle.bound_checker.proofs.Common.{with_items_is, Usable, usable_of, standing_of, IsPathOf, Decision, Agree, can_branch_agrees, coming_of}
 use Rattle.bound_checker.proofs.lemmas.WalkLemmas.{coming_entered, path_push}
 use Rattle.bound_checker.proofs.walk.Walk.visit_branch.Goals as goal
 

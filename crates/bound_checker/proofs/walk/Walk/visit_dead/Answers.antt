@@ -1,10 +1,5 @@
 use Rattle.std.proofs.Common.{◌≡◌, Bool, List, false, length, get_or, refl, ap, ◌∙◌, arith}
-use Rattle.std.proofs.lemmas.Bool.{both_ways}
-use Rattle.std.proofs.lemmas.List.{with_items_is}
-use Rattle.plan_rules.specs.Multipliers.{Usable, usable_of}
-use Rattle.plan_rules.specs.Path.{standing_of}
-use Rattle.plan_rules.specs.declared.path.Decision.{Decision}
-use Rattle.plan_rules.proofs.lemmas.UsableLemmas.{Agree, agree_back, dead_end_agrees}
+use Rattle.bound_checker.proofs.Common.{both_ways, with_items_is, Usable, usable_of, standing_of, Decision, Agree, agree_back, dead_end_agrees}
 use Rattle.bound_checker.proofs.lemmas.WalkLemmas.{coming_left}
 use Rattle.bound_checker.proofs.walk.Walk.visit_dead.Goals as goal
 

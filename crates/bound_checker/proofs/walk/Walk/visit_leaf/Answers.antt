@@ -1,13 +1,6 @@
 use Rattle.std.proofs.Common.{◌≡◌, Bool, List, Some, false, length, get_or, ap, ◌∙◌, arith, to_z, of_z}
-use mir.Syntax.{w128}
+use Rattle.bound_checker.proofs.Common.{w128, with_items_is, lesser, Usable, usable_of, leaf_value, rounded_up, standing_of, Decision, Agree, leaf_value_agrees}
 use Rattle.std.proofs.lemmas.Int.{to_z-of_z}
-use Rattle.std.proofs.lemmas.List.{with_items_is}
-use Rattle.plan_rules.specs.Sums.{lesser}
-use Rattle.plan_rules.specs.Multipliers.{Usable, usable_of, leaf_value}
-use Rattle.plan_rules.specs.Tree.{rounded_up}
-use Rattle.plan_rules.specs.Path.{standing_of}
-use Rattle.plan_rules.specs.declared.path.Decision.{Decision}
-use Rattle.plan_rules.proofs.lemmas.UsableLemmas.{Agree, leaf_value_agrees}
 use Rattle.bound_checker.proofs.LeafLemmas.{small_fits}
 use Rattle.bound_checker.proofs.lemmas.WalkLemmas.{coming_left}
 use Rattle.bound_checker.proofs.walk.Walk.visit_leaf.Goals as goal

@@ -1,6 +1,5 @@
 use Rattle.std.proofs.Common.{[], List, sym, subst}
-use Rattle.dispatch_engine.specs.declared.stand.LaneStand.{LaneStand}
-use Rattle.dispatch_engine.specs.Progress.{HaveCome}
+use Rattle.dispatch_engine.proofs.Common.{LaneStand, HaveCome}
 use Rattle.dispatch_engine.proofs.lemmas.ProgressLemmas.{come_none}
 use Rattle.dispatch_engine.proofs.progress.Progress.at_start.Goals as goal
 

@@ -1,11 +1,6 @@
 use Rattle.std.proofs.Common.{◌≡◌, ◌<◌, ◌++◌, ◌∷◌, [], List, length, set, sym, ap, ◌∙◌, subst, arith}
-use Rattle.std.proofs.lemmas.List.{get_or_default}
-use Rattle.dispatch_engine.specs.declared.stand.LaneStand.{LaneStand}
-use Rattle.dispatch_engine.specs.Progress.{HaveCome, IsNext, at_start, stand_after, stand_at}
+use Rattle.dispatch_engine.proofs.Common.{get_or_default, LaneStand, HaveCome, IsNext, at_start, stand_after, stand_at, Command, Entry, lane_at}
 use Rattle.dispatch_engine.proofs.lemmas.ProgressLemmas.{come_more}
-use Rattle.request_book.specs.declared.command.Command.{Command}
-use Rattle.request_book.specs.declared.journal.Entry.{Entry}
-use Rattle.script_rows.specs.Round.{lane_at}
 use Rattle.dispatch_engine.proofs.progress.Progress.take.Goals as goal
 
 pub returns-clause-come : goal.returns-clause-come

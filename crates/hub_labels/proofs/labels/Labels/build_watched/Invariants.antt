@@ -1,8 +1,5 @@
 use Rattle.std.proofs.Common.{true, false, length}
-use Rattle.road_network.specs.Roads.{IsNetwork}
-use Rattle.hub_labels.specs.work.Adding.{IsClean}
-use Rattle.hub_labels.specs.work.Hops.{directed}
-use Rattle.hub_labels.specs.work.Ranked.{AreLabelsBelow}
+use Rattle.hub_labels.proofs.Common.{IsNetwork, IsClean, directed, AreLabelsBelow}
 use Rattle.hub_labels.proofs.labels.Labels.build_watched.Given as goal
 
 abbrev pub invariant-loop-node : goal.invariant-loop-node

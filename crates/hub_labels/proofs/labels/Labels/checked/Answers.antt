@@ -1,8 +1,5 @@
 use Rattle.std.proofs.Common.{◌≡◌, ◌<◌, ℕ, List, length, subst, sym, arith, ◌∙◌}
-use Rattle.hub_labels.specs.declared.hub.Hub.{Hub}
-use Rattle.hub_labels.specs.Label.{IsForwardHub, IsBackwardHub}
-use Rattle.hub_labels.specs.Fault.{IsForwardAt}
-use Rattle.hub_labels.specs.work.Difference.{IsFirstDifference}
+use Rattle.hub_labels.proofs.Common.{Hub, IsForwardHub, IsBackwardHub, IsForwardAt, IsFirstDifference}
 use Rattle.hub_labels.proofs.Unique.{first_wrong}
 use Rattle.hub_labels.proofs.labels.Labels.checked.Goals as goal
 

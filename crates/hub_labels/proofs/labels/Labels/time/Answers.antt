@@ -1,8 +1,5 @@
 use Rattle.std.proofs.Common.{◌≡◌, List, [], length, subst, sym, ap, ◌∙◌, arith}
-use Rattle.std.proofs.lemmas.List.{get_or_read}
-use Rattle.hub_labels.specs.declared.hub.Hub.{Hub}
-use Rattle.hub_labels.specs.Labels.{NodeLabels, label_at}
-use Rattle.hub_labels.specs.work.Common.{IsRising, IsLeastInCommon}
+use Rattle.hub_labels.proofs.Common.{get_or_read, Hub, NodeLabels, label_at, IsRising, IsLeastInCommon}
 use Rattle.hub_labels.proofs.Query.{time_by_labels}
 use Rattle.hub_labels.proofs.labels.Labels.time.Goals as goal
 

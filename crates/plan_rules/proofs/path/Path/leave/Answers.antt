@@ -1,10 +1,8 @@
 use Rattle.std.proofs.Common.{◌-◌, ℕ, List, false, get_or, set, take, ◌∷◌, sym, ap, ◌∙◌, arith}
-use Rattle.plan_rules.specs.Multipliers.{Usable}
-use Rattle.plan_rules.specs.Path.{Standing, standing_of}
-use Rattle.plan_rules.specs.declared.path.Decision.{Decision}
+use Rattle.plan_rules.proofs.Common.{Usable, Standing, standing_of, Decision}
 use Rattle.plan_rules.proofs.lemmas.PathLemmas.{standing_start, coming_left, leave_next}
-use Rattle.plan_rules.proofs.path.Path.leave.Goals as goal
 use Rattle.plan_rules.proofs.path.Path.leave.Goals.{then-loop-depth-test+else-not-index, else-loop-depth-test}
+use Rattle.plan_rules.proofs.path.Path.leave.Goals as goal
 
 pub returns-then-depth-eq0-clause-next : goal.returns-then-depth-eq0-clause-next
 returns-then-depth-eq0-clause-next c = λ g.

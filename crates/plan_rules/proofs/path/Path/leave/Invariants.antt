@@ -1,5 +1,5 @@
 use Rattle.std.proofs.Common.{◌≡◌, ℕ, ◌<◌, ◌≤◌, length, false, get_or}
-use Rattle.plan_rules.specs.declared.path.Decision.{Decision}
+use Rattle.plan_rules.proofs.Common.{Decision}
 use Rattle.plan_rules.proofs.path.Path.leave.Given as goal
 
 abbrev pub invariant-loop-depth : goal.invariant-loop-depth

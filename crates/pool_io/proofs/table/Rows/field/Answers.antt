@@ -1,10 +1,10 @@
 use Rattle.std.proofs.Common.{◌<◌, ◌+◌, ◌*◌, ◌∙◌, length, sym, arith}
+use Rattle.pool_io.proofs.Common.{fields_of}
 use Rattle.std.proofs.lemmas.Nat.{mul-add-lt}
-use Rattle.csv.specs.Records.{fields_of}
 use Rattle.pool_io.proofs.CutRows.{length-cut_rows, cut_rows-field}
 use Rattle.pool_io.proofs.FieldGet.{field_is_there, field_is}
-use Rattle.pool_io.proofs.table.Rows.field.Goals as goal
 use Rattle.pool_io.proofs.table.Rows.field.Goals.{After-self}
+use Rattle.pool_io.proofs.table.Rows.field.Goals as goal
 
 row_within : (c : After-self) → c.args.row < c.self.inside.count
 row_within c = rw (← c.self.view_is, length-cut_rows) at c.requires.row

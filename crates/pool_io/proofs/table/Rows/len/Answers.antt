@@ -1,5 +1,5 @@
 use Rattle.std.proofs.Common.{sym}
-use Rattle.csv.specs.Records.{fields_of}
+use Rattle.pool_io.proofs.Common.{fields_of}
 use Rattle.pool_io.proofs.CutRows.{length-cut_rows}
 use Rattle.pool_io.proofs.table.Rows.len.Goals as goal
 

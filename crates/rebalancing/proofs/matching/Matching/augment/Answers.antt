@@ -1,5 +1,5 @@
 use Rattle.std.proofs.Common.{◌≡◌, ◌<◌, length, slice_index, sym, ap, ◌∙◌, arith}
-use Rattle.std.proofs.lemmas.List.{get_or_read}
+use Rattle.rebalancing.proofs.Common.{get_or_read}
 use Rattle.rebalancing.proofs.Augmenting.{IsPriced-closed, IsOpen-step}
 use Rattle.rebalancing.proofs.matching.Matching.augment.Goals as goal
 

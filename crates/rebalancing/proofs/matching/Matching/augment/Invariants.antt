@@ -1,5 +1,4 @@
-use Rattle.rebalancing.specs.work.Prices.{IsSameProblem}
-use Rattle.rebalancing.specs.work.SearchTree.{IsOpenMatching}
+use Rattle.rebalancing.proofs.Common.{IsSameProblem, IsOpenMatching}
 use Rattle.rebalancing.proofs.matching.Matching.augment.Given as goal
 
 abbrev pub invariant-loop-position : goal.invariant-loop-position

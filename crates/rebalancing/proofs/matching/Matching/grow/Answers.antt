@@ -1,8 +1,5 @@
 use Rattle.std.proofs.Common.{◌≡◌, ◌+◌, ◌<◌, ◌≤◌, [], ◌∷◌, ◌++◌, length, slice_index, set, refl, sym, ap, ◌∙◌, ⊎_elim, arith}
-use Rattle.std.proofs.lemmas.List.{with_items_is, get_or_read, get_or_append_left, get_or_push}
-use Rattle.rebalancing.specs.work.Prices.{weight_in}
-use Rattle.rebalancing.specs.work.Relaxation.{Relaxes, IsCheaper}
-use Rattle.rebalancing.specs.work.SearchTree.{root_of, IsCheapest}
+use Rattle.rebalancing.proofs.Common.{with_items_is, get_or_read, get_or_append_left, get_or_push, weight_in, Relaxes, IsCheaper, root_of, IsCheapest}
 use Rattle.rebalancing.proofs.Growing.{IsGrown-more, IsReached-more, IsCheapest-new, IsCheapest-old, offset_fits}
 use Rattle.rebalancing.proofs.matching.Matching.grow.Goals as goal
 

@@ -1,9 +1,6 @@
 use Rattle.std.proofs.Common.{◌≡◌, ℕ, ◌+◌, ◌<◌, ◌≤◌, ◌==◌, cond, length, slice_index, set, count_by, sym, ap, ⊎_elim, arith}
-use Rattle.std.proofs.lemmas.Bool.{cases_lt, ne_eqb}
-use Rattle.std.proofs.lemmas.List.{get_or_read}
-use Rattle.std.proofs.lemmas.List.Sums.{sum_by-set}
-use Rattle.rebalancing.specs.Potentials.{pair_worth}
-use Rattle.rebalancing.specs.work.SearchTree.{root_of}
+use Rattle.rebalancing.proofs.Common.{cases_lt, get_or_read, sum_by-set, pair_worth, root_of}
+use Rattle.std.proofs.lemmas.Bool.{ne_eqb}
 use Rattle.rebalancing.proofs.Augmenting.{IsOpen-free}
 use Rattle.rebalancing.proofs.matching.Matching.insert.Goals as goal
 

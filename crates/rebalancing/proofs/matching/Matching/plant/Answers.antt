@@ -1,7 +1,5 @@
 use Rattle.std.proofs.Common.{◌≡◌, ℕ, ◌<◌, ◌≤◌, [], ◌∷◌, length, slice_index, replicate, arith}
-use Rattle.std.proofs.lemmas.List.{with_items_is, get_or_read, get_or-replicate, length-replicate}
-use Rattle.rebalancing.specs.Potentials.{pair_worth}
-use Rattle.rebalancing.specs.work.Relaxation.{Relaxes}
+use Rattle.rebalancing.proofs.Common.{with_items_is, get_or_read, get_or-replicate, length-replicate, pair_worth, Relaxes}
 use Rattle.rebalancing.proofs.Growing.{b_most, IsGrown-root, IsReached-root, IsCheapest-root}
 use Rattle.rebalancing.proofs.matching.Matching.plant.Goals as goal
 

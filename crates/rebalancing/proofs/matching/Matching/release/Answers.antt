@@ -1,5 +1,5 @@
 use Rattle.std.proofs.Common.{◌≡◌, ◌<◌, length, slice_index, sym, arith}
-use Rattle.std.proofs.lemmas.List.{get_or_read}
+use Rattle.rebalancing.proofs.Common.{get_or_read}
 use Rattle.rebalancing.proofs.Augmenting.{IsOpen-released, IsPriced-root_left}
 use Rattle.rebalancing.proofs.matching.Matching.release.Goals as goal
 

@@ -1,6 +1,5 @@
 use Rattle.std.proofs.Common.{◌≡◌, length, arith}
-use Rattle.std.proofs.lemmas.List.{with_items_is}
-use Rattle.rebalancing.specs.work.Relaxation.{Falls, Rises}
+use Rattle.rebalancing.proofs.Common.{with_items_is, Falls, Rises}
 use Rattle.rebalancing.proofs.Shifting.{vehicles_differ, IsPriced-shifted, IsGrown-shifted, IsReached-shifted, IsCheapest-shifted}
 use Rattle.rebalancing.proofs.matching.Matching.shift.Goals as goal
 

@@ -1,8 +1,5 @@
 use Rattle.std.proofs.Common.{◌≡◌, ℕ, ◌+◌, ◌-◌, ◌<◌, List, sym, ap, subst, arith}
-use Rattle.request_book.specs.declared.journal.Entry.{Entry}
-use Rattle.request_book.specs.declared.state.State.{State}
-use Rattle.request_book.specs.Book.{BookView, IsBook}
-use Rattle.request_book.specs.work.Register.{state_of, HasRoom}
+use Rattle.request_book.proofs.Common.{Entry, State, BookView, IsBook, state_of, HasRoom}
 use Rattle.request_book.proofs.lemmas.BookLemmas.{applied-book}
 use Rattle.request_book.proofs.book.Book.apply.Goals as goal
 

@@ -1,9 +1,6 @@
-use Rattle.std.proofs.Common.{◌≡◌, [], sym, subst}
-use Rattle.std.specs.Prelude.{IfOk}
+use Rattle.std.proofs.Common.{◌≡◌, [], sym, subst, IfOk}
+use Rattle.request_book.proofs.Common.{Vehicle, BookView, opening, IsNode}
 use Rattle.std.specs.List.{All}
-use Rattle.batch_snapshot.specs.declared.vehicle.Vehicle.{Vehicle}
-use Rattle.request_book.specs.Book.{BookView, opening}
-use Rattle.request_book.specs.Consistent.{IsNode}
 use Rattle.request_book.proofs.book.Book.new.Goals as goal
 
 pub over-requires : goal.over-requires

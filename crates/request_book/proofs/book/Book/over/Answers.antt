@@ -1,10 +1,5 @@
 use Rattle.std.proofs.Common.{◌≡◌, ℕ, List, [], sym, ap, subst, ◌∙◌, arith}
-use Rattle.batch_snapshot.specs.declared.vehicle.Vehicle.{Vehicle}
-use Rattle.request_book.specs.declared.journal.Entry.{Entry}
-use Rattle.request_book.specs.declared.state.State.{State}
-use Rattle.request_book.specs.Book.{BookView, IsBook, opening}
-use Rattle.request_book.specs.Keyed.{KeysRise}
-use Rattle.request_book.specs.work.Register.{state_of}
+use Rattle.request_book.proofs.Common.{Vehicle, Entry, State, BookView, IsBook, opening, KeysRise, state_of}
 use Rattle.request_book.proofs.lemmas.BookLemmas.{opening-book, fleet-rise}
 use Rattle.request_book.proofs.lemmas.IndexLemmas.{no-room}
 use Rattle.request_book.proofs.book.Book.over.Goals as goal

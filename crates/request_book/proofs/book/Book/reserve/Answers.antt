@@ -1,8 +1,5 @@
 use Rattle.std.proofs.Common.{List, sym, subst, arith}
-use Rattle.request_book.specs.declared.journal.Entry.{Entry}
-use Rattle.request_book.specs.declared.state.State.{State}
-use Rattle.request_book.specs.Book.{BookView, IsBook}
-use Rattle.request_book.specs.work.Register.{state_of}
+use Rattle.request_book.proofs.Common.{Entry, State, BookView, IsBook, state_of}
 use Rattle.request_book.proofs.book.Book.reserve.Goals as goal
 
 pub invariant_of-self-in_err-reserve-2 : goal.invariant_of-self-in_err-reserve-2

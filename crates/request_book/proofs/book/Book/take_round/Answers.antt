@@ -1,9 +1,6 @@
 use Rattle.std.proofs.Common.{◌≡◌, ℕ, List, [], sym, ap, subst, ◌∙◌, arith}
+use Rattle.request_book.proofs.Common.{Entry, State, BookView, IsBook, state_of}
 use Rattle.std.specs.Global.{Vec}
-use Rattle.request_book.specs.declared.journal.Entry.{Entry}
-use Rattle.request_book.specs.declared.state.State.{State}
-use Rattle.request_book.specs.Book.{BookView, IsBook}
-use Rattle.request_book.specs.work.Register.{state_of}
 use Rattle.request_book.proofs.lemmas.BookLemmas.{round-book}
 use Rattle.request_book.proofs.lemmas.IndexLemmas.{no-room}
 use Rattle.request_book.proofs.book.Book.take_round.Goals as goal

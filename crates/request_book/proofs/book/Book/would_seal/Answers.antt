@@ -1,7 +1,5 @@
-use Rattle.std.proofs.Common.{◌≡◌, Bool, true, false, Some, ap, ◌∙◌}
-use Rattle.std.specs.Prelude.{is_some}
-use Rattle.request_book.specs.Book.{BookView, would_seal}
-use Rattle.request_book.specs.work.Register.{state_of}
+use Rattle.std.proofs.Common.{◌≡◌, Bool, true, false, Some, ap, ◌∙◌, is_some}
+use Rattle.request_book.proofs.Common.{BookView, would_seal, state_of}
 use Rattle.request_book.proofs.lemmas.StepTable.{would_seal-refused, would_seal-open}
 use Rattle.request_book.proofs.book.Book.would_seal.Goals as goal
 

@@ -1,9 +1,6 @@
-use Rattle.std.proofs.Common.{◌≡◌, take}
-use Rattle.std.specs.Prelude.{option_and_then}
+use Rattle.std.proofs.Common.{◌≡◌, take, option_and_then}
+use Rattle.request_book.proofs.Common.{after_seal, asking, find_rider}
 use Rattle.std.specs.List.{filter_map}
-use Rattle.request_book.specs.Sealing.{after_seal}
-use Rattle.request_book.specs.lemmas.Named.{asking}
-use Rattle.request_book.specs.State.{find_rider}
 use Rattle.request_book.proofs.register.Register.asking.Given as goal
 
 abbrev pub invariant-loop-id : goal.invariant-loop-id

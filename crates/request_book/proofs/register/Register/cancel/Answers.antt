@@ -1,9 +1,5 @@
 use Rattle.std.proofs.Common.{◌≡◌, [], ◌∷◌, Some, None, sym, ap, ◌∙◌}
-use Rattle.request_book.specs.declared.reply.Reply.{Reply}
-use Rattle.request_book.specs.declared.reply.Reply.TheVariants.{Cancelled}
-use Rattle.request_book.specs.declared.state.State.{State}
-use Rattle.request_book.specs.lemmas.Refusals.{first_of, aboard_refusal, ended_refusal}
-use Rattle.request_book.specs.work.Register.{state_of}
+use Rattle.request_book.proofs.Common.{Reply, Cancelled, State, first_of, aboard_refusal, ended_refusal, state_of}
 use Rattle.request_book.proofs.lemmas.StepLemmas.{cancel-unknown, cancel-known}
 use Rattle.request_book.proofs.register.Register.cancel.Goals as goal
 

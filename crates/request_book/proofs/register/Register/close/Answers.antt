@@ -1,21 +1,11 @@
 use Rattle.std.proofs.Common.{◌≡◌, List, Option, Some, None, map, refl, sym, ap, subst, ◌∙◌}
-use Rattle.batch_snapshot.specs.Batch.{Batch}
-use Rattle.batch_snapshot.specs.declared.rider.Rider.{Rider}
-use Rattle.request_book.specs.declared.register.Register.{Register}
-use Rattle.request_book.specs.declared.reply.Reply.{Reply}
-use Rattle.request_book.specs.declared.reply.Reply.TheVariants.{Closed}
-use Rattle.request_book.specs.declared.rider.BookRider.{BookRider}
-use Rattle.request_book.specs.declared.state.State.{State}
-use Rattle.request_book.specs.Closing.{after_answer}
-use Rattle.request_book.specs.Keyed.{KeysDiffer, KeysRise}
-use Rattle.request_book.specs.lemmas.Refusals.{not_this_batch}
-use Rattle.request_book.specs.work.Register.{state_of, IsIndexed}
+use Rattle.request_book.proofs.Common.{Batch, Rider, Register, Reply, Closed, BookRider, State, after_answer, KeysDiffer, KeysRise, not_this_batch, state_of, IsIndexed}
 use Rattle.request_book.proofs.lemmas.CloseLemmas.{answer-settled}
 use Rattle.request_book.proofs.lemmas.IndexLemmas.{IsPool-same}
 use Rattle.request_book.proofs.lemmas.KeyedLemmas.{rise_from_increasing}
 use Rattle.request_book.proofs.lemmas.StepLemmas.{close-known, closed-some}
-use Rattle.request_book.proofs.register.Register.close.Goals as goal
 use Rattle.request_book.proofs.register.Register.close.Goals.{in-Some-take, in_default-take}
+use Rattle.request_book.proofs.register.Register.close.Goals as goal
 
 pub returns-in-Some-clause-stepped : goal.returns-in-Some-clause-stepped
 returns-in-Some-clause-stepped c = close-known (state_of c.args.self.now) c.args.batch c.args.answer.now (Some c.in-Some.refusal) (sym c.in-Some.is ∙ c.not_this_batch.ensures)

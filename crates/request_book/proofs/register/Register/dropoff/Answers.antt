@@ -1,18 +1,5 @@
-use Rattle.std.proofs.Common.{◌≡◌, List, [], ◌∷◌, Some, None, set, map, refl, sym, ap, subst, ◌∙◌}
-use Rattle.std.specs.Prelude.{option_and_then}
-use Rattle.std.proofs.lemmas.List.Elements.{All-get_or}
-use Rattle.batch_snapshot.specs.declared.vehicle.Vehicle.{Vehicle}
-use Rattle.request_book.specs.declared.reply.Reply.{Reply}
-use Rattle.request_book.specs.declared.reply.Reply.TheVariants.{Dropped}
-use Rattle.request_book.specs.declared.rider.BookRider.{BookRider}
-use Rattle.request_book.specs.declared.rider.Status.TheVariants.{Delivered}
-use Rattle.request_book.specs.declared.state.State.{State}
-use Rattle.request_book.specs.Keyed.{changed_at, KeysRise, KeysDiffer}
-use Rattle.request_book.specs.lemmas.Refusals.{first_of, seat_refusal, time_back}
-use Rattle.request_book.specs.work.Register.{state_of, pool_id}
-use Rattle.request_book.specs.Rider.{with_status}
-use Rattle.request_book.specs.State.{find_rider, find_vehicle}
-use Rattle.request_book.specs.lemmas.Named.{lets_out}
+use Rattle.std.proofs.Common.{◌≡◌, List, [], ◌∷◌, Some, None, set, map, refl, sym, ap, subst, ◌∙◌, option_and_then}
+use Rattle.request_book.proofs.Common.{All-get_or, Vehicle, Reply, Dropped, BookRider, Delivered, State, changed_at, KeysRise, KeysDiffer, first_of, seat_refusal, time_back, state_of, pool_id, with_status, find_rider, find_vehicle, lets_out}
 use Rattle.request_book.proofs.lemmas.KeyedLemmas.{KeysRise-changed_at, KeysDiffer-changed_at, look_up-key, map-changed_at}
 use Rattle.request_book.proofs.lemmas.IndexLemmas.{vehicle-set, IsPool-outside, IsPool-same, pool_id-inactive}
 use Rattle.request_book.proofs.lemmas.StepLemmas.{dropoff-no_vehicle, dropoff-no_rider_at, dropoff-known, first_of-none, aboard_left}

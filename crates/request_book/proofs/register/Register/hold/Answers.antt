@@ -1,6 +1,5 @@
 use Rattle.std.proofs.Common.{sym, subst, ◌∙◌}
-use Rattle.batch_snapshot.specs.declared.vehicle.Vehicle.{Vehicle}
-use Rattle.request_book.specs.Keyed.{KeysDiffer}
+use Rattle.request_book.proofs.Common.{Vehicle, KeysDiffer}
 use Rattle.request_book.proofs.lemmas.KeyedLemmas.{KeysDiffer-from_rise}
 use Rattle.request_book.proofs.register.Register.hold.Goals as goal
 

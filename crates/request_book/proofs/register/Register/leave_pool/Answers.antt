@@ -1,5 +1,5 @@
 use Rattle.std.proofs.Common.{refl, sym, ◌∙◌, arith}
-use Rattle.request_book.specs.Rider.{with_status}
+use Rattle.request_book.proofs.Common.{with_status}
 use Rattle.request_book.proofs.lemmas.KeyedLemmas.{KeysDiffer-changed_at, KeysRise-without, map-changed_at}
 use Rattle.request_book.proofs.lemmas.IndexLemmas.{IsPool-without}
 use Rattle.request_book.proofs.register.Register.leave_pool.Goals as goal

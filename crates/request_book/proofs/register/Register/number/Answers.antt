@@ -1,10 +1,5 @@
-use Rattle.std.proofs.Common.{ℕ, List, [], map, sym, ap, subst, ◌∙◌, arith}
-use Rattle.std.specs.Prelude.{option_and_then}
-use Rattle.batch_snapshot.specs.declared.vehicle.Vehicle.{Vehicle}
-use Rattle.request_book.specs.declared.rider.BookRider.{BookRider}
-use Rattle.request_book.specs.Keyed.{look_up, KeysRise, KeysDiffer}
-use Rattle.request_book.specs.work.Register.{pool_id}
-use Rattle.request_book.specs.State.{find_rider}
+use Rattle.std.proofs.Common.{ℕ, List, [], map, sym, ap, subst, ◌∙◌, arith, option_and_then}
+use Rattle.request_book.proofs.Common.{Vehicle, BookRider, look_up, KeysRise, KeysDiffer, pool_id, find_rider}
 use Rattle.request_book.proofs.lemmas.KeyedLemmas.{look_up-nil, KeysDiffer-from_rise}
 use Rattle.request_book.proofs.register.Register.number.Goals as goal
 

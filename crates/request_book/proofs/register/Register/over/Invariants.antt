@@ -1,8 +1,6 @@
-use Rattle.std.proofs.Common.{◌≡◌, take}
-use Rattle.std.specs.Prelude.{option_and_then}
+use Rattle.std.proofs.Common.{◌≡◌, take, option_and_then}
+use Rattle.request_book.proofs.Common.{over_id, find_rider}
 use Rattle.std.specs.List.{filter_map}
-use Rattle.request_book.specs.work.Named.{over_id}
-use Rattle.request_book.specs.State.{find_rider}
 use Rattle.request_book.proofs.register.Register.over.Given as goal
 
 abbrev pub invariant-loop-id : goal.invariant-loop-id

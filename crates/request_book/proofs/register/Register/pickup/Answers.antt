@@ -1,19 +1,6 @@
 use Rattle.std.proofs.Common.{◌≡◌, ◌<◌, ◌≤◌, List, [], ◌∷◌, Some, None, length, get_or, set, map, refl, sym, ap, subst, ◌∙◌, arith}
+use Rattle.request_book.proofs.Common.{All-get_or, HasSeats, Vehicle, Reply, Picked, BookRider, Aboard, State, changed_at, KeysRise, KeysDiffer, first_of, aboard_refusal, ended_refusal, promise_refusal, time_back, vehicle_full, state_of, with_status, find_rider, find_vehicle, takes_in}
 use Rattle.std.proofs.lemmas.Option.{MatchOption-at_none}
-use Rattle.std.proofs.lemmas.List.Elements.{All-get_or}
-use Rattle.batch_snapshot.specs.Vehicle.{HasSeats}
-use Rattle.batch_snapshot.specs.declared.vehicle.Vehicle.{Vehicle}
-use Rattle.request_book.specs.declared.reply.Reply.{Reply}
-use Rattle.request_book.specs.declared.reply.Reply.TheVariants.{Picked}
-use Rattle.request_book.specs.declared.rider.BookRider.{BookRider}
-use Rattle.request_book.specs.declared.rider.Status.TheVariants.{Aboard}
-use Rattle.request_book.specs.declared.state.State.{State}
-use Rattle.request_book.specs.Keyed.{changed_at, KeysRise, KeysDiffer}
-use Rattle.request_book.specs.lemmas.Refusals.{first_of, aboard_refusal, ended_refusal, promise_refusal, time_back, vehicle_full}
-use Rattle.request_book.specs.work.Register.{state_of}
-use Rattle.request_book.specs.Rider.{with_status}
-use Rattle.request_book.specs.State.{find_rider, find_vehicle}
-use Rattle.request_book.specs.lemmas.Named.{takes_in}
 use Rattle.request_book.proofs.lemmas.KeyedLemmas.{KeysRise-changed_at, KeysDiffer-changed_at, KeysRise-without, map-changed_at}
 use Rattle.request_book.proofs.lemmas.IndexLemmas.{vehicle-set, IsPool-without, IsPool-same}
 use Rattle.request_book.proofs.lemmas.StepLemmas.{pickup-no_vehicle, pickup-no_rider_at, pickup-known, fifth-none}

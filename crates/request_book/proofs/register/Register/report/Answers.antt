@@ -1,13 +1,5 @@
 use Rattle.std.proofs.Common.{◌≡◌, List, [], ◌∷◌, Some, None, set, map, refl, sym, ap, subst, ◌∙◌}
-use Rattle.batch_snapshot.specs.declared.vehicle.Vehicle.{Vehicle}
-use Rattle.request_book.specs.declared.reply.Reply.{Reply}
-use Rattle.request_book.specs.declared.reply.Reply.TheVariants.{Placed}
-use Rattle.request_book.specs.declared.state.State.{State}
-use Rattle.request_book.specs.Keyed.{changed_at, KeysRise}
-use Rattle.request_book.specs.lemmas.Refusals.{first_of, unknown_node, time_back}
-use Rattle.request_book.specs.work.Register.{state_of}
-use Rattle.request_book.specs.State.{find_vehicle}
-use Rattle.request_book.specs.lemmas.Named.{stands_at}
+use Rattle.request_book.proofs.Common.{Vehicle, Reply, Placed, State, changed_at, KeysRise, first_of, unknown_node, time_back, state_of, find_vehicle, stands_at}
 use Rattle.request_book.proofs.lemmas.KeyedLemmas.{KeysRise-changed_at, map-changed_at}
 use Rattle.request_book.proofs.lemmas.IndexLemmas.{vehicle-set}
 use Rattle.request_book.proofs.lemmas.StepLemmas.{report-unknown, report-known}

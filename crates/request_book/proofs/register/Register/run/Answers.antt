@@ -1,11 +1,5 @@
-use Rattle.std.proofs.Common.{◌≡◌, Result, Ok, Err, ◌∙◌}
-use Rattle.std.specs.Prelude.{IfOk}
-use Rattle.pool_base.specs.declared.memory.OutOfMemory.{OutOfMemory}
-use Rattle.request_book.specs.declared.command.Command.TheVariants.{Seal}
-use Rattle.request_book.specs.declared.reply.Reply.{Reply}
-use Rattle.request_book.specs.work.Register.{state_of}
-use Rattle.request_book.specs.Step.{step}
-use Rattle.request_book.specs.lemmas.Table.{table_step}
+use Rattle.std.proofs.Common.{◌≡◌, Result, Ok, Err, ◌∙◌, IfOk}
+use Rattle.request_book.proofs.Common.{OutOfMemory, Seal, Reply, state_of, step, table_step}
 use Rattle.request_book.proofs.lemmas.StepTable.{step-is}
 use Rattle.request_book.proofs.lemmas.IndexLemmas.{less-room}
 use Rattle.request_book.proofs.register.Register.run.Goals as goal

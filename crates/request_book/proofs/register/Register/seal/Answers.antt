@@ -1,22 +1,11 @@
 use Rattle.std.proofs.Common.{◌≡◌, ℕ, List, Some, None, map, sym, ap, subst, ◌∙◌}
-use Rattle.batch_snapshot.specs.Batch.{Batch}
-use Rattle.request_book.specs.declared.reply.Reply.{Reply}
-use Rattle.request_book.specs.declared.reply.Reply.TheVariants.{Sealed}
-use Rattle.request_book.specs.declared.rider.BookRider.{BookRider}
-use Rattle.request_book.specs.declared.rider.Status.TheVariants.{Expired}
-use Rattle.request_book.specs.declared.state.State.{State}
-use Rattle.request_book.specs.Keyed.{KeysDiffer, KeysRise}
-use Rattle.request_book.specs.work.Keyed.{changed_in_turn}
-use Rattle.request_book.specs.work.Register.{state_of}
-use Rattle.request_book.specs.Rider.{with_status}
-use Rattle.request_book.specs.Sealing.{after_seal, batch_of, sealed_state}
-use Rattle.pool_io.specs.Faults.{one_more}
+use Rattle.request_book.proofs.Common.{Batch, Reply, Sealed, BookRider, Expired, State, KeysDiffer, KeysRise, changed_in_turn, state_of, with_status, after_seal, batch_of, sealed_state, one_more}
 use Rattle.request_book.proofs.lemmas.BatchLemmas.{expired-map, after_seal-id, staying-rise, staying-pool}
 use Rattle.request_book.proofs.lemmas.IndexLemmas.{IsPool-same}
 use Rattle.request_book.proofs.lemmas.KeyedLemmas.{KeysDiffer-map, map-keys}
 use Rattle.request_book.proofs.lemmas.StepLemmas.{seal-known}
-use Rattle.request_book.proofs.register.Register.seal.Goals as goal
 use Rattle.request_book.proofs.register.Register.seal.Goals.{Joined-self}
+use Rattle.request_book.proofs.register.Register.seal.Goals as goal
 
 -- the riders after the seal
 riders_are : (c : Joined-self) → c.expire.new.riders.items ≡ map (after_seal c.args.wait c.args.second) c.args.self.now.riders.items

@@ -1,17 +1,9 @@
 use Rattle.std.proofs.Common.{◌≡◌, ℕ, List, map, sym, ap, subst, ◌∙◌}
-use Rattle.batch_snapshot.specs.Batch.{Batch}
-use Rattle.batch_snapshot.specs.Kept.{IsKept}
-use Rattle.batch_snapshot.specs.declared.rider.Rider.{Rider}
-use Rattle.batch_snapshot.specs.declared.vehicle.Vehicle.{Vehicle}
-use Rattle.request_book.specs.work.Register.{state_of}
+use Rattle.request_book.proofs.Common.{Batch, IsKept, Rider, Vehicle, state_of, by_key, batch_of, after_seal, asking, one_more}
 use Rattle.std.specs.List.{filter_map}
-use Rattle.request_book.specs.Keyed.{by_key}
-use Rattle.request_book.specs.Sealing.{batch_of, after_seal}
-use Rattle.request_book.specs.lemmas.Named.{asking}
-use Rattle.pool_io.specs.Faults.{one_more}
 use Rattle.request_book.proofs.lemmas.BatchLemmas.{batch-riders, batch-expired, batch-kept}
-use Rattle.request_book.proofs.register.Register.snapshot.Goals as goal
 use Rattle.request_book.proofs.register.Register.snapshot.Goals.{After-of-3}
+use Rattle.request_book.proofs.register.Register.snapshot.Goals as goal
 
 batch_is : (c : After-of-3) → (record { number = c.one_more.result; sealed_at = c.args.second; vehicles = c.of.result; riders = c.of-2.result; expired = c.of-3.result }) ≡ batch_of c.args.wait (state_of c.args.self.now) c.args.second
 unfolding batch_of

@@ -1,11 +1,8 @@
-use Rattle.std.proofs.Common.{◌≡◌, ℕ, ◌+◌, ◌++◌, Option, get_or, take, sym, ap, ◌∙◌, arith}
-use Rattle.std.specs.Prelude.{option_and_then}
+use Rattle.std.proofs.Common.{◌≡◌, ℕ, ◌+◌, ◌++◌, Option, get_or, take, sym, ap, ◌∙◌, arith, option_and_then}
+use Rattle.request_book.proofs.Common.{pool_id, after_seal, find_rider}
 use Rattle.std.specs.List.{filter_map}
 use Rattle.std.specs.Option.{option_to_list}
 use Rattle.std.proofs.lemmas.List.{take_all}
-use Rattle.request_book.specs.work.Register.{pool_id}
-use Rattle.request_book.specs.Sealing.{after_seal}
-use Rattle.request_book.specs.State.{find_rider}
 use Rattle.request_book.proofs.lemmas.SealLemmas.{filter_map-more}
 use Rattle.request_book.proofs.register.Register.staying.Goals as goal
 

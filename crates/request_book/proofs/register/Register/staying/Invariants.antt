@@ -1,9 +1,6 @@
-use Rattle.std.proofs.Common.{◌≡◌, ◌≤◌, take}
-use Rattle.std.specs.Prelude.{option_and_then, vec_capacity}
+use Rattle.std.proofs.Common.{◌≡◌, ◌≤◌, take, option_and_then, vec_capacity}
+use Rattle.request_book.proofs.Common.{pool_id, after_seal, find_rider}
 use Rattle.std.specs.List.{filter_map}
-use Rattle.request_book.specs.work.Register.{pool_id}
-use Rattle.request_book.specs.Sealing.{after_seal}
-use Rattle.request_book.specs.State.{find_rider}
 use Rattle.request_book.proofs.register.Register.staying.Given as goal
 
 abbrev pub invariant-loop-id : goal.invariant-loop-id

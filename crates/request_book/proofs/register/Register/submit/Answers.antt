@@ -1,14 +1,5 @@
-use Rattle.std.proofs.Common.{ℕ, List, [], ◌∷◌, ◌++◌, Bool, Some, None, map, refl, sym, ap, subst, ◌∙◌, arith}
-use Rattle.std.specs.Prelude.{is_some, option_and_then, ◌==◌}
-use Rattle.std.specs.List.{list_any}
-use Rattle.std.proofs.lemmas.List.{map-append}
-use Rattle.request_book.specs.declared.reply.Reply.{Reply}
-use Rattle.request_book.specs.declared.reply.Reply.TheVariants.{Accepted}
-use Rattle.request_book.specs.declared.rider.BookRider.{BookRider}
-use Rattle.request_book.specs.declared.state.State.{State}
-use Rattle.request_book.specs.Keyed.{KeysDiffer, KeysRise}
-use Rattle.request_book.specs.work.Register.{state_of, pool_id}
-use Rattle.request_book.specs.Rider.{is_active}
+use Rattle.std.proofs.Common.{ℕ, List, [], ◌∷◌, ◌++◌, Bool, Some, None, map, refl, sym, ap, subst, ◌∙◌, arith, is_some, option_and_then, ◌==◌}
+use Rattle.request_book.proofs.Common.{list_any, map-append, Reply, Accepted, BookRider, State, KeysDiffer, KeysRise, state_of, pool_id, is_active}
 use Rattle.request_book.proofs.lemmas.KeyedLemmas.{look_up-list_any, KeysDiffer-push, KeysRise-placed}
 use Rattle.request_book.proofs.lemmas.IndexLemmas.{IsPool-placed, IsPool-same, length-pool}
 use Rattle.request_book.proofs.lemmas.StepLemmas.{submit-fits, submit-known}

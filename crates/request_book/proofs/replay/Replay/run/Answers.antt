@@ -1,10 +1,5 @@
-use Rattle.std.proofs.Common.{◌≡◌, Result, Ok, Err, sym, ap, subst}
-use Rattle.std.specs.Prelude.{IfOk, OnErr}
-use Rattle.pool_base.specs.declared.memory.OutOfMemory.{OutOfMemory}
-use Rattle.request_book.specs.Consistent.{IsConsistent}
-use Rattle.request_book.specs.Step.{step}
-use Rattle.request_book.specs.declared.reply.Reply.{Reply}
-use Rattle.request_book.specs.work.Register.{state_of}
+use Rattle.std.proofs.Common.{◌≡◌, Result, Ok, Err, sym, ap, subst, IfOk, OnErr}
+use Rattle.request_book.proofs.Common.{OutOfMemory, IsConsistent, step, Reply, state_of}
 use Rattle.request_book.proofs.lemmas.ConsistentLemmas.{step-consistent}
 use Rattle.request_book.proofs.replay.Replay.run.Goals as goal
 

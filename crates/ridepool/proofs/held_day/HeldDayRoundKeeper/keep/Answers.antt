@@ -1,5 +1,5 @@
 use Rattle.std.proofs.Common.{◌∷◌, ◌++◌, [], subst, sym}
-use Rattle.ridepool.specs.work.Held.{HoldsRound, HoldsRounds}
+use Rattle.ridepool.proofs.Common.{HoldsRound, HoldsRounds}
 use Rattle.ridepool.proofs.HeldLemmas.{zip-push}
 use Rattle.ridepool.proofs.held_day.HeldDayRoundKeeper.keep.Goals as goal
 

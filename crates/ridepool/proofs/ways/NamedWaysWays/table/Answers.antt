@@ -1,5 +1,5 @@
 use Rattle.std.proofs.Common.{All, Contains, ◌∙◌, sym, subst}
-use Rattle.road_network.specs.Roads.{Roads}
+use Rattle.ridepool.proofs.Common.{Roads}
 use Rattle.ridepool.proofs.ways.NamedWaysWays.table.Goals as goal
 
 pub table-requires-clause-known : goal.table-requires-clause-known

@@ -1,6 +1,5 @@
 use Rattle.std.proofs.Common.{◌≡◌, ◌<◌, length, sym}
-use Rattle.std.proofs.lemmas.List.{get_or_read}
-use Rattle.road_network.specs.Storage.{start_at}
+use Rattle.road_network.proofs.Common.{get_or_read, start_at}
 use Rattle.road_network.proofs.Stored.{hops_at-leaving}
 use Rattle.road_network.proofs.network.Network.arcs_from.Goals as goal
 

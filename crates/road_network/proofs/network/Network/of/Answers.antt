@@ -1,6 +1,5 @@
 use Rattle.std.proofs.Common.{List, length, ap, arith}
-use Rattle.road_network.specs.Walk.{Arc}
-use Rattle.road_network.specs.Roads.{Roads}
+use Rattle.road_network.proofs.Common.{Arc, Roads}
 use Rattle.road_network.proofs.Sorted.{ArePacked-sorted, stored_arcs-sorted}
 use Rattle.road_network.proofs.network.Network.of.Goals as goal
 

@@ -1,5 +1,5 @@
 use Rattle.std.proofs.Common.{◌≢◌, ℕ, ◌<◌}
-use Rattle.route_drive.specs.work.Tree.{found_at}
+use Rattle.route_drive.proofs.Common.{found_at}
 use Rattle.route_drive.proofs.tree.Tree.number_of.Given as goal
 
 abbrev pub invariant-loop-number : goal.invariant-loop-number

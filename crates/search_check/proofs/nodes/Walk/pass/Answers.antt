@@ -1,10 +1,5 @@
 use Rattle.std.proofs.Common.{◌<◌, ℕ, Bool, true, sym, ap, ◌∙◌, subst}
-use Rattle.plan_rules.specs.Path.{IsPathOf, standing_of}
-use Rattle.plan_rules.specs.Reading.{IsSoundNode, coming_after}
-use Rattle.plan_rules.specs.Tree.{CanBranch}
-use Rattle.plan_rules.specs.declared.node.Node.{Node}
-use Rattle.bound_checker.specs.lemmas.Visit.{coming_of}
-use Rattle.bound_checker.proofs.lemmas.WalkLemmas.{coming_entered, path_push}
+use Rattle.search_check.proofs.Common.{IsPathOf, standing_of, IsSoundNode, coming_after, CanBranch, Node, coming_of, coming_entered, path_push}
 use Rattle.search_check.proofs.nodes.Walk.pass.Goals as goal
 
 pub returns-in_ok-enter-in-Branch-clause-next : goal.returns-in_ok-enter-in-Branch-clause-next

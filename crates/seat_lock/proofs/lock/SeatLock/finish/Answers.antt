@@ -1,6 +1,5 @@
 use Rattle.std.proofs.Common.{ℕ, ◌<◌, length, ◌++◌, sym, ap, ◌∙◌, subst}
-use Rattle.seat_lock.specs.Values.{PassValue, calls_of}
-use Rattle.seat_lock.specs.work.Rule.{Claimed, Laned}
+use Rattle.seat_lock.proofs.Common.{PassValue, calls_of, Claimed, Laned}
 use Rattle.seat_lock.proofs.Positions.{each_once}
 use Rattle.seat_lock.proofs.Handing.{claimed_each, All-laned}
 use Rattle.seat_lock.proofs.lock.SeatLock.finish.Goals as goal

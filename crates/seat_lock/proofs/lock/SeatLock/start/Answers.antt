@@ -1,7 +1,5 @@
 use Rattle.std.proofs.Common.{[], ◌∷◌, ◌++◌, Some, sym, ap, ◌∙◌, subst}
-use Rattle.atomic_table.specs.Table.{opening}
-use Rattle.seat_lock.specs.work.Views.{first_view}
-use Rattle.seat_lock.specs.work.Rule.{Kept}
+use Rattle.seat_lock.proofs.Common.{opening, first_view, Kept}
 use Rattle.seat_lock.proofs.Keeps.{begins}
 use Rattle.seat_lock.proofs.lock.SeatLock.start.Goals as goal
 

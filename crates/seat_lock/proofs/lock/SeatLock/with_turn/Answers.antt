@@ -1,7 +1,5 @@
 use Rattle.std.proofs.Common.{[], ◌∷◌, ◌++◌, length, refl, ap, ◌∙◌, subst}
-use Rattle.seat_lock.specs.Values.{entry}
-use Rattle.seat_lock.specs.work.Views.{calls_in}
-use Rattle.seat_lock.specs.work.Rule.{Claimed}
+use Rattle.seat_lock.proofs.Common.{entry, calls_in, Claimed}
 use Rattle.seat_lock.proofs.Turning.{same_held, back_in_slot, calls_grown}
 use Rattle.seat_lock.proofs.lock.SeatLock.with_turn.Goals as goal
 

@@ -1,8 +1,6 @@
-use Rattle.std.proofs.Common.{◌≡◌, ℕ, ◌<◌, List, length, map, get_or, sym, ap, ◌∙◌, subst, arith}
-use Rattle.std.specs.Prelude.{All}
-use Rattle.std.proofs.lemmas.List.{get_or-map, length-map}
+use Rattle.std.proofs.Common.{◌≡◌, ℕ, ◌<◌, List, length, map, get_or, sym, ap, ◌∙◌, subst, arith, All}
+use Rattle.small_routing.proofs.Common.{get_or-map, length-map, no_label, IsLabelPlaced}
 use Rattle.small_routing.specs.declared.kept.Entry.{Entry}
-use Rattle.small_routing.specs.work.Kept.{no_label, IsLabelPlaced}
 use Rattle.small_routing.proofs.kept.Kept.dominates.Goals as goal
 
 -- the label of an entry is among the labels

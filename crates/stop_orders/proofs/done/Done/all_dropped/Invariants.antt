@@ -1,5 +1,5 @@
 use Rattle.std.proofs.Common.{◌≡◌, ℕ, ◌+◌, ◌<◌, true}
-use Rattle.stop_orders.specs.Done.{has}
+use Rattle.stop_orders.proofs.Common.{has}
 use Rattle.stop_orders.proofs.done.Done.all_dropped.Given as goal
 
 abbrev pub invariant-loop-i : goal.invariant-loop-i

@@ -1,6 +1,5 @@
 use Rattle.std.proofs.Common.{eqb, ap, ◌∙◌}
-use Rattle.std.proofs.lemmas.Nat.Bits.{shr_and_one}
-use Rattle.stop_orders.specs.Done.{has}
+use Rattle.stop_orders.proofs.Common.{shr_and_one, has}
 use Rattle.stop_orders.proofs.done.Done.has.Goals as goal
 
 pub returns : goal.returns

@@ -1,6 +1,6 @@
 use Rattle.std.proofs.Common.{◌≡◌, ◌<◌, ◌*◌, ◌%◌, ◌^◌, bit_or, ap, ◌∙◌, arith}
+use Rattle.stop_orders.proofs.Common.{with_bit}
 use Rattle.std.proofs.lemmas.Nat.{pow_below}
-use Rattle.stop_orders.specs.Done.{with_bit}
 use Rattle.stop_orders.proofs.done.Done.with_bit.Goals as goal
 
 pub returns : goal.returns

@@ -1,5 +1,5 @@
+use Rattle.travel_times.proofs.Common.{IsNetwork}
 use Rattle.travel_times.proofs.ArcLemmas.{AreCopied}
-use Rattle.road_network.specs.Roads.{IsNetwork}
 use Rattle.travel_times.proofs.arcs.Arcs.of.Given as goal
 
 abbrev pub invariant-loop-node : goal.invariant-loop-node

@@ -1,10 +1,5 @@
 use Rattle.std.proofs.Common.{◌≡◌, ℕ, ◌<◌, false, length, slice_index, map, replicate, ◌∙◌, arith}
-use Rattle.std.specs.Vec.{with_items}
-use Rattle.std.proofs.lemmas.List.{with_items_is, get_or_read, get_or-replicate, length-replicate}
-use Rattle.pool_base.specs.TravelTime.{never}
-use Rattle.road_network.specs.Roads.{hop_of, leaving}
-use Rattle.travel_times.specs.Near.{reach}
-use Rattle.travel_times.specs.Search.{IsNextTaken, RelaxesHops}
+use Rattle.travel_times.proofs.Common.{with_items, with_items_is, get_or_read, get_or-replicate, length-replicate, never, hop_of, leaving, reach, IsNextTaken, RelaxesHops}
 use Rattle.travel_times.proofs.lemmas.SearchLemmas.{AreTimesUpTo-settled, IsSearching-start, IsSearching-step, hops_among, none_waits, reach_short}
 use Rattle.travel_times.proofs.search.Search.run.Goals as goal
 

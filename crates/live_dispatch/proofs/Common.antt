@@ -1,0 +1,58 @@
+-- The names that the proofs of this crate cite from elsewhere, passed on from one place. Declares nothing.
+pub use Rattle.std.proofs.KnownBytes.{Appends-nil, Appends-trans}
+pub use Rattle.std.proofs.Math.Seq.{take-append-add, take-append_seam}
+pub use Rattle.std.proofs.lemmas.Bool.{and_left, cases_lt, cases_order, eqb-false}
+pub use Rattle.std.proofs.lemmas.List.{get_or_past, map-append}
+pub use Rattle.std.proofs.lemmas.List.Elements.{All-head, All-nil, All-push, All-same, All-tail, All-weaker, filter-append}
+pub use Rattle.std.specs.Io.KnownBytes.{Appends}
+pub use Rattle.batch_snapshot.specs.Batch.{Batch}
+pub use Rattle.dispatch_engine.proofs.lemmas.LaneLemmas.{closes-join, ends-closed, plain-quiet}
+pub use Rattle.dispatch_engine.proofs.lemmas.RunLemmas.{position-more, run-more, state-more}
+pub use Rattle.dispatch_engine.proofs.lemmas.StandLemmas.{stands-plain}
+unfoldable pub use Rattle.dispatch_engine.specs.Lane.{ClosesAreGood}
+pub use Rattle.dispatch_engine.specs.Lane.{IsCloseOf, IsGoodClose, IsGoodFor, IsLaneBeginning, IsLaneRun, IsLaneRunFrom, LaneClosesAreGood, of_lane}
+pub use Rattle.dispatch_engine.specs.Run.{IsReady, IsRoundRun, IsRun, position_after_run, state_after_run}
+unfoldable pub use Rattle.dispatch_report.specs.Lines.{lines_text}
+unfoldable pub use Rattle.dispatch_report.specs.Round.{end_text, round_text}
+pub use Rattle.dispatch_report.specs.Round.{entries_lines, entry_text, round_line}
+pub use Rattle.dispatch_report.specs.Words.{numbered}
+pub use Rattle.dispatch_report.specs.Written.{Change, SinkView, WritesText}
+pub use Rattle.dispatch_report.specs.declared.fault.ReportFault.{ReportFault}
+pub use Rattle.live_batch.proofs.lemmas.RowLemmas.{all-begin, runs-begin, runs-more, takes-all, takes-begin, takes-more, takes-none, takes-start}
+pub use Rattle.live_batch.specs.Phase.{AreRows, BeginWithRows, ClosesBatch, FaultsFrom, GoesOn, TakesRun, commands_of_pass, desk_after, entry_command, row_command}
+pub use Rattle.live_batch.specs.declared.read_on.Halt.{Halt}
+pub use Rattle.live_desk.proofs.lemmas.EntryLemmas.{entries-append, lines-append, next-append, next-low, notices-append, one-text, state-append}
+pub use Rattle.live_desk.specs.Desk.{IsPassedOn, Outputs, desk_of, desk_root, entries_text, notices_in, outputs_seen, pass_of, text_of}
+pub use Rattle.live_desk.specs.declared.desk.LaneCommand.{LaneCommand}
+pub use Rattle.live_dispatch.specs.Live.{AreWhole, BeginsRows, ButLast, HasAppended, IsBegunRun, IsRoundBeginning, journals_notices, journals_text, rows_text}
+pub use Rattle.live_dispatch.specs.declared.fault.LiveFault.{LiveFault}
+pub use Rattle.live_dispatch.specs.work.Rows.{EndsIn, in_lane, last_of, round_numbers, start_text}
+pub use Rattle.live_dispatch.specs.work.Standing.{AppendsSome, Awaits, GivesNext, HasCut, HasEnded, HasRunOn, HasTaken, HaveCome, Moment, Opens, Stands, WritesSome, ended_by, entry_for, moment, of_line, of_report, outputs_of, row_text}
+pub use Rattle.live_rows.specs.Rows.{ComesBehind, TakesRows}
+pub use Rattle.pool_io.specs.Faults.{Rose}
+pub use Rattle.pool_io.specs.Sink.{AppendsPart}
+pub use Rattle.request_book.specs.Book.{BookView, IsBook, next_position}
+unfoldable pub use Rattle.request_book.specs.Replay.{RepliesAreSteps, state_after}
+pub use Rattle.request_book.specs.Step.{step}
+pub use Rattle.request_book.specs.declared.command.Command.{Command}
+pub use Rattle.request_book.specs.declared.command.Command.TheVariants.{Cancel, Close, Dropoff, Pickup, Report, Seal, Submit}
+pub use Rattle.request_book.specs.declared.journal.Entry.{Entry}
+pub use Rattle.request_book.specs.declared.journal.Journal.{Journal}
+pub use Rattle.request_book.specs.declared.reply.Reply.{Reply}
+pub use Rattle.request_book.specs.declared.state.State.{State}
+pub use Rattle.rider_limits.specs.declared.settings.Settings.{Settings}
+pub use Rattle.rider_notices.proofs.lemmas.HeardLemmas.{all-heard-more, all-heard-nothing}
+unfoldable pub use Rattle.rider_notices.specs.Notices.{notices_from}
+pub use Rattle.rider_notices.specs.Notices.{entry_notices}
+pub use Rattle.rider_notices.specs.Seen.{notifiers_seen}
+pub use Rattle.rider_notices.specs.Told.{HaveHeard, NotifierView}
+pub use Rattle.rider_notices.specs.declared.notice.Notice.{Notice}
+pub use Rattle.road_network.specs.Roads.{Roads}
+pub use Rattle.script_rows.specs.Line.{IsBehind}
+pub use Rattle.script_rows.specs.Round.{MayStand, NumberedLanes, lane_at}
+pub use Rattle.script_rows.specs.Script.{round_of}
+pub use Rattle.script_rows.specs.declared.line.Line.{Line}
+pub use Rattle.script_rows.specs.lemmas.Named.{rounds_of}
+pub use Rattle.shared_book.proofs.lemmas.LockedLemmas.{applied-fits, step-seals}
+unfoldable pub use Rattle.shared_book.specs.Locked.{calls_from}
+pub use Rattle.shared_book.specs.Locked.{is_light, sealed_by, snapshot_after}

@@ -1,0 +1,32 @@
+-- The names that the proofs of this crate cite from elsewhere, passed on from one place. Declares nothing.
+pub use Rattle.std.proofs.lemmas.Bool.{cases_eq, false≢true, or_cases, or_from, or_left, or_right}
+pub use Rattle.std.proofs.lemmas.List.{get_or-map, get_or_append_left, get_or_at, get_or_default, length-map, length_push}
+pub use Rattle.std.proofs.lemmas.List.Folds.{list_any-append, list_any_none}
+pub use Rattle.std.proofs.lemmas.Nat.{mod_below}
+pub use Rattle.std.specs.List.{list_any, position_from}
+pub use Rattle.std.specs.Option.{option_map_or, option_or}
+unfoldable pub use Rattle.csv.specs.Machine.{next_record}
+unfoldable pub use Rattle.csv.specs.Reading.{records_from, strip_bom}
+pub use Rattle.csv.specs.Reading.{default_config, records, records_next}
+unfoldable pub use Rattle.load_maker.specs.Part.{draw}
+pub use Rattle.load_maker.specs.Part.{Part, both, each, plain}
+pub use Rattle.load_maker.specs.Row.{csv_line, field_text, text_under}
+unfoldable pub use Rattle.load_maker.specs.Texts.{arcs_between, batch_rows, drawn_node, report_row, submit_row, texts_of, vehicle_row}
+pub use Rattle.load_maker.specs.Texts.{Texts, node_id}
+pub use Rattle.load_maker.specs.declared.row.Field.{Field}
+unfoldable pub use Rattle.load_maker.specs.lemmas.Parts.{all_reports, arcs_down, arcs_of_row, arcs_right, fleet_part, network_part, reports, script_part, submits}
+pub use Rattle.load_maker.specs.lemmas.Parts.{csv_lines, draws_of, nothing, other_than, seal_row}
+pub use Rattle.made_inputs.specs.Accepted.{AreReadable, IsFleetText, IsNetworkText, IsScriptText}
+pub use Rattle.pool_base.proofs.lemmas.DistinctLemmas.{any-distinct, length-distinct}
+pub use Rattle.pool_base.proofs.lemmas.InOrderLemmas.{all_or_first-all, first_fault-all}
+pub use Rattle.pool_base.specs.Header.{fleet_header, network_header, script_header}
+pub use Rattle.pool_base.specs.InOrder.{all_or_first, refused_where, ◌>>=◌}
+pub use Rattle.pool_base.specs.Numeral.{number_at, number_up_to}
+pub use Rattle.pool_io.specs.Table.{Table, header_fields, rows_under, table_of}
+pub use Rattle.rand_core.specs.Stream.{Stream, next_u64}
+pub use Rattle.rider_limits.specs.declared.load_shape.LoadShape.{LoadShape}
+unfoldable pub use Rattle.road_network.specs.Reading.{field_refusal, network_of}
+pub use Rattle.road_network.specs.Reading.{nodes_of, refusal_at}
+pub use Rattle.road_network.specs.Roads.{Roads, has_node}
+pub use Rattle.road_network.specs.lemmas.Limits.{greatest_name, longest_arc, most_arcs, most_nodes}
+pub use Rattle.road_network.specs.lemmas.Rows.{first_refusal, names_in, roads_of, unless_refused}

@@ -1,0 +1,78 @@
+-- The names that the proofs of this crate cite from elsewhere, passed on from one place. Declares nothing.
+pub use Rattle.std.proofs.lemmas.Bool.{and_parts, both_ways, cases_eq, cases_lt, cond-true}
+pub use Rattle.std.proofs.lemmas.List.{drop_all, drop_more, get_or-replicate, get_or_past, length-replicate}
+pub use Rattle.batch_snapshot.specs.Batch.{Batch}
+pub use Rattle.batch_snapshot.specs.Kept.{IsKept}
+pub use Rattle.batch_snapshot.specs.declared.vehicle.Vehicle.{Vehicle}
+pub use Rattle.block_audit.proofs.lemmas.AuditLemmas.{good_not_refused, one_refusal}
+pub use Rattle.block_audit.specs.Block.{BeginsWithGood, Refuses}
+pub use Rattle.block_audit.specs.declared.refusal.BlockRefusal.{BlockRefusal}
+pub use Rattle.dispatch_engine.proofs.lemmas.LaneLemmas.{plain-quiet}
+pub use Rattle.dispatch_engine.proofs.lemmas.ProgressLemmas.{come_more}
+unfoldable pub use Rattle.dispatch_engine.specs.Lane.{ClosesAreGood}
+pub use Rattle.dispatch_engine.specs.Lane.{IsCloseOf, IsGoodClose, IsLaneBeginning, IsLaneRun, IsLaneRunFrom, last_sealed, of_lane}
+pub use Rattle.dispatch_engine.specs.Progress.{AreDone, HaveCome, IsNext, IsNextFrom, IsRest, at_start, stand_after, stand_at}
+pub use Rattle.dispatch_engine.specs.Run.{IsRoundRun, IsRun, journal_of, position_after_run, state_after_run}
+pub use Rattle.dispatch_engine.specs.declared.stand.LaneStand.{LaneStand}
+pub use Rattle.dispatch_report.specs.Entry.{command_text, entry_line, refusal_text, reply_text, rider_status_text}
+pub use Rattle.dispatch_report.specs.Head.{head_text}
+unfoldable pub use Rattle.dispatch_report.specs.Lines.{lines_text}
+unfoldable pub use Rattle.dispatch_report.specs.Round.{end_text, entries_lines, round_text}
+pub use Rattle.dispatch_report.specs.Round.{entry_block}
+unfoldable pub use Rattle.dispatch_report.specs.Words.{numbered}
+pub use Rattle.dispatch_report.specs.Words.{spaced}
+pub use Rattle.pool_io.specs.Faults.{one_more}
+pub use Rattle.report_audit.specs.Fault.{FailsAsLine, FailsAt, HasFault, IsCut, IsOutOfForm, IsWrongBatch, IsWrongBlock, IsWrongLine}
+pub use Rattle.report_audit.specs.Place.{AreAtEnd, BeginsRound, Extent, IsInForm, IsNoEntry, IsRightUpTo, MayComeNext, MayFollow, position_behind, rounds_so_far, state_behind}
+pub use Rattle.report_audit.specs.Report.{IsAudited, IsReportOfRun, batches_after, batches_in, closes, rounds_text}
+pub use Rattle.report_audit.specs.Types.{AreTold, HasFittingBlock, IsTold, JournalsAreTold}
+pub use Rattle.report_audit.specs.declared.fault.AuditFault.{AuditFault}
+pub use Rattle.report_audit.specs.declared.stop.LineFault.{LineFault}
+pub use Rattle.report_audit.specs.declared.stop.Stop.{Stop}
+pub use Rattle.report_audit.specs.declared.stop.Stop.TheVariants.{Block, Line, OutOfMemory}
+pub use Rattle.report_audit.specs.work.Closing.{CloseStops, TakesClose, close_line}
+pub use Rattle.report_audit.specs.work.Ends.{EndStops, IsEndText, IsRestBehind}
+pub use Rattle.report_audit.specs.work.Faults.{IsLeftOf, fault_of, fault_of_head, higher, line_left, next_line}
+pub use Rattle.report_audit.specs.work.Place.{with_entry}
+pub use Rattle.report_audit.specs.work.Rest.{EndsBehind, GoesOn, IsRestOfRounds, IsWrong, StopsAt, StopsHere, entries_text, with_more}
+pub use Rattle.report_audit.specs.work.Rounds.{EntriesSoFar, EntriesStop, HasReadEntries, HasReadRound, HasRoundLine, IsNoRoundLine, IsRoundStart, RoundStops, WhereRoundStops}
+pub use Rattle.report_audit.specs.work.Steps.{BeginsWithEntry, EntryRead, HasNoNext, HasRead, IsBookOf, IsEntryOf, IsWithin, MayBegin, StopsBehind, StopsWithin, Waits}
+pub use Rattle.report_audit.specs.work.Taking.{CommandStops, TakesCommand, TellsEnd}
+pub use Rattle.report_audit.specs.work.Whole.{AllStops, HasComeTo, HasReadAll, WhereAllStops}
+pub use Rattle.report_lines.proofs.lemmas.NextLemmas.{no_entry_done, no_entry_round, one_kind}
+pub use Rattle.report_lines.proofs.lemmas.OneBlock.{append_one_line, cut_once, no_one_line, numbered_one_line}
+pub use Rattle.report_lines.specs.Cut.{is_one_line}
+pub use Rattle.report_lines.specs.Head.{BeginsWithHead}
+pub use Rattle.report_lines.specs.HeadFault.{FitsLine, HasForm, HeadFails, HeadLine, LineFails, LinesFail, head_lines, sizes_of}
+pub use Rattle.report_lines.specs.HeadLines.{AreSizes}
+pub use Rattle.report_lines.specs.Line.{IsFirstLine}
+pub use Rattle.report_lines.specs.Next.{IsEntry, IsNextLine}
+pub use Rattle.report_lines.specs.declared.head_fault.HeadFault.{HeadFault}
+pub use Rattle.report_lines.specs.declared.next.NextLine.{NextLine}
+pub use Rattle.request_book.proofs.lemmas.BookLemmas.{applied-book, replies-push, round-book}
+pub use Rattle.request_book.proofs.lemmas.StepTable.{by-table, would_seal-table}
+pub use Rattle.request_book.specs.Book.{BookView, IsApplied, IsBook, next_position, opening, would_seal}
+pub use Rattle.request_book.specs.Command.{IsNoClose}
+unfoldable pub use Rattle.request_book.specs.Replay.{RepliesAreSteps, state_after}
+unfoldable pub use Rattle.request_book.specs.Sealing.{sealed_state}
+pub use Rattle.request_book.specs.Sealing.{batch_of}
+unfoldable pub use Rattle.request_book.specs.Step.{close, step}
+pub use Rattle.request_book.specs.Step.{answered, cancel, dropoff, pickup, report, rider_becomes, seal, submit, vehicle_becomes}
+pub use Rattle.request_book.specs.declared.command.Command.{Command}
+pub use Rattle.request_book.specs.declared.command.Command.TheVariants.{Cancel, Close, Dropoff, Pickup, Report, Seal, Submit}
+pub use Rattle.request_book.specs.declared.journal.Entry.{Entry}
+pub use Rattle.request_book.specs.declared.journal.Journal.{Journal}
+pub use Rattle.request_book.specs.declared.outcome.Outcome.{Outcome}
+pub use Rattle.request_book.specs.declared.reply.BookRefusal.{BookRefusal}
+pub use Rattle.request_book.specs.declared.reply.BookRefusal.TheVariants.{BatchOpen, BookFull, ClockBack, Ended, IsAboard, NotAboard, NotPromised, NotThisBatch, PoolFull, SamePlace, TimeBack, UnknownNode, VehicleFull}
+pub use Rattle.request_book.specs.declared.reply.Reply.{Reply}
+pub use Rattle.request_book.specs.declared.reply.Reply.TheVariants.{Accepted, Cancelled, Closed, Dropped, Picked, Placed, Refused, Sealed}
+pub use Rattle.request_book.specs.declared.rider.Status.{Status}
+pub use Rattle.request_book.specs.declared.rider.Status.TheVariants.{Aboard, Promised, Waiting}
+pub use Rattle.request_book.specs.declared.state.State.{State}
+unfoldable pub use Rattle.request_book.specs.lemmas.Table.{cancel_step, close_step, dropoff_step, pickup_step, report_step, seal_step, submit_step, table_step}
+pub use Rattle.request_book.specs.lemmas.Table.{answer, batch_unless, dropped_off, picked_up, seal_refusal}
+pub use Rattle.rider_limits.specs.declared.settings.Settings.{Settings}
+pub use Rattle.road_network.specs.Roads.{Roads, has_node}
+pub use Rattle.script_rows.specs.Round.{IsRound, MayStand, NumberedLanes, lane_at}
+pub use Rattle.shared_book.specs.Locked.{sealed_by, snapshot_before}
