@@ -1,5 +1,6 @@
 -- The names that the proofs of this crate cite from elsewhere, passed on from one place. Declares nothing.
-pub use Rattle.std.proofs.lemmas.Bool.{cases_eq, cases_lt, cases_order, cond-false, cond-true, eqb-false, false≢true}
+pub use Rattle.std.proofs.lemmas.Bool.{cases_eq, cases_lt, cond-false, cond-true, cond_both, eqb-false, false≢true}
+pub use Rattle.std.proofs.lemmas.Bool.Decides.{nat_tests}
 pub use Rattle.std.proofs.lemmas.List.{at_drop_more, drop_all, length-map, map-append, take_more}
 pub use Rattle.std.proofs.lemmas.List.Elements.{All-append, All-cons, All-get_or, All-head, All-map, All-nil, All-push, All-tail, All-weaker, filter_map-append}
 pub use Rattle.std.proofs.lemmas.List.Quantifiers.{position-Some}

@@ -74,6 +74,6 @@ returns-in-None-clause-indexed c =
       riders = subst (KeysDiffer (λ x. x.id)) (sym riders) (KeysDiffer-changed_at (λ x. x.id) r.id status (λ x. refl) g.riders.items h.riders);
       vehicles = subst (KeysRise (λ u. u.id)) (sym changed) (KeysRise-changed_at (λ u. u.id) c.args.vehicle f (λ u. refl) vs h.vehicles);
       pool_rise = h.pool_rise;
-      pool = IsPool-same _ _ _ _ refl riders (IsPool-outside g.pool.items g.riders.items r.id Delivered refl outside h.pool);
+      pool = IsPool-same _ _ _ _ refl riders (IsPool-outside g.pool.items g.riders.items r.id Delivered refl h.pool outside);
       pool_room = h.pool_room;
     }
