@@ -62,7 +62,7 @@ impl Register {
         first_of(&refusals)
     }
 
-    /// Takes a rider out of the pool, into another status.
+    /// Gives a rider a status outside of the pool.
     fn leave_pool(&mut self, rider: RiderId, status: Status)
         requires indexed { IsIndexed self.old }
         requires leaves { is_active status ≡ false }
@@ -148,10 +148,8 @@ impl Register {
         match first_of(&refusals) {
             Some(refusal) => Reply::Refused(refusal),
             None => {
-                let aboard = Status::Aboard(vehicle);
-                change_status(&mut self.riders, &self.ids, found.id, aboard);
-                leave(&mut self.pool, found.id);
                 take_in(&mut self.vehicles[at], found, time);
+                self.leave_pool(found.id, Status::Aboard(vehicle));
                 Reply::Picked
             }
         }
@@ -178,8 +176,8 @@ impl Register {
         match first_of(&refusals) {
             Some(refusal) => Reply::Refused(refusal),
             None => {
-                change_status(&mut self.riders, &self.ids, found.id, Status::Delivered);
                 let_out(&mut self.vehicles[at], found, time);
+                self.leave_pool(found.id, Status::Delivered);
                 Reply::Dropped
             }
         }

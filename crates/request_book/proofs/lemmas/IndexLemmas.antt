@@ -1,8 +1,9 @@
 -- What a register finds after a change.
 use Rattle.std.proofs.Common.{◌≡◌, ℕ, ◌+◌, ◌<◌, Bool, true, false, cond, List, [], ◌∷◌, ◌++◌, length, get_or, set, map, Option, Some, None, refl, sym, ap, subst, ◌∙◌, arith, is_some, option_map, option_and_then, count_by}
-use Rattle.request_book.proofs.Common.{cond_both, BookRider, Status, look_up, changed_at, without, placed, by_key, KeysRise, KeysDiffer, Register, pool_id, HasRoom, is_active, with_status, find_rider, find_vehicle, pool_count, Vehicle}
+use Rattle.request_book.proofs.Common.{cond_both, BookRider, Status, look_up, changed_at, without, placed, by_key, KeysRise, KeysDiffer, Register, pool_id, HasRoom, IsIndexed, is_active, with_status, find_rider, find_vehicle, pool_count, Vehicle}
 use Rattle.std.specs.List.{filter_map}
-use Rattle.request_book.proofs.lemmas.KeyedLemmas.{at_each, set-changed_at, look_up-changed_here, look_up-changed_there, look_up-without_here, look_up-without_there, look_up-placed_here, look_up-placed_there, look_up-push_here, look_up-push_there, look_up-map, look_up-key, look_up-filter_map, KeysDiffer-filter_map, KeysDiffer-from_rise, KeysRise-placed, by_key-order, same_from_look_up, length-by_key, length-filter_map}
+use Rattle.std.specs.Global.{Vec, Global}
+use Rattle.request_book.proofs.lemmas.KeyedLemmas.{at_each, set-changed_at, look_up-changed_here, look_up-changed_there, look_up-without_here, look_up-without_there, look_up-placed_here, look_up-placed_there, look_up-push_here, look_up-push_there, look_up-map, look_up-key, look_up-filter_map, KeysDiffer-filter_map, KeysDiffer-from_rise, KeysRise-placed, KeysRise-changed_at, map-changed_at, by_key-order, same_from_look_up, length-by_key, length-filter_map}
 
 -- the pool is the ids of the active riders
 abbrev pub IsPool : List ℕ → List BookRider → Type 0
@@ -22,27 +23,16 @@ IsPool-but k pool pool' riders riders' here there is =
 pub pool_id-inactive : (r : BookRider) → is_active r.status ≡ false → pool_id r ≡ None
 pool_id-inactive r e = rw e refl
 
-module _ (pool : List ℕ) (riders : List BookRider) (rider : ℕ) (status : Status) (off : is_active status ≡ false) (is : IsPool pool riders) where
-  gone : option_and_then pool_id (find_rider rider (changed_at (λ r. r.id) rider (with_status status) riders)) ≡ None
-  gone = ap (option_and_then pool_id) (look_up-changed_here (λ (r : BookRider). r.id) rider (with_status status) (λ r. refl) riders) ∙ out (find_rider rider riders)
-    where
-      out : (o : Option BookRider) → option_and_then pool_id (option_map (with_status status) o) ≡ None
-      out None = refl
-      out (Some r) = pool_id-inactive (with_status status r) off
-
-  others : (j : ℕ) → (rider ≡ j → ⊥) → find_rider j (changed_at (λ r. r.id) rider (with_status status) riders) ≡ find_rider j riders
-  others j ne = look_up-changed_there (λ (r : BookRider). r.id) rider j (with_status status) (λ r. refl) riders ne
-
-  -- a rider who leaves the pool
-  pub IsPool-without : IsPool (without (λ id. id) rider pool) (changed_at (λ r. r.id) rider (with_status status) riders)
-  IsPool-without =
-      IsPool-but rider pool (without (λ n. n) rider pool) riders (changed_at (λ r. r.id) rider (with_status status) riders)
-      (look_up-without_here (λ n. n) rider pool ∙ sym gone) (λ j ne. (look_up-without_there (λ n. n) rider j pool ne, others j ne)) is
-
-  -- a rider who was and stays out of the pool
-  pub IsPool-outside : option_and_then pool_id (find_rider rider riders) ≡ None → IsPool pool (changed_at (λ r. r.id) rider (with_status status) riders)
-  IsPool-outside out =
-      IsPool-but rider pool pool riders (changed_at (λ r. r.id) rider (with_status status) riders) (is rider ∙ out ∙ sym gone) (λ j ne. (refl, others j ne)) is
+-- a rider who leaves the pool
+pub IsPool-without : (pool : List ℕ) (riders : List BookRider) (rider : ℕ) (status : Status) → is_active status ≡ false → IsPool pool riders → IsPool (without (λ id. id) rider pool) (changed_at (λ r. r.id) rider (with_status status) riders)
+IsPool-without pool riders rider status off is =
+    IsPool-but rider pool (without (λ n. n) rider pool) riders (changed_at (λ r. r.id) rider (with_status status) riders)
+    (look_up-without_here (λ n. n) rider pool ∙ sym (ap (option_and_then pool_id) (look_up-changed_here (λ (r : BookRider). r.id) rider (with_status status) (λ r. refl) riders) ∙ out (find_rider rider riders)))
+    (λ j ne. (look_up-without_there (λ n. n) rider j pool ne, look_up-changed_there (λ (r : BookRider). r.id) rider j (with_status status) (λ r. refl) riders ne)) is
+  where
+    out : (o : Option BookRider) → option_and_then pool_id (option_map (with_status status) o) ≡ None
+    out None = refl
+    out (Some r) = pool_id-inactive (with_status status r) off
 
 -- a new rider
 module _ (pool : List ℕ) (riders : List BookRider) (new : BookRider) (none : find_rider new.id riders ≡ None) (is : IsPool pool riders) where
@@ -84,9 +74,21 @@ length-pool pool riders rise differ is =
     ap length same ∙ length-by_key (λ n. n) ids ∙ length-filter_map pool_id riders ∙ ap (λ p. count_by p riders) (λ i r. each r i)
 
 -- a write at the place of a vehicle changes that vehicle
-pub vehicle-set : (f : Vehicle → Vehicle) (k at : ℕ) (vs : List Vehicle) (d : Vehicle) → KeysRise (λ v. v.id) vs → at < length vs → ((d : Vehicle) → find_vehicle k vs ≡ Some (get_or vs at d)) → set vs at (f (get_or vs at d)) ≡ changed_at (λ v. v.id) k f vs
-vehicle-set f k at vs d rise in' found =
-    set-changed_at (λ v. v.id) f k at vs d (KeysDiffer-from_rise (λ v. v.id) vs rise) in' (look_up-key (λ v. v.id) k vs (get_or vs at d) (found d))
+pub vehicle-set : (f : Vehicle → Vehicle) (k at : ℕ) (vs : List Vehicle) (d x : Vehicle) → KeysRise (λ v. v.id) vs → at < length vs → ((d : Vehicle) → find_vehicle k vs ≡ Some (get_or vs at d)) → d ≡ get_or vs at d → x ≡ f d → set vs at x ≡ changed_at (λ v. v.id) k f vs
+vehicle-set f k at vs d x rise in' found read wrote =
+    ap (set vs at) (wrote ∙ ap f read) ∙ set-changed_at (λ v. v.id) f k at vs d (KeysDiffer-from_rise (λ v. v.id) vs rise) in' (look_up-key (λ v. v.id) k vs (get_or vs at d) (found d))
+
+-- and what the register keeps
+pub IsIndexed-vehicle : (g : Register) (us : Vec Vehicle Global) (f : Vehicle → Vehicle) (k : ℕ) → ((v : Vehicle) → (f v).id ≡ v.id) → us.items ≡ changed_at (λ v. v.id) k f g.vehicles.items → IsIndexed g → IsIndexed (record g { vehicles = us })
+IsIndexed-vehicle g us f k keeps changed h = record {
+  ids = h.ids;
+  vehicle_ids = h.vehicle_ids ∙ sym (ap (map (λ (v : Vehicle). v.id)) changed ∙ map-changed_at (λ (v : Vehicle). v.id) k f keeps g.vehicles.items);
+  riders = h.riders;
+  vehicles = subst (KeysRise (λ (v : Vehicle). v.id)) (sym changed) (KeysRise-changed_at (λ (v : Vehicle). v.id) k f keeps g.vehicles.items h.vehicles);
+  pool_rise = h.pool_rise;
+  pool = h.pool;
+  pool_room = h.pool_room;
+}
 
 -- riders whose place in the pool stays
 pub IsPool-map : (f : BookRider → BookRider) → ((r : BookRider) → (f r).id ≡ r.id) → ((r : BookRider) → pool_id (f r) ≡ pool_id r) → (pool : List ℕ) (riders : List BookRider) → IsPool pool riders → IsPool pool (map f riders)

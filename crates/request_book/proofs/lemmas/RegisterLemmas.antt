@@ -1,10 +1,10 @@
 -- How a register finds and changes its riders and vehicles.
-use Rattle.std.proofs.Common.{◌≡◌, ℕ, ◌+◌, ◌<◌, ◌≤◌, Bool, true, false, cond, eqb, List, [], ◌∷◌, ◌++◌, length, get_or, drop, map, Option, None, Some, Result, Ok, Err, refl, sym, ap, subst, ◌∙◌, inl, inr, arith, MatchOption, MatchResult, position, is_some}
-use Rattle.request_book.proofs.Common.{nat_tests, cond-false, list_any, IsBinarySearchResult, cases_lt, at_drop_more, drop_all, searched, look_up, placed, without, KeysRise, KeysDiffer, first_of, BookRefusal}
+use Rattle.std.proofs.Common.{◌≡◌, ℕ, ◌+◌, ◌<◌, ◌≤◌, Bool, true, false, cond, eqb, List, [], ◌∷◌, ◌++◌, length, get_or, drop, map, set, Option, None, Some, Result, Ok, Err, refl, sym, ap, subst, ◌∙◌, inl, inr, arith, MatchOption, MatchResult, position, is_some}
+use Rattle.request_book.proofs.Common.{changed_at, nat_tests, cond-false, list_any, IsBinarySearchResult, cases_lt, at_drop_more, drop_all, searched, look_up, placed, without, KeysRise, KeysDiffer, first_of, BookRefusal}
 use Rattle.std.proofs.lemmas.List.{get_or_default}
 use Rattle.std.specs.Ordering.{nat_cmp}
 use Rattle.std.specs.List.{remove, insert}
-use Rattle.request_book.proofs.lemmas.KeyedLemmas.{look_up-position, look_up-list_any, pairs_from_rise, insert-placed, remove-without_key, look_up-at, look_up-nil, look_up-there, without_key-absent, look_up-nowhere, KeysDiffer-from_rise}
+use Rattle.request_book.proofs.lemmas.KeyedLemmas.{look_up-position, look_up-list_any, pairs_from_rise, insert-placed, set-changed_at, changed_at-absent, remove-without_key, look_up-at, look_up-nil, look_up-there, without_key-absent, look_up-nowhere, KeysDiffer-from_rise}
 
 -- the first refusal is the first of the rest after one that doesn't hold
 pub first_of-more : (xs : List (Option BookRefusal)) (i : ℕ) (d : Option BookRefusal) → i < length xs → get_or xs i d ≡ None → first_of (drop (i + 1) xs) ≡ first_of (drop i xs)
@@ -33,8 +33,14 @@ module _ {X : Type 0} (key : X → ℕ) (k : ℕ) (t : ℕ → Bool) (tests : (j
       let found = look_up-position key k t tests xs i differ (sym (ap (position t) e) ∙ sym at) in
       (found.0, found.1)
 
-  pub named_by_keys : (keys : List ℕ) (i : ℕ) → keys ≡ map key xs → Some i ≡ position t keys → (d : X) → key (get_or xs i d) ≡ k
-  named_by_keys keys i e at = (look_up-position key k t tests xs i differ (sym (ap (position t) e) ∙ sym at)).2
+  -- a write at the place that the keys tell, and no write where they tell none
+  pub write_found : (f : X → X) (keys : List ℕ) (i : ℕ) (x y : X) → keys ≡ map key xs → Some i ≡ position t keys → x ≡ get_or xs i x → y ≡ f x → set xs i y ≡ changed_at key k f xs
+  write_found f keys i x y e at read wrote =
+      let found = look_up-position key k t tests xs i differ (sym (ap (position t) e) ∙ sym at) in
+      ap (set xs i) (wrote ∙ ap f read) ∙ set-changed_at key f k i xs x differ found.0 (found.2 x)
+
+  pub write_none : (f : X → X) (keys : List ℕ) → keys ≡ map key xs → None ≡ position t keys → false ≡ list_any t keys → xs ≡ changed_at key k f xs
+  write_none f keys e at any = sym (changed_at-absent key k f xs (found_by_keys keys None e at any))
 
 -- what a binary search in numbers that rise answers
 module _ (xs : List ℕ) (x : ℕ) (rise : KeysRise (λ n. n) xs) where

@@ -1,5 +1,5 @@
 -- How the steps go on from their refusals.
-use Rattle.std.proofs.Common.{◌≡◌, ℕ, ◌<◌, true, false, List, [], ◌∷◌, ◌++◌, length, get_or, Option, Some, None, refl, sym, ap, ◌∙◌, arith}
+use Rattle.std.proofs.Common.{◌≡◌, ℕ, ◌<◌, true, List, [], ◌∷◌, ◌++◌, length, get_or, Option, Some, None, refl, sym, ap, ◌∙◌, arith}
 use Rattle.request_book.proofs.Common.{nat_tests, Vehicle, Batch, Answer, after_answer, closed_state, sealed_state, one_more, BookRefusal, Refused, Accepted, Cancelled, Placed, Picked, Dropped, Sealed, Closed, UnknownRider, UnknownVehicle, BookRider, Status, Aboard, Delivered, State, is_active, first_of, aboard_refusal, ended_refusal, promise_refusal, seat_refusal, time_back, vehicle_full, unknown_node, not_this_batch, find_rider, find_vehicle, pool_count, rider_becomes, vehicle_becomes, stands_at, takes_in, lets_out, answer, submit_refusal, submit_step, cancel_step, report_step, pickup_step, dropoff_step, seal_refusal, seal_step, close_step}
 use Rattle.request_book.specs.declared.rider.Status.TheVariants.{Cancelled as GivenUp}
 
@@ -17,10 +17,6 @@ first_of-alone (Some r) = refl
 -- who is neither aboard nor ended is in the pool
 pub active_left : (s : Status) → aboard_refusal s ≡ None → ended_refusal s ≡ None → is_active s ≡ true
 active_left s a e = grind arith
-
--- who is aboard isn't in the pool
-pub aboard_left : (vehicle : ℕ) (s : Status) → seat_refusal vehicle s ≡ None → is_active s ≡ false
-aboard_left vehicle s e = grind arith
 
 pub fifth-none : (a b d e f : Option BookRefusal) → first_of (a ∷ b ∷ d ∷ e ∷ f ∷ []) ≡ None → f ≡ None
 unfolding first_of
@@ -59,18 +55,18 @@ module _ (s : State) where
   unfolding cancel_step first_of
   cancel-unknown rider none = rw none refl
 
-  pub cancel-known : (rider : ℕ) (r : BookRider) (o : Option BookRefusal) → find_rider rider s.riders ≡ Some r → o ≡ first_of (aboard_refusal r.status ∷ ended_refusal r.status ∷ []) → answer s o Cancelled (rider_becomes s rider GivenUp) ≡ cancel_step s rider
+  pub cancel-known : (rider : ℕ) (r : BookRider) (o a b : Option BookRefusal) → find_rider rider s.riders ≡ Some r → o ≡ first_of (a ∷ b ∷ []) → a ≡ aboard_refusal r.status → b ≡ ended_refusal r.status → answer s o Cancelled (rider_becomes s rider GivenUp) ≡ cancel_step s rider
   unfolding cancel_step first_of
-  cancel-known rider r o found e = rw (found, e) refl
+  cancel-known rider r o a b found told is1 is2 = rw (found, told, is1, is2) refl
 
   -- report
   pub report-unknown : (nodes : List ℕ) (vehicle node time : ℕ) → find_vehicle vehicle s.vehicles ≡ None → (s, Refused UnknownVehicle) ≡ report_step nodes s vehicle node time
   unfolding report_step first_of
   report-unknown nodes vehicle node time none = rw none refl
 
-  pub report-known : (nodes : List ℕ) (vehicle node time : ℕ) (v : Vehicle) (o : Option BookRefusal) → find_vehicle vehicle s.vehicles ≡ Some v → o ≡ first_of (unknown_node nodes node ∷ time_back (Some v) time ∷ []) → answer s o Placed (vehicle_becomes s vehicle (stands_at node time)) ≡ report_step nodes s vehicle node time
+  pub report-known : (nodes : List ℕ) (vehicle node time : ℕ) (v : Vehicle) (o a b : Option BookRefusal) → find_vehicle vehicle s.vehicles ≡ Some v → o ≡ first_of (a ∷ b ∷ []) → a ≡ unknown_node nodes node → b ≡ time_back (Some v) time → answer s o Placed (vehicle_becomes s vehicle (stands_at node time)) ≡ report_step nodes s vehicle node time
   unfolding report_step first_of
-  report-known nodes vehicle node time v o found e = rw (found, e) refl
+  report-known nodes vehicle node time v o a b found told is1 is2 = rw (found, told, is1, is2) refl
 
   -- pickup
   pub pickup-no_vehicle : (vehicle rider time : ℕ) → find_vehicle vehicle s.vehicles ≡ None → (s, Refused UnknownVehicle) ≡ pickup_step s vehicle rider time
@@ -81,9 +77,10 @@ module _ (s : State) where
   unfolding pickup_step first_of
   pickup-no_rider vehicle rider time v found none = rw (found, none) refl
 
-  pub pickup-known : (vehicle rider time : ℕ) (v : Vehicle) (r : BookRider) (o : Option BookRefusal) → find_vehicle vehicle s.vehicles ≡ Some v → find_rider rider s.riders ≡ Some r → o ≡ first_of (aboard_refusal r.status ∷ ended_refusal r.status ∷ promise_refusal vehicle r.status ∷ time_back (Some v) time ∷ vehicle_full (Some v) (Some r) ∷ []) → answer s o Picked (vehicle_becomes (rider_becomes s r.id (Aboard vehicle)) vehicle (takes_in r time)) ≡ pickup_step s vehicle rider time
+  pub pickup-known : (vehicle rider time : ℕ) (v : Vehicle) (r : BookRider) (o a b d e f : Option BookRefusal) → find_vehicle vehicle s.vehicles ≡ Some v → find_rider rider s.riders ≡ Some r → o ≡ first_of (a ∷ b ∷ d ∷ e ∷ f ∷ [])
+      → a ≡ aboard_refusal r.status → b ≡ ended_refusal r.status → d ≡ promise_refusal vehicle r.status → e ≡ time_back (Some v) time → f ≡ vehicle_full (Some v) (Some r) → answer s o Picked (vehicle_becomes (rider_becomes s r.id (Aboard vehicle)) vehicle (takes_in r time)) ≡ pickup_step s vehicle rider time
   unfolding pickup_step first_of
-  pickup-known vehicle rider time v r o found known e = rw (found, known, e) refl
+  pickup-known vehicle rider time v r o a b d e f found known told is1 is2 is3 is4 is5 = rw (found, known, told, is1, is2, is3, is4, is5) refl
 
   pub pickup-no_rider_at : (vehicle rider time at : ℕ) → at < length s.vehicles → ((d : Vehicle) → find_vehicle vehicle s.vehicles ≡ Some (get_or s.vehicles at d)) → find_rider rider s.riders ≡ None → (s, Refused UnknownRider) ≡ pickup_step s vehicle rider time
   pickup-no_rider_at vehicle rider time at in' found none = let there = stands (find_vehicle vehicle s.vehicles) s.vehicles at in' found in pickup-no_rider vehicle rider time there.0 there.1 none
@@ -97,9 +94,9 @@ module _ (s : State) where
   unfolding dropoff_step first_of
   dropoff-no_rider vehicle rider time v found none = rw (found, none) refl
 
-  pub dropoff-known : (vehicle rider time : ℕ) (v : Vehicle) (r : BookRider) (o : Option BookRefusal) → find_vehicle vehicle s.vehicles ≡ Some v → find_rider rider s.riders ≡ Some r → o ≡ first_of (seat_refusal vehicle r.status ∷ time_back (Some v) time ∷ []) → answer s o Dropped (vehicle_becomes (rider_becomes s r.id Delivered) vehicle (lets_out r time)) ≡ dropoff_step s vehicle rider time
+  pub dropoff-known : (vehicle rider time : ℕ) (v : Vehicle) (r : BookRider) (o a b : Option BookRefusal) → find_vehicle vehicle s.vehicles ≡ Some v → find_rider rider s.riders ≡ Some r → o ≡ first_of (a ∷ b ∷ []) → a ≡ seat_refusal vehicle r.status → b ≡ time_back (Some v) time → answer s o Dropped (vehicle_becomes (rider_becomes s r.id Delivered) vehicle (lets_out r time)) ≡ dropoff_step s vehicle rider time
   unfolding dropoff_step first_of
-  dropoff-known vehicle rider time v r o found known e = rw (found, known, e) refl
+  dropoff-known vehicle rider time v r o a b found known told is1 is2 = rw (found, known, told, is1, is2) refl
 
   pub dropoff-no_rider_at : (vehicle rider time at : ℕ) → at < length s.vehicles → ((d : Vehicle) → find_vehicle vehicle s.vehicles ≡ Some (get_or s.vehicles at d)) → find_rider rider s.riders ≡ None → (s, Refused UnknownRider) ≡ dropoff_step s vehicle rider time
   dropoff-no_rider_at vehicle rider time at in' found none = let there = stands (find_vehicle vehicle s.vehicles) s.vehicles at in' found in dropoff-no_rider vehicle rider time there.0 there.1 none
