@@ -62,18 +62,6 @@ impl Register {
         first_of(&refusals)
     }
 
-    /// Gives a rider a status outside of the pool.
-    fn leave_pool(&mut self, rider: RiderId, status: Status)
-        requires indexed { IsIndexed self.old }
-        requires leaves { is_active status ≡ false }
-        ensures state { state_of self.new ≡ rider_becomes (state_of self.old) rider status }
-        ensures indexed { IsIndexed self.new }
-        ensures room { (n : ℕ) → HasRoom n self.old → HasRoom n self.new }
-    {
-        change_status(&mut self.riders, &self.ids, rider, status);
-        leave(&mut self.pool, rider);
-    }
-
     /// A rider who isn't aboard gives up.
     pub(crate) fn cancel(&mut self, rider: RiderId) -> Reply
         requires { IsIndexed self.old }
@@ -88,7 +76,8 @@ impl Register {
         match first_of(&refusals) {
             Some(refusal) => Reply::Refused(refusal),
             None => {
-                self.leave_pool(rider, Status::Cancelled);
+                change_status(&mut self.riders, &self.ids, rider, Status::Cancelled);
+                leave(&mut self.pool, rider);
                 Reply::Cancelled
             }
         }
@@ -148,8 +137,10 @@ impl Register {
         match first_of(&refusals) {
             Some(refusal) => Reply::Refused(refusal),
             None => {
+                let aboard = Status::Aboard(vehicle);
+                change_status(&mut self.riders, &self.ids, found.id, aboard);
+                leave(&mut self.pool, found.id);
                 take_in(&mut self.vehicles[at], found, time);
-                self.leave_pool(found.id, Status::Aboard(vehicle));
                 Reply::Picked
             }
         }
@@ -176,8 +167,9 @@ impl Register {
         match first_of(&refusals) {
             Some(refusal) => Reply::Refused(refusal),
             None => {
+                change_status(&mut self.riders, &self.ids, found.id, Status::Delivered);
+                leave(&mut self.pool, found.id);
                 let_out(&mut self.vehicles[at], found, time);
-                self.leave_pool(found.id, Status::Delivered);
                 Reply::Dropped
             }
         }

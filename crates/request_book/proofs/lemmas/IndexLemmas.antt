@@ -1,9 +1,9 @@
 -- What a register finds after a change.
-use Rattle.std.proofs.Common.{◌≡◌, ℕ, ◌+◌, ◌<◌, Bool, true, false, cond, List, [], ◌∷◌, ◌++◌, length, get_or, set, map, Option, Some, None, refl, sym, ap, subst, ◌∙◌, arith, is_some, option_map, option_and_then, count_by}
+use Rattle.std.proofs.Common.{◌≡◌, ℕ, ◌+◌, ◌<◌, Bool, true, false, cond, List, [], ◌∷◌, ◌++◌, length, get_or, set, map, Option, Some, None, refl, sym, ap, subst, ◌∙◌, arith, vec_capacity, is_some, option_map, option_and_then, count_by}
 use Rattle.request_book.proofs.Common.{cond_both, BookRider, Status, look_up, changed_at, without, placed, by_key, KeysRise, KeysDiffer, Register, pool_id, HasRoom, IsIndexed, is_active, with_status, find_rider, find_vehicle, pool_count, Vehicle}
 use Rattle.std.specs.List.{filter_map}
 use Rattle.std.specs.Global.{Vec, Global}
-use Rattle.request_book.proofs.lemmas.KeyedLemmas.{at_each, set-changed_at, look_up-changed_here, look_up-changed_there, look_up-without_here, look_up-without_there, look_up-placed_here, look_up-placed_there, look_up-push_here, look_up-push_there, look_up-map, look_up-key, look_up-filter_map, KeysDiffer-filter_map, KeysDiffer-from_rise, KeysRise-placed, KeysRise-changed_at, map-changed_at, by_key-order, same_from_look_up, length-by_key, length-filter_map}
+use Rattle.request_book.proofs.lemmas.KeyedLemmas.{at_each, set-changed_at, look_up-changed_here, look_up-changed_there, look_up-without_here, look_up-without_there, look_up-placed_here, look_up-placed_there, look_up-push_here, look_up-push_there, look_up-map, look_up-key, look_up-filter_map, KeysDiffer-filter_map, KeysDiffer-from_rise, KeysRise-placed, KeysRise-changed_at, KeysDiffer-changed_at, KeysRise-without, map-changed_at, by_key-order, same_from_look_up, length-by_key, length-filter_map}
 
 -- the pool is the ids of the active riders
 abbrev pub IsPool : List ℕ → List BookRider → Type 0
@@ -88,6 +88,19 @@ IsIndexed-vehicle g us f k keeps changed h = record {
   pool_rise = h.pool_rise;
   pool = h.pool;
   pool_room = h.pool_room;
+}
+
+-- what the register keeps where a rider leaves the pool
+pub IsIndexed-leaves : (g : Register) (rs : Vec BookRider Global) (pool : Vec ℕ Global) (k : ℕ) (status : Status) → is_active status ≡ false → rs.items ≡ changed_at (λ r. r.id) k (with_status status) g.riders.items → pool.items ≡ without (λ id. id) k g.pool.items
+    → vec_capacity pool ≡ vec_capacity g.pool → IsIndexed g → IsIndexed (record g { riders = rs; pool = pool })
+IsIndexed-leaves g rs pool k status off riders left room h = record {
+  ids = h.ids ∙ sym (ap (map (λ (r : BookRider). r.id)) riders ∙ map-changed_at (λ (r : BookRider). r.id) k (with_status status) (λ r. refl) g.riders.items);
+  vehicle_ids = h.vehicle_ids;
+  riders = subst (KeysDiffer (λ (r : BookRider). r.id)) (sym riders) (KeysDiffer-changed_at (λ (r : BookRider). r.id) k (with_status status) (λ r. refl) g.riders.items h.riders);
+  vehicles = h.vehicles;
+  pool_rise = subst (KeysRise (λ (n : ℕ). n)) (sym left) (KeysRise-without (λ n. n) k g.pool.items h.pool_rise);
+  pool = IsPool-same _ pool.items _ rs.items left riders (IsPool-without g.pool.items g.riders.items k status off h.pool);
+  pool_room = omega (arith, h.pool_room, room);
 }
 
 -- riders whose place in the pool stays

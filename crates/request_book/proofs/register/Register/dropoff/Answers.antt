@@ -1,6 +1,6 @@
-use Rattle.std.proofs.Common.{List, Some, None, refl, sym, ap, subst, ◌∙◌}
-use Rattle.request_book.proofs.Common.{All-get_or, Vehicle, Reply, Dropped, Delivered, State, KeysDiffer, first_of, time_back, state_of, rider_becomes, lets_out}
-use Rattle.request_book.proofs.lemmas.IndexLemmas.{vehicle-set, IsIndexed-vehicle}
+use Rattle.std.proofs.Common.{List, Some, None, refl, sym, ap, subst, ◌∙◌, set}
+use Rattle.request_book.proofs.Common.{All-get_or, Vehicle, Reply, Dropped, Delivered, State, KeysDiffer, first_of, time_back, state_of, lets_out, BookRider, changed_at, with_status}
+use Rattle.request_book.proofs.lemmas.IndexLemmas.{vehicle-set, IsIndexed-vehicle, IsIndexed-leaves}
 use Rattle.request_book.proofs.lemmas.StepLemmas.{dropoff-no_vehicle, dropoff-no_rider_at, dropoff-known}
 use Rattle.request_book.proofs.register.Register.dropoff.Goals as goal
 
@@ -18,13 +18,6 @@ let_out-requires c =
     let P : Vehicle → Type 0 = λ u. KeysDiffer (λ p. p.rider) u.aboard.items in
     subst P (sym c.index_mut.ensures.value) (All-get_or P vs c.in-Some.at d c.in-Some.ensures.0 c.requires.consistent.passengers)
 
-pub leave_pool-requires-clause-indexed : goal.leave_pool-requires-clause-indexed
-leave_pool-requires-clause-indexed c =
-    let g = c.args.self.now in
-    let f = lets_out c.in-Some-rider.found c.args.time in
-    let changed = vehicle-set f c.args.vehicle c.in-Some.at g.vehicles.items c.index_mut.result.now c.let_out.new.vehicle c.requires.indexed.vehicles c.in-Some.ensures.0 c.in-Some.ensures.1 c.index_mut.ensures.value c.let_out.ensures in
-    IsIndexed-vehicle g _ f c.args.vehicle (λ v. refl) changed c.requires.indexed
-
 pub returns-in-Some-first_of-clause-stepped : goal.returns-in-Some-first_of-clause-stepped
 returns-in-Some-first_of-clause-stepped c =
     let v = c.index.result.now in
@@ -39,11 +32,16 @@ returns-in-None-clause-stepped c =
     let r = c.in-Some-rider.found in
     let changed = vehicle-set (lets_out r c.args.time) c.args.vehicle c.in-Some.at g.vehicles.items c.index_mut.result.now c.let_out.new.vehicle c.requires.indexed.vehicles c.in-Some.ensures.0 c.in-Some.ensures.1 c.index_mut.ensures.value c.let_out.ensures in
     let Made : Type 0 = State × Reply in
-    let pair : State → Made = λ t. (t, Dropped) in
-    let moved : List Vehicle → Made = λ us. (record (rider_becomes s r.id Delivered) { vehicles = us }, Dropped) in
-    ap pair c.leave_pool.ensures.state ∙ ap moved changed
+    let make : List BookRider → List Vehicle → Made = λ rs us. (record s { riders = rs; vehicles = us }, Dropped) in
+    ap (λ rs. make rs (set g.vehicles.items c.in-Some.at c.let_out.new.vehicle)) c.change_status.ensures.changed
+    ∙ ap (make (changed_at (λ x. x.id) r.id (with_status Delivered) g.riders.items)) changed
     ∙ dropoff-known s c.args.vehicle c.args.rider c.args.time v r None _ _ (c.in-Some.ensures.1 v ∙ ap Some (sym c.index.ensures)) (sym c.rider.ensures ∙ c.in-Some-rider.is)
     (sym c.in-None.is ∙ c.first_of.ensures) c.not_aboard.ensures c.time_back.ensures
 
-pub returns-in-None-clause-room : goal.returns-in-None-clause-room
-returns-in-None-clause-room c n room = c.leave_pool.ensures.room n (record { riders = room.riders; ids = room.ids })
+pub returns-in-None-clause-indexed : goal.returns-in-None-clause-indexed
+returns-in-None-clause-indexed c =
+    let g = c.args.self.now in
+    let r = c.in-Some-rider.found in
+    let changed = vehicle-set (lets_out r c.args.time) c.args.vehicle c.in-Some.at g.vehicles.items c.index_mut.result.now c.let_out.new.vehicle c.requires.indexed.vehicles c.in-Some.ensures.0 c.in-Some.ensures.1 c.index_mut.ensures.value c.let_out.ensures in
+    IsIndexed-vehicle (record g { riders = c.change_status.new.riders; pool = c.leave.new.pool }) _ (lets_out r c.args.time) c.args.vehicle (λ u. refl) changed
+    (IsIndexed-leaves g c.change_status.new.riders c.leave.new.pool r.id Delivered refl c.change_status.ensures.changed c.leave.ensures.items c.leave.ensures.room c.requires.indexed)

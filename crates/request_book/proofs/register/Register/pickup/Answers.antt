@@ -1,7 +1,7 @@
-use Rattle.std.proofs.Common.{◌≡◌, ◌<◌, ◌≤◌, List, Some, None, length, get_or, refl, sym, ap, subst, ◌∙◌, arith}
-use Rattle.request_book.proofs.Common.{All-get_or, HasSeats, Vehicle, Reply, Picked, Aboard, State, first_of, time_back, vehicle_full, state_of, rider_becomes, takes_in}
+use Rattle.std.proofs.Common.{◌≡◌, ◌<◌, ◌≤◌, List, Some, None, length, get_or, refl, sym, ap, subst, ◌∙◌, arith, set}
+use Rattle.request_book.proofs.Common.{All-get_or, HasSeats, Vehicle, Reply, Picked, Aboard, State, first_of, time_back, vehicle_full, state_of, takes_in, BookRider, changed_at, with_status}
 use Rattle.std.proofs.lemmas.Option.{MatchOption-at_none}
-use Rattle.request_book.proofs.lemmas.IndexLemmas.{vehicle-set, IsIndexed-vehicle}
+use Rattle.request_book.proofs.lemmas.IndexLemmas.{vehicle-set, IsIndexed-vehicle, IsIndexed-leaves}
 use Rattle.request_book.proofs.lemmas.StepLemmas.{pickup-no_vehicle, pickup-no_rider_at, pickup-known, fifth-none}
 use Rattle.request_book.proofs.register.Register.pickup.Goals as goal
 
@@ -28,13 +28,6 @@ take_in-requires c =
     let most : v.seats ≤ 10 = subst (λ (u : Vehicle). u.seats ≤ 10) (sym e1) seats.most in
     subst (λ (u : Vehicle). length u.aboard.items < 10) (sym same) (omega (arith, room, most))
 
-pub leave_pool-requires-clause-indexed : goal.leave_pool-requires-clause-indexed
-leave_pool-requires-clause-indexed c =
-    let g = c.args.self.now in
-    let f = takes_in c.in-Some-rider.found c.args.time in
-    let changed = vehicle-set f c.args.vehicle c.in-Some.at g.vehicles.items c.index_mut.result.now c.take_in.new.vehicle c.requires.indexed.vehicles c.in-Some.ensures.0 c.in-Some.ensures.1 c.index_mut.ensures.value c.take_in.ensures in
-    IsIndexed-vehicle g _ f c.args.vehicle (λ v. refl) changed c.requires.indexed
-
 pub returns-in-Some-first_of-clause-stepped : goal.returns-in-Some-first_of-clause-stepped
 returns-in-Some-first_of-clause-stepped c =
     let v = c.index-carrier.result.now in
@@ -49,11 +42,16 @@ returns-in-None-clause-stepped c =
     let r = c.in-Some-rider.found in
     let changed = vehicle-set (takes_in r c.args.time) c.args.vehicle c.in-Some.at g.vehicles.items c.index_mut.result.now c.take_in.new.vehicle c.requires.indexed.vehicles c.in-Some.ensures.0 c.in-Some.ensures.1 c.index_mut.ensures.value c.take_in.ensures in
     let Made : Type 0 = State × Reply in
-    let pair : State → Made = λ t. (t, Picked) in
-    let moved : List Vehicle → Made = λ us. (record (rider_becomes s r.id (Aboard c.args.vehicle)) { vehicles = us }, Picked) in
-    ap pair c.leave_pool.ensures.state ∙ ap moved changed
+    let make : List BookRider → List Vehicle → Made = λ rs us. (record s { riders = rs; vehicles = us }, Picked) in
+    ap (λ rs. make rs (set g.vehicles.items c.in-Some.at c.take_in.new.vehicle)) c.change_status.ensures.changed
+    ∙ ap (make (changed_at (λ x. x.id) r.id (with_status (Aboard c.args.vehicle)) g.riders.items)) changed
     ∙ pickup-known s c.args.vehicle c.args.rider c.args.time v r None _ _ _ _ _ (c.in-Some.ensures.1 v ∙ ap Some (sym c.index-carrier.ensures)) (sym c.rider.ensures ∙ c.in-Some-rider.is)
     (sym c.in-None.is ∙ c.first_of.ensures) c.is_aboard.ensures c.has_ended.ensures c.not_promised.ensures c.time_back.ensures c.vehicle_full.ensures.seats
 
-pub returns-in-None-clause-room : goal.returns-in-None-clause-room
-returns-in-None-clause-room c n room = c.leave_pool.ensures.room n (record { riders = room.riders; ids = room.ids })
+pub returns-in-None-clause-indexed : goal.returns-in-None-clause-indexed
+returns-in-None-clause-indexed c =
+    let g = c.args.self.now in
+    let r = c.in-Some-rider.found in
+    let changed = vehicle-set (takes_in r c.args.time) c.args.vehicle c.in-Some.at g.vehicles.items c.index_mut.result.now c.take_in.new.vehicle c.requires.indexed.vehicles c.in-Some.ensures.0 c.in-Some.ensures.1 c.index_mut.ensures.value c.take_in.ensures in
+    IsIndexed-vehicle (record g { riders = c.change_status.new.riders; pool = c.leave.new.pool }) _ (takes_in r c.args.time) c.args.vehicle (λ u. refl) changed
+    (IsIndexed-leaves g c.change_status.new.riders c.leave.new.pool r.id (Aboard c.args.vehicle) refl c.change_status.ensures.changed c.leave.ensures.items c.leave.ensures.room c.requires.indexed)
