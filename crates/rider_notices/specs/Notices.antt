@@ -19,13 +19,13 @@ use Rattle.rider_notices.specs.declared.notice.Notice.{Notice}
 use Rattle.rider_notices.specs.declared.notice.Notice.TheVariants.{Promised, Unserved}
 
 -- the second of the first stop that picks the rider up, or of the first that drops them
-abbrev pub second_of : Bool → ℕ → List PlannedStop → Option ℕ
-second_of pick rider stops = option_map (λ stop. stop.second) (find (λ stop. (if pick then stop.pick else not stop.pick) && (stop.rider == rider)) stops)
+abbrev pub stop_second : Bool → ℕ → List PlannedStop → Option ℕ
+stop_second pick rider stops = option_map (λ stop. stop.second) (find (λ stop. (if pick then stop.pick else not stop.pick) && (stop.rider == rider)) stops)
 
 -- the notice of a trip to a rider, if it picks the rider up; without a drop-off the rider arrives at the pickup
 abbrev pub trip_notice : ℕ → ChosenTrip → ℕ → Option Notice
 trip_notice batch trip rider =
-    option_map (λ pickup. Promised batch rider trip.vehicle pickup (unwrap_or (second_of false rider trip.stops.items) pickup)) (second_of true rider trip.stops.items)
+    option_map (λ pickup. Promised batch rider trip.vehicle pickup (unwrap_or (stop_second false rider trip.stops.items) pickup)) (stop_second true rider trip.stops.items)
 
 -- the notice of a rider: of the first chosen trip that picks the rider up, if one does
 unfoldable pub notice_of : ℕ → List ChosenTrip → ℕ → Notice

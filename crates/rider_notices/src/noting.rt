@@ -4,7 +4,7 @@ ghost use Rattle.request_book.specs.Consistent.{IsConsistent};
 ghost use Rattle.request_book.specs.Rider.{is_active};
 ghost use Rattle.request_book.specs.State.{find_rider};
 ghost use Rattle.request_book.specs.declared.reply.Reply.TheVariants.{Closed};
-ghost use Rattle.rider_notices.specs.Notices.{notices, notices_from, entry_notices, batch_notices, notice_of, trip_notice, second_of};
+ghost use Rattle.rider_notices.specs.Notices.{notices, notices_from, entry_notices, batch_notices, notice_of, trip_notice, stop_second};
 
 use crate::notice::Notice;
 use crate::statuses::Statuses;
@@ -173,7 +173,7 @@ fn trip_notice(batch: u64, trip: &ChosenTrip, rider: RiderId) -> Option<Notice>
 
 /// The second of the first stop that picks the rider up.
 fn pickup_second(stops: &[PlannedStop], rider: RiderId) -> Option<u64>
-    ensures { result ≡ second_of true rider stops.now }
+    ensures { result ≡ stop_second true rider stops.now }
 {
     stops
         .iter()
@@ -183,7 +183,7 @@ fn pickup_second(stops: &[PlannedStop], rider: RiderId) -> Option<u64>
 
 /// The second of the first stop that drops the rider.
 fn dropoff_second(stops: &[PlannedStop], rider: RiderId) -> Option<u64>
-    ensures { result ≡ second_of false rider stops.now }
+    ensures { result ≡ stop_second false rider stops.now }
 {
     stops
         .iter()
