@@ -1,8 +1,7 @@
 -- What a register finds after a change.
-use Rattle.std.proofs.Common.{◌≡◌, ℕ, ◌+◌, ◌<◌, Bool, true, false, cond, List, [], ◌∷◌, ◌++◌, length, get_or, set, map, Option, Some, None, refl, sym, ap, subst, ◌∙◌, arith, vec_capacity, is_some, option_map, option_and_then, count_by}
+use Rattle.std.proofs.Common.{Vec, Global, ◌≡◌, ℕ, ◌+◌, ◌<◌, Bool, true, false, cond, List, [], ◌∷◌, ◌++◌, length, get_or, set, map, Option, Some, None, refl, sym, ap, subst, ◌∙◌, arith, vec_capacity, is_some, option_map, option_and_then, count_by}
 use Rattle.request_book.proofs.Common.{cond_both, BookRider, Status, look_up, changed_at, without, placed, by_key, KeysRise, KeysDiffer, Register, pool_id, HasRoom, IsIndexed, is_active, with_status, find_rider, find_vehicle, pool_count, Vehicle}
 use Rattle.std.specs.List.{filter_map}
-use Rattle.std.specs.Global.{Vec, Global}
 use Rattle.request_book.proofs.lemmas.KeyedLemmas.{at_each, set-changed_at, look_up-changed_here, look_up-changed_there, look_up-without_here, look_up-without_there, look_up-placed_here, look_up-placed_there, look_up-push_here, look_up-push_there, look_up-map, look_up-key, look_up-filter_map, KeysDiffer-filter_map, KeysDiffer-from_rise, KeysRise-placed, KeysRise-changed_at, KeysDiffer-changed_at, KeysRise-without, map-changed_at, by_key-order, same_from_look_up, length-by_key, length-filter_map}
 
 -- the pool is the ids of the active riders
