@@ -67,7 +67,7 @@ impl Register {
         requires { IsIndexed self.old }
         ensures stepped { (state_of self.new, result) ≡ cancel_step (state_of self.old) rider }
         ensures indexed { IsIndexed self.new }
-        ensures room { (n : ℕ) → HasRoom n self.old → HasRoom n self.new }
+        ensures room { (n : ℕ) → HasRoom (n + 1) self.old → HasRoom n self.new }
     {
         let Some(found) = self.rider(rider) else {
             return Reply::Refused(BookRefusal::UnknownRider);
@@ -94,7 +94,7 @@ impl Register {
         requires { IsIndexed self.old }
         ensures stepped { (state_of self.new, result) ≡ report_step nodes.now.keys (state_of self.old) vehicle node time }
         ensures indexed { IsIndexed self.new }
-        ensures room { (n : ℕ) → HasRoom n self.old → HasRoom n self.new }
+        ensures room { (n : ℕ) → HasRoom (n + 1) self.old → HasRoom n self.new }
     {
         let Some(at) = self.vehicle_at(vehicle) else {
             return Reply::Refused(BookRefusal::UnknownVehicle);
@@ -118,7 +118,7 @@ impl Register {
         requires seats { All HasSeats self.old.vehicles.items }
         ensures stepped { (state_of self.new, result) ≡ pickup_step (state_of self.old) vehicle rider time }
         ensures indexed { IsIndexed self.new }
-        ensures room { (n : ℕ) → HasRoom n self.old → HasRoom n self.new }
+        ensures room { (n : ℕ) → HasRoom (n + 1) self.old → HasRoom n self.new }
     {
         let Some(at) = self.vehicle_at(vehicle) else {
             return Reply::Refused(BookRefusal::UnknownVehicle);
@@ -152,7 +152,7 @@ impl Register {
         requires consistent { IsConsistent (state_of self.old) }
         ensures stepped { (state_of self.new, result) ≡ dropoff_step (state_of self.old) vehicle rider time }
         ensures indexed { IsIndexed self.new }
-        ensures room { (n : ℕ) → HasRoom n self.old → HasRoom n self.new }
+        ensures room { (n : ℕ) → HasRoom (n + 1) self.old → HasRoom n self.new }
     {
         let Some(at) = self.vehicle_at(vehicle) else {
             return Reply::Refused(BookRefusal::UnknownVehicle);

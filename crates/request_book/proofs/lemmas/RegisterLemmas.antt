@@ -1,10 +1,10 @@
 -- How a register finds and changes its riders and vehicles.
-use Rattle.std.proofs.Common.{◌≡◌, ℕ, ◌+◌, ◌<◌, ◌≤◌, Bool, true, false, cond, eqb, List, [], ◌∷◌, ◌++◌, length, get_or, drop, map, set, Option, None, Some, Result, Ok, Err, refl, sym, ap, subst, ◌∙◌, inl, inr, arith, MatchOption, MatchResult, position, is_some}
-use Rattle.request_book.proofs.Common.{changed_at, nat_tests, cond-false, list_any, IsBinarySearchResult, cases_lt, at_drop_more, drop_all, searched, look_up, placed, without, KeysRise, KeysDiffer, first_of, BookRefusal}
+use Rattle.std.proofs.Common.{◌≡◌, ℕ, ◌+◌, ◌<◌, ◌≤◌, Bool, true, false, cond, eqb, List, [], ◌∷◌, ◌++◌, length, get_or, drop, take, map, set, Option, None, Some, Result, Ok, Err, refl, sym, ap, subst, ◌∙◌, inl, inr, arith, MatchOption, MatchResult, position, is_some}
+use Rattle.request_book.proofs.Common.{take_more, map-append, changed_at, nat_tests, cond-false, list_any, IsBinarySearchResult, cases_lt, at_drop_more, drop_all, searched, look_up, placed, without, KeysRise, KeysDiffer, first_of, BookRefusal}
 use Rattle.std.proofs.lemmas.List.{get_or_default}
 use Rattle.std.specs.Ordering.{nat_cmp}
 use Rattle.std.specs.List.{remove, insert}
-use Rattle.request_book.proofs.lemmas.KeyedLemmas.{look_up-position, look_up-list_any, pairs_from_rise, insert-placed, set-changed_at, changed_at-absent, remove-without_key, look_up-at, look_up-nil, look_up-there, without_key-absent, look_up-nowhere, KeysDiffer-from_rise}
+use Rattle.request_book.proofs.lemmas.KeyedLemmas.{look_up-position, look_up-list_any, look_up-take, pairs_from_rise, insert-placed, set-changed_at, changed_at-absent, remove-without_key, look_up-at, look_up-nil, look_up-there, without_key-absent, look_up-nowhere, KeysDiffer-from_rise}
 
 -- the first refusal is the first of the rest after one that doesn't hold
 pub first_of-more : (xs : List (Option BookRefusal)) (i : ℕ) (d : Option BookRefusal) → i < length xs → get_or xs i d ≡ None → first_of (drop (i + 1) xs) ≡ first_of (drop i xs)
@@ -78,6 +78,19 @@ list_any-agree p q same (x ∷ xs) = let head = same x in let tail = list_any-ag
 -- a key that isn't listed is put last
 pub inserted : (ks : List ℕ) (x : ℕ) → list_any (λ id. eqb id x) ks ≡ false → cond (list_any (λ id. eqb x id) ks) ks (ks ++ x ∷ []) ≡ ks ++ x ∷ []
 inserted ks x none = cond-false (list_any (λ id. eqb x id) ks) ks (ks ++ x ∷ []) (list_any-agree (λ id. eqb x id) (λ id. eqb id x) (eqb_comm x) ks ∙ none)
+
+-- keys that are listed one after the other
+module _ {X : Type 0} (key : X → ℕ) (xs : List X) (i : ℕ) (x : X) (keys : List ℕ) (within : i < length xs) (read : x ≡ get_or xs i x) (was : keys ≡ map key (take i xs)) where
+  pub listed-new : KeysDiffer key xs → list_any (λ j. eqb j (key x)) keys ≡ false
+  listed-new differ =
+      ap (list_any (λ j. eqb j (key x))) was
+      ∙ look_up-list_any key (key x) (λ j. eqb j (key x)) (λ j. refl) (take i xs)
+      ∙ ap is_some (ap (λ y. look_up key (key y) (take i xs)) read ∙ look_up-take key i xs x differ within)
+
+  pub listed-more : (new : List ℕ) → new ≡ keys ++ key x ∷ [] → new ≡ map key (take (i + 1) xs)
+  listed-more new is =
+      is ∙ ap (λ ks. ks ++ key x ∷ []) was ∙ ap (λ y. map key (take i xs) ++ key y ∷ []) read
+      ∙ sym (ap (map key) (take_more xs i x within) ∙ map-append key (take i xs) (get_or xs i x ∷ []))
 
 -- a passenger is sought seat by seat
 module _ {X : Type 0} (key : X → ℕ) where

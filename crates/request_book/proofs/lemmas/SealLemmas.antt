@@ -11,6 +11,11 @@ filter_map-more h xs i d in' =
     let one : cons_option (h (get_or xs i d)) [] ≡ option_to_list (h (get_or xs i d)) = grind arith in
     ap (filter_map h) (take_more xs i d in') ∙ filter_map-append h (take i xs) (get_or xs i d ∷ []) ∙ ap (λ ys. filter_map h (take i xs) ++ ys) one
 
+-- a list that a loop makes, one element after the other
+pub made-more : {X Y : Type 0} (h : X → Option Y) (xs : List X) (i : ℕ) (x : X) (o : Option Y) (old new : List Y) → i < length xs → x ≡ get_or xs i x → o ≡ h x → old ≡ filter_map h (take i xs) → new ≡ old ++ option_to_list o → new ≡ filter_map h (take (i + 1) xs)
+made-more h xs i x o old new within read told was is =
+    is ∙ ap (λ ys. ys ++ option_to_list o) was ∙ ap (λ p. filter_map h (take i xs) ++ option_to_list p) (told ∙ ap h read) ∙ sym (filter_map-more h xs i x within)
+
 module _ {X : Type 0} (key : X → ℕ) (f : X → X) where
   pub changed_in_turn-more : (ks : List ℕ) (i d : ℕ) (xs : List X) → i < length ks → changed_in_turn key f (drop i ks) xs ≡ changed_in_turn key f (drop (i + 1) ks) (changed_at key (get_or ks i d) f xs)
   unfolding changed_in_turn
