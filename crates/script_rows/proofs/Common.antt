@@ -9,7 +9,7 @@ pub use Rattle.pool_base.specs.InOrder.{all_or_first, refused_where, ◌>>=◌}
 pub use Rattle.pool_io.specs.Table.{field_at, record_at}
 pub use Rattle.request_book.specs.declared.command.Command.{Command}
 unfoldable pub use Rattle.script_rows.specs.Line.{command_in, line_in, submit_in, three_in}
-pub use Rattle.script_rows.specs.Line.{IsBehind, is_seal, leaves_empty, party_in}
+pub use Rattle.script_rows.specs.Line.{IsBehind, leaves_empty, party_in}
 pub use Rattle.script_rows.specs.Round.{MayStand, NumberedLanes, empty_round, with_command}
 pub use Rattle.script_rows.specs.Script.{round_before, round_of, script_of}
 pub use Rattle.script_rows.specs.declared.fault.ScriptFault.{ScriptFault}

@@ -2,6 +2,7 @@ use Rattle.std.proofs.Common.{◌≡◌, ◌≢◌, ℕ, ◌<◌, Bool, true, fa
 use Rattle.script_rows.proofs.Common.{range_with_len, cases_eq, and_left, and_right, and_from, map-append, All-head, All-tail, filter-append, Command, Line, NumberedLanes, commands_of, empty_round, with_command, round_of}
 use Rattle.std.specs.List.{All, filter}
 use Rattle.std.proofs.lemmas.Bool.{eq-eqb, ne_eqb}
+use Rattle.std.proofs.lemmas.Bool.Decides.{nat_tests}
 use Rattle.std.proofs.lemmas.List.{append-nil, length-set, get_or-set_same, get_or-set_other}
 use Rattle.std.proofs.lemmas.List.FromFn.{length-map-range_with_len, get_or-map-range_with_len, fill_by_all}
 
@@ -21,11 +22,10 @@ commands_of-push : (lines : List Line) (line : Line) (number lane : ℕ) → com
 commands_of-push lines line number lane =
     ap (map (λ (l : Line). l.command)) (filter-append (is_of number lane) lines (line ∷ []))
     ∙ map-append (λ (l : Line). l.command) (filter (is_of number lane) lines) (filter (is_of number lane) (line ∷ []))
-    ∙ ap (λ cs. commands_of lines number lane ++ cs) (single (is_of number lane line))
+    ∙ ap (λ cs. commands_of lines number lane ++ cs) single
   where
-    single : (b : Bool) → map (λ (l : Line). l.command) (cond b (line ∷ []) []) ≡ cond b (line.command ∷ []) []
-    single true = refl
-    single false = refl
+    single : map (λ (l : Line). l.command) (cond (is_of number lane line) (line ∷ []) []) ≡ cond (is_of number lane line) (line.command ∷ []) []
+    single = grind arith
 
 -- the rows of other rounds and lanes add nothing
 commands_of-push_other : (lines : List Line) (line : Line) (number lane : ℕ) → is_of number lane line ≡ false → commands_of (lines ++ line ∷ []) number lane ≡ commands_of lines number lane
@@ -75,10 +75,9 @@ round_of-push_other lines line number other =
 commands_of-none : (lines : List Line) (number lane : ℕ) → All (λ n. n ≢ number) (map (λ l. l.round) lines) → commands_of lines number lane ≡ []
 commands_of-none [] number lane none = refl
 commands_of-none (line ∷ lines) number lane none =
-    let other : line.round ≢ number = All-head (λ n. n ≢ number) line.round (map (λ l. l.round) lines) none in
-    let is : is_of number lane line ≡ false = and_left (eqb line.round number) (eqb line.lane lane) (ne_eqb line.round number other) in
-    ap (λ b. map (λ (l : Line). l.command) (cond b (line ∷ filter (is_of number lane) lines) (filter (is_of number lane) lines))) is
-    ∙ commands_of-none lines number lane (All-tail (λ n. n ≢ number) line.round (map (λ l. l.round) lines) none)
+    let other = All-head (λ n. n ≢ number) line.round (map (λ l. l.round) lines) none in
+    let rest = commands_of-none lines number lane (All-tail (λ n. n ≢ number) line.round (map (λ l. l.round) lines) none) in
+    grind (arith, nat_tests)
 
 -- a number that no row has gives a round without commands
 pub round_of-none : (lines : List Line) (number : ℕ) → All (λ n. n ≢ number) (map (λ l. l.round) lines) → round_of lines number ≡ empty_round number
