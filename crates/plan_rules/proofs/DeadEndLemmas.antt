@@ -1,10 +1,9 @@
 -- Marks on riders of usable and of sole rows.
 use Rattle.std.proofs.Common.{◌≡◌, ◌⊎◌, ℕ, ◌+◌, ◌<◌, ◌≤◌, Bool, true, false, List, length, get_or, refl, sym, ◌∙◌, subst, ⊎_elim, arith}
-use Rattle.plan_rules.proofs.Common.{list_any, cases_eq, cases_lt, or_cases, or_left, or_right, both_ways, get_or_past, Graph, row_at, riders_at, row_vehicle, has_rider, choice_at, must_be_served, times_served, IsGraphRow, IsRowOf, IsGoodGraph, Usable, IsSoleRow, IsClash, IsStranded, StandsInUsable, MarksSole}
-use Rattle.plan_rules.proofs.lemmas.GraphLemmas.{rider_below, in_choice, times_served_found}
-use Rattle.plan_rules.proofs.lemmas.PlanLemmas.{own_row, held_own}
+use Rattle.plan_rules.proofs.Common.{list_any, cases_eq, cases_lt, or_cases, or_left, or_right, both_ways, get_or_past, Graph, row_at, riders_at, row_vehicle, has_rider, must_be_served, IsGraphRow, IsRowOf, IsGoodGraph, Usable, IsSoleRow, IsClash, IsStranded, StandsInSome, MarksSole}
+use Rattle.plan_rules.proofs.lemmas.GraphLemmas.{rider_below}
+use Rattle.plan_rules.proofs.lemmas.PlanLemmas.{must_below}
 use Rattle.plan_rules.proofs.lemmas.MarkLemmas.{IsMarking, any_marked, marked_one}
-use Rattle.std.proofs.lemmas.Bool.{ltb-true}
 
 pub marks_from : (g : Graph) (k : ℕ) (old new : List Bool) (r : ℕ) → IsMarking old new (riders_at g k) → get_or new r false ≡ true → (get_or old r false ≡ true) ⊎ (has_rider g k r ≡ true)
 marks_from g k old new r adds e =
@@ -27,16 +26,7 @@ marks_new g k old new r adds sized row e =
 
 -- ---- usable rows
 
--- a rider who must be served is one of the graph's
-pub must_below : (g : Graph) (r : ℕ) → IsGoodGraph g → must_be_served g r ≡ true → r < g.riders
-must_below g r good must =
-    let some : 0 < times_served g g.held g.vehicles r = ltb-true 0 (times_served g g.held g.vehicles r) must in
-    let v = times_served_found g g.held g.vehicles r some in
-    let k = in_choice g (choice_at g.held (v.0)) r (v.2) in
-    let own = own_row g (v.0) (k.0) (choice_at g.held (v.0)) (held_own g (v.0) (choice_at g.held (v.0)) (good.holds (v.0) (v.1))) (k.1) in
-    rider_below g (k.0) r (good.rows (k.0) own.within) (k.2)
-
-pub not_stranded : (g : Graph) (usable : Usable) → IsGoodGraph g → ((r : ℕ) → r < g.riders → must_be_served g r ≡ true → StandsInUsable g usable r) → IsStranded g usable → ⊥
+pub not_stranded : (g : Graph) (usable : Usable) → IsGoodGraph g → ((r : ℕ) → r < g.riders → must_be_served g r ≡ true → StandsInSome g usable (length g.rows) r) → IsStranded g usable → ⊥
 not_stranded g usable good all s =
     let w = all s.rider (must_below g s.rider good s.must) s.must in
     both_ways _ (s.nowhere (w.0) (w.1) (w.2)) (w.3)

@@ -297,7 +297,7 @@ least_below_none (suc n) p f e =
     cond-false (p n) (Some (lesser (least_below n p f) (f n))) (least_below n p f) (e n (omega arith))
     ∙ least_below_none n p f (λ k l. e k (omega arith))
 
-int_min_cases : (x y : ℤ) → (int_min x y ≡ x) ⊎ (int_min x y ≡ y)
+pub int_min_cases : (x y : ℤ) → (int_min x y ≡ x) ⊎ (int_min x y ≡ y)
 int_min_cases x y = cond_both (int_lt y x) y x (λ (m : ℤ). (m ≡ x) ⊎ (m ≡ y)) (λ e. inr refl) (λ e. inl refl)
 
 -- some number below n passes and has this value
