@@ -6,13 +6,13 @@ pub use Rattle.bound_checker.specs.lemmas.Visit.{coming_of}
 pub use Rattle.bound_checker.specs.work.DeadEnd.{AreSoleRows, IsApart, IsOnlyOf, MarksStanding, ShareARider, StandsInNone, StandsInSome}
 pub use Rattle.bound_checker.specs.work.Leaf.{AreLeast}
 pub use Rattle.bound_checker.specs.work.Visit.{IsNodeFault, IsReady}
-pub use Rattle.plan_rules.proofs.lemmas.GraphLemmas.{has_at, in_choice, rider_below, row_read, times_served_found}
-pub use Rattle.plan_rules.proofs.lemmas.MarkLemmas.{IsMarking, marking_more, marking_none}
+pub use Rattle.plan_rules.proofs.lemmas.GraphLemmas.{has_at, row_read}
+pub use Rattle.plan_rules.proofs.lemmas.MarkLemmas.{IsMarking}
 pub use Rattle.plan_rules.proofs.lemmas.PathLemmas.{along_alone, along_without, coming_next, standing_push, standing_start}
 pub use Rattle.plan_rules.proofs.lemmas.ReadLemmas.{least_leaf_push, places_push, reads_push}
 pub use Rattle.plan_rules.proofs.lemmas.SumLemmas.{int_sum_more, int_sum_same, least_below_more}
 pub use Rattle.plan_rules.proofs.lemmas.UsableLemmas.{Agree, agree_back, can_branch_agrees, dead_end_agrees, leaf_value_agrees}
-pub use Rattle.plan_rules.specs.Graph.{Graph, IsGoodGraph, IsRowOf, choice_at, has_rider, must_be_served, riders_at, row_at, row_vehicle, times_served}
+pub use Rattle.plan_rules.specs.Graph.{Graph, IsGoodGraph, IsRowOf, choice_at, has_rider, must_be_served, riders_at, row_at, row_vehicle}
 unfoldable pub use Rattle.plan_rules.specs.Multipliers.{leaf_value}
 pub use Rattle.plan_rules.specs.Multipliers.{Usable, is_usable_by, multiplier_at, multiplier_sum, reduced_cost, rider_term, usable_of, vehicle_term}
 pub use Rattle.plan_rules.specs.Path.{IsPathOf, Standing, decided, standing_of}

@@ -1,8 +1,7 @@
 -- Sole rows of vehicles, and riders who stand in usable rows.
 use Rattle.std.proofs.Common.{◌≡◌, ◌↔◌, ℕ, ◌<◌, ◌≤◌, Bool, true, false, IsTrue, MatchBool, MatchOption, List, length, get_or, Option, Some, None, sym, ap, ◌∙◌, subst, inr, ⊎_elim, arith}
-use Rattle.bound_checker.proofs.Common.{false≢true, cases_eq, cases_lt, both_ways, get_or_past, Graph, riders_at, row_vehicle, has_rider, choice_at, must_be_served, times_served, IsGoodGraph, Usable, IsSoleRow, IsClash, IsStranded, IsDeadEnd, rider_below, in_choice, times_served_found, AreSoleRows, ShareARider, IsApart, StandsInSome, StandsInNone, MarksStanding}
-use Rattle.std.proofs.lemmas.Bool.{ltb-true}
-use Rattle.plan_rules.proofs.lemmas.PlanLemmas.{own_row, held_own}
+use Rattle.bound_checker.proofs.Common.{false≢true, cases_eq, cases_lt, both_ways, get_or_past, Graph, riders_at, row_vehicle, has_rider, choice_at, must_be_served, IsGoodGraph, Usable, IsSoleRow, IsClash, IsStranded, IsDeadEnd, AreSoleRows, ShareARider, IsApart, StandsInSome, StandsInNone, MarksStanding}
+use Rattle.plan_rules.proofs.lemmas.PlanLemmas.{must_below}
 
 pub when_true : (b : Bool) (A B : Type 0) → b ≡ true → MatchBool b A B → A
 when_true true A B e a = a
@@ -82,14 +81,6 @@ apart_rows g sole v w j k one other apart share =
     (subst (λ (q : ℕ). has_rider g q share.rider ≡ true) (some_is share.other k (sym share.second ∙ other)) share.in_second)
 
 -- ---- stranded riders
-
--- a rider who must be served is one of the graph's
-must_below : (g : Graph) (r : ℕ) → IsGoodGraph g → must_be_served g r ≡ true → r < g.riders
-must_below g r good must =
-    let v = times_served_found g g.held g.vehicles r (ltb-true 0 (times_served g g.held g.vehicles r) must) in
-    let k = in_choice g (choice_at g.held (v.0)) r (v.2) in
-    let own = own_row g (v.0) (k.0) (choice_at g.held (v.0)) (held_own g (v.0) (choice_at g.held (v.0)) (good.holds (v.0) (v.1))) (k.1) in
-    rider_below g (k.0) r (good.rows (k.0) own.within) (k.2)
 
 pub not_stranded : (g : Graph) (usable : Usable) (marks : List Bool) → IsGoodGraph g → ((r : ℕ) → r < g.riders → must_be_served g r ≡ true → get_or marks r false ≡ true) → MarksStanding g usable (length g.rows) marks → IsStranded g usable → ⊥
 not_stranded g usable marks good all are s =

@@ -1,7 +1,8 @@
 -- The first-fit pass over a list of the rider's rows.
-use Rattle.std.proofs.Common.{◌≡◌, ◌==◌, ◌⊎◌, ◌&&◌, ◌||◌, ℕ, suc, ◌+◌, ◌<◌, ◌≤◌, Bool, true, false, List, [], ◌∷◌, length, get_or, Option, Some, None, ℤ, ◌≤ℤ◌, refl, sym, ap, ◌∙◌, subst, ⊎_elim, inl, inr, arith, eqb-true, int_lt}
-use Rattle.dual_bound.proofs.Common.{int_min, ints, cases_eq, cases_Bool, cond_both, both_ways, and_parts, least_below, lesser, Graph, riders_at, has_rider, Usable, room_at, least_below_some, least_below_found, lesser-le_right, lesser-le_left, list_start, list_end, IsListed, IsIndexOf}
+use Rattle.std.proofs.Common.{◌≡◌, ◌==◌, ◌⊎◌, ◌&&◌, ◌||◌, ℕ, suc, ◌+◌, ◌<◌, ◌≤◌, Bool, true, false, List, [], ◌∷◌, length, get_or, Option, Some, None, ℤ, ◌≤ℤ◌, refl, sym, ap, ◌∙◌, subst, ⊎_elim, inl, inr, arith, eqb-true}
+use Rattle.dual_bound.proofs.Common.{int_min, ints, cases_eq, cases_Bool, both_ways, and_parts, least_below, lesser, Graph, riders_at, has_rider, Usable, room_at, least_below_some, least_below_found, lesser-le_right, lesser-le_left, list_start, list_end, IsListed, IsIndexOf}
 use Rattle.std.specs.List.{list_any}
+use Rattle.plan_rules.proofs.lemmas.SumLemmas.{int_min_cases}
 use Rattle.dual_bound.specs.declared.rider_index.RiderIndex.{RiderIndex}
 
 -- the least of f at the numbers below n that pass and stand at these places of a list, where there is one
@@ -14,9 +15,6 @@ not_some z e = cc
 
 inner : (x y : ℤ) → Some x ≡ Some y → x ≡ y
 inner x y e = cc
-
-int_min_cases : (x y : ℤ) → (int_min x y ≡ x) ⊎ (int_min x y ≡ y)
-int_min_cases x y = cond_both (int_lt y x) y x (λ (m : ℤ). (m ≡ x) ⊎ (m ≡ y)) (λ e. inr refl) (λ e. inl refl)
 
 lesser_cases : (o : Option ℤ) (x : ℤ) → (o ≡ Some (lesser o x)) ⊎ (lesser o x ≡ x)
 lesser_cases None x = inr refl

@@ -9,7 +9,7 @@ pub use Rattle.std.specs.List.{AllByRecursion, AllZip, range_with_len}
 pub use Rattle.std.specs.List.Sorted.{IsStrictlyIncreasing}
 pub use Rattle.assignment_search.specs.Found.{IsBestNear, IsClose, IsFair, ShowsBound}
 pub use Rattle.batch_laws.proofs.lemmas.GraphLemmas.{graph_in_order, graph_or_overflow, one_place, one_trip_graph}
-pub use Rattle.batch_laws.proofs.lemmas.SortedLemmas.{has_head, has_later, head_or_tail, in_order, nat_strict, neighbours_from, same_rising}
+pub use Rattle.batch_laws.proofs.lemmas.SortedLemmas.{has_head, has_later, head_or_tail, rising_once, same_rising}
 pub use Rattle.batch_snapshot.specs.Batch.{Batch}
 pub use Rattle.batch_snapshot.specs.Kept.{IsKept, IsOnce, riders_aboard}
 pub use Rattle.batch_solver.proofs.lemmas.MoveLemmas.{has_places, no_moves, none_matched}

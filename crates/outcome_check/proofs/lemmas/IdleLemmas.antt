@@ -1,8 +1,7 @@
 -- Idle vehicles and riders who are left out stand at places of the table, each once.
 use Rattle.std.proofs.Common.{◌≡◌, ℕ, ◌<◌, ◌≤◌, Bool, List, [], length, get_or, map, filter, All, sym, ap, ◌∙◌, subst, arith}
-use Rattle.outcome_check.proofs.Common.{range_with_len, IsStrictlyIncreasing, length-map, get_or-map, length-range_with_len, MoveLine, Settled, SettledRider, SettledVehicle, rider_at, no_rider, no_vehicle, IsSound, AreMoves, move_line, rider_id, vehicle_id, has_places, none_matched, HaveOwnPlaces}
+use Rattle.outcome_check.proofs.Common.{rising_once, range_with_len, IsStrictlyIncreasing, length-map, get_or-map, length-range_with_len, MoveLine, Settled, SettledRider, SettledVehicle, rider_at, no_rider, no_vehicle, IsSound, AreMoves, move_line, rider_id, vehicle_id, has_places, none_matched, HaveOwnPlaces}
 use Rattle.std.proofs.lemmas.List.Sums.{length-filter, count_by-le-length}
-use Rattle.outcome_check.proofs.lemmas.OrderLemmas.{rising_once}
 
 -- rising ids tell riders and vehicles apart
 pub one_rider : (settled : Settled) → IsStrictlyIncreasing (map (λ (r : SettledRider). r.id) settled.riders) → (r s : ℕ) → r < length settled.riders → s < length settled.riders → rider_id settled r ≡ rider_id settled s → r ≡ s

@@ -1,6 +1,6 @@
 -- Greedy plans: ranks, and what taking a row keeps.
-use Rattle.std.proofs.Common.{All, ◌≡◌, ◌⊎◌, ◌||◌, ℕ, ◌+◌, ◌-◌, ◌*◌, ◌<◌, ◌≤◌, Bool, true, false, List, length, get_or, set, replicate, Option, Some, None, refl, sym, ap, ◌∙◌, subst, inl, inr, ⊎_elim, arith}
-use Rattle.plan_rules.proofs.Common.{list_any, ordering_then, nat_tests, cases_eq, cases_lt, or_cases, or_left, or_right, both_ways, get_or-replicate, length-replicate, get_or_past, Graph, riders_at, cost_at, row_vehicle, has_rider, choice_at, IsGoodGraph, IsTaken, IsApart, IsTriedBefore, IsGreedy, rank_value, rank_of, parts_of, AreRanks, IsSelection, IsInTheWay}
+use Rattle.std.proofs.Common.{All, ◌≡◌, ◌⊎◌, ◌||◌, ℕ, ◌+◌, ◌-◌, ◌*◌, ◌<◌, ◌≤◌, Bool, true, false, List, length, get_or, set, Option, Some, None, refl, sym, ap, ◌∙◌, subst, inl, inr, ⊎_elim, arith}
+use Rattle.plan_rules.proofs.Common.{list_any, ordering_then, nat_tests, cases_eq, cases_lt, or_cases, or_left, or_right, both_ways, get_or_past, Graph, riders_at, cost_at, row_vehicle, has_rider, choice_at, IsGoodGraph, IsTaken, IsApart, IsTriedBefore, IsGreedy, rank_value, rank_of, parts_of, AreRanks, IsSelection, IsInTheWay}
 use Rattle.std.specs.Ordering.{nat_cmp, is_lt}
 use Rattle.std.proofs.lemmas.List.{get_or-set_same, get_or-set_other, length-set}
 use Rattle.plan_rules.proofs.lemmas.GraphLemmas.{rider_below}
@@ -216,32 +216,3 @@ settled_more g old new row good within earlier keeps (inr way) apart =
     let before : IsTriedBefore g way.other row = rank_before g way.other row good way.within within differs (earlier way.other way.within way.taken) in
     absurd (way.conflict (apart way.other way.within before (keeps way.other way.taken))))
     (cases_eq way.other row)
-
--- ---- before the first row
-
-nothing : (n v : ℕ) → choice_at (replicate n None) v ≡ None
-nothing n v =
-    ⊎_elim
-    (λ (low : v < n). get_or-replicate n v None None low)
-    (λ (high : n ≤ v). get_or_past (replicate n None) v None (omega (arith, high, length-replicate {A = Option ℕ} n None)))
-    (cases_lt v n)
-
-unmarked : (n r : ℕ) → get_or (replicate n false) r false ≡ false
-unmarked n r =
-    ⊎_elim
-    (λ (low : r < n). get_or-replicate n r false false low)
-    (λ (high : n ≤ r). get_or_past (replicate n false) r false (omega (arith, high, length-replicate n false)))
-    (cases_lt r n)
-
-pub none_taken : (g : Graph) (n k : ℕ) → IsTaken g (replicate n None) k → ⊥
-none_taken g n k taken = none_some k (sym (nothing n (row_vehicle g k)) ∙ taken)
-
-pub selection_none : (g : Graph) → IsSelection g (replicate g.vehicles None) (replicate g.riders false)
-selection_none g = record {
-  sized = length-replicate g.vehicles None;
-  marked = length-replicate g.riders false;
-  own = λ v k l e. absurd (none_some k (sym (nothing g.vehicles v) ∙ e));
-  apart = λ j k lj lk ne a b. absurd (none_taken g g.vehicles j a);
-  serves = λ j r l a e. absurd (none_taken g g.vehicles j a);
-  served_by = λ r e. absurd (both_ways false refl (sym (unmarked g.riders r) ∙ e));
-}
