@@ -203,13 +203,11 @@ module _ (points : ℕ) (tau : ℕ → ℕ → ℕ) (t : IsTravelTime points tau
 
     passenger_tests : (j : ℕ) (s : Stop) → is_of_rider i s ≡ false → is_of_passenger j (stop_without_rider i s) ≡ is_of_passenger j s
     passenger_tests j (Pick k) e = refl
-    passenger_tests j (Drop k) e = refl
-    passenger_tests j (Alight k) e = refl
+    passenger_tests j _ e = refl
 
     passenger_apart : (j : ℕ) (s : Stop) → is_of_rider i s ≡ true → is_of_passenger j s ≡ false
-    passenger_apart j (Pick k) e = refl
-    passenger_apart j (Drop k) e = refl
     passenger_apart j (Alight k) e = absurd (false≢true e)
+    passenger_apart j _ e = refl
 
     rider_known : (s : Stop) → is_of_rider i s ≡ false → IsKnown (length task.riders.items) (length task.aboard.items) s → IsKnown (length (remove task.riders.items i)) (length task.aboard.items) (stop_without_rider i s)
     rider_known (Pick k) e h = number_without-lt i k (length task.riders.items) (length (remove task.riders.items i)) within fewer (not_same k i e) h
@@ -266,34 +264,28 @@ module _ (points : ℕ) (tau : ℕ → ℕ → ℕ) (t : IsTravelTime points tau
     }
 
     visit_without_passenger : (s : Stop) → is_of_passenger j s ≡ false → visit_at (without_passenger j task) (stop_without_passenger j s) ≡ visit_at task s
-    visit_without_passenger (Pick k) e = refl
-    visit_without_passenger (Drop k) e = refl
     visit_without_passenger (Alight k) e = ap (λ leg. Dropoff leg.destination leg.latest_dropoff leg.ideal leg.party) (leg_without task.aboard.items j k within (not_same k j e))
+    visit_without_passenger _ e = refl
 
     out_tests : (k : ℕ) (s : Stop) → is_of_passenger j s ≡ false → is_of_passenger k (stop_without_passenger j s) ≡ is_of_passenger (old_number j k) s
-    out_tests k (Pick n) e = refl
-    out_tests k (Drop n) e = refl
     out_tests k (Alight n) e = renumbered j k n (not_same n j e)
+    out_tests k _ e = refl
 
     out_apart : (k : ℕ) (s : Stop) → is_of_passenger j s ≡ true → is_of_passenger (old_number j k) s ≡ false
-    out_apart k (Pick n) e = refl
-    out_apart k (Drop n) e = refl
     out_apart k (Alight n) e = subst (λ m. eqb m (old_number j k) ≡ false) (sym (eqb-true n j e)) (old_number-ne j k)
+    out_apart k _ e = refl
 
     in_tests : (k : ℕ) (s : Stop) → is_of_passenger j s ≡ false → is_of_rider k (stop_without_passenger j s) ≡ is_of_rider k s
     in_tests k (Pick n) e = refl
-    in_tests k (Drop n) e = refl
-    in_tests k (Alight n) e = refl
+    in_tests k _ e = refl
 
     in_apart : (k : ℕ) (s : Stop) → is_of_passenger j s ≡ true → is_of_rider k s ≡ false
-    in_apart k (Pick n) e = absurd (false≢true e)
-    in_apart k (Drop n) e = absurd (false≢true e)
     in_apart k (Alight n) e = refl
+    in_apart k _ e = absurd (false≢true e)
 
     out_known : (s : Stop) → is_of_passenger j s ≡ false → IsKnown (length task.riders.items) (length task.aboard.items) s → IsKnown (length task.riders.items) (length (remove task.aboard.items j)) (stop_without_passenger j s)
-    out_known (Pick k) e h = h
-    out_known (Drop k) e h = h
     out_known (Alight k) e h = number_without-lt j k (length task.aboard.items) (length (remove task.aboard.items j)) within fewer_aboard (not_same k j e) h
+    out_known _ e h = h
 
     order_without_passenger : (stops : List Stop) → IsOrderOf task stops → IsOrderOf (without_passenger j task) (stops_without_passenger j stops)
     order_without_passenger stops order = record {
