@@ -1,6 +1,6 @@
 -- What is on its way for a vehicle, and what is entered of it before a seal.
 use Rattle.std.specs.Prelude.{◌≡◌, ◌⊎◌, ℕ, ◌+◌, ◌<◌, ◌≤◌, max, nat_lt, nat_le, if◌then◌else◌, List, [], ◌∷◌, ◌++◌, Option, None, Some, map, filter, find, Contains, fold}
-use Rattle.std.specs.List.{Any}
+use Rattle.std.specs.List.{Any, flat_map, zip}
 use Rattle.pool_base.specs.TravelTime.{longest}
 use Rattle.batch_snapshot.specs.declared.vehicle.Vehicle.{Vehicle}
 use Rattle.request_book.specs.declared.command.Command.{Command}
@@ -98,6 +98,4 @@ EntersTooLate roads dwell now (v ∷ vehicles) (c ∷ courses) =
 
 -- the stops that are left, by vehicle
 abbrev pub left_commands : List Vehicle → List Course → List Command
-left_commands [] courses = []
-left_commands vehicles [] = []
-left_commands (v ∷ vehicles) (c ∷ courses) = map (stop_command v.id) c.stops.items ++ left_commands vehicles courses
+left_commands vehicles courses = flat_map (λ p. map (stop_command p.0.id) p.1.stops.items) (zip vehicles courses)

@@ -1,7 +1,6 @@
 -- A chosen trip on a driven day: whose its stops are.
 use Rattle.std.proofs.Common.{◌≡◌, ℕ, ◌<◌, ◌≤◌, Bool, true, false, eqb, List, [], ◌∷◌, length, get_or, map, filter, Some, refl, sym, ap, ◌∙◌, subst, arith, slice_get, nat_eq}
-use Rattle.route_drive.proofs.Common.{AllByRecursion, travel_time, Times, Batch, Vehicle, HasGraphsWith, IsGoodPlan, request_at, IsSettled, find_rider, find_vehicle, PlannedStop, Planned, State, Settings, Roads, index_in, Settled, vehicle_at, rider_at, AreTravelTimes, IsKept, IsDistinct, false≢true, get_or-map, length-map, Passenger, rider_id, told_stop, IsTripOf, riders_at, IsPlaced, ChosenTrip, BookRider, Aboard, look_up-at, has_node, Stop, Pick, Drop, Alight, is_of_rider, is_of_passenger, IsKnown, trip_task, IsTrip, visit_at, is_stop_of, calls_of, pool_promise, find_passenger}
-use Rattle.route_drive.proofs.kept.Sealing.{ShowsRiders}
+use Rattle.route_drive.proofs.Common.{AllByRecursion, travel_time, Times, Batch, Vehicle, HasGraphsWith, IsGoodPlan, request_at, IsSettled, find_rider, find_vehicle, PlannedStop, Planned, State, Settings, Roads, index_in, Settled, vehicle_at, rider_at, AreTravelTimes, IsKept, IsDistinct, false≢true, get_or-map, length-map, Passenger, rider_id, told_stop, IsTripOf, riders_at, IsPlaced, ChosenTrip, BookRider, Aboard, look_up-at, has_node, Stop, Pick, Drop, Alight, is_of_rider, is_of_passenger, IsKnown, trip_task, IsTrip, visit_at, is_stop_of, calls_of, pool_promise, find_passenger, ShowsRiders}
 use Rattle.route_drive.proofs.kept.Served.{request_rider}
 use Rattle.std.proofs.lemmas.Bool.{ne_eqb}
 use Rattle.route_drive.proofs.kept.Batches.{distinct_from_differ, IsRiderAboard}

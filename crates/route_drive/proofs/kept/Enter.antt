@@ -70,7 +70,6 @@ module _ (settings : Settings) (roads : Roads) (riders : List BookRider) where
       → IsServing settings roads riders v free (stop ∷ stops)
       → IsServing settings roads (changed riders stop.rider (Aboard v.id)) (takes_in r stop.second v) (stop.second + settings.dwell) stops
   serves_on_picked v free stop stops r pick found status node fits serves =
-      let x : ℕ = stop.rider in
       let own : calls_of stop.rider (stop ∷ stops) ≡ true ∷ false ∷ [] = (subst (λ t. HasCalls v.id t (calls_of stop.rider (stop ∷ stops))) status (serves.calls stop.rider r found)) refl in
       let later : calls_of stop.rider stops ≡ false ∷ [] =
       let e : stop.pick ∷ calls_of stop.rider stops ≡ true ∷ false ∷ [] = sym (calls_own stop.rider stop stops refl) ∙ own in ap tail e in

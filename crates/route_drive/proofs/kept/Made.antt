@@ -1,9 +1,8 @@
 -- A close with a good plan on a driven day: the chosen trips are what the vehicles now serve.
 use Rattle.std.proofs.Common.{◌≡◌, ◌⊎◌, ℕ, ◌+◌, ◌<◌, ◌≤◌, Bool, true, false, cond, List, [], ◌∷◌, length, get_or, map, Option, Some, None, refl, sym, ap, ◌∙◌, subst, arith, inl, inr, slice_get, is_some, option_map, option_and_then, unwrap_or, ◌&&◌, min, nat_eq, ◌-◌, ◌*◌, MatchBool, max}
-use Rattle.route_drive.proofs.Common.{AllByRecursion, cases_Bool, slice_get_within, get_or_from_slice_get, slice_get-get_or, travel_time, Times, Batch, Promise, Rider, Vehicle, HasGraphsWith, IsGoodPlan, request_at, IsSettled, HasRightLimit, shown, find_rider, find_vehicle, PlannedStop, Planned, State, Settings, Roads, index_in, Settled, vehicle_at, rider_at, AreTravelTimes, IsKept, IsDistinct, option_map_or, cases_lt, false≢true, get_or-map, length-map, persons_aboard, Passenger, rider_id, told_stop, IsTripOf, times_served_some, times_served_found, in_choice, choice_at, riders_at, is_in, IsLegOf, no_request, IsPlaced, picks, trip_picks, after_plan, in_batch, planned_status, look_up, KeysDiffer, with_status, passenger_of, is_active, ChosenTrip, BookRider, Status, Waiting, Promised, Aboard, Cancelled, Delivered, Expired, look_up-at, KeysDiffer-from_rise, has_node, Leg, Stop, Pick, Drop, Alight, IsKnown, trip_task, no_leg, leg_at, visit_at, free_seats, calls_of, find_passenger, and_from, and_parts, cond-true, times_chosen, ideal_second, Task, look_up-map, look_up-key, latest_of, Visit, ideal_dropoff, IsDroppedInTime, AreReached, party_at, HasSeatsFor, IsRightPickup, IsRightDropoff, IsRightStop, IsOfVehicle, HasCalls, IsServing, seat_in, persons}
+use Rattle.route_drive.proofs.Common.{AllByRecursion, cases_Bool, slice_get_within, get_or_from_slice_get, slice_get-get_or, travel_time, Times, Batch, Promise, Rider, Vehicle, HasGraphsWith, IsGoodPlan, request_at, IsSettled, HasRightLimit, shown, find_rider, find_vehicle, PlannedStop, Planned, State, Settings, Roads, index_in, Settled, vehicle_at, rider_at, AreTravelTimes, IsKept, IsDistinct, option_map_or, cases_lt, false≢true, get_or-map, length-map, persons_aboard, Passenger, rider_id, told_stop, IsTripOf, times_served_some, times_served_found, in_choice, choice_at, riders_at, is_in, IsLegOf, no_request, IsPlaced, picks, trip_picks, after_plan, in_batch, planned_status, look_up, KeysDiffer, with_status, passenger_of, is_active, ChosenTrip, BookRider, Status, Waiting, Promised, Aboard, Cancelled, Delivered, Expired, look_up-at, KeysDiffer-from_rise, has_node, Leg, Stop, Pick, Drop, Alight, IsKnown, trip_task, no_leg, leg_at, visit_at, free_seats, calls_of, find_passenger, and_from, and_parts, cond-true, times_chosen, ideal_second, Task, look_up-map, look_up-key, latest_of, Visit, ideal_dropoff, IsDroppedInTime, AreReached, party_at, HasSeatsFor, IsRightPickup, IsRightDropoff, IsRightStop, IsOfVehicle, HasCalls, IsServing, seat_in, persons, ShowsRiders}
 use Rattle.std.proofs.lemmas.Bool.{eq-eqb}
 use Rattle.route_drive.proofs.kept.Batches.{found_at}
-use Rattle.route_drive.proofs.kept.Sealing.{ShowsRiders}
 use Rattle.route_drive.proofs.kept.Served.{request_rider}
 use Rattle.std.proofs.lemmas.Bool.{true≢false}
 use Rattle.route_drive.proofs.kept.Batches.{distinct_from_differ, IsAsking, IsRiderAboard}
@@ -108,7 +107,6 @@ module _ (settings : Settings) (roads : Roads) (s : State) (stops : ℕ → List
       → planned_status (picks planned.chosen) (request_at b.riders (get_or (riders_at good.graph own.is.row) i 0)).id ≡ Promised (record { vehicle = own.x.id; pickup = (member_promised k own i h).second })
   unfolding picks
   member_status k own i h =
-      let r : ℕ = get_or (riders_at good.graph own.is.row) i 0 in
       let low = member_low k own i h in
       let one = member_promised k own i h in
       let has : has_node (riders_at good.graph own.is.row) (get_or (riders_at good.graph own.is.row) i 0) ≡ true = is_node_at (riders_at good.graph own.is.row) i h in
@@ -213,7 +211,6 @@ module _ (settings : Settings) (roads : Roads) (s : State) (stops : ℕ → List
 
     pub member_leg : (i : ℕ) → i < length trip → HasLeg (get_or trip i 0) (leg_at (map (λ r. (rider_at settled r).leg) trip) i)
     member_leg i h =
-        let n : ℕ = get_or trip i 0 in
         let low : get_or trip i 0 < length b.riders = member_low k own i h in
         let of = planned_rider (get_or trip i 0) low in
         let leg = (limits.riders (get_or trip i 0) (request_at b.riders (get_or trip i 0)) (slice_get-get_or b.riders (get_or trip i 0) no_request low)).leg in
@@ -243,7 +240,6 @@ module _ (settings : Settings) (roads : Roads) (s : State) (stops : ℕ → List
 
     passenger_leg : (j : ℕ) → (h : j < length own.x.aboard.items) → IsLegOf settings points (travel_time times) (aboard_at j h).rider.origin (aboard_at j h).rider.destination (aboard_at j h).rider.time (aboard_at j h).rider.party (leg_at (vehicle_at settled k).aboard.items j)
     passenger_leg j h =
-        let none : Passenger = record { rider = 0; origin = 0; destination = 0; time = 0; party = 0 } in
         subst (λ (p : Passenger). IsLegOf settings points (travel_time times) p.origin p.destination p.time p.party (leg_at (vehicle_at settled k).aboard.items j)) (sym (aboard_at j h).is)
         (placed.aboard.each j (get_or own.x.aboard.items j (record { rider = 0; origin = 0; destination = 0; time = 0; party = 0 })) (slice_get-get_or own.x.aboard.items j (record { rider = 0; origin = 0; destination = 0; time = 0; party = 0 }) h))
 
@@ -389,7 +385,6 @@ module _ (settings : Settings) (roads : Roads) (s : State) (stops : ℕ → List
     -- a vehicle has one number
     pub one_number : (j : ℕ) (other : HasTrip j) → other.x.id ≡ own.x.id → j ≡ k
     one_number j other e =
-        let names : List ℕ = map (λ (v : Vehicle). v.id) b.vehicles in
         let differ : KeysDiffer (λ (v : Vehicle). v.id) b.vehicles = subst (KeysDiffer (λ (v : Vehicle). v.id)) (sym shows.vehicles) (KeysDiffer-from_rise (λ (v : Vehicle). v.id) s.vehicles kept.state.consistent.vehicles_rise) in
         let distinct : IsDistinct nat_eq (map (λ (v : Vehicle). v.id) b.vehicles) = distinct_from_differ (λ (v : Vehicle). v.id) b.vehicles differ in
         let n : length (map (λ (v : Vehicle). v.id) b.vehicles) ≡ length b.vehicles = length-map b.vehicles (λ (v : Vehicle). v.id) in

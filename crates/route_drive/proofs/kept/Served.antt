@@ -1,6 +1,6 @@
 -- At a seal the stops of a vehicle serve, by the batch's table, its passengers and the riders promised to it.
 use Rattle.std.proofs.Common.{◌≡◌, ◌⊎◌, ℕ, ◌+◌, ◌-◌, ◌*◌, ◌<◌, ◌≤◌, true, false, eqb, nat_eq, List, [], ◌∷◌, length, get_or, map, filter, max, min, Option, Some, None, refl, sym, ap, ◌∙◌, subst, arith, inl, inr, option_and_then, slice_get, Contains}
-use Rattle.route_drive.proofs.Common.{option_map_or, AllByRecursion, IsDistinct, range_with_len, cases_Bool, false≢true, get_or-map, length-map, get_or_default, filter_passes, slice_get_within, get_or_from_slice_get, slice_get-get_or, travel_time, Times, Batch, persons_aboard, Passenger, Promise, Rider, Vehicle, IsLegOf, request_at, ideal_second, no_request, promised_limit, is_promised_to, promised_to, kept_legs, kept_leg, IsPlaced, IsSettled, filter_range_has, promised_trip, seat_in, look_up, KeysDiffer, shown, passenger_of, find_rider, find_vehicle, find_passenger, PlannedStop, BookRider, Status, Waiting, Promised, Aboard, Cancelled, Delivered, Expired, State, increasing_from_rise, look_up-at, KeysDiffer-from_rise, All-look_up, Settings, Roads, index_in, has_node, Leg, Settled, Stop, Pick, Drop, Alight, Task, Visit, IsOrder, vehicle_at, rider_at, no_rider, vehicle_task, IsTrip, no_leg, leg_at, persons, visit_at, visits_of, free_seats, IsServable, soon_there, ServesFrom, boarding_of, AreTravelTimes, ideal_dropoff, IsDroppedInTime, party_at, IsRightStop, IsRightPickup, IsRightDropoff, IsOfVehicle, IsServing, IsKept, HasCalls, calls_of}
+use Rattle.route_drive.proofs.Common.{option_map_or, AllByRecursion, IsDistinct, range_with_len, cases_Bool, false≢true, get_or-map, length-map, get_or_default, filter_passes, slice_get_within, get_or_from_slice_get, slice_get-get_or, travel_time, Times, Batch, persons_aboard, Passenger, Promise, Rider, Vehicle, IsLegOf, request_at, ideal_second, no_request, promised_limit, is_promised_to, promised_to, kept_legs, kept_leg, IsPlaced, IsSettled, filter_range_has, promised_trip, seat_in, look_up, KeysDiffer, shown, passenger_of, find_rider, find_vehicle, find_passenger, PlannedStop, BookRider, Status, Waiting, Promised, Aboard, Cancelled, Delivered, Expired, State, increasing_from_rise, look_up-at, KeysDiffer-from_rise, All-look_up, Settings, Roads, index_in, has_node, Leg, Settled, Stop, Pick, Drop, Alight, Task, Visit, IsOrder, vehicle_at, rider_at, no_rider, vehicle_task, IsTrip, no_leg, leg_at, persons, visit_at, visits_of, free_seats, IsServable, soon_there, ServesFrom, boarding_of, AreTravelTimes, ideal_dropoff, IsDroppedInTime, party_at, IsRightStop, IsRightPickup, IsRightDropoff, IsOfVehicle, IsServing, IsKept, HasCalls, calls_of, ShowsRiders}
 use Rattle.std.proofs.lemmas.Bool.{eq-eqb, eqb-true}
 use Rattle.std.proofs.lemmas.Simd.{map-map}
 use Rattle.stop_orders.specs.declared.settled_vehicle.SettledVehicle.{SettledVehicle}
@@ -9,7 +9,6 @@ use Rattle.route_drive.proofs.kept.Lists.{all_weaker, both, map_agrees, all_filt
 use Rattle.route_drive.proofs.kept.Walks.{has_index, name_at, is_node_at}
 use Rattle.route_drive.proofs.kept.Riders.{found_id}
 use Rattle.route_drive.proofs.kept.Enter.{picked_up_right, dropped_right}
-use Rattle.route_drive.proofs.kept.Sealing.{ShowsRiders}
 use Rattle.route_drive.proofs.kept.Numbers.{number_of, IsNumbered, number_picks, number_drops, number_alights, numbers_are_order, alights_only, passengers_order, order_length}
 use Rattle.route_drive.proofs.kept.Tables.{IsSeen, ideal_is, serves_by_table, sub_serves}
 use Rattle.route_drive.proofs.kept.Batches.{found_at, rising_far, distinct_from_rising, distinct_from_differ, same_persons, IsAsking, asking_is, promise_status, IsPromisedRider, IsRiderAboard, seat_is}
@@ -287,7 +286,6 @@ module _ (settings : Settings) (roads : Roads) (s : State) (stops : ℕ → List
         let is : request_at b.riders (get_or numbers place.0 0) ≡ shown own.rider (Some (record { vehicle = x.id; pickup = stop.second })) =
         promised.is ∙ ap (λ r. shown r (Some promised.promise)) same ∙ ap (λ p. shown own.rider (Some p)) promise in
         let leg = (limits.riders (get_or numbers place.0 0) (request_at b.riders (get_or numbers place.0 0)) (slice_get-get_or b.riders (get_or numbers place.0 0) no_request h)).leg in
-        let plain : Leg = record (rider_at settled (get_or numbers place.0 0)).leg { latest_pickup = (request_at b.riders (get_or numbers place.0 0)).time + settings.wait } in
         let leg' : IsLegOf settings points (travel_time times) own.rider.origin own.rider.destination own.rider.time own.rider.party (record (rider_at settled (get_or numbers place.0 0)).leg { latest_pickup = (request_at b.riders (get_or numbers place.0 0)).time + settings.wait }) =
         subst (λ (q : Rider). IsLegOf settings points (travel_time times) q.origin q.destination q.time q.party (record (rider_at settled (get_or numbers place.0 0)).leg { latest_pickup = (request_at b.riders (get_or numbers place.0 0)).time + settings.wait })) is leg in
         let limit : promised_limit settings.wait (request_at b.riders (get_or numbers place.0 0)) ≡ min stop.second (own.rider.time + settings.wait) = ap (promised_limit settings.wait) is in
@@ -322,7 +320,6 @@ module _ (settings : Settings) (roads : Roads) (s : State) (stops : ℕ → List
     seen_alight : (stop : PlannedStop) → stop.pick ≡ false → has_node passenger_names stop.rider ≡ true → IsRightDropoff roads settings.delay s.riders x.id stop → IsSeen points s.riders stop (visit_at task (number_of names passenger_names stop))
     seen_alight stop drop has own =
         let there = passenger_at_name stop.rider has in
-        let j : ℕ = index_in passenger_names stop.rider in
         let aboard = there.1 in
         let one = aboard.found in
         let two = own.found in

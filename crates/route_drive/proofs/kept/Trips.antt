@@ -1,8 +1,7 @@
 -- The trips that a good plan chooses on a driven day: whose stops they are, and what they promise.
-use Rattle.std.proofs.Common.{◌≡◌, ℕ, zero, suc, ◌+◌, ◌<◌, ◌≤◌, Bool, true, not, eqb, List, [], ◌∷◌, length, get_or, map, filter, Some, refl, sym, ap, ◌∙◌, subst, arith, inl, inr, slice_get, nat_eq}
-use Rattle.route_drive.proofs.Common.{AllByRecursion, AllZip, range_with_len, length-range_with_len, get_or-range_with_len, slice_get_within, get_or_from_slice_get, slice_get-get_or, travel_time, Times, Batch, Rider, Vehicle, HasGraphsWith, IsGoodPlan, request_at, IsSettled, find_vehicle, PlannedStop, Planned, State, Settings, Roads, index_in, Settled, vehicle_at, AreTravelTimes, IsKept, IsDistinct, cases_eq, cases_lt, get_or-map, length-map, rider_id, IsTripOf, times_served_as_count, choice_at, riders_at, no_row, is_in, IsRowOf, no_request, ChosenTrip, increasing_from_rise, KeysDiffer-from_rise, has_node, IsTrip}
+use Rattle.std.proofs.Common.{◌≡◌, ℕ, zero, suc, ◌+◌, ◌<◌, ◌≤◌, true, not, eqb, List, [], ◌∷◌, length, get_or, map, Some, refl, sym, ap, ◌∙◌, subst, arith, inl, inr, slice_get, nat_eq}
+use Rattle.route_drive.proofs.Common.{AllZip, range_with_len, length-range_with_len, get_or-range_with_len, slice_get_within, get_or_from_slice_get, slice_get-get_or, travel_time, Times, Batch, Rider, Vehicle, HasGraphsWith, IsGoodPlan, request_at, IsSettled, find_vehicle, PlannedStop, Planned, State, Settings, Roads, index_in, Settled, vehicle_at, AreTravelTimes, IsKept, IsDistinct, cases_eq, cases_lt, get_or-map, length-map, rider_id, IsTripOf, times_served_as_count, choice_at, riders_at, no_row, is_in, IsRowOf, no_request, ChosenTrip, increasing_from_rise, has_node, IsTrip, ShowsRiders}
 use Rattle.std.proofs.lemmas.Bool.{eq-eqb}
-use Rattle.route_drive.proofs.kept.Sealing.{ShowsRiders}
 use Rattle.std.specs.List.{zip}
 use Rattle.std.proofs.lemmas.Bool.{ne_eqb}
 use Rattle.plan_rules.proofs.lemmas.PlanLemmas.{plan_choice}
@@ -10,13 +9,9 @@ use Rattle.plan_rules.proofs.lemmas.SumLemmas.{count_below_two}
 use Rattle.plan_rules.specs.Plan.{IsLawful}
 use Rattle.route_drive.proofs.kept.Batches.{rising_far, distinct_from_rising}
 use Rattle.route_drive.proofs.kept.Lapse.{along_range, not_late}
-use Rattle.route_drive.proofs.kept.Lists.{takes}
+use Rattle.route_drive.proofs.kept.Lists.{filter_all}
 use Rattle.route_drive.proofs.kept.Walks.{index_at}
 use Rattle.batch_solver.specs.declared.point.Point.TheVariants as point
-
-filter_all : {X : Type 0} (p : X → Bool) (xs : List X) → AllByRecursion (λ x. p x ≡ true) xs → filter p xs ≡ xs
-filter_all p [] all = refl
-filter_all p (x ∷ xs) all = takes p x xs all.0 ∙ ap (λ ys. x ∷ ys) (filter_all p xs all.1)
 
 zip_get : {A B : Type 0} (R : A → B → Type 0) (xs : List A) (ys : List B) (i : ℕ) (a : A) → AllZip R xs ys → slice_get xs i ≡ Some a → (b : B) × (slice_get ys i ≡ Some b) × R a b
 zip_get R [] ys i a zip e = absurd cc
@@ -124,7 +119,6 @@ module _ (settings : Settings) (roads : Roads) (s : State) (stops : ℕ → List
   -- requests of different numbers have different ids
   pub other_id : (r q : ℕ) → r < length b.riders → q < length b.riders → (request_at b.riders r).id ≡ (request_at b.riders q).id → r ≡ q
   other_id r q lr lq e =
-      let differ = KeysDiffer-from_rise (λ (r : Rider). r.id) b.riders shows.rise in
       elim (cases_eq r q) [
         | inl same ↦ same
         | inr ne ↦ absurd (by r q lr lq e ne)

@@ -85,16 +85,9 @@ pub record IsRoundOn (settings : Settings) (roads : Roads) (round : NumberedLane
   pub driven : NumberedLanes
   pub is_driven : IsDrivenRound settings roads drive.book.state drive.courses.items round driven
   pub journal : Journal
-  pub run : IsRoundRun settings roads driven journal
-  pub base : journal.base ≡ drive.book.base
-  pub first : journal.first ≡ drive.book.first
+  pub taken : IsTaken settings roads driven drive.book drive'.book journal
   pub kept : Takes Before After (record { number = round.number; journal = journal })
   pub served : AddsServed journal.entries drive.served drive'.served
-  pub ready : IsReady settings roads drive'.book
-  pub entries : drive'.book.entries ≡ []
-  pub base_is : drive'.book.base ≡ drive'.book.state
-  pub state : drive'.book.state ≡ state_after roads.nodes settings.wait drive.book.base journal.entries
-  pub next : drive'.book.first ≡ next_position drive.book.first journal.entries
   pub courses_are : drive'.courses.items ≡ courses_after drive'.book.state round journal.entries drive.courses.items
 
 -- why a day stopped
@@ -115,13 +108,10 @@ pub record IsLastOn (settings : Settings) (roads : Roads) (number : ℕ) (drive 
   pub others : (lane : ℕ) → lane ≢ 0 → lane_at driven lane ≡ []
   pub in_time : All IsInTime (left_commands drive.book.state.vehicles drive.courses.items)
   pub journal : Journal
-  pub run : IsRoundRun settings roads driven journal
-  pub base : journal.base ≡ drive.book.base
-  pub first : journal.first ≡ drive.book.first
+  pub taken : IsTaken settings roads driven drive.book drive'.book journal
   pub kept : Takes Before After (record { number = number; journal = journal })
   pub served : AddsServed journal.entries drive.served drive'.served
   pub nodes : drive'.book.nodes ≡ roads.nodes
-  pub state : drive'.book.state ≡ state_after roads.nodes settings.wait drive.book.base journal.entries
 
 -- a day whose rounds were driven came to its end: with its last round, unless it was empty
 abbrev pub HasEnded : Settings → Roads → List NumberedLanes → Drive → (List DayRound → Type 0) → (List DayRound → Type 0) → Drive → Type 0
@@ -132,9 +122,6 @@ HasEnded settings roads rounds drive Before After end = IsLastOn settings roads 
 abbrev pub IsLastLate : ℕ → Drive → (List DayRound → Type 0) → (List DayRound → Type 0) → DriveFault → Type 0
 IsLastLate number drive Before After (fault.TooLate round) = (round ≡ number) × Stays Before After × Any IsTooLate (left_commands drive.book.state.vehicles drive.courses.items)
 IsLastLate number drive Before After fault.OutOfMemory = Unit {0}
-
-abbrev pub IsEndLate : List NumberedLanes → Drive → (List DayRound → Type 0) → (List DayRound → Type 0) → DriveFault → Type 0
-IsEndLate rounds drive Before After answer = IsLastLate (number_after rounds) drive Before After answer
 
 -- the rounds that were taken are those of a driven day, and these are its counts
 pub record IsCounted (Took : List DayRound → Type 0) (settings : Settings) (roads : Roads) (s : State) (rounds : List NumberedLanes) (run : DayCounts) : Type 0 where
