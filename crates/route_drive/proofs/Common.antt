@@ -84,11 +84,11 @@ pub use Rattle.road_network.specs.Roads.{IsArcAmong, IsNetwork, Roads, has_node,
 pub use Rattle.road_network.specs.Walk.{HasNoWalk, IsLeastTime, IsTimeBetween, IsWalk, walk_seconds}
 pub use Rattle.road_network.specs.declared.arc.Arc.{Arc}
 pub use Rattle.road_network.specs.declared.hop.Hop.{Hop}
-pub use Rattle.route_drive.specs.Counts.{AreCounts, IsDelayOf, count_of, dropped_among, entries_of, ideal_dropoff, is_dropped, is_picked, picked_among, wait_of}
+pub use Rattle.route_drive.specs.Counts.{AreCounts, IsDelayOf, dropped_among, entries_of, ideal_dropoff, is_dropped, is_picked, picked_among, wait_of}
 pub use Rattle.route_drive.specs.Day.{back_fault, day_fault, first_seal, is_of_day, is_seal_command, lane_fault, latest_seal, round_fault, seal_of, seals_fault}
 pub use Rattle.route_drive.specs.Driven.{AreDriven, HasDrivenToTheEnd, IsDrivenDay, IsDrivenRound, IsLateAnswer, IsNewBook, IsPrecededBy, IsTooLateDay, courses_after, courses_from, courses_left, first_courses, left_course, left_state, number_after, plan_in, plan_of, planned_course, planned_in}
-pub use Rattle.route_drive.specs.Entering.{AreEntered, EntersTooLate, IsEntered, IsInTime, IsReported, IsTooLate, arrived, due, goal_of, is_cut_off, left_commands, standing_after, stop_command, to_come, walk_end, walks}
-pub use Rattle.route_drive.specs.Promises.{DaysKeep, EntriesKeep, EntryKeeps, IsClosedInTime, IsDroppedInTime, IsKeptDay, IsPickedBy, IsRunOfDay, StateKeeps, TellsNothingLate}
+pub use Rattle.route_drive.specs.Entering.{AreEntered, EntersTooLate, IsEntered, IsInTime, IsReported, arrived, due, goal_of, is_cut_off, left_commands, second_of, standing_after, stop_command, to_come, walk_end, walks}
+pub use Rattle.route_drive.specs.Promises.{DaysKeep, EntriesKeep, EntryKeeps, IsClosedInTime, IsDroppedInTime, IsKeptDay, IsPickedBy, IsRunOfDay, StateKeeps}
 pub use Rattle.route_drive.specs.Walk.{IsShortestWalk, steps_of}
 pub use Rattle.route_drive.specs.declared.counts.ServedRider.{ServedRider}
 pub use Rattle.route_drive.specs.declared.course.Course.{Course}

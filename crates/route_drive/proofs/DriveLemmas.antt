@@ -1,7 +1,7 @@
 -- A day under way, round by round.
 use Rattle.std.proofs.lemmas.List.{get_or_past, map_push}
 use Rattle.std.proofs.Common.{◌≡◌, ◌≢◌, ℕ, zero, suc, ◌+◌, ◌-◌, ◌<◌, List, [], ◌∷◌, ◌++◌, length, get_or, map, take, drop, replicate, Option, None, Some, inl, inr, refl, sym, ap, ◌∙◌, subst, arith, append-nil, All}
-use Rattle.route_drive.proofs.Common.{option_map_or, cases_lt, get_or-replicate, length-map, length-replicate, BookView, IsBook, next_position, state_after, Command, Entry, Journal, Planned, State, Settings, Roads, NumberedLanes, empty_round, lane_at, IsReady, IsRoundRun, IsRun, IsSameRun, journal_of, position_after_run, state_after_run, Course, DayRound, DayCounts, DriveFault, AreDriven, HasDrivenToTheEnd, IsDrivenRound, IsLateAnswer, IsTooLateDay, IsNewBook, courses_after, courses_from, courses_left, first_courses, left_course, left_state, number_after, plan_in, planned_course, AreCounts, entries_of, seal_of, EntersTooLate, IsInTime, IsTooLate, left_commands, AddsServed, AreServed, HasCome, HasEnded, IsCounted, IsLastLate, IsLastOn, IsRoundLate, IsRoundOn, IsStoppedAt, IsTaken, IsUnderWay, Takes}
+use Rattle.route_drive.proofs.Common.{option_map_or, cases_lt, get_or-replicate, length-map, length-replicate, BookView, IsBook, next_position, state_after, Command, Entry, Journal, Planned, State, Settings, Roads, NumberedLanes, empty_round, lane_at, IsReady, IsRoundRun, IsRun, IsSameRun, journal_of, position_after_run, state_after_run, Course, DayRound, DayCounts, DriveFault, AreDriven, HasDrivenToTheEnd, IsDrivenRound, IsLateAnswer, IsTooLateDay, IsNewBook, courses_after, courses_from, courses_left, first_courses, left_course, left_state, number_after, plan_in, planned_course, AreCounts, entries_of, seal_of, EntersTooLate, IsInTime, left_commands, AddsServed, AreServed, HasCome, HasEnded, IsCounted, IsLastLate, IsLastOn, IsRoundLate, IsRoundOn, IsStoppedAt, IsTaken, IsUnderWay, Takes, second_of, longest}
 use Rattle.std.specs.List.{Any}
 use Rattle.dispatch_engine.proofs.lemmas.RunLemmas.{position-more, run-more, state-more}
 use Rattle.route_drive.proofs.LeaveLemmas.{count_stays}
@@ -146,7 +146,7 @@ module _ (settings : Settings) (roads : Roads) where
         ∙ sym (ap (state_after_run settings roads s) (made_more (number_after rounds) on.journal))
 
     -- the last round is too late
-    last_late : (n : ℕ) → n ≡ number_after rounds → Any IsTooLate (left_commands drive.book.state.vehicles drive.courses.items) → IsTooLateDay settings roads s rounds n made
+    last_late : (n : ℕ) → n ≡ number_after rounds → Any (λ (c : Command). longest < second_of c) (left_commands drive.book.state.vehicles drive.courses.items) → IsTooLateDay settings roads s rounds n made
     last_late n is late = record {
       before = rounds;
       rest = [];
@@ -288,7 +288,7 @@ stopped_late settings roads round drive Before stop.TooLate answer is late = sub
 stopped_late settings roads round drive Before stop.OutOfMemory answer is late = subst (IsRoundLate settings roads round drive Before Before) (sym is) tt
 
 pub stopped_last : (number : ℕ) (drive : Drive) (Before : List DayRound → Type 0) (stopped : Stopped) (answer : DriveFault)
-    → IsStoppedAt stopped number answer → (stopped ≡ stop.TooLate → Any IsTooLate (left_commands drive.book.state.vehicles drive.courses.items)) → IsLastLate number drive Before Before answer
+    → IsStoppedAt stopped number answer → (stopped ≡ stop.TooLate → Any (λ (c : Command). longest < second_of c) (left_commands drive.book.state.vehicles drive.courses.items)) → IsLastLate number drive Before Before answer
 stopped_last number drive Before stop.TooLate answer is late = subst (IsLastLate number drive Before Before) (sym is) (refl, (λ made is. is), late refl)
 stopped_last number drive Before stop.OutOfMemory answer is late = subst (IsLastLate number drive Before Before) (sym is) tt
 

@@ -1,6 +1,6 @@
 -- What is entered, stop by stop and vehicle by vehicle.
 use Rattle.std.proofs.Common.{◌≡◌, ℕ, zero, suc, ◌+◌, ◌<◌, ◌≤◌, Bool, true, false, List, [], ◌∷◌, ◌++◌, length, get_or, map, filter, take, drop, Some, Result, Ok, Err, refl, sym, ap, ◌∙◌, inl, inr, subst, arith, append_assoc, append-nil, length-append, IsSome, All, Contains, IfOk, MatchResult, find, IfErr, min}
-use Rattle.route_drive.proofs.Common.{AllZip, cond-true, cond-false, take_more, get_or_append_left, All-nil, All-cons, All-push, Vehicle, Command, PlannedStop, Roads, NumberedLanes, lane_at, Course, NodeAt, Stay, WalkStep, longest, Pickup, Dropoff, Report, AreEntered, EntersTooLate, IsInTime, IsTooLate, due, left_commands, standing_after, stop_command, walk_end, step_from, ArePlaced, heading_of, headings_of, told_by, told_of, Adds}
+use Rattle.route_drive.proofs.Common.{AllZip, cond-true, cond-false, take_more, get_or_append_left, All-nil, All-cons, All-push, Vehicle, Command, PlannedStop, Roads, NumberedLanes, lane_at, Course, NodeAt, Stay, WalkStep, longest, Pickup, Dropoff, Report, AreEntered, EntersTooLate, IsInTime, due, left_commands, standing_after, stop_command, walk_end, step_from, ArePlaced, heading_of, headings_of, told_by, told_of, Adds, second_of}
 use Rattle.std.specs.List.{Any}
 use Rattle.std.specs.List.{flat_map, zip}
 use Rattle.std.proofs.lemmas.Bool.{cond_both, le-leb}
@@ -121,7 +121,7 @@ module _ (roads : Roads) (dwell now : ℕ) where
   placed_late (x ∷ vehicles) (y ∷ courses) (z ∷ places) size placed (zero, there, within, is, late) = inl (
     told_of now x.id y z,
     record { there = z; reported = placed.0; told = refl },
-    Any-push IsTooLate (map (stop_command x.id) (due now y.stops.items)) (Report x.id z.node z.second) (subst (λ (t : NodeAt). longest < t.second) (sym is) late),
+    Any-push (λ (c : Command). longest < second_of c) (map (stop_command x.id) (due now y.stops.items)) (Report x.id z.node z.second) (subst (λ (t : NodeAt). longest < t.second) (sym is) late),
   )
   placed_late (x ∷ vehicles) (y ∷ courses) (z ∷ places) size placed (suc k, there, within, is, late) =
       inr (placed_late vehicles courses places (omega (arith, size)) placed.1 (k, there, omega (arith, within), is, late))
@@ -150,8 +150,8 @@ any_mapped P f (x ∷ stops) zero s h is p = (0, f s, omega arith, ap f (sym is)
 any_mapped P f (x ∷ stops) (suc k) s h is p = let rest = any_mapped P f stops k s (omega arith) is p in (suc rest.0, rest.1, omega (arith, rest.2), rest.3, rest.4)
 
 -- a stop that is too late is entered too late
-pub late_stop : (vehicle : ℕ) (s : PlannedStop) → longest < s.second → IsTooLate (stop_command vehicle s)
-late_stop vehicle s late = cond_both s.pick (Pickup vehicle s.rider s.second) (Dropoff vehicle s.rider s.second) IsTooLate (λ e. late) (λ e. late)
+pub late_stop : (vehicle : ℕ) (s : PlannedStop) → longest < s.second → longest < second_of (stop_command vehicle s)
+late_stop vehicle s late = cond_both s.pick (Pickup vehicle s.rider s.second) (Dropoff vehicle s.rider s.second) (λ (c : Command). longest < second_of c) (λ e. late) (λ e. late)
 
 -- a stop that comes in time is entered in time
 pub stop_in_time : (vehicle : ℕ) (s : PlannedStop) → s.second ≤ longest → IsInTime (stop_command vehicle s)

@@ -1,6 +1,6 @@
 -- Who is served by entries that follow one another, and the counts of them.
-use Rattle.std.proofs.Common.{◌≡◌, ℕ, ◌+◌, ◌^◌, ◌<◌, max, Bool, List, [], ◌∷◌, ◌++◌, length, get_or, map, filter, take, refl, sym, ap, ◌∙◌, subst, arith, eqb, append_assoc, append-nil, Contains}
-use Rattle.route_drive.proofs.Common.{AllZip, take_more, get_or_default, length-map, map-append, Any-from_list_any, filter-append, IsNode, Entry, Reply, BookRider, Roads, ServedRider, DayRound, greatest, AreCounts, IsDelayOf, count_of, dropped_among, entries_of, is_dropped, is_picked, picked_among, wait_of, AddsServed, AreServed, IsDelayed, all_served_by, served_by, waited}
+use Rattle.std.proofs.Common.{◌≡◌, ℕ, ◌+◌, ◌^◌, ◌<◌, max, Bool, List, [], ◌∷◌, ◌++◌, length, get_or, map, filter, take, refl, sym, ap, ◌∙◌, subst, arith, eqb, append_assoc, append-nil, Contains, min, ◌-◌}
+use Rattle.route_drive.proofs.Common.{AllZip, take_more, get_or_default, length-map, map-append, Any-from_list_any, filter-append, IsNode, Entry, Reply, BookRider, Roads, ServedRider, DayRound, greatest, AreCounts, IsDelayOf, dropped_among, entries_of, is_dropped, is_picked, picked_among, wait_of, AddsServed, AreServed, IsDelayed, all_served_by, served_by, waited}
 use Rattle.std.proofs.lemmas.Bool.{eqb-true}
 use Rattle.std.proofs.lemmas.List.{flat_map_more, map_push}
 use Rattle.route_drive.specs.declared.counts.Served.{Served}
@@ -64,7 +64,7 @@ delays_of roads riders [] [] are = tt
 delays_of roads riders (e ∷ es) (d ∷ ds) are = (are.0, delays_of roads riders es ds are.1)
 delays_of roads riders es ds are = absurd are
 
-count_is : (n : ℕ) (served : List ServedRider) (es : List Entry) → n ≡ length served → n < 2 ^ 64 → served ≡ all_served_by es → n ≡ count_of es
+count_is : (n : ℕ) (served : List ServedRider) (es : List Entry) → n ≡ length served → n < 2 ^ 64 → served ≡ all_served_by es → n ≡ min (length es) (2 ^ 64 - 1)
 count_is n served es is small are =
     let size : length served ≡ length es = ap length are ∙ length-map es (λ (e : Entry). served_by e.command) in
     omega (arith, is, small, size)

@@ -1,7 +1,8 @@
 -- The driven script of a day: its rounds with what is entered before each seal, and a last round of the stops left.
-use Rattle.std.specs.Prelude.{◌≡◌, ◌≢◌, ℕ, ◌+◌, List, [], ◌∷◌, ◌++◌, Option, None, Some, MatchOption, All, map, option_map, option_and_then}
+use Rattle.std.specs.Prelude.{◌≡◌, ◌≢◌, ℕ, ◌+◌, ◌<◌, List, [], ◌∷◌, ◌++◌, Option, None, Some, MatchOption, All, map, option_map, option_and_then}
 use Rattle.std.specs.List.{Any}
 use Rattle.std.specs.Option.{option_or, option_map_or}
+use Rattle.pool_base.specs.TravelTime.{longest}
 use Rattle.batch_snapshot.specs.Kept.{IsFleet}
 use Rattle.batch_snapshot.specs.declared.vehicle.Vehicle.{Vehicle}
 use Rattle.request_book.specs.Command.{closed_outcome}
@@ -27,7 +28,7 @@ use Rattle.route_drive.specs.declared.day_run.DayRound.{DayRound}
 use Rattle.route_drive.specs.declared.day_run.DriveFault.{DriveFault}
 use Rattle.route_drive.specs.declared.day_run.DriveFault.TheVariants.{TooLate, OutOfMemory}
 use Rattle.route_drive.specs.Day.{seal_of}
-use Rattle.route_drive.specs.Entering.{AreEntered, EntersTooLate, IsInTime, IsTooLate, left_commands, to_come}
+use Rattle.route_drive.specs.Entering.{AreEntered, EntersTooLate, IsInTime, left_commands, second_of, to_come}
 
 -- a round with commands before those of its lane 0
 pub record IsPrecededBy (before : List Command) (round driven : NumberedLanes) : Type 0 where
@@ -141,7 +142,7 @@ module _ (settings : Settings) (roads : Roads) where
 
   -- a second above 1,000,000,000 is entered into the next round of a day: before its seal, or as a stop that is left
   abbrev pub ComesTooLate : List Vehicle → List Course → List NumberedLanes → ℕ → Type 0
-  ComesTooLate vehicles courses [] number = Any IsTooLate (left_commands vehicles courses)
+  ComesTooLate vehicles courses [] number = Any (λ c. longest < second_of c) (left_commands vehicles courses)
   ComesTooLate vehicles courses (round ∷ rounds) number =
       (round.number ≡ number) × ((now : ℕ) × (seal_of round ≡ Some now) × EntersTooLate roads settings.dwell now vehicles courses)
 

@@ -85,16 +85,12 @@ second_of _ = 0
 abbrev pub IsInTime : Command → Type 0
 IsInTime command = second_of command ≤ longest
 
--- a command has a second above 1,000,000,000
-abbrev pub IsTooLate : Command → Type 0
-IsTooLate command = longest < second_of command
-
--- something that is too late is entered of one of the vehicles
+-- something of a second above 1,000,000,000 is entered of one of the vehicles
 abbrev pub EntersTooLate : Roads → ℕ → ℕ → List Vehicle → List Course → Type 0
 EntersTooLate roads dwell now [] courses = ⊥
 EntersTooLate roads dwell now vehicles [] = ⊥
 EntersTooLate roads dwell now (v ∷ vehicles) (c ∷ courses) =
-    ((own : List Command) × IsEntered roads dwell now v c own × Any IsTooLate own) ⊎ EntersTooLate roads dwell now vehicles courses
+    ((own : List Command) × IsEntered roads dwell now v c own × Any (λ c. longest < second_of c) own) ⊎ EntersTooLate roads dwell now vehicles courses
 
 -- the stops that are left, by vehicle
 abbrev pub left_commands : List Vehicle → List Course → List Command

@@ -1,5 +1,6 @@
-ghost use Rattle.std.specs.Prelude.{◌≡◌, ◌≢◌, [], ℕ, All, None, Some, Err, IfErr, IfOk, List, length, map};
+ghost use Rattle.std.specs.Prelude.{◌≡◌, ◌≢◌, ◌<◌, [], ℕ, All, None, Some, Err, IfErr, IfOk, List, length, map};
 ghost use Rattle.std.specs.List.{Any};
+ghost use Rattle.pool_base.specs.TravelTime.{longest};
 ghost use Rattle.request_book.specs.Book.{next_position};
 ghost use Rattle.request_book.specs.Consistent.{IsConsistent};
 ghost use Rattle.request_book.specs.declared.journal.Entry.{Entry as EntryValue};
@@ -8,7 +9,7 @@ ghost use Rattle.script_rows.specs.Round.{lane_at};
 ghost use Rattle.dispatch_engine.specs.Run.{IsReady};
 ghost use Rattle.route_drive.specs.Counts.{AreCounts};
 ghost use Rattle.route_drive.specs.Day.{day_fault, seal_of};
-ghost use Rattle.route_drive.specs.Entering.{EntersTooLate, IsInTime, IsTooLate, left_commands};
+ghost use Rattle.route_drive.specs.Entering.{EntersTooLate, IsInTime, left_commands, second_of};
 ghost use Rattle.route_drive.specs.declared.entering.Stopped.TheVariants.{TooLate as Late};
 ghost use Rattle.route_drive.specs.Driven.{IsDrivenRound, IsLateAnswer, IsNewBook, courses_after, number_after};
 ghost use Rattle.route_drive.specs.work.Counting.{AddsServed, AreServed};
@@ -373,7 +374,7 @@ fn left_of(alloc: Global, drive: &Drive) -> Result<Round, Stopped>
     ensures first { IfOk result (λ round. lane_at round 0 ≡ left_commands drive.now.book.state.vehicles drive.now.courses.items) }
     ensures others { IfOk result (λ round. (lane : ℕ) → lane ≢ 0 → lane_at round lane ≡ []) }
     ensures in_time { IfOk result (λ round. All IsInTime (left_commands drive.now.book.state.vehicles drive.now.courses.items)) }
-    ensures late { result ≡ Err Late → Any IsTooLate (left_commands drive.now.book.state.vehicles drive.now.courses.items) }
+    ensures late { result ≡ Err Late → Any (λ c. longest < second_of c) (left_commands drive.now.book.state.vehicles drive.now.courses.items) }
 {
     match drive.book.state() {
         Ok(state) => last_round(alloc, state.vehicles.as_slice(), drive.courses.as_slice()),

@@ -143,6 +143,7 @@ fn copied_stops(stops: &ArrayVec<PlannedStop, 22>) -> ArrayVec<PlannedStop, 22>
     copy
 }
 
+/// What a seal leaves on its way, or what was on its way without one.
 fn left_courses(
     alloc: Global,
     seal: Option<Second>,
@@ -150,52 +151,25 @@ fn left_courses(
 ) -> Result<Vec<Course>, OutOfMemory>
     ensures { IfOk result (λ left. left.items ≡ map (left_course seal) courses.now) }
 {
+    let mut left = Vec::with_capacity(alloc, courses.len())?;
+    for course in courses {
+        left.push(left_course(seal, course))?;
+    }
+    Ok(left)
+}
+
+fn left_course(seal: Option<Second>, course: &Course) -> Course
+    ensures { result ≡ left_course seal course.now }
+{
     match seal {
-        None => copied_courses(alloc, courses),
-        Some(now) => courses_to_come(alloc, now, courses),
-    }
-}
-
-fn copied_courses(alloc: Global, courses: &[Course]) -> Result<Vec<Course>, OutOfMemory>
-    ensures { IfOk result (λ left. left.items ≡ map (left_course None) courses.now) }
-{
-    let mut left = Vec::with_capacity(alloc, courses.len())?;
-    for course in courses {
-        left.push(copied_course(course))?;
-    }
-    Ok(left)
-}
-
-fn copied_course(course: &Course) -> Course
-    ensures { result ≡ course.now }
-{
-    Course {
-        stops: copied_stops(&course.stops),
-        target: course.target,
-    }
-}
-
-/// What a seal leaves on its way.
-fn courses_to_come(
-    alloc: Global,
-    now: Second,
-    courses: &[Course],
-) -> Result<Vec<Course>, OutOfMemory>
-    ensures { IfOk result (λ left. left.items ≡ map (left_course (Some now)) courses.now) }
-{
-    let mut left = Vec::with_capacity(alloc, courses.len())?;
-    for course in courses {
-        left.push(course_to_come(now, course))?;
-    }
-    Ok(left)
-}
-
-fn course_to_come(now: Second, course: &Course) -> Course
-    ensures { result ≡ left_course (Some now) course.now }
-{
-    Course {
-        stops: stops_to_come(now, &course.stops),
-        target: course.target,
+        None => Course {
+            stops: copied_stops(&course.stops),
+            target: course.target,
+        },
+        Some(now) => Course {
+            stops: stops_to_come(now, &course.stops),
+            target: course.target,
+        },
     }
 }
 

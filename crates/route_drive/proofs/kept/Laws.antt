@@ -1,6 +1,6 @@
 -- The laws of driven days.
-use Rattle.std.proofs.Common.{[], arith, ◌≡◌, ℕ, ◌+◌, ◌≤◌, Bool, true, false, cond, List, ◌∷◌, All, Some, ap, refl, None}
-use Rattle.route_drive.proofs.Common.{travel_time, AnswersWith, IsGoodOutcome, IsGoodPlan, Batch, Vehicle, after_answer, opening, find_vehicle, step, Pickup, Dropoff, Close, Answer, PlannedStop, Reply, Picked, Dropped, Closed, State, look_up-nil, reached-consistent, IsNode, state_after, BookRider, All-nil, Settings, Roads, IsKept, IsDayState, IsDone, IsServing, KeepsBounds, ShowsRiders, AreReported, IsClosedInTime, TellsNothingLate, closed, planned_in, stops_with}
+use Rattle.std.proofs.Common.{[], arith, ◌≡◌, ℕ, ◌+◌, ◌≤◌, Bool, true, false, cond, List, ◌∷◌, All, Some, ap, refl, None, IfSome}
+use Rattle.route_drive.proofs.Common.{travel_time, AnswersWith, IsGoodOutcome, IsGoodPlan, Batch, Vehicle, after_answer, opening, find_vehicle, step, Pickup, Dropoff, Close, Answer, PlannedStop, Reply, Picked, Dropped, Closed, State, look_up-nil, reached-consistent, IsNode, state_after, BookRider, All-nil, Settings, Roads, IsKept, IsDayState, IsDone, IsServing, KeepsBounds, ShowsRiders, AreReported, IsClosedInTime, closed, planned_in, stops_with}
 use Rattle.batch_snapshot.specs.Kept.{IsFleet}
 use Rattle.request_book.specs.declared.outcome.Outcome.{Outcome}
 use Rattle.route_drive.proofs.kept.Replies.{close_is}
@@ -30,7 +30,7 @@ no_promise_lapses settings roads s stops b outcome kept shows early sealed good 
   tells = by outcome.answer good.answer;
 }
   where
-    by : (a : Answer) → AnswersWith settings good.points (travel_time good.times) good.settled (IsGoodPlan settings) a → TellsNothingLate a
+    by : (a : Answer) → AnswersWith settings good.points (travel_time good.times) good.settled (IsGoodPlan settings) a → IfSome (planned_in a) (λ planned. (planned.late ≡ []) × (planned.lapsed ≡ []))
     by answer.Overflow is = tt
     by (answer.Planned planned) is = nothing_lapses settings roads s stops b good.settled good.points good.times kept shows early good.limits good.table planned is
 

@@ -1,5 +1,5 @@
 -- A day under way.
-use Rattle.std.specs.Prelude.{◌≡◌, ◌≢◌, ℕ, List, [], ◌∷◌, ◌++◌, Some, All, length, map, Option, take, slice_index_or, None, ◌+◌, nat_le, find}
+use Rattle.std.specs.Prelude.{◌≡◌, ◌≢◌, ◌<◌, ℕ, List, [], ◌∷◌, ◌++◌, Some, All, length, map, Option, take, slice_index_or, None, ◌+◌, nat_le, find}
 use Rattle.std.specs.List.{Any}
 use Rattle.request_book.specs.Book.{BookView, next_position}
 use Rattle.request_book.specs.Replay.{state_after}
@@ -21,7 +21,8 @@ use Rattle.route_drive.specs.Day.{seal_of, round_fault, latest_seal}
 use Rattle.route_drive.specs.Counts.{AreCounts, entries_of}
 use Rattle.route_drive.specs.Driven.{HasDriven, IsDrivenDay, IsDrivenRound, courses_after, courses_from, number_after}
 use Rattle.route_drive.specs.work.Counting.{AddsServed, AreServed}
-use Rattle.route_drive.specs.Entering.{EntersTooLate, IsInTime, IsTooLate, left_commands}
+use Rattle.pool_base.specs.TravelTime.{longest}
+use Rattle.route_drive.specs.Entering.{EntersTooLate, IsInTime, left_commands, second_of}
 use Rattle.route_drive.specs.declared.day.DayFault.{DayFault}
 use Rattle.batch_snapshot.specs.declared.vehicle.Vehicle.{Vehicle}
 use Rattle.route_drive.specs.declared.course.Stay.{Stay}
@@ -120,7 +121,7 @@ HasEnded settings roads rounds drive Before After end = IsLastOn settings roads 
 
 -- the last round is too late
 abbrev pub IsLastLate : ℕ → Drive → (List DayRound → Type 0) → (List DayRound → Type 0) → DriveFault → Type 0
-IsLastLate number drive Before After (fault.TooLate round) = (round ≡ number) × Stays Before After × Any IsTooLate (left_commands drive.book.state.vehicles drive.courses.items)
+IsLastLate number drive Before After (fault.TooLate round) = (round ≡ number) × Stays Before After × Any (λ c. longest < second_of c) (left_commands drive.book.state.vehicles drive.courses.items)
 IsLastLate number drive Before After fault.OutOfMemory = Unit {0}
 
 -- the rounds that were taken are those of a driven day, and these are its counts
