@@ -38,7 +38,7 @@ pub use Rattle.promise_check.specs.Promised.{IsLive, is_promised_to, kept_legs, 
 pub use Rattle.promise_check.specs.Requests.{IsLegOf, ideal_second, request_at}
 pub use Rattle.promise_check.specs.Settling.{HasRightLimit, HoldsPromised, IsLiveRider, IsPlaced, IsSettled}
 pub use Rattle.promise_check.specs.lemmas.Named.{kept_leg, no_request}
-pub use Rattle.request_book.proofs.lemmas.BatchLemmas.{after_seal-id, increasing_from_rise}
+pub use Rattle.request_book.proofs.lemmas.BatchLemmas.{after_seal-id}
 pub use Rattle.request_book.proofs.lemmas.ConsistentLemmas.{step-consistent}
 pub use Rattle.request_book.proofs.lemmas.KeyedLemmas.{All-look_up, KeysDiffer-filter_map, KeysDiffer-from_rise, KeysDiffer-map, by_key-order, look_up-at, look_up-changed_here, look_up-changed_there, look_up-filter_map, look_up-here, look_up-key, look_up-map, look_up-nil, look_up-push_found, look_up-push_here, look_up-push_there, look_up-there, map-changed_at, without_key-absent}
 pub use Rattle.request_book.proofs.lemmas.LawLemmas.{reached-consistent, rounds-join}
@@ -71,12 +71,12 @@ pub use Rattle.request_book.specs.declared.reply.Reply.{Reply}
 pub use Rattle.request_book.specs.declared.reply.Reply.TheVariants.{Accepted, Closed, Dropped, Picked, Placed, Sealed}
 pub use Rattle.request_book.specs.declared.rider.BookRider.{BookRider}
 pub use Rattle.request_book.specs.declared.rider.Status.{Status}
-pub use Rattle.request_book.specs.declared.rider.Status.TheVariants.{Aboard, Cancelled, Delivered, Expired, Promised, Waiting}
+pub use Rattle.request_book.specs.declared.rider.Status.TheVariants.{Aboard, Delivered, Expired, Promised, Waiting}
 pub use Rattle.request_book.specs.declared.state.State.{State}
 unfoldable pub use Rattle.request_book.specs.lemmas.Closing.{closed_state}
 pub use Rattle.request_book.specs.lemmas.Named.{asking, in_batch, lets_out, planned_status, stands_at, takes_in}
 unfoldable pub use Rattle.request_book.specs.lemmas.Refusals.{first_of}
-pub use Rattle.request_book.specs.lemmas.Refusals.{batch_open, clock_back, duplicate_rider, has_ended, is_aboard, not_aboard, not_promised, not_this_batch, time_back, unknown_node, unknown_rider, unknown_vehicle, vehicle_full}
+pub use Rattle.request_book.specs.lemmas.Refusals.{batch_open, clock_back, duplicate_rider}
 unfoldable pub use Rattle.request_book.specs.lemmas.Table.{cancel_step, close_step, dropoff_step, pickup_step, report_step, seal_step, submit_step, table_step}
 pub use Rattle.request_book.specs.lemmas.Table.{answer, dropped_off, picked_up, submit_refusal}
 pub use Rattle.rider_limits.specs.declared.settings.Settings.{Settings}
@@ -104,7 +104,7 @@ pub use Rattle.route_drive.specs.work.Drive.{HasCome, HasEnded, IsCounted, IsLas
 pub use Rattle.route_drive.specs.work.Places.{ArePlaced, heading_of, headings_of, told_by, told_of}
 pub use Rattle.route_drive.specs.work.Rounds.{Adds}
 pub use Rattle.route_drive.specs.work.Serving.{AreReached, AreReported, HasCalls, HasSeatsFor, IsBound, IsBoundBy, IsDayState, IsDone, IsKept, IsOfVehicle, IsPromiseKept, IsReadyForSeal, IsRightDropoff, IsRightPickup, IsRightStop, IsServing, KeepsBounds, LeavesAll, LeavesOthers, ShowsRiders, calls_of, chosen_stops, closed, course_of, is_stop_of, party_at, seats_after, stops_with}
-pub use Rattle.route_drive.specs.work.Tree.{AreHopsOpened, Grows, IsFullTree, IsGrowing, IsOpened, IsTight, IsTree, IsWalkBack, found_at, is_seen, no_found}
+pub use Rattle.route_drive.specs.work.Tree.{AreHopsOpened, Grows, IsGrowing, IsOpened, IsTight, IsTree, IsWalkBack, found_at, is_seen, no_found}
 pub use Rattle.script_rows.specs.Round.{IsRound, MayStand, NumberedLanes, empty_round, lane_at}
 pub use Rattle.shared_book.specs.Locked.{sealed_by}
 pub use Rattle.stop_orders.proofs.lemmas.ClockLemmas.{AtLeastAsSoon, soon_over, soon_there}

@@ -1,6 +1,6 @@
 -- Searches for shortest walks.
 use Rattle.std.proofs.Common.{IfNone, IfOk, IsSome, MatchOption, Result, Ok, Err, ◌≡◌, ℕ, Option, None, Some, rules, nat_lt, ◌+◌, ◌*◌, ◌<◌, ◌≤◌, ◌⊎◌, Bool, true, false, cond, not, List, [], ◌∷◌, ◌++◌, length, get_or, slice_index, set, replicate, map, reverse, count_by, All, refl, sym, ap, ◌∙◌, inl, inr, subst, arith, length-append}
-use Rattle.route_drive.proofs.Common.{position_or_len, cases_Bool, cases_eq, cases_lt, get_or_append_left, reverse-append, get_or-replicate, length-replicate, All-contains, sum_by-replicate, sum_by-set, sum_by-cons, get_or-append_seam, never, Arc, Hop, Roads, index_in, IsArcAmong, IsNetwork, hop_of, leaving, IsWalk, walk_seconds, HasNoWalk, Found, WalkStep, IsShortestWalk, no_found, found_at, is_seen, IsTight, IsTree, AreHopsOpened, IsOpened, Grows, IsGrowing, IsFullTree, IsWalkBack}
+use Rattle.route_drive.proofs.Common.{position_or_len, cases_Bool, cases_eq, cases_lt, get_or_append_left, reverse-append, get_or-replicate, length-replicate, All-contains, sum_by-replicate, sum_by-set, sum_by-cons, get_or-append_seam, never, Arc, Hop, Roads, index_in, IsArcAmong, IsNetwork, hop_of, leaving, IsWalk, walk_seconds, HasNoWalk, Found, WalkStep, IsShortestWalk, no_found, found_at, is_seen, IsTight, IsTree, AreHopsOpened, IsOpened, Grows, IsGrowing, IsWalkBack}
 use Rattle.std.specs.List.{position}
 use Rattle.std.proofs.lemmas.Bool.{true≢false}
 use Rattle.std.proofs.lemmas.List.{length-set, get_or-set_same, get_or-set_other, get_or_past, get_or_default}
@@ -207,7 +207,7 @@ module _ (arcs : List Arc) (n start goal : ℕ) (times : List ℕ) (among : All 
     | inr none ↦ absurd (none.0 other walks)
   ]
 
-  module _ (seen : List Bool) (found : List Found) (full : IsFullTree arcs times start (slice_index times goal) seen found) where
+  module _ (seen : List Bool) (found : List Found) (full : IsGrowing arcs times start (slice_index times goal) (length found) seen found) where
     -- what a shortest walk to the goal comes to from a marked node is marked
     follow : (walk : List Arc) (node : ℕ) → node < n → slice_index times goal < never → IsWalk arcs node walk goal → slice_index times node + walk_seconds walk ≡ slice_index times goal
         → is_seen seen node ≡ true → is_seen seen goal ≡ true

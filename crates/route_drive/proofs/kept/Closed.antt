@@ -2,13 +2,13 @@
 use Rattle.std.proofs.Common.{◌≡◌, ◌⊎◌, ℕ, zero, suc, ◌+◌, ◌<◌, ◌≤◌, Bool, true, false, cond, List, [], ◌∷◌, length, get_or, map, Option, Some, None, refl, sym, ap, ◌∙◌, subst, arith, inl, inr, slice_get, is_some, option_map, ◌&&◌, min, Contains}
 use Rattle.route_drive.proofs.Common.{get_or_default, travel_time, Times, Batch, Promise, Rider, Vehicle, HasGraphsWith, IsGoodPlan, request_at, is_promised_to, IsLive, IsSettled, HasRightLimit, shown, find_rider, find_vehicle, PlannedStop, Planned, State, Settings, Roads, index_in, Settled, vehicle_at, rider_at, AreTravelTimes, IsKept, option_map_or, false≢true, times_served_some, times_served_found, in_choice, choice_at, riders_at, is_in, no_request, picks, after_plan, in_batch, planned_status, look_up, with_status, is_active, ChosenTrip, BookRider, Status, Waiting, Promised, Aboard, Delivered, look_up-at, KeysDiffer-from_rise, has_node, calls_of, and_from, and_parts, MatchBool-at_false, must_be_served, times_chosen, promised_limit, promised_to, filter_range_has, look_up-key, IsRightDropoff, IsServing, IsPromiseKept, step, Command, Reply, look_up-here, look_up-there, HoldsPromised, chosen_stops, ShowsRiders, IsBoundBy, IsBound, KeepsBounds}
 use Rattle.std.proofs.lemmas.Bool.{eq-eqb}
-use Rattle.route_drive.proofs.kept.Batches.{found_at}
+use Rattle.route_drive.proofs.kept.Batches.{found_at, other_id}
 use Rattle.route_drive.proofs.kept.States.{stepped, vehicle_id}
 use Rattle.std.proofs.lemmas.Bool.{true≢false}
 use Rattle.route_drive.proofs.kept.Lapse.{vehicle_of_number, not_late, number_of_vehicle}
 use Rattle.route_drive.proofs.kept.Served.{vehicle_found}
 use Rattle.route_drive.proofs.kept.Walks.{is_node_at}
-use Rattle.route_drive.proofs.kept.Trips.{trip_back, trip_is, other_id}
+use Rattle.route_drive.proofs.kept.Trips.{trip_back, trip_is}
 use Rattle.std.proofs.lemmas.Bool.{lt-ltb}
 use Rattle.route_drive.proofs.kept.Lists.{both}
 use Rattle.route_drive.proofs.kept.Lapse.{promise_is_live}
@@ -186,7 +186,7 @@ module _ (settings : Settings) (roads : Roads) (s : State) (stops : ℕ → List
           limit_of stop rider pick (inl member) =
               let trip = (trip_is settings roads s stops b settled points times kept shows early limits table planned good j other.is.row other.within other.is.chooses).0 in
               let same : get_or (riders_at good.graph other.is.row) member.i 0 ≡ n =
-              other_id settings roads s stops b settled points times kept shows early limits table planned good (get_or (riders_at good.graph other.is.row) member.i 0) n (trip.within member.i 0 member.within) low (sym member.rider ∙ rider ∙ ap (λ m. (request_at b.riders m).id) at) in
+              other_id b.riders shows.rise (get_or (riders_at good.graph other.is.row) member.i 0) n (trip.within member.i 0 member.within) low (sym member.rider ∙ rider ∙ ap (λ m. (request_at b.riders m).id) at) in
               subst (λ m. stop.second ≤ (rider_at settled m).leg.latest_pickup) same member.in_limit
 
           by_promise : HasRightLimit settings (travel_time times) b.riders settled n → (rider_at settled n).leg.latest_pickup ≤ p.pickup

@@ -1,5 +1,5 @@
 -- A driven day, round by round.
-use Rattle.std.proofs.Common.{◌≡◌, ℕ, ◌≤◌, cond, eqb, List, [], ◌∷◌, ◌++◌, length, map, Option, Some, None, unwrap_or, refl, sym, ap, ◌∙◌, subst, arith, inl, inr, All, MatchOption}
+use Rattle.std.proofs.Common.{◌≡◌, ℕ, ◌≤◌, cond, eqb, List, [], ◌∷◌, ◌++◌, length, map, Option, Some, None, unwrap_or, refl, sym, ap, ◌∙◌, subst, arith, inl, inr, All, MatchOption, true, false}
 use Rattle.route_drive.proofs.Common.{AllByRecursion, option_map_or, cases_eq, cond-true, cond-false, Vehicle, next_position, look_up, RepliesAreSteps, state_after, find_vehicle, Command, Seal, Entry, Journal, ChosenTrip, Planned, PlannedStop, BookRider, State, look_up-here, look_up-there, look_up-nil, rounds-join, Settings, Roads, IsNetwork, NumberedLanes, lane_at, ClosesAreGood, IsRoundRun, IsRun, Course, seal_of, AreDriven, IsDrivenRound, IsPrecededBy, courses_after, courses_left, left_course, left_state, plan_in, planned_course, AreEntered, IsInTime, to_come, course_of, IsKept, IsServing, chosen_stops, stops_with}
 use Rattle.std.proofs.lemmas.Bool.{eq-eqb, ne_eqb}
 use Rattle.route_drive.proofs.kept.DayRounds.{AreDayRounds, IsDayLane, IsDayRound}
@@ -26,11 +26,9 @@ course_mapped : (f : Course → Course) → f (record { stops = record { items =
     → course_of vehicles (map f courses) id ≡ f (course_of vehicles courses id)
 course_mapped f none [] courses id = sym none
 course_mapped f none (v ∷ vehicles) [] id = sym none
-course_mapped f none (v ∷ vehicles) (course ∷ courses) id = elim (cases_eq v.id id) [
-  | inl e ↦ cond-true (eqb v.id id) (f course) (course_of vehicles (map f courses) id) (eq-eqb v.id id e) ∙ sym (ap f (cond-true (eqb v.id id) course (course_of vehicles courses id) (eq-eqb v.id id e)))
-  | inr ne ↦
-      cond-false (eqb v.id id) (f course) (course_of vehicles (map f courses) id) (ne_eqb v.id id ne) ∙ course_mapped f none vehicles courses id
-      ∙ sym (ap f (cond-false (eqb v.id id) course (course_of vehicles courses id) (ne_eqb v.id id ne)))
+course_mapped f none (v ∷ vehicles) (course ∷ courses) id = elim (eqb v.id id) as (λ b. cond b (f course) (course_of vehicles (map f courses) id) ≡ f (cond b course (course_of vehicles courses id))) [
+  | true ↦ refl
+  | false ↦ course_mapped f none vehicles courses id
 ]
 
 -- courses made of the vehicles

@@ -1,7 +1,8 @@
 -- Where a vehicle is reported at a seal, its stops to come are still reached at their seconds.
-use Rattle.std.proofs.Common.{◌≡◌, ℕ, ◌+◌, ◌<◌, ◌≤◌, Bool, true, false, cond, leb, List, [], ◌∷◌, length, get_or, max, find, Contains, Option, Some, None, refl, sym, ap, ◌∙◌, subst, arith}
+use Rattle.std.proofs.Common.{◌≡◌, ℕ, ◌+◌, ◌<◌, ◌≤◌, Bool, true, false, cond, leb, List, [], ◌∷◌, length, get_or, max, find, Contains, Option, Some, refl, sym, ap, ◌∙◌, subst, arith}
 use Rattle.route_drive.proofs.Common.{AllByRecursion, sum_by-cons, never, PlannedStop, Arc, Roads, IsNetwork, index_in, has_node, IsWalk, walk_seconds, IsLeastTime, NodeAt, Stay, WalkStep, IsReported, goal_of, walk_end, steps_of, AreReached}
 use Rattle.std.proofs.lemmas.Bool.{leb-true}
+use Rattle.std.proofs.lemmas.Option.{cond_some}
 use Rattle.travel_times.proofs.lemmas.WalkLemmas.{goal_within}
 use Rattle.route_drive.proofs.kept.Walks.{rest_is_least, has_index, index_at, is_node_at, node_from_index, contains_node}
 
@@ -21,13 +22,9 @@ more_seconds arc walk = sum_by-cons (λ (a : Arc). a.seconds) arc walk
 
 on_way : (roads : Roads) (from goal acc : ℕ) (walk : List Arc) (test : WalkStep → Bool) (step : WalkStep) → IsWalk roads.arcs from walk goal → find test (steps_of roads.nodes from acc walk) ≡ Some step
     → IsOnWay roads from goal acc walk step × (test step ≡ true)
-on_way roads from goal acc [] test step walks found = by (test (record { node = get_or roads.nodes from 0; seconds = acc })) refl found
-  where
-    by : (b : Bool) → test (record { node = get_or roads.nodes from 0; seconds = acc }) ≡ b → cond b (Some (record { node = get_or roads.nodes from 0; seconds = acc })) None ≡ Some step → IsOnWay roads from goal acc [] step × (test step ≡ true)
-    by true e f =
-        let is : record { node = get_or roads.nodes from 0; seconds = acc } ≡ step = cc in
-        (record { via = from; before = []; rest = []; there = refl; onward = walks; whole = omega arith; node = sym (ap (λ (s : WalkStep). s.node) is); seconds = sym (ap (λ (s : WalkStep). s.seconds) is) ∙ omega arith }, ap test (sym is) ∙ e)
-    by false e f = absurd cc
+on_way roads from goal acc [] test step walks found =
+    let hit = cond_some (test (record { node = get_or roads.nodes from 0; seconds = acc })) (record { node = get_or roads.nodes from 0; seconds = acc }) step found in
+    (record { via = from; before = []; rest = []; there = refl; onward = walks; whole = omega arith; node = sym (ap (λ (s : WalkStep). s.node) hit.1); seconds = sym (ap (λ (s : WalkStep). s.seconds) hit.1) ∙ omega arith }, ap test (sym hit.1) ∙ hit.0)
 on_way roads from goal acc (arc ∷ walk) test step walks found = by (on_way roads arc.to goal (acc + arc.seconds) walk test step walks.2) (test (record { node = get_or roads.nodes from 0; seconds = acc })) refl found
   where
     by : (find test (steps_of roads.nodes arc.to (acc + arc.seconds) walk) ≡ Some step → IsOnWay roads arc.to goal (acc + arc.seconds) walk step × (test step ≡ true))

@@ -1,6 +1,6 @@
 -- At a seal the stops of a vehicle serve, by the batch's table, its passengers and the riders promised to it.
 use Rattle.std.proofs.Common.{◌≡◌, ◌⊎◌, ℕ, ◌+◌, ◌-◌, ◌*◌, ◌<◌, ◌≤◌, true, false, eqb, nat_eq, List, [], ◌∷◌, length, get_or, map, filter, max, min, Option, Some, None, refl, sym, ap, ◌∙◌, subst, arith, inl, inr, option_and_then, slice_get, Contains}
-use Rattle.route_drive.proofs.Common.{option_map_or, AllByRecursion, IsDistinct, range_with_len, cases_Bool, false≢true, get_or-map, length-map, get_or_default, filter_passes, slice_get_within, get_or_from_slice_get, slice_get-get_or, travel_time, Times, Batch, persons_aboard, Passenger, Promise, Rider, Vehicle, IsLegOf, request_at, ideal_second, no_request, promised_limit, is_promised_to, promised_to, kept_legs, kept_leg, IsPlaced, IsSettled, filter_range_has, promised_trip, seat_in, look_up, KeysDiffer, shown, passenger_of, find_rider, find_vehicle, find_passenger, PlannedStop, BookRider, Status, Waiting, Promised, Aboard, Cancelled, Delivered, Expired, State, increasing_from_rise, look_up-at, KeysDiffer-from_rise, All-look_up, Settings, Roads, index_in, has_node, Leg, Settled, Stop, Pick, Drop, Alight, Task, Visit, IsOrder, vehicle_at, rider_at, no_rider, vehicle_task, IsTrip, no_leg, leg_at, persons, visit_at, visits_of, free_seats, IsServable, soon_there, ServesFrom, boarding_of, AreTravelTimes, ideal_dropoff, IsDroppedInTime, party_at, IsRightStop, IsRightPickup, IsRightDropoff, IsOfVehicle, IsServing, IsKept, HasCalls, calls_of, ShowsRiders}
+use Rattle.route_drive.proofs.Common.{option_map_or, AllByRecursion, IsDistinct, range_with_len, cases_Bool, false≢true, get_or-map, length-map, get_or_default, filter_passes, slice_get_within, get_or_from_slice_get, slice_get-get_or, travel_time, Times, Batch, persons_aboard, Passenger, Promise, Rider, Vehicle, IsLegOf, request_at, ideal_second, no_request, promised_limit, is_promised_to, promised_to, kept_legs, kept_leg, IsPlaced, IsSettled, filter_range_has, promised_trip, seat_in, look_up, KeysDiffer, shown, passenger_of, find_rider, find_vehicle, find_passenger, PlannedStop, BookRider, Status, Promised, Aboard, State, look_up-at, KeysDiffer-from_rise, All-look_up, Settings, Roads, index_in, has_node, Leg, Settled, Stop, Pick, Drop, Alight, Task, Visit, IsOrder, vehicle_at, rider_at, no_rider, vehicle_task, IsTrip, no_leg, leg_at, persons, visit_at, visits_of, free_seats, IsServable, soon_there, ServesFrom, boarding_of, AreTravelTimes, ideal_dropoff, IsDroppedInTime, party_at, IsRightStop, IsRightPickup, IsRightDropoff, IsOfVehicle, IsServing, IsKept, HasCalls, calls_of, ShowsRiders}
 use Rattle.std.proofs.lemmas.Bool.{eq-eqb, eqb-true}
 use Rattle.std.proofs.lemmas.Simd.{map-map}
 use Rattle.stop_orders.specs.declared.settled_vehicle.SettledVehicle.{SettledVehicle}
@@ -11,7 +11,7 @@ use Rattle.route_drive.proofs.kept.Riders.{found_id}
 use Rattle.route_drive.proofs.kept.Enter.{picked_up_right, dropped_right}
 use Rattle.route_drive.proofs.kept.Numbers.{number_of, IsNumbered, number_picks, number_drops, number_alights, numbers_are_order, alights_only, passengers_order, order_length}
 use Rattle.route_drive.proofs.kept.Tables.{IsSeen, ideal_is, serves_by_table, sub_serves}
-use Rattle.route_drive.proofs.kept.Batches.{found_at, rising_far, distinct_from_rising, distinct_from_differ, same_persons, IsAsking, asking_is, promise_status, IsPromisedRider, IsRiderAboard, seat_is}
+use Rattle.route_drive.proofs.kept.Batches.{found_at, ids_distinct, distinct_from_differ, same_persons, IsAsking, asking_is, promise_status, IsPromisedRider, IsRiderAboard, seat_is}
 
 -- a leg's drop-off, as the stop that it is
 leg_drop : (settings : Settings) (roads : Roads) (points : List ℕ) (times : Times) → AreTravelTimes roads.arcs (map (index_in roads.nodes) points) times
@@ -128,20 +128,7 @@ module _ (settings : Settings) (roads : Roads) (s : State) (stops : ℕ → List
     passengers_length = length-map x.aboard.items (λ (p : Passenger). p.rider)
 
     names_distinct : IsDistinct nat_eq names
-    names_distinct = distinct_from_rising names (λ i j h l.
-        let e = names_length in
-        let li : i < length numbers = omega (arith, h, l, e) in
-        let lj : j < length numbers = omega (arith, l, e) in
-        let far : get_or numbers i 0 < get_or numbers j 0 = rising_far numbers trip.rising i j h lj in
-        let nj = number_within j lj in
-        let n = length-map b.riders (λ (r : Rider). r.id) in
-        let ids : get_or (map (λ (r : Rider). r.id) b.riders) (get_or numbers i 0) 0 < get_or (map (λ (r : Rider). r.id) b.riders) (get_or numbers j 0) 0 =
-        rising_far (map (λ (r : Rider). r.id) b.riders) (increasing_from_rise (λ (r : Rider). r.id) b.riders shows.rise) (get_or numbers i 0) (get_or numbers j 0) far (omega (arith, nj, n)) in
-        let a : get_or (map (λ (r : Rider). r.id) b.riders) (get_or numbers i 0) 0 ≡ (request_at b.riders (get_or numbers i 0)).id = get_or-map (λ (r : Rider). r.id) b.riders (get_or numbers i 0) no_request 0 (omega (arith, far, nj)) in
-        let c : get_or (map (λ (r : Rider). r.id) b.riders) (get_or numbers j 0) 0 ≡ (request_at b.riders (get_or numbers j 0)).id = get_or-map (λ (r : Rider). r.id) b.riders (get_or numbers j 0) no_request 0 nj in
-        let ni = name_is i li in
-        let nn = name_is j lj in
-        omega (arith, ids, a, c, ni, nn))
+    names_distinct = ids_distinct b.riders shows.rise (promised_to (vehicle_at settled k).id b.riders) trip
 
     pub passengers_differ : KeysDiffer (λ (p : Passenger). p.rider) x.aboard.items
     passengers_differ = All-look_up (λ (v : Vehicle). v.id) (λ (v : Vehicle). KeysDiffer (λ p. p.rider) v.aboard.items) x.id s.vehicles x kept.state.consistent.passengers vehicle_found
@@ -226,12 +213,9 @@ module _ (settings : Settings) (roads : Roads) (s : State) (stops : ℕ → List
     stops_numbered = all_weaker (IsRightStop settings roads s.riders x.id) (IsNumbered names passenger_names) (λ stop right. by stop right (cases_Bool stop.pick)) (stops x.id) serves.right
       where
         drop_by : (stop : PlannedStop) (r : BookRider) → stop.pick ≡ false → find_rider stop.rider s.riders ≡ Some r → (t : Status) → r.status ≡ t → IsOfVehicle x.id t → IsNumbered names passenger_names stop
-        drop_by stop r drop found Waiting e own = absurd own
         drop_by stop r drop found (Promised p) e own = let h = to_named stop.rider r p found e own in IsNumbered.drops drop h (names_apart stop.rider h)
         drop_by stop r drop found (Aboard u) e own = IsNumbered.alights drop (to_passenger stop.rider r found (e ∙ ap Aboard own))
-        drop_by stop r drop found Cancelled e own = absurd own
-        drop_by stop r drop found Delivered e own = absurd own
-        drop_by stop r drop found Expired e own = absurd own
+        drop_by stop r drop found status e own = absurd own
 
         by : (stop : PlannedStop) → IsRightStop settings roads s.riders x.id stop → (stop.pick ≡ true) ⊎ (stop.pick ≡ false) → IsNumbered names passenger_names stop
         by stop right (inl pick) =
