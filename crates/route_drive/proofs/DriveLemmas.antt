@@ -1,7 +1,7 @@
 -- A day under way, round by round.
 use Rattle.std.proofs.lemmas.List.{get_or_past, map_push}
 use Rattle.std.proofs.Common.{◌≡◌, ◌≢◌, ℕ, zero, suc, ◌+◌, ◌-◌, ◌<◌, List, [], ◌∷◌, ◌++◌, length, get_or, map, take, drop, replicate, Option, None, Some, inl, inr, refl, sym, ap, ◌∙◌, subst, arith, append-nil, All}
-use Rattle.route_drive.proofs.Common.{option_map_or, cases_lt, get_or-replicate, length-map, length-replicate, BookView, IsBook, next_position, state_after, Command, Entry, Journal, Planned, State, Settings, Roads, NumberedLanes, empty_round, lane_at, IsReady, IsRoundRun, IsRun, IsSameRun, journal_of, position_after_run, state_after_run, Course, DayRound, DayCounts, DriveFault, AreDriven, HasDrivenToTheEnd, IsDrivenRound, IsLateAnswer, IsTooLateDay, IsNewBook, courses_after, courses_from, courses_left, first_courses, left_course, left_state, number_after, plan_in, planned_course, AreCounts, entries_of, seal_of, EntersTooLate, IsInTime, left_commands, AddsServed, AreServed, HasCome, HasEnded, IsCounted, IsLastLate, IsLastOn, IsRoundLate, IsRoundOn, IsStoppedAt, IsTaken, IsUnderWay, Takes, second_of, longest}
+use Rattle.route_drive.proofs.Common.{option_map_or, cases_lt, get_or-replicate, length-map, length-replicate, BookView, IsBook, next_position, state_after, Command, Entry, Journal, Planned, State, Settings, Roads, NumberedLanes, empty_round, lane_at, IsReady, IsRoundRun, IsRun, IsSameRun, journal_of, position_after_run, state_after_run, Course, DayRound, DayCounts, DriveFault, AreDriven, HasDrivenToTheEnd, IsDrivenRound, IsLateAnswer, IsTooLateDay, IsNewBook, courses_after, courses_from, courses_left, first_courses, left_course, number_after, plan_in, planned_course, AreCounts, entries_of, seal_of, EntersTooLate, IsInTime, left_commands, AddsServed, AreServed, HasCome, HasEnded, IsCounted, IsLastLate, IsLastOn, IsRoundLate, IsRoundOn, IsStoppedAt, IsTaken, IsUnderWay, Takes, second_of, longest}
 use Rattle.std.specs.List.{Any}
 use Rattle.dispatch_engine.proofs.lemmas.RunLemmas.{position-more, run-more, state-more}
 use Rattle.route_drive.proofs.LeaveLemmas.{count_stays}
@@ -38,14 +38,14 @@ module _ (settings : Settings) (roads : Roads) where
       → AreDriven settings roads courses rs ds js → IsDrivenRound settings roads j.base (courses_left settings roads courses rs js) r d
       → AreDriven settings roads courses (rs ++ r ∷ []) (ds ++ d ∷ []) (js ++ j ∷ [])
   driven-more courses [] [] [] r d j driven is = (is, tt)
-  driven-more courses (q ∷ rs) (e ∷ ds) (k ∷ js) r d j driven is = (driven.0, driven-more (courses_after (left_state settings roads k) q k.entries courses) rs ds js r d j driven.1 is)
+  driven-more courses (q ∷ rs) (e ∷ ds) (k ∷ js) r d j driven is = (driven.0, driven-more (courses_after (state_after roads.nodes settings.wait k.base k.entries) q k.entries courses) rs ds js r d j driven.1 is)
   driven-more courses rs ds js r d j driven is = absurd driven
 
   courses-more : (courses : List Course) (rs ds : List NumberedLanes) (js : List Journal) (r : NumberedLanes) (j : Journal)
       → AreDriven settings roads courses rs ds js
-      → courses_left settings roads courses (rs ++ r ∷ []) (js ++ j ∷ []) ≡ courses_after (left_state settings roads j) r j.entries (courses_left settings roads courses rs js)
+      → courses_left settings roads courses (rs ++ r ∷ []) (js ++ j ∷ []) ≡ courses_after (state_after roads.nodes settings.wait j.base j.entries) r j.entries (courses_left settings roads courses rs js)
   courses-more courses [] [] [] r j driven = refl
-  courses-more courses (q ∷ rs) (e ∷ ds) (k ∷ js) r j driven = courses-more (courses_after (left_state settings roads k) q k.entries courses) rs ds js r j driven.1
+  courses-more courses (q ∷ rs) (e ∷ ds) (k ∷ js) r j driven = courses-more (courses_after (state_after roads.nodes settings.wait k.base k.entries) q k.entries courses) rs ds js r j driven.1
   courses-more courses rs ds js r j driven = absurd driven
 
   -- a day begins
@@ -53,7 +53,10 @@ module _ (settings : Settings) (roads : Roads) where
       → drive.courses.items ≡ first_courses settings roads new.state → AreServed [] drive.served → HasCome Took settings roads new.state [] drive
   come_none Took new drive took is same are nobody =
       let way : IsUnderWay settings roads new.state [] new drive.courses.items [] = record {
-        driven = record { script = []; driven = tt; numbers = refl; run = tt };
+        script = [];
+        driven = tt;
+        numbers = refl;
+        run = tt;
         ready = record { nodes = is.nodes; wait = is.wait; closed = ap (λ (s : State). s.sealed) is.state };
         entries = is.entries;
         base = is.base ∙ sym is.state;
@@ -74,10 +77,10 @@ module _ (settings : Settings) (roads : Roads) where
     made_more number j = map_push (λ (r : DayRound). r.journal) made (record { number = number; journal = j })
 
     numbers_more : (number : ℕ) (j : Journal) → map (λ (r : DayRound). r.number) (made ++ (record { number = number; journal = j }) ∷ []) ≡ map (λ (r : NumberedLanes). r.number) rounds ++ number ∷ []
-    numbers_more number j = map_push (λ (r : DayRound). r.number) made (record { number = number; journal = j }) ∙ ap (λ (l : List ℕ). l ++ number ∷ []) way.driven.numbers
+    numbers_more number j = map_push (λ (r : DayRound). r.number) made (record { number = number; journal = j }) ∙ ap (λ (l : List ℕ). l ++ number ∷ []) way.numbers
 
-    run_on : (driven : NumberedLanes) (j : Journal) → IsRoundRun settings roads driven j → j.base ≡ drive.book.base → j.first ≡ drive.book.first → IsRun settings roads s 0 (way.driven.script ++ driven ∷ []) (js ++ j ∷ [])
-    run_on driven j run base first = run-more settings roads s 0 way.driven.script js driven j way.driven.run (base ∙ way.base ∙ way.state) (first ∙ way.first) run
+    run_on : (driven : NumberedLanes) (j : Journal) → IsRoundRun settings roads driven j → j.base ≡ drive.book.base → j.first ≡ drive.book.first → IsRun settings roads s 0 (way.script ++ driven ∷ []) (js ++ j ∷ [])
+    run_on driven j run base first = run-more settings roads s 0 way.script js driven j way.run (base ∙ way.base ∙ way.state) (first ∙ way.first) run
 
     way_more : (round : NumberedLanes) (Before After : List DayRound → Type 0) (drive' : Drive) (on : IsRoundOn settings roads round drive Before After drive')
         → IsUnderWay settings roads s (rounds ++ round ∷ []) drive'.book drive'.courses.items (made ++ (record { number = round.number; journal = on.journal }) ∷ [])
@@ -89,23 +92,21 @@ module _ (settings : Settings) (roads : Roads) where
         let is : IsDrivenRound settings roads j.base (courses_from settings roads s rounds made) round on.driven =
         subst (λ (t : State). IsDrivenRound settings roads t (courses_from settings roads s rounds made) round on.driven) (sym from)
         (subst (λ (cs : List Course). IsDrivenRound settings roads drive.book.state cs round on.driven) way.courses_are on.is_driven) in
-        let left : drive'.book.state ≡ left_state settings roads j = taken.state ∙ ap (λ (t : State). state_after roads.nodes settings.wait t j.entries) (sym taken.base) in
+        let left : drive'.book.state ≡ state_after roads.nodes settings.wait j.base j.entries = taken.state ∙ ap (λ (t : State). state_after roads.nodes settings.wait t j.entries) (sym taken.base) in
         let count : length drive'.book.state.vehicles ≡ length drive.book.state.vehicles =
         ap (λ (t : State). length t.vehicles) taken.state ∙ count_stays roads.nodes settings.wait drive.book.base j.entries ∙ ap (λ (t : State). length t.vehicles) way.base in
         record {
-          driven = record {
-            script = way.driven.script ++ on.driven ∷ [];
-            driven = rw more (driven-more (first_courses settings roads s) rounds way.driven.script js round on.driven j way.driven.driven is);
-            numbers = numbers_more round.number j ∙ sym (map_push (λ (r : NumberedLanes). r.number) rounds round);
-            run = rw more (run_on on.driven j taken.run taken.base taken.first);
-          };
+          script = way.script ++ on.driven ∷ [];
+          driven = rw more (driven-more (first_courses settings roads s) rounds way.script js round on.driven j way.driven is);
+          numbers = numbers_more round.number j ∙ sym (map_push (λ (r : NumberedLanes). r.number) rounds round);
+          run = rw more (run_on on.driven j taken.run taken.base taken.first);
           ready = taken.ready;
           entries = taken.entries;
           base = taken.base_is;
           state = taken.state ∙ ap (λ (t : State). state_after roads.nodes settings.wait t j.entries) (way.base ∙ way.state) ∙ sym (state-more settings roads s js j) ∙ sym (ap (state_after_run settings roads s) more);
           first = taken.next ∙ ap (λ (p : ℕ). next_position p j.entries) way.first ∙ sym (position-more 0 js j) ∙ sym (ap (position_after_run 0) more);
-          courses_are = on.courses_are ∙ ap (λ (t : State). courses_after t round j.entries drive.courses.items) left ∙ ap (courses_after (left_state settings roads j) round j.entries) way.courses_are
-              ∙ sym (courses-more (first_courses settings roads s) rounds way.driven.script js round j way.driven.driven) ∙ sym (ap (courses_left settings roads (first_courses settings roads s) (rounds ++ round ∷ [])) more);
+          courses_are = on.courses_are ∙ ap (λ (t : State). courses_after t round j.entries drive.courses.items) left ∙ ap (courses_after (state_after roads.nodes settings.wait j.base j.entries) round j.entries) way.courses_are
+              ∙ sym (courses-more (first_courses settings roads s) rounds way.script js round j way.driven) ∙ sym (ap (courses_left settings roads (first_courses settings roads s) (rounds ++ round ∷ [])) more);
           each = ap length on.courses_are ∙ courses_each drive'.book.state round j.entries drive.courses.items (way.each ∙ sym count);
         }
 
@@ -125,9 +126,9 @@ module _ (settings : Settings) (roads : Roads) where
           first = made;
           last = record { number = number; journal = j };
           parts = refl;
-          script = way.driven.script;
+          script = way.script;
           end = end;
-          driven = way.driven.driven;
+          driven = way.driven;
           left = record {
             number = refl;
             first = on.own ∙ left ∙ sym (ap (λ (l : List Command). left_commands j.base.vehicles (courses_from settings roads s rounds made) ++ l) (nothing_at number 0) ∙ append-nil _);
@@ -151,7 +152,10 @@ module _ (settings : Settings) (roads : Roads) where
       before = rounds;
       rest = [];
       parts = sym (append-nil rounds);
+      script = way.script;
       driven = way.driven;
+      numbers = way.numbers;
+      run = way.run;
       late = rw (← way.state, ← way.courses_are) late;
       end = λ _. is;
     }
@@ -163,7 +167,10 @@ module _ (settings : Settings) (roads : Roads) where
       before = rounds;
       rest = round ∷ rest;
       parts = parts;
+      script = way.script;
       driven = way.driven;
+      numbers = way.numbers;
+      run = way.run;
       late = rw (← way.state, ← way.courses_are) (sym is, late);
       end = λ none. absurd (let e : suc (length rest) ≡ 0 = ap length none in omega (arith, e));
     }
@@ -207,7 +214,7 @@ day_ends settings roads s [] Before After drive end run come ended counts =
     let same = sym ended.0 in record {
       made = come.made;
       taken = ended.1 come.made come.taken;
-      driven = no_map come.made come.way.driven.numbers;
+      driven = no_map come.made come.way.numbers;
       counts = subst (λ (t : State). AreCounts roads t.riders (entries_of come.made) run) (ap (λ (d : Drive). d.book.state) ended.0 ∙ come.way.state)
           (counts (entries_of come.made) (subst (λ (d : Drive). AreServed (entries_of come.made) d.served) same come.served));
     }

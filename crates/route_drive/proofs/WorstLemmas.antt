@@ -1,5 +1,5 @@
 -- The worst wait and the worst delay that are told at the end of a day are within the limits that its entries keep.
-use Rattle.std.proofs.Common.{◌≡◌, ℕ, ◌-◌, ◌≤◌, List, [], ◌∷◌, ◌++◌, map, Option, sym, ap, ◌∙◌, subst, arith, MatchOption}
+use Rattle.std.proofs.Common.{◌≡◌, ℕ, ◌-◌, ◌≤◌, List, [], ◌∷◌, ◌++◌, map, Option, sym, ap, ◌∙◌, subst, arith, MatchOption, refl}
 use Rattle.route_drive.proofs.Common.{AllZip, option_map_or, rounds-join, next_position, RepliesAreSteps, state_after, step, Command, Pickup, Dropoff, Entry, Reply, BookRider, State, Settings, Roads, index_in, IsTimeBetween, NumberedLanes, DayCounts, IsRun, state_after_run, DayRound, greatest, AreCounts, entries_of, IsDelayOf, dropped_among, ideal_dropoff, is_dropped, is_picked, picked_among, wait_of, EntriesKeep, EntryKeeps, IsKeptDay, IsRunOfDay}
 use Rattle.std.proofs.lemmas.Bool.{cond_both}
 use Rattle.route_drive.proofs.LeaveLemmas.{IsPickup, IsDropoff, Keeps, keeps_self, keeps_trans, riders_stay, step-leaves}
@@ -10,11 +10,10 @@ module _ (settings : Settings) (roads : Roads) where
   entry_wait : (s : State) (later : List BookRider) (c : Command) (reply : Reply) (lane : ℕ) → IsPickup c → EntryKeeps settings roads s c reply → Keeps s.riders later
       → wait_of later (record { lane = lane; command = c; reply = reply }) ≤ settings.wait
   entry_wait s later (Pickup vehicle rider second) reply lane is kept keeps =
-      let own = kept.1 in
-      let there = keeps rider own.0 own.1 in
+      let there = keeps rider kept.1 kept.2 in
       let told : wait_of later (record { lane = lane; command = Pickup vehicle rider second; reply = reply }) ≡ second - there.0.time = ap (λ (o : Option BookRider). option_map_or (λ (r : BookRider). second - r.time) o 0) there.1 in
       let same = there.2.time in
-      let in_wait = own.2 in
+      let in_wait = kept.3 in
       omega (arith, told, same, in_wait)
   entry_wait s later command reply lane is kept keeps = absurd is
 
@@ -23,17 +22,17 @@ module _ (settings : Settings) (roads : Roads) where
       → IsDelayOf roads later (record { lane = lane; command = c; reply = reply }) d → d ≤ settings.delay
   entry_delay s later d (Dropoff vehicle rider second) reply lane is kept keeps delayed =
       let own = kept.1 in
-      let there = keeps rider own.0 own.1 in
+      let there = keeps rider own kept.2 in
       let known = subst (λ (o : Option BookRider). MatchOption o (d ≡ 0)
       (λ (r : BookRider). (seconds : ℕ) × IsTimeBetween roads.arcs (index_in roads.nodes r.origin) (index_in roads.nodes r.destination) seconds × (d ≡ second - ideal_dropoff r.time seconds))) there.1 delayed in
-      let between : IsTimeBetween roads.arcs (index_in roads.nodes own.0.origin) (index_in roads.nodes own.0.destination) known.0 =
-      subst (λ (n : ℕ). IsTimeBetween roads.arcs (index_in roads.nodes n) (index_in roads.nodes own.0.destination) known.0) there.2.origin
+      let between : IsTimeBetween roads.arcs (index_in roads.nodes own.origin) (index_in roads.nodes own.destination) known.0 =
+      subst (λ (n : ℕ). IsTimeBetween roads.arcs (index_in roads.nodes n) (index_in roads.nodes own.destination) known.0) there.2.origin
       (subst (λ (n : ℕ). IsTimeBetween roads.arcs (index_in roads.nodes there.0.origin) (index_in roads.nodes n) known.0) there.2.destination known.1) in
-      let time : known.0 ≡ own.2.seconds = between_unique roads.arcs (index_in roads.nodes own.0.origin) (index_in roads.nodes own.0.destination) known.0 own.2.seconds between own.2.between in
-      let ideal : ideal_dropoff there.0.time known.0 ≡ ideal_dropoff own.0.time own.2.seconds =
-      ap (λ (t : ℕ). ideal_dropoff t known.0) there.2.time ∙ ap (ideal_dropoff own.0.time) time in
+      let time : known.0 ≡ kept.3.seconds = between_unique roads.arcs (index_in roads.nodes own.origin) (index_in roads.nodes own.destination) known.0 kept.3.seconds between kept.3.between in
+      let ideal : ideal_dropoff there.0.time known.0 ≡ ideal_dropoff own.time kept.3.seconds =
+      ap (λ (t : ℕ). ideal_dropoff t known.0) there.2.time ∙ ap (ideal_dropoff own.time) time in
       let is_delay = known.2 in
-      let limit = own.2.in_time in
+      let limit = kept.3.in_time in
       omega (arith, is_delay, ideal, limit)
   entry_delay s later d command reply lane is kept keeps delayed = absurd is
 

@@ -81,10 +81,6 @@ second_of (Pickup vehicle rider time) = time
 second_of (Dropoff vehicle rider time) = time
 second_of _ = 0
 
--- a command has a second of at most 1,000,000,000
-abbrev pub IsInTime : Command → Type 0
-IsInTime command = second_of command ≤ longest
-
 -- something of a second above 1,000,000,000 is entered of one of the vehicles
 abbrev pub EntersTooLate : Roads → ℕ → ℕ → List Vehicle → List Course → Type 0
 EntersTooLate roads dwell now [] courses = ⊥

@@ -9,11 +9,11 @@ ghost use Rattle.script_rows.specs.Round.{lane_at};
 ghost use Rattle.dispatch_engine.specs.Run.{IsReady};
 ghost use Rattle.route_drive.specs.Counts.{AreCounts};
 ghost use Rattle.route_drive.specs.Day.{day_fault, seal_of};
-ghost use Rattle.route_drive.specs.Entering.{EntersTooLate, IsInTime, left_commands, second_of};
+ghost use Rattle.route_drive.specs.Entering.{EntersTooLate, left_commands, second_of};
 ghost use Rattle.route_drive.specs.declared.entering.Stopped.TheVariants.{TooLate as Late};
 ghost use Rattle.route_drive.specs.Driven.{IsDrivenRound, IsLateAnswer, IsNewBook, courses_after, number_after};
 ghost use Rattle.route_drive.specs.work.Counting.{AddsServed, AreServed};
-ghost use Rattle.route_drive.specs.work.Drive.{HasCome, HasEnded, IsCounted, IsLastLate, IsLastOn, IsRoundLate, IsRoundOn, IsStoppedAt, IsTaken, Takes, at_rest};
+ghost use Rattle.route_drive.specs.work.Drive.{HasCome, HasEnded, IsCounted, IsInTime, IsLastLate, IsLastOn, IsRoundLate, IsRoundOn, IsStoppedAt, IsTaken, Takes, at_rest};
 
 use crate::counts::{Served, counts_of, note_entries};
 use crate::course::Course;

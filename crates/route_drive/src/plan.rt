@@ -1,7 +1,8 @@
 //! What is on its way after a round.
 ghost use Rattle.std.specs.Prelude.{◌≡◌, ◌==◌, [], None, Some, IfNone, IfOk, IfSome, find, map, option_and_then, option_map};
 ghost use Rattle.std.specs.Option.{option_map_or};
-ghost use Rattle.route_drive.specs.Driven.{courses_after, left_course, plan_in, plan_of, planned_course};
+ghost use Rattle.request_book.specs.Command.{closed_outcome};
+ghost use Rattle.route_drive.specs.Driven.{courses_after, left_course, plan_in, planned_course, planned_in};
 ghost use Rattle.route_drive.specs.work.Drive.{at_rest};
 ghost use Rattle.route_drive.specs.Entering.{to_come};
 
@@ -60,8 +61,8 @@ fn plan_in(entries: &[Entry]) -> Option<&Planned>
 
 /// The plan with which an entry ended a batch.
 fn plan_of(entry: &Entry) -> Option<&Planned>
-    ensures some { IfSome result (λ planned. plan_of entry.now.command entry.now.reply ≡ Some planned.now) }
-    ensures none { IfNone result (plan_of entry.now.command entry.now.reply ≡ None) }
+    ensures some { IfSome result (λ planned. option_and_then (λ closed. planned_in closed.1.answer) (closed_outcome entry.now.command entry.now.reply) ≡ Some planned.now) }
+    ensures none { IfNone result (option_and_then (λ closed. planned_in closed.1.answer) (closed_outcome entry.now.command entry.now.reply) ≡ None) }
 {
     if entry.reply != Reply::Closed {
         return None;

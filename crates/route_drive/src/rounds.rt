@@ -4,8 +4,9 @@ ghost use Rattle.std.specs.List.{Any};
 ghost use Rattle.pool_base.specs.TravelTime.{longest};
 ghost use Rattle.route_drive.specs.Day.{seal_of};
 ghost use Rattle.route_drive.specs.Driven.{IsDrivenRound};
-ghost use Rattle.route_drive.specs.Entering.{EntersTooLate, IsInTime, left_commands, second_of, stop_command};
+ghost use Rattle.route_drive.specs.Entering.{EntersTooLate, left_commands, second_of, stop_command};
 ghost use Rattle.route_drive.specs.declared.entering.Stopped.TheVariants.{TooLate as Late};
+ghost use Rattle.route_drive.specs.work.Drive.{IsInTime};
 ghost use Rattle.route_drive.specs.work.Rounds.{Adds};
 ghost use Rattle.script_rows.specs.Round.{MayStand, lane_at};
 

@@ -1,6 +1,6 @@
 -- The rounds of a day: requests, and in lane 0 a seal before them.
 use Rattle.std.proofs.Common.{◌≡◌, ℕ, ◌+◌, ◌<◌, ◌≤◌, max, Bool, true, false, not, cond, ltb, List, [], ◌∷◌, ◌++◌, length, drop, get_or, Option, Some, None, unwrap_or, refl, sym, ap, ◌∙◌, subst, arith, inl, inr, append_assoc, length-append, All, option_and_then}
-use Rattle.route_drive.proofs.Common.{AllByRecursion, list_any, option_or, cases_lt, All-head, All-tail, recursion_from_All, first_fault, first_fault-each, Command, Submit, Seal, IsRound, MayStand, NumberedLanes, empty_round, lane_at, back_fault, day_fault, first_seal, is_of_day, is_seal_command, lane_fault, latest_seal, round_fault, seal_of, seals_fault, fault_at}
+use Rattle.route_drive.proofs.Common.{AllByRecursion, list_any, option_or, cases_lt, All-head, All-tail, recursion_from_All, first_fault, first_fault-each, Command, Submit, Seal, IsRound, MayStand, NumberedLanes, empty_round, lane_at, day_fault, first_seal, is_of_day, is_seal_command, lane_fault, latest_seal, round_fault, seal_of, seals_fault, fault_at}
 use Rattle.std.proofs.lemmas.Bool.{ltb-false, true≢false, or_parts}
 use Rattle.std.proofs.lemmas.List.{get_or-append-add, take_at, get_or_past}
 use Rattle.route_drive.proofs.DayLemmas.{latest-push}
@@ -57,7 +57,7 @@ dropped P x xs all = all
 
 -- lane 0, by its first command
 own_lane : (latest before : ℕ) (round : NumberedLanes) → before ≤ latest → AllByRecursion (λ c. not (is_of_day c) ≡ false) (lane_at round 0) → AllByRecursion (λ c. is_seal_command c ≡ false) (drop 1 (lane_at round 0))
-    → back_fault latest round ≡ None → IsDayLane before round
+    → option_and_then (λ now. cond (ltb now latest) (Some (fault.SealBack round.number)) None) (seal_of round) ≡ None → IsDayLane before round
 own_lane latest before round le of_day unsealed back = by (lane_at round 0) refl of_day unsealed
   where
     asked : (cs : List Command) → AllByRecursion (λ c. not (is_of_day c) ≡ false) cs → AllByRecursion (λ c. is_seal_command c ≡ false) cs → AllByRecursion IsRequest cs
@@ -80,8 +80,8 @@ own_lane latest before round le of_day unsealed back = by (lane_at round 0) refl
 
 day_round : (latest before : ℕ) (round : NumberedLanes) → before ≤ latest → IsRound round → round_fault latest round ≡ None → IsDayRound before round
 day_round latest before round le is none =
-    let lanes = neither (first_fault (lane_fault round) (length round.lanes)) (option_or (seals_fault round) (back_fault latest round)) none in
-    let rest = neither (seals_fault round) (back_fault latest round) lanes.1 in
+    let lanes = neither (first_fault (lane_fault round) (length round.lanes)) (option_or (seals_fault round) (option_and_then (λ now. cond (ltb now latest) (Some (fault.SealBack round.number)) None) (seal_of round))) none in
+    let rest = neither (seals_fault round) (option_and_then (λ now. cond (ltb now latest) (Some (fault.SealBack round.number)) None) (seal_of round)) lanes.1 in
     record {
       own = own_lane latest before round le (lane_of_day round 0 lanes.0) (none_any is_seal_command (drop 1 (lane_at round 0)) (untold (list_any is_seal_command (drop 1 (lane_at round 0))) (fault.Seals round.number) rest.0)) rest.1;
       others = λ lane other. all_weaker (λ c. (not (is_of_day c) ≡ false) × MayStand lane c) IsRequest (asks_elsewhere lane other) (lane_at round lane)

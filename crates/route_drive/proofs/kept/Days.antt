@@ -1,6 +1,6 @@
 -- A driven day, round by round.
 use Rattle.std.proofs.Common.{◌≡◌, ℕ, ◌≤◌, cond, eqb, List, [], ◌∷◌, ◌++◌, length, map, Option, Some, None, unwrap_or, refl, sym, ap, ◌∙◌, subst, arith, inl, inr, All, MatchOption, true, false}
-use Rattle.route_drive.proofs.Common.{AllByRecursion, option_map_or, cases_eq, cond-true, cond-false, Vehicle, next_position, look_up, RepliesAreSteps, state_after, find_vehicle, Command, Seal, Entry, Journal, ChosenTrip, Planned, PlannedStop, BookRider, State, look_up-here, look_up-there, look_up-nil, rounds-join, Settings, Roads, IsNetwork, NumberedLanes, lane_at, ClosesAreGood, IsRoundRun, IsRun, Course, seal_of, AreDriven, IsDrivenRound, IsPrecededBy, courses_after, courses_left, left_course, left_state, plan_in, planned_course, AreEntered, IsInTime, to_come, course_of, IsKept, IsServing, chosen_stops, stops_with}
+use Rattle.route_drive.proofs.Common.{AllByRecursion, option_map_or, cases_eq, cond-true, cond-false, Vehicle, next_position, look_up, RepliesAreSteps, state_after, find_vehicle, Command, Seal, Entry, Journal, ChosenTrip, Planned, PlannedStop, BookRider, State, look_up-here, look_up-there, look_up-nil, rounds-join, Settings, Roads, IsNetwork, NumberedLanes, lane_at, ClosesAreGood, IsRoundRun, IsRun, Course, seal_of, AreDriven, IsDrivenRound, IsPrecededBy, courses_after, courses_left, left_course, plan_in, planned_course, AreEntered, to_come, course_of, IsKept, IsServing, chosen_stops, stops_with, longest, second_of}
 use Rattle.std.proofs.lemmas.Bool.{eq-eqb, ne_eqb}
 use Rattle.route_drive.proofs.kept.DayRounds.{AreDayRounds, IsDayLane, IsDayRound}
 use Rattle.std.specs.List.{flat_map}
@@ -86,7 +86,7 @@ entries_in js = flat_map (λ j. j.entries) js
 abbrev WayOf : Settings → Roads → State → List Course → NumberedLanes → NumberedLanes → Option ℕ → Type 0
 WayOf settings roads s courses round driven seal =
     MatchOption seal (IsPrecededBy [] round driven)
-    (λ now. (entered : List Command) × AreEntered roads settings.dwell now s.vehicles courses entered × All IsInTime entered × IsPrecededBy entered round driven)
+    (λ now. (entered : List Command) × AreEntered roads settings.dwell now s.vehicles courses entered × All (λ c. second_of c ≤ longest) entered × IsPrecededBy entered round driven)
 
 module _ (settings : Settings) (roads : Roads) where
   -- between two rounds: what is on its way is served, no batch is open, and no seal was later than a second
@@ -178,15 +178,15 @@ module _ (settings : Settings) (roads : Roads) where
   rounds_over [] [] [] end j s position latest courses net on day driven run = record { latest = latest; all = tt; on = on; base = run.0; run = run.2 }
   rounds_over (r ∷ rounds) (d ∷ script) (k ∷ js) end j s position latest courses net on day driven run =
       let over : IsRoundOver s courses latest r k.entries = round_over s courses latest r d k net on day.0 (subst (λ t. IsDrivenRound settings roads t courses r d) run.0 driven.0) run.0 run.2 in
-      let left : left_state settings roads k ≡ state_after roads.nodes settings.wait s k.entries = ap (λ t. state_after roads.nodes settings.wait t k.entries) run.0 in
-      let rest : AreOver (state_after roads.nodes settings.wait s k.entries) (courses_after (left_state settings roads k) r k.entries courses) rounds js end j =
-      rounds_over rounds script js end j (state_after roads.nodes settings.wait s k.entries) (next_position position k.entries) (unwrap_or (seal_of r) latest) (courses_after (left_state settings roads k) r k.entries courses) net
+      let left : state_after roads.nodes settings.wait k.base k.entries ≡ state_after roads.nodes settings.wait s k.entries = ap (λ t. state_after roads.nodes settings.wait t k.entries) run.0 in
+      let rest : AreOver (state_after roads.nodes settings.wait s k.entries) (courses_after (state_after roads.nodes settings.wait k.base k.entries) r k.entries courses) rounds js end j =
+      rounds_over rounds script js end j (state_after roads.nodes settings.wait s k.entries) (next_position position k.entries) (unwrap_or (seal_of r) latest) (courses_after (state_after roads.nodes settings.wait k.base k.entries) r k.entries courses) net
       (subst (λ t. IsOnDay (state_after roads.nodes settings.wait s k.entries) (courses_after t r k.entries courses) (unwrap_or (seal_of r) latest)) (sym left) over.on) day.1 driven.1 run.3 in
       let same = rounds-join roads.nodes settings.wait s k.entries (entries_in js) in
       record {
         latest = rest.latest;
         all = all_append settings roads k.entries (entries_in js) s over.all rest.all;
-        on = subst (λ t. IsOnDay t (courses_left settings roads (courses_after (left_state settings roads k) r k.entries courses) rounds js) rest.latest) (sym same) rest.on;
+        on = subst (λ t. IsOnDay t (courses_left settings roads (courses_after (state_after roads.nodes settings.wait k.base k.entries) r k.entries courses) rounds js) rest.latest) (sym same) rest.on;
         base = rest.base ∙ sym same;
         run = rest.run;
       }

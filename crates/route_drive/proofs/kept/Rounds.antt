@@ -1,6 +1,6 @@
 -- A round of a driven day, from its last entry to its first.
-use Rattle.std.proofs.Common.{◌≡◌, ◌⊎◌, ℕ, ◌≤◌, List, [], ◌∷◌, ◌++◌, length, map, filter, Option, Some, None, refl, sym, ap, ◌∙◌, subst, arith, inl, inr}
-use Rattle.route_drive.proofs.Common.{AllByRecursion, option_or, recursion_from_All, Batch, Vehicle, IsGoodOutcome, one_more, KeysDiffer, RepliesAreSteps, state_after, batch_of, sealed_state, find_rider, find_vehicle, step, Command, Submit, Seal, Close, Entry, Answer, Planned, PlannedStop, Reply, Closed, Sealed, BookRider, Promised, Waiting, State, KeysDiffer-from_rise, look_up-at, Settings, Roads, IsNetwork, sealed_by, ClosesAreGood, IsCloseOf, IsGoodClose, Course, plan_in, plan_of, planned_in, AreEntered, to_come, IsClosedInTime, AreReported, IsReadyForSeal, closed, course_of, IsDayState, IsKept, KeepsBounds, LeavesAll, ShowsRiders, stops_with, IsServing, left_commands, IsEntered}
+use Rattle.std.proofs.Common.{◌≡◌, ◌⊎◌, ℕ, ◌≤◌, List, [], ◌∷◌, ◌++◌, length, map, filter, Option, Some, None, refl, sym, ap, ◌∙◌, subst, arith, inl, inr, option_and_then}
+use Rattle.route_drive.proofs.Common.{AllByRecursion, option_or, recursion_from_All, Batch, Vehicle, IsGoodOutcome, one_more, KeysDiffer, RepliesAreSteps, state_after, batch_of, sealed_state, find_rider, find_vehicle, step, Command, Submit, Seal, Close, Entry, Answer, Planned, PlannedStop, Reply, Closed, Sealed, BookRider, Promised, Waiting, State, KeysDiffer-from_rise, look_up-at, Settings, Roads, IsNetwork, sealed_by, ClosesAreGood, IsCloseOf, IsGoodClose, Course, plan_in, planned_in, AreEntered, to_come, IsClosedInTime, AreReported, IsReadyForSeal, closed, course_of, IsDayState, IsKept, KeepsBounds, LeavesAll, ShowsRiders, stops_with, IsServing, left_commands, IsEntered, closed_outcome, stop_command}
 use Rattle.std.proofs.lemmas.List.{append-nil}
 use Rattle.dispatch_engine.proofs.lemmas.LaneLemmas.{IsQuiet, plain-quiet}
 use Rattle.dispatch_engine.specs.lemmas.Lanes.{IsPlain}
@@ -20,7 +20,7 @@ after_is answer.Overflow stops = refl
 after_is (answer.Planned planned) stops = refl
 
 -- what is no close is no plan
-plain_plan : (c : Command) (reply : Reply) → IsPlain c → plan_of c reply ≡ None
+plain_plan : (c : Command) (reply : Reply) → IsPlain c → option_and_then (λ closed. planned_in closed.1.answer) (closed_outcome c reply) ≡ None
 plain_plan (Close batch outcome) reply plain = absurd plain
 plain_plan command reply plain = refl
 
@@ -51,7 +51,7 @@ module _ (settings : Settings) (roads : Roads) where
 
   -- one entry before, that is no plan
   ends_before : (e : Entry) (es : List Entry) (s : State) (stops : ℕ → List PlannedStop) (last : Option ℕ) → OneKeeps settings roads s e.command e.reply
-      → plan_of e.command e.reply ≡ None → Ends (step roads.nodes settings.wait s e.command).0 es stops last → Ends s (e ∷ es) stops last
+      → option_and_then (λ closed. planned_in closed.1.answer) (closed_outcome e.command e.reply) ≡ None → Ends (step roads.nodes settings.wait s e.command).0 es stops last → Ends s (e ∷ es) stops last
   unfolding state_after
   ends_before e es s stops last one none rest = record {
     all = (one, rest.all);
@@ -133,9 +133,9 @@ module _ (settings : Settings) (roads : Roads) where
       let rest : Ends (step roads.nodes settings.wait s (Close k outcome)).0 es (stops_with (planned_in outcome.answer) stops) last =
       subst (λ t. Ends t es (stops_with (planned_in outcome.answer) stops) last) (sym next) (asked_end es (closed s b outcome) (stops_with (planned_in outcome.answer) stops) last done.0 refl is all) in
       let none : plan_in es ≡ None = asked_plans es all in
-      let plans : option_or (plan_of (Close k outcome) reply) (plan_in es) ≡ option_or (planned_in outcome.answer) None =
-      ap (λ r. option_or (plan_of (Close k outcome) r) (plan_in es)) told ∙ ap (option_or (planned_in outcome.answer)) none in
-      let way : stops_with (plan_in es) (stops_with (planned_in outcome.answer) stops) ≡ stops_with (option_or (plan_of (Close k outcome) reply) (plan_in es)) stops =
+      let plans : option_or (option_and_then (λ closed. planned_in closed.1.answer) (closed_outcome (Close k outcome) reply)) (plan_in es) ≡ option_or (planned_in outcome.answer) None =
+      ap (λ r. option_or (option_and_then (λ closed. planned_in closed.1.answer) (closed_outcome (Close k outcome) r)) (plan_in es)) told ∙ ap (option_or (planned_in outcome.answer)) none in
+      let way : stops_with (plan_in es) (stops_with (planned_in outcome.answer) stops) ≡ stops_with (option_or (option_and_then (λ closed. planned_in closed.1.answer) (closed_outcome (Close k outcome) reply)) (plan_in es)) stops =
       ap (λ o. stops_with o (stops_with (planned_in outcome.answer) stops)) none ∙ after_is outcome.answer stops ∙ ap (λ o. stops_with o stops) (sym plans) in
       record {
         all = (record { entry = (told, in_time); seats = kept.state.consistent.seats; by = λ x limit bound. tt; bounds = subst (KeepsBounds s) (sym next) done.1 }, rest.all);

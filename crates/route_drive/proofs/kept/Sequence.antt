@@ -6,7 +6,7 @@ use Rattle.std.proofs.lemmas.List.{append-nil}
 use Rattle.route_drive.proofs.kept.Lists.{skips, takes, all_weaker}
 use Rattle.route_drive.proofs.kept.States.{vehicle_id}
 use Rattle.route_drive.proofs.kept.Keeping.{OneKeeps}
-use Rattle.route_drive.proofs.kept.Pending.{IsPending, entered_next, IsRunning, run_next}
+use Rattle.route_drive.proofs.kept.Pending.{IsPending, entered_next, IsRunning, run_next, IsEnteredOne}
 
 -- the vehicle of a command that is entered, and whether it is this one
 abbrev pub vehicle_in : Command → Option ℕ

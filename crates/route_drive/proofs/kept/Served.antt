@@ -359,17 +359,15 @@ module _ (settings : Settings) (roads : Roads) (s : State) (stops : ℕ → List
       where
         nobody : (stop : Stop) → alights_only stop ≡ true → boarding_of (visit_at task stop) ≡ 0
         nobody (Pick i) e = absurd (false≢true e)
-        nobody (Drop i) e = refl
-        nobody (Alight j) e = refl
+        nobody stop e = refl
 
         alone : map (visit_at task) (filter alights_only order) ≡ visits_of (vehicle_task settings.dwell (vehicle_at settled k) []) (filter alights_only order)
         alone = map_agrees (visit_at task) (visit_at (vehicle_task settings.dwell (vehicle_at settled k) [])) (λ stop. Unit {0} × (alights_only stop ≡ true)) (λ stop h. same stop h.1) (filter alights_only order)
             (all_filtered (λ stop. Unit {0}) alights_only order (all_from (λ stop. Unit {0}) (λ stop. tt) order))
           where
             same : (stop : Stop) → alights_only stop ≡ true → visit_at task stop ≡ visit_at (vehicle_task settings.dwell (vehicle_at settled k) []) stop
-            same (Pick i) e = absurd (false≢true e)
-            same (Drop i) e = absurd (false≢true e)
             same (Alight j) e = refl
+            same stop e = absurd (false≢true e)
 
     -- the vehicle is live for whoever is promised to it
     pub few_promised : length (promised_to (vehicle_at settled k).id b.riders) ≤ settings.trip
