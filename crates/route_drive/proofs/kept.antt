@@ -23,7 +23,5 @@ pub mod Sequence
 pub mod Mixed
 pub mod Rounds
 pub mod DayRounds
-pub mod Journals
 pub mod Days
-pub mod Left
 pub mod Promised

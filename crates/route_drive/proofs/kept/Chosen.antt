@@ -1,14 +1,13 @@
 -- A chosen trip on a driven day: whose its stops are.
 use Rattle.std.proofs.Common.{◌≡◌, ℕ, ◌<◌, ◌≤◌, Bool, true, false, eqb, List, [], ◌∷◌, length, get_or, map, filter, Some, refl, sym, ap, ◌∙◌, subst, arith, slice_get, nat_eq}
-use Rattle.route_drive.proofs.Common.{AllByRecursion, travel_time, Times, Batch, Vehicle, HasGraphsWith, IsGoodPlan, request_at, IsSettled, find_rider, find_vehicle, PlannedStop, Planned, State, Settings, Roads, index_in, Settled, vehicle_at, rider_at, AreTravelTimes, IsKept, IsDistinct, false≢true, get_or-map, length-map, Passenger, rider_id, told_stop, IsTripOf, riders_at, IsPlaced, ChosenTrip, BookRider, Aboard, look_up-at, has_node, Stop, Pick, Drop, Alight, is_of_rider, is_of_passenger, IsKnown, trip_task, IsTrip, visit_at, is_stop_of, calls_of, pool_promise, find_passenger}
-use Rattle.route_drive.proofs.kept.Sealing.{ShowsRiders}
+use Rattle.route_drive.proofs.Common.{AllByRecursion, travel_time, Times, Batch, Vehicle, HasGraphsWith, IsGoodPlan, request_at, IsSettled, find_rider, find_vehicle, PlannedStop, Planned, State, Settings, Roads, index_in, Settled, vehicle_at, rider_at, AreTravelTimes, IsKept, IsDistinct, false≢true, get_or-map, length-map, Passenger, rider_id, told_stop, IsTripOf, riders_at, IsPlaced, ChosenTrip, BookRider, Aboard, look_up-at, has_node, Stop, Pick, Drop, Alight, is_of_rider, is_of_passenger, IsKnown, trip_task, IsTrip, visit_at, is_stop_of, calls_of, pool_promise, find_passenger, ShowsRiders}
 use Rattle.route_drive.proofs.kept.Served.{request_rider}
 use Rattle.std.proofs.lemmas.Bool.{ne_eqb}
-use Rattle.route_drive.proofs.kept.Batches.{distinct_from_differ, IsRiderAboard}
+use Rattle.route_drive.proofs.kept.Batches.{distinct_from_differ, ids_distinct, other_id, IsRiderAboard}
 use Rattle.route_drive.proofs.kept.Served.{passenger_rider, passengers_differ}
 use Rattle.route_drive.proofs.kept.Told.{is_pick, told_calls}
 use Rattle.route_drive.proofs.kept.Walks.{is_node_at}
-use Rattle.route_drive.proofs.kept.Trips.{trip_is, names_distinct, told_id, other_id, same_number}
+use Rattle.route_drive.proofs.kept.Trips.{trip_is, told_id, same_number}
 use Rattle.batch_solver.specs.declared.point.Point.TheVariants as point
 
 none_filtered : {X : Type 0} (xs : List X) → filter (λ (x : X). false) xs ≡ []
@@ -36,7 +35,7 @@ module _ (settings : Settings) (roads : Roads) (s : State) (stops : ℕ → List
   trip_names_length = length-map trip (λ n. (request_at b.riders n).id)
 
   trip_names_distinct : IsDistinct nat_eq trip_names
-  trip_names_distinct = names_distinct settings roads s stops b settled points times kept shows early limits table planned good trip trip_rises
+  trip_names_distinct = ids_distinct b.riders shows.rise trip trip_rises
 
   name_is : (i : ℕ) → i < length trip → get_or trip_names i 0 ≡ (request_at b.riders (get_or trip i 0)).id
   name_is i h = get_or-map (λ n. (request_at b.riders n).id) trip i 0 0 h
@@ -104,10 +103,10 @@ module _ (settings : Settings) (roads : Roads) (s : State) (stops : ℕ → List
 
   other_test : (r : ℕ) → r < length b.riders → has_node trip r ≡ false → (stop : Stop) (second : ℕ) → IsKnown (length trip) (length x.aboard.items) stop → is_stop_of (request_at b.riders r).id (told (stop, second)) ≡ false
   other_test r lr out (Pick q) second l = ap (λ n. eqb n (request_at b.riders r).id) (told_member q l) ∙ ne_eqb (get_or trip_names q 0) (request_at b.riders r).id (λ e.
-      let same : get_or trip q 0 ≡ r = other_id settings roads s stops b settled points times kept shows early limits table planned good (get_or trip q 0) r (member_within q l) lr (sym (name_is q l) ∙ e) in
+      let same : get_or trip q 0 ≡ r = other_id b.riders shows.rise (get_or trip q 0) r (member_within q l) lr (sym (name_is q l) ∙ e) in
       false≢true (sym out ∙ subst (λ n. has_node trip n ≡ true) same (is_node_at trip q l)))
   other_test r lr out (Drop q) second l = ap (λ n. eqb n (request_at b.riders r).id) (told_member q l) ∙ ne_eqb (get_or trip_names q 0) (request_at b.riders r).id (λ e.
-      let same : get_or trip q 0 ≡ r = other_id settings roads s stops b settled points times kept shows early limits table planned good (get_or trip q 0) r (member_within q l) lr (sym (name_is q l) ∙ e) in
+      let same : get_or trip q 0 ≡ r = other_id b.riders shows.rise (get_or trip q 0) r (member_within q l) lr (sym (name_is q l) ∙ e) in
       false≢true (sym out ∙ subst (λ n. has_node trip n ≡ true) same (is_node_at trip q l)))
   other_test r lr out (Alight j) second l = ap (λ n. eqb n (request_at b.riders r).id) (told_passenger j) ∙ ne_eqb (get_or passenger_names j 0) (request_at b.riders r).id (not_aboard r j lr l)
 

@@ -1,24 +1,21 @@
 -- The state after a close with a good plan on a driven day.
 use Rattle.std.proofs.Common.{◌≡◌, ◌⊎◌, ℕ, zero, suc, ◌+◌, ◌<◌, ◌≤◌, Bool, true, false, cond, List, [], ◌∷◌, length, get_or, map, Option, Some, None, refl, sym, ap, ◌∙◌, subst, arith, inl, inr, slice_get, is_some, option_map, ◌&&◌, min, Contains}
-use Rattle.route_drive.proofs.Common.{get_or_default, travel_time, Times, Batch, Promise, Rider, Vehicle, HasGraphsWith, IsGoodPlan, request_at, is_promised_to, IsLive, IsSettled, HasRightLimit, shown, find_rider, find_vehicle, PlannedStop, Planned, State, Settings, Roads, index_in, Settled, vehicle_at, rider_at, AreTravelTimes, IsKept, option_map_or, false≢true, times_served_some, times_served_found, in_choice, choice_at, riders_at, is_in, no_request, picks, after_plan, in_batch, planned_status, look_up, with_status, is_active, ChosenTrip, BookRider, Status, Waiting, Promised, Aboard, Cancelled, Delivered, Expired, look_up-at, KeysDiffer-from_rise, has_node, calls_of, and_from, and_parts, MatchBool-at_false, must_be_served, times_chosen, promised_limit, promised_to, filter_range_has, look_up-key, IsRightDropoff, IsServing, IsPromiseKept, IsConsistent, NamesNodes, step, Command, Reply, step-consistent, step-named, look_up-here, look_up-there, HoldsPromised, chosen_stops}
+use Rattle.route_drive.proofs.Common.{get_or_default, travel_time, Times, Batch, Promise, Rider, Vehicle, HasGraphsWith, IsGoodPlan, request_at, is_promised_to, IsLive, IsSettled, HasRightLimit, shown, find_rider, find_vehicle, PlannedStop, Planned, State, Settings, Roads, index_in, Settled, vehicle_at, rider_at, AreTravelTimes, IsKept, option_map_or, false≢true, times_served_some, times_served_found, in_choice, choice_at, riders_at, is_in, no_request, picks, after_plan, in_batch, planned_status, look_up, with_status, is_active, ChosenTrip, BookRider, Status, Waiting, Promised, Aboard, Delivered, look_up-at, KeysDiffer-from_rise, has_node, calls_of, and_from, and_parts, MatchBool-at_false, must_be_served, times_chosen, promised_limit, promised_to, filter_range_has, look_up-key, IsRightDropoff, IsServing, IsPromiseKept, step, Command, Reply, look_up-here, look_up-there, HoldsPromised, chosen_stops, ShowsRiders, IsBoundBy, IsBound, KeepsBounds}
 use Rattle.std.proofs.lemmas.Bool.{eq-eqb}
-use Rattle.route_drive.proofs.kept.Batches.{found_at}
-use Rattle.route_drive.proofs.kept.Sealing.{ShowsRiders}
-use Rattle.route_drive.proofs.kept.States.{vehicle_id}
+use Rattle.route_drive.proofs.kept.Batches.{found_at, other_id}
+use Rattle.route_drive.proofs.kept.States.{stepped, vehicle_id}
 use Rattle.std.proofs.lemmas.Bool.{true≢false}
 use Rattle.route_drive.proofs.kept.Lapse.{vehicle_of_number, not_late, number_of_vehicle}
 use Rattle.route_drive.proofs.kept.Served.{vehicle_found}
 use Rattle.route_drive.proofs.kept.Walks.{is_node_at}
-use Rattle.route_drive.proofs.kept.Trips.{trip_back, trip_is, other_id}
+use Rattle.route_drive.proofs.kept.Trips.{trip_back, trip_is}
 use Rattle.std.proofs.lemmas.Bool.{lt-ltb}
 use Rattle.route_drive.proofs.kept.Lists.{both}
 use Rattle.route_drive.proofs.kept.Lapse.{promise_is_live}
 use Rattle.route_drive.proofs.kept.Riders.{found_id}
 use Rattle.route_drive.proofs.kept.Sealing.{first_call}
-use Rattle.route_drive.proofs.kept.States.{IsBoundBy, IsBound}
 use Rattle.route_drive.proofs.kept.Chosen.{member_calls}
 use Rattle.trip_graph.specs.Answer.{IsRowWith}
-use Rattle.route_drive.proofs.kept.States.{KeepsBounds}
 use Rattle.route_drive.proofs.kept.Made.{HasTrip, has_trip, find_planned, planned_rider, member_promised, member_status, left_status, IsPlaced', where_is, serves_chosen, items_told, trip_vehicle, one_number, IsMemberPickup, after_is, after_stays}
 use Rattle.batch_solver.specs.declared.point.Point.TheVariants as point
 
@@ -42,7 +39,6 @@ module _ (settings : Settings) (roads : Roads) (s : State) (stops : ℕ → List
   chosen_found k own = look_up_only (λ (t : ChosenTrip). t.vehicle) planned.chosen k own.t own.chosen (λ j u e same.
       let back = trip_back settings roads s stops b settled points times kept shows early limits table planned good j u e in
       let x = vehicle_of_number settings roads s stops b settled points times kept shows early limits table j back.0 in
-      let other : HasTrip settings roads s stops b settled points times kept shows early limits table planned good j = record { within = back.0; x = x.0; at = x.1; t = u; chosen = e; is = back.1 } in
       one_number settings roads s stops b settled points times kept shows early limits table planned good k own j (record { within = back.0; x = x.0; at = x.1; t = u; chosen = e; is = back.1 })
       (sym (trip_vehicle settings roads s stops b settled points times kept shows early limits table planned good j (record { within = back.0; x = x.0; at = x.1; t = u; chosen = e; is = back.1 })) ∙ same ∙ trip_vehicle settings roads s stops b settled points times kept shows early limits table planned good k own))
 
@@ -107,11 +103,7 @@ module _ (settings : Settings) (roads : Roads) (s : State) (stops : ℕ → List
   -- the state after the close is kept, with the stops of the chosen trips
   pub closed_kept : (command : Command) (reply : Reply) → step roads.nodes settings.wait s command ≡ (planned_state, reply) → IsKept settings roads planned_state (chosen_stops planned)
   closed_kept command reply is = record {
-    state = record {
-      consistent = subst IsConsistent (ap (λ (p : State × Reply). p.0) is) (step-consistent roads.nodes settings.wait s command kept.state.consistent);
-      named = subst (NamesNodes roads.nodes) (ap (λ (p : State × Reply). p.0) is) (step-named roads.nodes settings.wait s command kept.state.consistent kept.state.named);
-      promises = next_promise;
-    };
+    state = stepped settings roads s planned_state command kept.state (ap (λ (p : State × Reply). p.0) is) next_promise;
     each = λ id v found.
         let k = number_of_vehicle settings roads s stops b settled points times kept shows early limits table id v found in
         let own = has_trip settings roads s stops b settled points times kept shows early limits table planned good k.0 k.1 in
@@ -170,7 +162,6 @@ module _ (settings : Settings) (roads : Roads) (s : State) (stops : ℕ → List
           out some.0 choice.0 (omega (arith, c, l)) choice.1 choice.2)
       again p t le n low name promise (IsPlaced'.rides j other i l at) =
           let id : (request_at b.riders (get_or (riders_at good.graph other.is.row) i 0)).id ≡ was.of.id = ap (λ m. (request_at b.riders m).id) at ∙ name in
-          let promised = member_promised settings roads s stops b settled points times kept shows early limits table planned good j other i l in
           let status = member_status settings roads s stops b settled points times kept shows early limits table planned good j other i l in
           let calls : calls_of (request_at b.riders (get_or (riders_at good.graph other.is.row) i 0)).id other.t.stops.items ≡ true ∷ false ∷ [] =
           member_calls settings roads s stops b settled points times kept shows early limits table planned good j other.within other.x other.at other.t other.is i l in
@@ -195,7 +186,7 @@ module _ (settings : Settings) (roads : Roads) (s : State) (stops : ℕ → List
           limit_of stop rider pick (inl member) =
               let trip = (trip_is settings roads s stops b settled points times kept shows early limits table planned good j other.is.row other.within other.is.chooses).0 in
               let same : get_or (riders_at good.graph other.is.row) member.i 0 ≡ n =
-              other_id settings roads s stops b settled points times kept shows early limits table planned good (get_or (riders_at good.graph other.is.row) member.i 0) n (trip.within member.i 0 member.within) low (sym member.rider ∙ rider ∙ ap (λ m. (request_at b.riders m).id) at) in
+              other_id b.riders shows.rise (get_or (riders_at good.graph other.is.row) member.i 0) n (trip.within member.i 0 member.within) low (sym member.rider ∙ rider ∙ ap (λ m. (request_at b.riders m).id) at) in
               subst (λ m. stop.second ≤ (rider_at settled m).leg.latest_pickup) same member.in_limit
 
           by_promise : HasRightLimit settings (travel_time times) b.riders settled n → (rider_at settled n).leg.latest_pickup ≤ p.pickup
@@ -206,7 +197,6 @@ module _ (settings : Settings) (roads : Roads) (s : State) (stops : ℕ → List
           by_promise (inr lapsed) = absurd (lapsed.0 (promise_is_live settings roads s stops b settled points times kept shows early limits table n p.vehicle low (rw promise (eq-eqb p.vehicle p.vehicle refl))))
 
       by : (t : Status) → was.of.status ≡ t → IsBoundBy limit t → IsBound planned_state z limit
-      by Waiting e le = absurd le
       by (Promised p) e le =
           let n = number_in_batch was.of (promised_in_batch z was.of p was.found e) in
           let there = shows.promised z was.of p was.found e in
@@ -216,6 +206,5 @@ module _ (settings : Settings) (roads : Roads) (s : State) (stops : ℕ → List
           let is : request_at b.riders n.0 ≡ shown was.of (Some p) = cc in
           again p e le n.0 n.1 n.2 (ap (λ (r : Rider). r.promise) is) (where_is settings roads s stops b settled points times kept shows early limits table planned good n.0)
       by (Aboard v) e le = stays_same (ap is_active e)
-      by Cancelled e le = absurd le
       by Delivered e le = stays_same (ap is_active e)
-      by Expired e le = absurd le
+      by status e le = absurd le

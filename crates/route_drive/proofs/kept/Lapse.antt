@@ -1,17 +1,12 @@
 -- On a driven day a good plan has no late vehicle and no lapsed promise.
-use Rattle.std.proofs.Common.{◌≡◌, ◌⊎◌, ℕ, ◌+◌, ◌<◌, ◌≤◌, Bool, true, false, not, List, [], ◌∷◌, length, get_or, map, filter, Option, Some, None, refl, sym, ap, ◌∙◌, subst, arith, inl, inr, All, slice_get, is_some}
-use Rattle.route_drive.proofs.Common.{AllByRecursion, AllZip, range_with_len, cases_Bool, MatchBool-at_true, recursion_from_All, All-from_get_or, length-range_with_len, get_or-range_with_len, slice_get_within, slice_get-get_or, slice_get_cases, travel_time, Times, Batch, Promise, Vehicle, HasGraphsWith, IsGoodPlan, IsLate, request_at, is_promised_to, IsLive, IsSettled, IsLiveRider, HasRightLimit, find_vehicle, PlannedStop, Planned, State, Settings, Roads, index_in, Settled, vehicle_at, rider_at, no_rider, no_vehicle, vehicle_task, IsServable, AreTravelTimes, IsKept}
+use Rattle.std.proofs.Common.{◌≡◌, ◌⊎◌, ℕ, ◌+◌, ◌<◌, ◌≤◌, true, false, not, List, [], ◌∷◌, length, get_or, map, filter, Option, Some, None, refl, sym, ap, ◌∙◌, subst, arith, inl, inr, All, slice_get, is_some}
+use Rattle.route_drive.proofs.Common.{AllByRecursion, AllZip, range_with_len, cases_Bool, MatchBool-at_true, recursion_from_All, All-from_get_or, length-range_with_len, get_or-range_with_len, slice_get_within, slice_get-get_or, slice_get_cases, travel_time, Times, Batch, Promise, Vehicle, HasGraphsWith, IsGoodPlan, IsLate, request_at, is_promised_to, IsLive, IsSettled, IsLiveRider, HasRightLimit, find_vehicle, PlannedStop, Planned, State, Settings, Roads, index_in, Settled, vehicle_at, rider_at, no_rider, no_vehicle, vehicle_task, IsServable, AreTravelTimes, IsKept, ShowsRiders}
 use Rattle.std.proofs.lemmas.Bool.{eq-eqb}
-use Rattle.route_drive.proofs.kept.Lists.{skips}
+use Rattle.route_drive.proofs.kept.Lists.{filter_none}
 use Rattle.route_drive.proofs.kept.Batches.{found_at}
-use Rattle.route_drive.proofs.kept.Sealing.{ShowsRiders}
 use Rattle.route_drive.proofs.kept.States.{vehicle_id}
 use Rattle.route_drive.proofs.kept.Served.{promised_request, promised_served, passengers_served, few_promised}
 use Rattle.batch_solver.specs.declared.point.Point.TheVariants as point
-
-pub filter_none : {X : Type 0} (p : X → Bool) (xs : List X) → AllByRecursion (λ x. p x ≡ false) xs → filter p xs ≡ []
-filter_none p [] all = refl
-filter_none p (x ∷ xs) all = skips p x xs all.0 ∙ filter_none p xs all.1
 
 none_zip : {A B : Type 0} (R : A → B → Type 0) (xs : List A) (ys : List B) → xs ≡ [] → AllZip R xs ys → ys ≡ []
 none_zip R [] [] e zip = refl

@@ -1,16 +1,15 @@
 -- A close with a good plan on a driven day: the chosen trips are what the vehicles now serve.
-use Rattle.std.proofs.Common.{◌≡◌, ◌⊎◌, ℕ, ◌+◌, ◌<◌, ◌≤◌, Bool, true, false, cond, List, [], ◌∷◌, length, get_or, map, Option, Some, None, refl, sym, ap, ◌∙◌, subst, arith, inl, inr, slice_get, is_some, option_map, option_and_then, unwrap_or, ◌&&◌, min, nat_eq, ◌-◌, ◌*◌, MatchBool, max}
-use Rattle.route_drive.proofs.Common.{AllByRecursion, cases_Bool, slice_get_within, get_or_from_slice_get, slice_get-get_or, travel_time, Times, Batch, Promise, Rider, Vehicle, HasGraphsWith, IsGoodPlan, request_at, IsSettled, HasRightLimit, shown, find_rider, find_vehicle, PlannedStop, Planned, State, Settings, Roads, index_in, Settled, vehicle_at, rider_at, AreTravelTimes, IsKept, IsDistinct, option_map_or, cases_lt, false≢true, get_or-map, length-map, persons_aboard, Passenger, rider_id, told_stop, IsTripOf, times_served_some, times_served_found, in_choice, choice_at, riders_at, is_in, IsLegOf, no_request, IsPlaced, picks, trip_picks, after_plan, in_batch, planned_status, look_up, KeysDiffer, with_status, passenger_of, is_active, ChosenTrip, BookRider, Status, Waiting, Promised, Aboard, Cancelled, Delivered, Expired, look_up-at, KeysDiffer-from_rise, has_node, Leg, Stop, Pick, Drop, Alight, IsKnown, trip_task, no_leg, leg_at, visit_at, free_seats, calls_of, find_passenger, and_from, and_parts, cond-true, times_chosen, ideal_second, Task, look_up-map, look_up-key, latest_of, Visit, ideal_dropoff, IsDroppedInTime, AreReached, party_at, HasSeatsFor, IsRightPickup, IsRightDropoff, IsRightStop, IsOfVehicle, HasCalls, IsServing, seat_in, persons}
+use Rattle.std.proofs.Common.{◌≡◌, ◌⊎◌, ℕ, ◌+◌, ◌<◌, ◌≤◌, Bool, true, false, cond, List, [], ◌∷◌, length, get_or, map, Option, Some, None, refl, sym, ap, ◌∙◌, subst, arith, inl, inr, slice_get, is_some, option_map, option_and_then, unwrap_or, ◌&&◌, min, ◌-◌, ◌*◌, MatchBool, max}
+use Rattle.route_drive.proofs.Common.{AllByRecursion, cases_Bool, slice_get_within, get_or_from_slice_get, slice_get-get_or, travel_time, Times, Batch, Promise, Rider, Vehicle, HasGraphsWith, IsGoodPlan, request_at, IsSettled, HasRightLimit, shown, find_rider, find_vehicle, PlannedStop, Planned, State, Settings, Roads, index_in, Settled, vehicle_at, rider_at, AreTravelTimes, IsKept, option_map_or, cases_lt, false≢true, get_or-map, length-map, persons_aboard, Passenger, rider_id, told_stop, IsTripOf, times_served_some, times_served_found, in_choice, choice_at, riders_at, is_in, IsLegOf, no_request, IsPlaced, picks, trip_picks, after_plan, in_batch, planned_status, look_up, KeysDiffer, with_status, passenger_of, is_active, ChosenTrip, BookRider, Status, Waiting, Promised, Aboard, look_up-at, KeysDiffer-from_rise, has_node, Leg, Stop, Pick, Drop, Alight, IsKnown, trip_task, no_leg, leg_at, visit_at, free_seats, calls_of, find_passenger, and_from, and_parts, cond-true, times_chosen, ideal_second, Task, look_up-map, look_up-key, latest_of, Visit, ideal_dropoff, IsDroppedInTime, AreReached, party_at, HasSeatsFor, IsRightPickup, IsRightDropoff, IsRightStop, IsOfVehicle, HasCalls, IsServing, seat_in, persons, ShowsRiders}
 use Rattle.std.proofs.lemmas.Bool.{eq-eqb}
 use Rattle.route_drive.proofs.kept.Batches.{found_at}
-use Rattle.route_drive.proofs.kept.Sealing.{ShowsRiders}
 use Rattle.route_drive.proofs.kept.Served.{request_rider}
 use Rattle.std.proofs.lemmas.Bool.{true≢false}
-use Rattle.route_drive.proofs.kept.Batches.{distinct_from_differ, IsAsking, IsRiderAboard}
+use Rattle.route_drive.proofs.kept.Batches.{same_place, IsAsking, IsRiderAboard}
 use Rattle.route_drive.proofs.kept.Lapse.{vehicle_of_number}
 use Rattle.route_drive.proofs.kept.Served.{vehicle_found}
 use Rattle.route_drive.proofs.kept.Told.{told_from, none_promised, one_promised, IsPickPromised, found_among, none_among}
-use Rattle.route_drive.proofs.kept.Walks.{has_index, index_at, name_at, is_node_at}
+use Rattle.route_drive.proofs.kept.Walks.{has_index, name_at, is_node_at}
 use Rattle.route_drive.proofs.kept.Trips.{trip_of, trip_back, trip_is, one_trip, told_id}
 use Rattle.request_book.specs.Closing.{Pick as PlanPick}
 use Rattle.request_book.proofs.lemmas.CloseLemmas.{after_plan-id}
@@ -108,7 +107,6 @@ module _ (settings : Settings) (roads : Roads) (s : State) (stops : ℕ → List
       → planned_status (picks planned.chosen) (request_at b.riders (get_or (riders_at good.graph own.is.row) i 0)).id ≡ Promised (record { vehicle = own.x.id; pickup = (member_promised k own i h).second })
   unfolding picks
   member_status k own i h =
-      let r : ℕ = get_or (riders_at good.graph own.is.row) i 0 in
       let low = member_low k own i h in
       let one = member_promised k own i h in
       let has : has_node (riders_at good.graph own.is.row) (get_or (riders_at good.graph own.is.row) i 0) ≡ true = is_node_at (riders_at good.graph own.is.row) i h in
@@ -213,7 +211,6 @@ module _ (settings : Settings) (roads : Roads) (s : State) (stops : ℕ → List
 
     pub member_leg : (i : ℕ) → i < length trip → HasLeg (get_or trip i 0) (leg_at (map (λ r. (rider_at settled r).leg) trip) i)
     member_leg i h =
-        let n : ℕ = get_or trip i 0 in
         let low : get_or trip i 0 < length b.riders = member_low k own i h in
         let of = planned_rider (get_or trip i 0) low in
         let leg = (limits.riders (get_or trip i 0) (request_at b.riders (get_or trip i 0)) (slice_get-get_or b.riders (get_or trip i 0) no_request low)).leg in
@@ -243,7 +240,6 @@ module _ (settings : Settings) (roads : Roads) (s : State) (stops : ℕ → List
 
     passenger_leg : (j : ℕ) → (h : j < length own.x.aboard.items) → IsLegOf settings points (travel_time times) (aboard_at j h).rider.origin (aboard_at j h).rider.destination (aboard_at j h).rider.time (aboard_at j h).rider.party (leg_at (vehicle_at settled k).aboard.items j)
     passenger_leg j h =
-        let none : Passenger = record { rider = 0; origin = 0; destination = 0; time = 0; party = 0 } in
         subst (λ (p : Passenger). IsLegOf settings points (travel_time times) p.origin p.destination p.time p.party (leg_at (vehicle_at settled k).aboard.items j)) (sym (aboard_at j h).is)
         (placed.aboard.each j (get_or own.x.aboard.items j (record { rider = 0; origin = 0; destination = 0; time = 0; party = 0 })) (slice_get-get_or own.x.aboard.items j (record { rider = 0; origin = 0; destination = 0; time = 0; party = 0 }) h))
 
@@ -301,11 +297,12 @@ module _ (settings : Settings) (roads : Roads) (s : State) (stops : ℕ → List
     at_point : (o n : ℕ) → slice_get points o ≡ Some n → get_or points o 0 ≡ n
     at_point o n e = get_or_from_slice_get points o n 0 e
 
-    member_drop_in_time : (n : ℕ) (leg : Leg) (second : ℕ) → (has : HasLeg n leg) → second ≤ leg.latest_dropoff → IsDroppedInTime roads settings.delay has.r second
-    member_drop_in_time n leg second has le = record {
+    dropped_in_time : (leg : Leg) (r : BookRider) (second : ℕ) → slice_get points leg.origin ≡ Some r.origin → slice_get points leg.destination ≡ Some r.destination
+        → leg.ideal ≡ ideal_dropoff r.time (travel_time times leg.origin leg.destination) → leg.latest_dropoff ≡ leg.ideal + settings.delay → second ≤ leg.latest_dropoff → IsDroppedInTime roads settings.delay r second
+    dropped_in_time leg r second origin destination ideal latest le = record {
       seconds = travel_time times leg.origin leg.destination;
-      between = time_between roads points times table leg.origin leg.destination has.r.origin has.r.destination has.origin has.destination;
-      in_time = let a = has.latest_dropoff in let c : leg.ideal ≡ ideal_dropoff has.r.time (travel_time times leg.origin leg.destination) = has.ideal in subst (λ m. second ≤ m) (a ∙ ap (λ m. m + settings.delay) c) le;
+      between = time_between roads points times table leg.origin leg.destination r.origin r.destination origin destination;
+      in_time = subst (λ m. second ≤ m) (latest ∙ ap (λ m. m + settings.delay) ideal) le;
     }
 
     all_told : AllByRecursion (λ stop. IsMemberPickup stop ⊎ ((stop.pick ≡ false) × IsRightDropoff roads settings.delay riders' own.x.id stop)) (told_from roads points times table riders' settled.dwell vis told (vehicle_at settled k).start (vehicle_at settled k).ready own.is.stops)
@@ -334,13 +331,12 @@ module _ (settings : Settings) (roads : Roads) (s : State) (stops : ℕ → List
                 found = ap (λ z. find_rider z riders') (told_name i h) ∙ leg.now_found;
                 own = subst (IsOfVehicle own.x.id) (sym (member_status k own i h)) refl;
                 node = at_point (leg_at (map (λ r. (rider_at settled r).leg) trip) i).destination leg.r.destination leg.destination;
-                in_time = let d = member_drop_in_time (get_or trip i 0) (leg_at (map (λ r. (rider_at settled r).leg) trip) i) second leg le in record { seconds = d.seconds; between = d.between; in_time = d.in_time };
+                in_time = dropped_in_time (leg_at (map (λ r. (rider_at settled r).leg) trip) i) (with_status (planned_status (picks planned.chosen) (request_at b.riders (get_or trip i 0)).id) leg.r) second leg.origin leg.destination leg.ideal leg.latest_dropoff le;
               },
             )
         by (Alight j) second h le =
             let of = aboard_at j h in
             let leg = passenger_leg j h in
-            let z : ℕ = get_or (map (λ (p : Passenger). p.rider) own.x.aboard.items) j 0 in
             inr (
               refl,
               record {
@@ -348,12 +344,7 @@ module _ (settings : Settings) (roads : Roads) (s : State) (stops : ℕ → List
                 found = ap (λ z. find_rider z riders') (told_aboard j) ∙ passenger_stays (get_or (map (λ (p : Passenger). p.rider) own.x.aboard.items) j 0) of.rider own.x.id of.found of.status;
                 own = subst (IsOfVehicle own.x.id) (sym of.status) refl;
                 node = at_point (leg_at (vehicle_at settled k).aboard.items j).destination of.rider.destination leg.destination_place;
-                in_time = record {
-                  seconds = travel_time times (leg_at (vehicle_at settled k).aboard.items j).origin (leg_at (vehicle_at settled k).aboard.items j).destination;
-                  between = time_between roads points times table (leg_at (vehicle_at settled k).aboard.items j).origin (leg_at (vehicle_at settled k).aboard.items j).destination of.rider.origin of.rider.destination leg.origin_place leg.destination_place;
-                  in_time = let c : (leg_at (vehicle_at settled k).aboard.items j).ideal ≡ ideal_dropoff of.rider.time (travel_time times (leg_at (vehicle_at settled k).aboard.items j).origin (leg_at (vehicle_at settled k).aboard.items j).destination) = leg.ideal in
-                      subst (λ m. second ≤ m) (leg.latest_dropoff ∙ ap (λ m. m + settings.delay) c) le;
-                };
+                in_time = dropped_in_time (leg_at (vehicle_at settled k).aboard.items j) of.rider second leg.origin_place leg.destination_place leg.ideal leg.latest_dropoff le;
               },
             )
 
@@ -388,16 +379,9 @@ module _ (settings : Settings) (roads : Roads) (s : State) (stops : ℕ → List
 
     -- a vehicle has one number
     pub one_number : (j : ℕ) (other : HasTrip j) → other.x.id ≡ own.x.id → j ≡ k
-    one_number j other e =
-        let names : List ℕ = map (λ (v : Vehicle). v.id) b.vehicles in
-        let differ : KeysDiffer (λ (v : Vehicle). v.id) b.vehicles = subst (KeysDiffer (λ (v : Vehicle). v.id)) (sym shows.vehicles) (KeysDiffer-from_rise (λ (v : Vehicle). v.id) s.vehicles kept.state.consistent.vehicles_rise) in
-        let distinct : IsDistinct nat_eq (map (λ (v : Vehicle). v.id) b.vehicles) = distinct_from_differ (λ (v : Vehicle). v.id) b.vehicles differ in
-        let n : length (map (λ (v : Vehicle). v.id) b.vehicles) ≡ length b.vehicles = length-map b.vehicles (λ (v : Vehicle). v.id) in
-        let lj = slice_get_within b.vehicles j other.x other.at in
-        let lk = slice_get_within b.vehicles k own.x own.at in
-        let a : get_or (map (λ (v : Vehicle). v.id) b.vehicles) j 0 ≡ other.x.id = get_or-map (λ (v : Vehicle). v.id) b.vehicles j other.x 0 lj ∙ ap (λ (v : Vehicle). v.id) (get_or_from_slice_get b.vehicles j other.x other.x other.at) in
-        let c : get_or (map (λ (v : Vehicle). v.id) b.vehicles) k 0 ≡ own.x.id = get_or-map (λ (v : Vehicle). v.id) b.vehicles k own.x 0 lk ∙ ap (λ (v : Vehicle). v.id) (get_or_from_slice_get b.vehicles k own.x own.x own.at) in
-        sym (index_at (map (λ (v : Vehicle). v.id) b.vehicles) j distinct (omega (arith, lj, n))) ∙ ap (index_in (map (λ (v : Vehicle). v.id) b.vehicles)) (a ∙ e ∙ sym c) ∙ index_at (map (λ (v : Vehicle). v.id) b.vehicles) k distinct (omega (arith, lk, n))
+    one_number j other e = same_place (λ (v : Vehicle). v.id) b.vehicles (subst (KeysDiffer (λ (v : Vehicle). v.id)) (sym shows.vehicles) (KeysDiffer-from_rise (λ (v : Vehicle). v.id) s.vehicles kept.state.consistent.vehicles_rise)) j k other.x own.x
+        (slice_get_within b.vehicles j other.x other.at) (slice_get_within b.vehicles k own.x own.at)
+        (ap (λ (v : Vehicle). v.id) (get_or_from_slice_get b.vehicles j other.x other.x other.at) ∙ e ∙ sym (ap (λ (v : Vehicle). v.id) (get_or_from_slice_get b.vehicles k own.x own.x own.at)))
 
     same_trip : (j : ℕ) (other : HasTrip j) → j ≡ k → other.t ≡ own.t
     same_trip j other e = let a : slice_get planned.chosen k ≡ Some other.t = subst (λ j. slice_get planned.chosen j ≡ Some other.t) e other.chosen in let c = own.chosen in cc
@@ -432,7 +416,6 @@ module _ (settings : Settings) (roads : Roads) (s : State) (stops : ℕ → List
     other_status_calls z r found out = by r.status refl
       where
         by : (t : Status) → r.status ≡ t → HasCalls own.x.id t (calls_of z own.t.stops.items)
-        by Waiting e = tt
         by (Promised p) e =
             let there = shows.promised z r p found e in
             let id : r.id ≡ z = found_id z s.riders r found in
@@ -446,9 +429,7 @@ module _ (settings : Settings) (roads : Roads) (s : State) (stops : ℕ → List
             let name : get_or (map (λ (p : Passenger). p.rider) own.x.aboard.items) place.0 0 ≡ z =
             get_or-map (λ (p : Passenger). p.rider) own.x.aboard.items place.0 (record { rider = 0; origin = 0; destination = 0; time = 0; party = 0 }) 0 place.1 ∙ ap (λ (p : Passenger). p.rider) (place.2 (record { rider = 0; origin = 0; destination = 0; time = 0; party = 0 })) ∙ found_id z s.riders r found in
             ap (λ z. calls_of z own.t.stops.items) (sym name) ∙ passenger_calls settings roads s stops b settled points times kept shows early limits table planned good k own.within own.x own.at own.t own.is place.0 place.1
-        by Cancelled e = tt
-        by Delivered e = tt
-        by Expired e = tt
+        by status e = tt
 
     items_calls : (z : ℕ) (q : BookRider) → find_rider z riders' ≡ Some q → HasCalls own.x.id q.status (calls_of z own.t.stops.items)
     items_calls z q e = by (find_rider z s.riders) refl (sym (find_planned z) ∙ e)

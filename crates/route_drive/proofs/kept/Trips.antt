@@ -1,35 +1,28 @@
 -- The trips that a good plan chooses on a driven day: whose stops they are, and what they promise.
-use Rattle.std.proofs.Common.{◌≡◌, ℕ, zero, suc, ◌+◌, ◌<◌, ◌≤◌, Bool, true, not, eqb, List, [], ◌∷◌, length, get_or, map, filter, Some, refl, sym, ap, ◌∙◌, subst, arith, inl, inr, slice_get, nat_eq}
-use Rattle.route_drive.proofs.Common.{AllByRecursion, AllZip, range_with_len, length-range_with_len, get_or-range_with_len, slice_get_within, get_or_from_slice_get, slice_get-get_or, travel_time, Times, Batch, Rider, Vehicle, HasGraphsWith, IsGoodPlan, request_at, IsSettled, find_vehicle, PlannedStop, Planned, State, Settings, Roads, index_in, Settled, vehicle_at, AreTravelTimes, IsKept, IsDistinct, cases_eq, cases_lt, get_or-map, length-map, rider_id, IsTripOf, times_served_as_count, choice_at, riders_at, no_row, is_in, IsRowOf, no_request, ChosenTrip, increasing_from_rise, KeysDiffer-from_rise, has_node, IsTrip}
+use Rattle.std.proofs.Common.{◌≡◌, ℕ, zero, suc, ◌+◌, ◌<◌, ◌≤◌, true, not, eqb, List, [], ◌∷◌, length, get_or, map, Some, refl, sym, ap, ◌∙◌, subst, arith, inl, inr, slice_get, nat_eq}
+use Rattle.route_drive.proofs.Common.{AllZip, range_with_len, length-range_with_len, get_or-range_with_len, slice_get_within, get_or_from_slice_get, slice_get-get_or, travel_time, Times, Batch, Vehicle, HasGraphsWith, IsGoodPlan, request_at, IsSettled, find_vehicle, PlannedStop, Planned, State, Settings, Roads, index_in, Settled, vehicle_at, AreTravelTimes, IsKept, IsDistinct, cases_eq, rider_id, IsTripOf, times_served_as_count, choice_at, riders_at, no_row, is_in, IsRowOf, no_request, ChosenTrip, has_node, IsTrip, ShowsRiders}
 use Rattle.std.proofs.lemmas.Bool.{eq-eqb}
-use Rattle.route_drive.proofs.kept.Sealing.{ShowsRiders}
 use Rattle.std.specs.List.{zip}
 use Rattle.std.proofs.lemmas.Bool.{ne_eqb}
 use Rattle.plan_rules.proofs.lemmas.PlanLemmas.{plan_choice}
 use Rattle.plan_rules.proofs.lemmas.SumLemmas.{count_below_two}
 use Rattle.plan_rules.specs.Plan.{IsLawful}
-use Rattle.route_drive.proofs.kept.Batches.{rising_far, distinct_from_rising}
 use Rattle.route_drive.proofs.kept.Lapse.{along_range, not_late}
-use Rattle.route_drive.proofs.kept.Lists.{takes}
+use Rattle.route_drive.proofs.kept.Lists.{filter_all}
 use Rattle.route_drive.proofs.kept.Walks.{index_at}
 use Rattle.batch_solver.specs.declared.point.Point.TheVariants as point
 
-filter_all : {X : Type 0} (p : X → Bool) (xs : List X) → AllByRecursion (λ x. p x ≡ true) xs → filter p xs ≡ xs
-filter_all p [] all = refl
-filter_all p (x ∷ xs) all = takes p x xs all.0 ∙ ap (λ ys. x ∷ ys) (filter_all p xs all.1)
-
 zip_get : {A B : Type 0} (R : A → B → Type 0) (xs : List A) (ys : List B) (i : ℕ) (a : A) → AllZip R xs ys → slice_get xs i ≡ Some a → (b : B) × (slice_get ys i ≡ Some b) × R a b
 zip_get R [] ys i a zip e = absurd cc
-zip_get R (x ∷ xs) [] i a zip e = absurd zip
 zip_get R (x ∷ xs) (y ∷ ys) zero a zip e = let is : x ≡ a = cc in (y, refl, subst (λ a. R a y) is zip.0)
 zip_get R (x ∷ xs) (y ∷ ys) (suc i) a zip e = zip_get R xs ys i a zip.1 e
+zip_get R xs ys i a zip e = absurd zip
 
 zip_back : {A B : Type 0} (R : A → B → Type 0) (xs : List A) (ys : List B) (i : ℕ) (b : B) → AllZip R xs ys → slice_get ys i ≡ Some b → (a : A) × (slice_get xs i ≡ Some a) × R a b
 zip_back R [] [] i b zip e = absurd cc
-zip_back R [] (y ∷ ys) i b zip e = absurd zip
-zip_back R (x ∷ xs) [] i b zip e = absurd zip
 zip_back R (x ∷ xs) (y ∷ ys) zero b zip e = let is : y ≡ b = cc in (x, refl, subst (R x) is zip.0)
 zip_back R (x ∷ xs) (y ∷ ys) (suc i) b zip e = zip_back R xs ys i b zip.1 e
+zip_back R xs ys i b zip e = absurd zip
 
 range_get : (n k : ℕ) → k < n → slice_get (range_with_len 0 n) k ≡ Some k
 range_get n k h =
@@ -97,48 +90,6 @@ module _ (settings : Settings) (roads : Roads) (s : State) (stops : ℕ → List
         omega (arith, two, count, once))
   ]
 
-  -- the riders of a trip, by their names
-  abbrev pub names : List ℕ → List ℕ
-  names trip = map (λ n. (request_at b.riders n).id) trip
-
-  pub names_distinct : (trip : List ℕ) → IsTrip (length b.riders) trip → IsDistinct nat_eq (names trip)
-  names_distinct trip is = distinct_from_rising (names trip) (λ i j h l.
-      let e : length (names trip) ≡ length trip = length-map trip (λ n. (request_at b.riders n).id) in
-      let li : i < length trip = omega (arith, h, l, e) in
-      let lj : j < length trip = omega (arith, l, e) in
-      let far : get_or trip i 0 < get_or trip j 0 = rising_far trip is.rising i j h lj in
-      let nj : get_or trip j 0 < length b.riders = is.within j 0 lj in
-      let n = length-map b.riders (λ (r : Rider). r.id) in
-      let ids : get_or (map (λ (r : Rider). r.id) b.riders) (get_or trip i 0) 0 < get_or (map (λ (r : Rider). r.id) b.riders) (get_or trip j 0) 0 =
-      rising_far (map (λ (r : Rider). r.id) b.riders) (increasing_from_rise (λ (r : Rider). r.id) b.riders shows.rise) (get_or trip i 0) (get_or trip j 0) far (omega (arith, nj, n)) in
-      let a : get_or (map (λ (r : Rider). r.id) b.riders) (get_or trip i 0) 0 ≡ (request_at b.riders (get_or trip i 0)).id = get_or-map (λ (r : Rider). r.id) b.riders (get_or trip i 0) no_request 0 (omega (arith, far, nj)) in
-      let c : get_or (map (λ (r : Rider). r.id) b.riders) (get_or trip j 0) 0 ≡ (request_at b.riders (get_or trip j 0)).id = get_or-map (λ (r : Rider). r.id) b.riders (get_or trip j 0) no_request 0 nj in
-      let ni : get_or (names trip) i 0 ≡ (request_at b.riders (get_or trip i 0)).id = get_or-map (λ n. (request_at b.riders n).id) trip i 0 0 li in
-      let nn : get_or (names trip) j 0 ≡ (request_at b.riders (get_or trip j 0)).id = get_or-map (λ n. (request_at b.riders n).id) trip j 0 0 lj in
-      omega (arith, ids, a, c, ni, nn))
-
   -- the ids that are told are those of the batch
   pub told_id : (r : ℕ) → r < length b.riders → rider_id settled r ≡ (request_at b.riders r).id
   told_id r h = (limits.riders r (request_at b.riders r) (slice_get-get_or b.riders r no_request h)).id
-
-  -- requests of different numbers have different ids
-  pub other_id : (r q : ℕ) → r < length b.riders → q < length b.riders → (request_at b.riders r).id ≡ (request_at b.riders q).id → r ≡ q
-  other_id r q lr lq e =
-      let differ = KeysDiffer-from_rise (λ (r : Rider). r.id) b.riders shows.rise in
-      elim (cases_eq r q) [
-        | inl same ↦ same
-        | inr ne ↦ absurd (by r q lr lq e ne)
-      ]
-    where
-      id_at : (r : ℕ) → r < length b.riders → get_or (map (λ (r : Rider). r.id) b.riders) r 0 ≡ (request_at b.riders r).id
-      id_at r h = get_or-map (λ (r : Rider). r.id) b.riders r no_request 0 h
-
-      by : (r q : ℕ) → r < length b.riders → q < length b.riders → (request_at b.riders r).id ≡ (request_at b.riders q).id → (r ≡ q → ⊥) → ⊥
-      by r q lr lq e ne =
-          let n = length-map b.riders (λ (r : Rider). r.id) in
-          let a = id_at r lr in
-          let c = id_at q lq in
-          elim (cases_lt r q) [
-            | inl lt ↦ let far = rising_far (map (λ (r : Rider). r.id) b.riders) (increasing_from_rise (λ (r : Rider). r.id) b.riders shows.rise) r q lt (omega (arith, lq, n)) in omega (arith, far, a, c, e)
-            | inr ge ↦ let far = rising_far (map (λ (r : Rider). r.id) b.riders) (increasing_from_rise (λ (r : Rider). r.id) b.riders shows.rise) q r (omega (arith, ge, ne)) (omega (arith, lr, n)) in omega (arith, far, a, c, e)
-          ]

@@ -1,6 +1,7 @@
-use Rattle.std.proofs.Common.{◌≡◌, ℕ, Err, Some, ap, sym, subst}
+use Rattle.std.proofs.Common.{◌≡◌, Err, ap, sym, subst}
+use Rattle.route_drive.proofs.EnterLemmas.{if_err_map}
 use Rattle.route_drive.proofs.Common.{DriveFault, OutOfMemory, IsRoundLate}
-use Rattle.route_drive.proofs.DriveLemmas.{if_err_map, stopped_late}
+use Rattle.route_drive.proofs.DriveLemmas.{stopped_late}
 use Rattle.route_drive.proofs.drive.drive_round.Goals as goal
 
 pub returns-in-Ok-clause-late : goal.returns-in-Ok-clause-late
