@@ -1,5 +1,5 @@
 -- Each position of a log is that of one call of one lane.
-use Rattle.std.proofs.Common.{◌≡◌, ℕ, zero, suc, ◌+◌, ◌<◌, ◌≤◌, ◌==◌, if◌then◌else◌, cond, Bool, true, false, List, [], ◌∷◌, length, get_or, filter, count_by, sum_by, nat_lt, sym, refl, ap, ◌∙◌, arith}
+use Rattle.std.proofs.Common.{◌≡◌, ℕ, zero, suc, ◌+◌, ◌<◌, ◌≤◌, ◌==◌, if◌then◌else◌, cond, Bool, List, [], ◌∷◌, length, get_or, filter, count_by, sum_by, nat_lt, sym, refl, ap, ◌∙◌, arith}
 use Rattle.std.proofs.lemmas.Bool.Decides.{nat_tests}
 use Rattle.seat_lock.proofs.Common.{enumerate_from, LoggedCall, calls_of, below, Laned}
 use Rattle.std.proofs.lemmas.List.Sums.{sum_by-cons}
@@ -60,8 +60,7 @@ module _ {C R : Type 0} (n : ℕ) where
   hits m es lane = calls_at (filter (λ p. p.1.lane == lane) (enumerate_from m es))
 
   one_more : (b : Bool) (x : ℕ × LoggedCall C R) (xs : List (ℕ × LoggedCall C R)) → calls_at (cond b (x ∷ xs) xs) ≡ (if b then at n x.0 else 0) + calls_at xs
-  one_more true x xs = sum_by-cons (λ (c : ℕ × LoggedCall C R). cond (c.0 == n) 1 0) x xs
-  one_more false x xs = omega arith
+  one_more b x xs = grind (arith, sum_by-cons (λ (c : ℕ × LoggedCall C R). cond (c.0 == n) 1 0) x xs)
 
   all_hits : (m : ℕ) (es : List (LoggedCall C R)) (lanes : ℕ) → Laned lanes es → below (hits m es) lanes ≡ in_range n m (length es)
   all_hits m [] lanes l = below-zero lanes

@@ -1,5 +1,5 @@
-use Rattle.std.proofs.Common.{◌≡◌, ℕ, false, not, ◌&&◌, eqb, nat_lt, List, Result, Ok, subst, arith}
-use Rattle.script_rows.proofs.Common.{field_at, refused_where, then_ok, refused_where-passed, Command, ScriptFault, Number, LaneRange, RoundBack, UnknownCommand, ExtraField, SealLane, Line, ScriptVersion, party_in, submit_in, three_in, command_in, leaves_empty, is_seal, line_in, IsBehind, MayStand}
+use Rattle.std.proofs.Common.{◌≡◌, ℕ, false, not, eqb, nat_lt, List, Ok, subst, arith}
+use Rattle.script_rows.proofs.Common.{field_at, refused_where, then_ok, refused_where-passed, Command, Number, LaneRange, RoundBack, UnknownCommand, ExtraField, SealLane, Line, ScriptVersion, submit_in, three_in, command_in, leaves_empty, line_in, IsBehind, MayStand}
 use Rattle.std.specs.Option.{ok_or}
 use Rattle.std.proofs.lemmas.Bool.{ltb-false}
 use Rattle.std.proofs.lemmas.Bool.Decides.{nat_tests}
