@@ -227,10 +227,7 @@ module _ (g : Graph) (budget limit place : ℕ) (nodes : List Node) (values : Li
   module _ (found : Found) (of : found.plan ≡ plan) (costs : found.cost ≡ cost_of g plan) (is : found.bound ≡ low) (same : found.tree ≡ nodes) where
     answer_found : IsSearchAnswer g budget (record { plan = plan; cost = cost_of g plan; bound = low; tree = nodes }) → IsSearchAnswer g budget found
     answer_found answer =
-        subst (λ (chosen : List (Option ℕ)). IsSearchAnswer g budget (record { plan = chosen; cost = found.cost; bound = found.bound; tree = found.tree })) (sym of)
-        (subst (λ (cost : ℕ). IsSearchAnswer g budget (record { plan = plan; cost = cost; bound = found.bound; tree = found.tree })) (sym costs)
-        (subst (λ (bound : ℤ). IsSearchAnswer g budget (record { plan = plan; cost = cost_of g plan; bound = bound; tree = found.tree })) (sym is)
-        (subst (λ (tree : List Node). IsSearchAnswer g budget (record { plan = plan; cost = cost_of g plan; bound = low; tree = tree })) (sym same) answer)))
+        subst (IsSearchAnswer g budget) (λ i. record { plan = sym of i; cost = sym costs i; bound = sym is i; tree = sym same i }) answer
 
     -- the plan costs no more than the tree shows
     pub answer_met : pos (cost_of g plan) ≤ℤ low → IsSearchAnswer g budget found

@@ -4,6 +4,7 @@ pub use Rattle.std.proofs.lemmas.Int.{int_min_is, ints}
 pub use Rattle.std.proofs.lemmas.List.{get_or-replicate, get_or_append_left, get_or_push, get_or_read, length_push, set-get_or, set_past}
 pub use Rattle.std.proofs.lemmas.List.Sorted.{sum_by_popped, sum_by_pushed}
 pub use Rattle.std.proofs.lemmas.List.Sums.{sum_by-cons}
+pub use Rattle.std.proofs.lemmas.Option.{none-some, same_Some}
 pub use Rattle.std.specs.BinaryHeap.{IsHeap}
 pub use Rattle.std.specs.List.{AllByRecursion, list_any}
 pub use Rattle.std.specs.declared.cmp.Reverse.{Reverse}

@@ -1,16 +1,10 @@
 -- A leaf where no vehicle has a choice holds one plan, whose cost is the first-fit value.
 use Rattle.std.proofs.Common.{◌≡◌, ◌==◌, ◌&&◌, ℕ, zero, suc, ◌+◌, ◌*◌, ◌/◌, ◌<◌, ◌≤◌, Bool, true, false, ltb, List, [], ◌∷◌, length, Option, Some, None, MatchOption, ℤ, pos, ◌+ℤ◌, ◌-ℤ◌, ◌≤ℤ◌, refl, sym, ap, ◌∙◌, subst, inl, inr, ⊎_elim, arith, eq-eqb, eqb-true, ne_eqb, lt-ltb, le-ltb, unwrap_or}
-use Rattle.assignment_search.proofs.Common.{ints, cases_eq, cases_lt, cases_Bool, and_from, and_parts, cond-true, cond-false, get_or_push, get_or_append_left, sum_below, count_below, int_sum_below, least_below, lesser, Graph, IsRowOf, HasNoRow, riders_at, row_vehicle, has_rider, choice_at, is_in, must_be_served, IsGoodGraph, IsPlan, IsLawful, choice_cost, cost_of, times_chosen, left_out, Usable, multiplier_at, multiplier_sum, is_usable_by, reduced_cost, vehicle_term, rider_term, leaf_value, room_at, first_fit_of, first_fit_below, first_fit, first_fit_value, MayUse, IsSoleRow, IsDeadEnd, rounded_up, flag, flag-true, flag-false, part, int_sum_same, int_sum_le, int_sum_zero, least_below_some, least_below_none, least_below_found, count_below_found, times_served_as_count, times_served_some, in_choice, has_choice, HasUsable, IsFixed, IsSolePlan}
+use Rattle.assignment_search.proofs.Common.{same_Some, none-some, ints, cases_eq, cases_lt, cases_Bool, and_from, and_parts, cond-true, cond-false, get_or_push, get_or_append_left, sum_below, count_below, int_sum_below, least_below, lesser, Graph, IsRowOf, HasNoRow, riders_at, row_vehicle, has_rider, choice_at, is_in, must_be_served, IsGoodGraph, IsPlan, IsLawful, choice_cost, cost_of, times_chosen, left_out, Usable, multiplier_at, multiplier_sum, is_usable_by, reduced_cost, vehicle_term, rider_term, leaf_value, room_at, first_fit_of, first_fit_below, first_fit, first_fit_value, MayUse, IsSoleRow, IsDeadEnd, rounded_up, flag, flag-true, flag-false, part, int_sum_same, int_sum_le, int_sum_zero, least_below_some, least_below_none, least_below_found, count_below_found, times_served_as_count, times_served_some, in_choice, has_choice, HasUsable, IsFixed, IsSolePlan}
 use Rattle.plan_rules.proofs.lemmas.DualityLemmas.{choices_sum, multiplier_sum_is, prices_sum, riders_give, served_give}
 use Rattle.plan_rules.proofs.lemmas.TreeLemmas.{rounded_up_mono}
 use Rattle.dual_bound.proofs.lemmas.FirstFitLemmas.{length-first_fit}
 use Rattle.dual_bound.proofs.lemmas.FirstFitValueLemmas.{first_fit_leaves_room, rider_term_is}
-
-same_some : (j k : ℕ) → Some j ≡ Some k → j ≡ k
-same_some j k e = cc
-
-none_some : (k : ℕ) → ◌≡◌ {A = Option ℕ} None (Some k) → ⊥
-none_some k e = cc
 
 -- where two are counted, two pass
 count_two_found : (n : ℕ) (p : ℕ → Bool) → 2 ≤ count_below n p → (j : ℕ) × (k : ℕ) × (j < k) × (k < n) × (p j ≡ true) × (p k ≡ true)
@@ -33,8 +27,8 @@ module _ (g : Graph) (u : Usable) (chosen : List (Option ℕ)) (good : IsGoodGra
   may_choice v k l e = pick (choice_at chosen v) (sole v l) e
     where
       pick : (c : Option ℕ) → MatchOption c ((j : ℕ) → MayUse g u v j → ⊥) (MayUse g u v) → c ≡ Some k → MayUse g u v k
-      pick None h e = absurd (none_some k e)
-      pick (Some j) h e = subst (MayUse g u v) (same_some j k e) h
+      pick None h e = absurd (none-some k e)
+      pick (Some j) h e = subst (MayUse g u v) (same_Some j k e) h
 
   own : (v : ℕ) → (c : Option ℕ) → MatchOption c ((j : ℕ) → MayUse g u v j → ⊥) (MayUse g u v) → MatchOption c (HasNoRow g v) (IsRowOf g v)
   own v None h = λ k row. let j = has v k row in h (j.0) (j.1)
@@ -107,7 +101,7 @@ module _ (g : Graph) (u : Usable) (chosen : List (Option ℕ)) (good : IsGoodGra
     where
       unfit : (c : Option ℕ) → MatchOption c ((j : ℕ) → MayUse g u v j → ⊥) (MayUse g u v) → c ≡ None → (j : ℕ) → MayUse g u v j → ⊥
       unfit None h e = h
-      unfit (Some k) h e = absurd (none_some k (sym e))
+      unfit (Some k) h e = absurd (none-some k (sym e))
 
       foreign : (k : ℕ) → k < length g.rows → (b : Bool) → is_usable_by g u v k ≡ b → is_usable_by g u v k ≡ false
       foreign k low false is = is

@@ -1,6 +1,6 @@
 -- Trees that grow.
 use Rattle.std.proofs.Common.{◌≡◌, ◌==◌, ◌||◌, not, ℕ, zero, suc, ◌<◌, ◌≤◌, true, List, [], ◌∷◌, ◌++◌, length, get_or, take, drop, Option, Some, None, ℤ, pos, ◌≤ℤ◌, ◌<ℤ◌, refl, sym, ap, ◌∙◌, subst, ⊎_elim, arith, eq-eqb, ne_eqb, unwrap_or}
-use Rattle.assignment_search.proofs.Common.{ints, int_min_is, cases_eq, and_from, or_left, or_right, lesser, Graph, IsRowOf, row_vehicle, Usable, leaf_value, first_fit_value, every_row, only_row, without_row, CanBranch, rounded_up, least_leaf, IsSoundNode, coming_after, ReadsTo, places_from, value_read, IsLawful, cost_of, IsGreedy, Node, Branch, Leaf, Dead, IsWorthBranching, IsGoodLeaf, IsGoodNode, IsGrown, HasUsable, IsLowest, IsNewEnd, IsFairNode}
+use Rattle.assignment_search.proofs.Common.{none-some, same_Some, ints, int_min_is, cases_eq, and_from, or_left, or_right, lesser, Graph, IsRowOf, row_vehicle, Usable, leaf_value, first_fit_value, every_row, only_row, without_row, CanBranch, rounded_up, least_leaf, IsSoundNode, coming_after, ReadsTo, places_from, value_read, IsLawful, cost_of, IsGreedy, Node, Branch, Leaf, Dead, IsWorthBranching, IsGoodLeaf, IsGoodNode, IsGrown, HasUsable, IsLowest, IsNewEnd, IsFairNode}
 use Rattle.std.specs.List.{AllByRecursion as ByRecursion}
 use Rattle.plan_rules.proofs.lemmas.TreeLemmas.{rounded_up_mono}
 
@@ -122,21 +122,15 @@ lowest_floor g low limit nodes values i grown lowest =
 -- ---- the tree's value
 
 least_low : (g : Graph) (low : ℤ) (limit : ℕ) (nodes : List Node) (values : List ℤ) (coming rest : List Usable) → IsGrown g low limit coming nodes values rest → (z : ℤ) → least_leaf g (places_from g coming nodes) ≡ Some z → low ≤ℤ z
-least_low g low limit [] [] coming rest h z e = absurd (none z e)
-  where
-    none : (z : ℤ) → ◌≡◌ {A = Option ℤ} None (Some z) → ⊥
-    none z e = cc
+least_low g low limit [] [] coming rest h z e = absurd (none-some z e)
 least_low g low limit [] (w ∷ values) coming rest h z e = absurd h
 least_low g low limit (n ∷ nodes) [] coming rest h z e = absurd h
 least_low g low limit (n ∷ nodes) (w ∷ values) [] rest h z e = absurd h
 least_low g low limit (Leaf ms ∷ nodes) (w ∷ values) (u ∷ us) rest h z e =
     let leaf = h.0 in
     let floor : low ≤ℤ rounded_up (leaf_value g u ms) = subst (λ (y : ℤ). low ≤ℤ rounded_up y) leaf.judged leaf.floor in
-    both (least_leaf g (places_from g us nodes)) (least_low g low limit nodes values us rest (h.1)) floor (inner e)
+    both (least_leaf g (places_from g us nodes)) (least_low g low limit nodes values us rest (h.1)) floor (same_Some _ _ e)
   where
-    inner : {a b : ℤ} → Some a ≡ Some b → a ≡ b
-    inner e = cc
-
     both : (o : Option ℤ) → ((y : ℤ) → o ≡ Some y → low ≤ℤ y) → low ≤ℤ rounded_up (leaf_value g u ms) → lesser o (rounded_up (leaf_value g u ms)) ≡ z → low ≤ℤ z
     both None before here is = omega (arith, ints)
     both (Some y) before here is =

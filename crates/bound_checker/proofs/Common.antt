@@ -2,6 +2,7 @@
 pub use Rattle.std.proofs.lemmas.Bool.{and_left, both_ways, cases_eq, cases_lt, cond-false, false≢true}
 pub use Rattle.std.proofs.lemmas.Int.{int_min_is, ints}
 pub use Rattle.std.proofs.lemmas.List.{at_drop_more, get_or_append_left, get_or_past, get_or_push, length_push, take_more, with_items_is}
+pub use Rattle.std.proofs.lemmas.Option.{none-some, same_Some}
 pub use Rattle.bound_checker.specs.lemmas.Visit.{coming_of}
 pub use Rattle.bound_checker.specs.work.DeadEnd.{AreSoleRows, IsApart, IsOnlyOf, MarksStanding, ShareARider, StandsInNone, StandsInSome}
 pub use Rattle.bound_checker.specs.work.Leaf.{AreLeast}

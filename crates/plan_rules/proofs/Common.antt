@@ -5,6 +5,7 @@ pub use Rattle.std.proofs.lemmas.Int.{int_min_is, ints}
 pub use Rattle.std.proofs.lemmas.List.{at_drop_more, get_or-replicate, get_or_append_left, get_or_default, get_or_past, get_or_push, get_or_read, length-replicate, length_push, map-append, set_at, take_more}
 pub use Rattle.std.proofs.lemmas.List.Folds.{list_any_at}
 pub use Rattle.std.proofs.lemmas.List.Sums.{fold_more, fold_push, sum_by-cons}
+pub use Rattle.std.proofs.lemmas.Option.{none-some, same_Some}
 pub use Rattle.std.specs.Int.{int_min}
 pub use Rattle.std.specs.List.{list_any}
 pub use Rattle.std.specs.List.Sorted.{IsStrictlyIncreasing}

@@ -1,6 +1,6 @@
 -- Orders are read back from what is told of them.
 use Rattle.std.proofs.Common.{◌≡◌, ℕ, ◌+◌, ◌<◌, ◌≤◌, List, [], ◌∷◌, ◌++◌, length, get_or, map, zip, take, refl, sym, ap, ◌∙◌, subst, arith}
-use Rattle.outcome_check.proofs.Common.{get_or-map, length-map, rising_once, AllByRecursion, get_or_default, take_more, length_push, PlannedStop, Settled, SettledRider, SettledVehicle, Stop, Pick, IsKnown, IsTrip, trip_task, vehicle_at, rider_at, no_rider, no_vehicle, IsOrderOf, visit_at, visits_of, seconds_of, rider_id, told_stop, told_stops, HasOwnIds}
+use Rattle.outcome_check.proofs.Common.{get_or-map, length-map, rising_once, AllByRecursion, get_or_default, take_more, length_push, PlannedStop, Settled, SettledRider, Stop, Pick, IsKnown, IsTrip, trip_task, vehicle_at, rider_at, no_rider, IsOrderOf, visit_at, visits_of, seconds_of, rider_id, told_stop, told_stops, HasOwnIds}
 use Rattle.std.proofs.lemmas.List.{take_all}
 use Rattle.std.proofs.lemmas.List.Elements.{All-from_recursion}
 use Rattle.std.proofs.lemmas.Slice.Zip.{get_or-zip, length-zip}
@@ -11,10 +11,6 @@ use Rattle.stop_orders.proofs.lemmas.DoneLemmas.{length-IsOrder}
 -- the rider read at a number
 pub rider_read : (settled : Settled) (riders : List SettledRider) (r : ℕ) (x : SettledRider) → riders ≡ settled.riders → r < length settled.riders → get_or riders r x ≡ rider_at settled r
 rider_read settled riders r x e h = ap (λ (list : List SettledRider). get_or list r x) e ∙ get_or_default settled.riders r x no_rider h
-
--- .. and the vehicle
-pub vehicle_read : (settled : Settled) (vehicles : List SettledVehicle) (v : ℕ) (x : SettledVehicle) → vehicles ≡ settled.vehicles → v < length settled.vehicles → get_or vehicles v x ≡ vehicle_at settled v
-vehicle_read settled vehicles v x e h = ap (λ (list : List SettledVehicle). get_or list v x) e ∙ get_or_default settled.vehicles v x no_vehicle h
 
 module _ (settled : Settled) (v : ℕ) (trip : List ℕ) (own : HasOwnIds settled) (there : v < length settled.vehicles) (is_trip : IsTrip (length settled.riders) trip) where
   inside : (i : ℕ) → i < length trip → get_or trip i 0 < length settled.riders

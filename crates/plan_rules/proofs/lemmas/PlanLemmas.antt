@@ -1,19 +1,13 @@
 -- Plans: the held one is lawful; choices name rows.
 use Rattle.std.proofs.Common.{◌≡◌, ◌⊎◌, ℕ, ◌<◌, ◌≤◌, true, IsTrue, List, length, Option, Some, None, MatchOption, refl, sym, ◌∙◌, subst, inl, inr, arith, ltb-true}
-use Rattle.plan_rules.proofs.Common.{cases_lt, get_or_past, Graph, has_rider, IsRowOf, HasNoRow, choice_at, times_served, must_be_served, IsGoodGraph, IsPlan, IsLawful, times_chosen}
+use Rattle.plan_rules.proofs.Common.{none-some, same_Some, cases_lt, get_or_past, Graph, has_rider, IsRowOf, HasNoRow, choice_at, times_served, must_be_served, IsGoodGraph, IsPlan, IsLawful, times_chosen}
 use Rattle.plan_rules.specs.lemmas.Graph.{ChoosesRows}
 use Rattle.plan_rules.proofs.lemmas.GraphLemmas.{held_once, in_choice, rider_below, times_served_found, times_served_outside}
 
 -- a choice of a plan is a row of its vehicle
 pub own_row : (g : Graph) (v k : ℕ) (c : Option ℕ) → MatchOption c (HasNoRow g v) (IsRowOf g v) → c ≡ Some k → IsRowOf g v k
-own_row g v k None h e = absurd (differ e)
-  where
-    differ : ◌≡◌ {A = Option ℕ} None (Some k) → ⊥
-    differ e = cc
-own_row g v k (Some j) h e = subst (IsRowOf g v) (same e) h
-  where
-    same : Some j ≡ Some k → j ≡ k
-    same e = cc
+own_row g v k None h e = absurd (none-some k e)
+own_row g v k (Some j) h e = subst (IsRowOf g v) (same_Some j k e) h
 
 -- a vehicle that has a row is given one
 pub has_choice : (g : Graph) (v k : ℕ) (c : Option ℕ) → MatchOption c (HasNoRow g v) (IsRowOf g v) → IsRowOf g v k → (j : ℕ) × (c ≡ Some j) × IsRowOf g v j
@@ -26,13 +20,10 @@ plan_choice g chosen v k plan l e = own_row g v k (choice_at chosen v) (plan.own
 pub plan_rows : (g : Graph) (chosen : List (Option ℕ)) → IsPlan g chosen → ChoosesRows g chosen
 plan_rows g chosen plan v k e = by_cases (cases_lt v (length chosen))
   where
-    differ : ◌≡◌ {A = Option ℕ} None (Some k) → ⊥
-    differ e = cc
-
     by_cases : (v < length chosen) ⊎ (length chosen ≤ v) → k < length g.rows
     by_cases s = elim s [
       | inl low ↦ (plan_choice g chosen v k plan (subst (λ (n : ℕ). v < n) (plan.sized) low) e).within
-      | inr high ↦ absurd (differ (sym (get_or_past chosen v None high) ∙ e))
+      | inr high ↦ absurd (none-some k (sym (get_or_past chosen v None high) ∙ e))
     ]
 
 -- the held plan gives each vehicle one of its rows

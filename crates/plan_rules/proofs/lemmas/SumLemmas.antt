@@ -1,6 +1,6 @@
 -- Sums, counts and least values over the numbers below n.
 use Rattle.std.proofs.Common.{◌≡◌, ◌==◌, ◌⊎◌, ℕ, zero, suc, ◌+◌, ◌*◌, ◌<◌, ◌≤◌, Bool, true, false, cond, ◌||◌, if◌then◌else◌, ltb, ℤ, pos, ◌+ℤ◌, ◌-ℤ◌, ◌≤ℤ◌, Option, Some, None, refl, sym, ap, ◌∙◌, subst, inl, inr, ⊎_elim, arith, add-one, eq-eqb, ne_eqb, lt-ltb, le-ltb, int_lt}
-use Rattle.plan_rules.proofs.Common.{int_min, ints, int_min_is, both_ways, cases_eq, cases_Bool, cond_both, cond-true, cond-false, and_parts, and_from, and_left, and_right, sum_below, count_below, all_below, int_sum_below, lesser, least_below}
+use Rattle.plan_rules.proofs.Common.{same_Some, none-some, int_min, ints, int_min_is, both_ways, cases_eq, cases_Bool, cond_both, cond-true, cond-false, and_parts, and_from, and_left, and_right, sum_below, count_below, all_below, int_sum_below, lesser, least_below}
 
 -- ---- sums of naturals
 
@@ -314,21 +314,15 @@ from_lesser n p f z passed (Some y) before value =
     (λ (right : int_min y (f n) ≡ f n). (n, omega arith, passed, sym value ∙ right))
     (int_min_cases y (f n))
 
-not_some : (z : ℤ) → ◌≡◌ {A = Option ℤ} None (Some z) → ⊥
-not_some z e = cc
-
-inner : (x y : ℤ) → Some x ≡ Some y → x ≡ y
-inner x y e = cc
-
 -- the least value is reached
 pub least_below_found : (n : ℕ) (p : ℕ → Bool) (f : ℕ → ℤ) (z : ℤ) → least_below n p f ≡ Some z → Reaches n p f z
-least_below_found zero p f z e = absurd (not_some z e)
+least_below_found zero p f z e = absurd (none-some z e)
 least_below_found (suc n) p f z e =
     ⊎_elim
     (λ (yes : p n ≡ true).
     let now : least_below (suc n) p f ≡ Some (lesser (least_below n p f) (f n)) =
     cond-true (p n) (Some (lesser (least_below n p f) (f n))) (least_below n p f) yes in
-    from_lesser n p f z yes (least_below n p f) (λ y is. least_below_found n p f y is) (inner _ _ (sym now ∙ e)))
+    from_lesser n p f z yes (least_below n p f) (λ y is. least_below_found n p f y is) (same_Some _ _ (sym now ∙ e)))
     (λ (no : p n ≡ false).
     let now : least_below (suc n) p f ≡ least_below n p f =
     cond-false (p n) (Some (lesser (least_below n p f) (f n))) (least_below n p f) no in

@@ -1,16 +1,10 @@
 -- The leaves and dead ends of a sound tree part the plans, and its value is a bound.
 use Rattle.std.proofs.Common.{◌≡◌, ◌==◌, ◌&&◌, ◌||◌, not, ℕ, suc, ◌+◌, ◌*◌, ◌/◌, ◌<◌, ◌≤◌, Bool, true, false, cond, List, [], ◌∷◌, length, Option, Some, None, count_by, ℤ, pos, negsuc, ◌≤ℤ◌, refl, sym, ap, ◌∙◌, inl, inr, ⊎_elim, arith, eq-eqb, ne_eqb, unwrap_or}
-use Rattle.plan_rules.proofs.Common.{ints, sum_by-cons, cases_eq, cases_Bool, or_right, or_left, both_ways, false_from_ne_true, all_below, lesser, count_below, Graph, row_at, row_vehicle, has_rider, IsRowOf, choice_at, is_in, IsGraphRow, IsGoodGraph, IsPlan, IsLawful, cost_of, IsBound, Usable, leaf_value, every_row, only_row, without_row, CanBranch, IsClash, IsStranded, IsDeadEnd, Place, rounded_up, least_leaf, is_choice_usable, is_within, belongs_to_end, belongs_to_dead_end, ReadsTo, places_from, IsWholeTree, places_read, value_read, Node, Branch, Leaf, Dead}
+use Rattle.plan_rules.proofs.Common.{same_Some, ints, sum_by-cons, cases_eq, cases_Bool, or_right, or_left, both_ways, false_from_ne_true, all_below, lesser, count_below, Graph, row_at, row_vehicle, has_rider, IsRowOf, choice_at, is_in, IsGraphRow, IsGoodGraph, IsPlan, IsLawful, cost_of, IsBound, Usable, leaf_value, every_row, only_row, without_row, CanBranch, IsClash, IsStranded, IsDeadEnd, Place, rounded_up, least_leaf, is_choice_usable, is_within, belongs_to_end, belongs_to_dead_end, ReadsTo, places_from, IsWholeTree, places_read, value_read, Node, Branch, Leaf, Dead}
 use Rattle.plan_rules.proofs.lemmas.SumLemmas.{flag, flag-true, flag-false, all_below_at, all_below_from, all_below_fails, all_below_same, count_below_two, lesser-le_left, lesser-le_right}
 use Rattle.plan_rules.proofs.lemmas.GraphLemmas.{times_served_as_count, times_served_found, in_choice}
 use Rattle.plan_rules.proofs.lemmas.PlanLemmas.{has_choice, plan_choice}
 use Rattle.plan_rules.proofs.lemmas.DualityLemmas.{leaf_value_le}
-
-same_some : (j k : ℕ) → Some j ≡ Some k → j ≡ k
-same_some j k e = cc
-
-none_some : (k : ℕ) → ◌≡◌ {A = Option ℕ} None (Some k) → ⊥
-none_some k e = cc
 
 -- a plan within the usable rows chooses usable rows
 pub within_at : (g : Graph) (usable : Usable) (chosen : List (Option ℕ)) (v k : ℕ) → is_within g usable chosen ≡ true → v < g.vehicles → choice_at chosen v ≡ Some k → usable k ≡ true
@@ -36,7 +30,7 @@ module _ (g : Graph) (usable : Usable) (chosen : List (Option ℕ)) (plan : IsPl
       let own : IsRowOf g w j = plan_choice g chosen w j plan l is in
       ⊎_elim
       (λ (here : w ≡ v).
-      let same : j ≡ k = same_some j k (sym is ∙ ap (choice_at chosen) here ∙ e) in
+      let same : j ≡ k = same_Some j k (sym is ∙ ap (choice_at chosen) here ∙ e) in
       whole (usable j) (not (row_vehicle g j == v)) (j == k) (or_right (not (row_vehicle g j == v)) (j == k) (eq-eqb j k same)))
       (λ (other : w ≡ v → ⊥).
       let apart : (row_vehicle g j == v) ≡ false = ne_eqb (row_vehicle g j) v (λ (q : row_vehicle g j ≡ v). other (sym own.own ∙ q)) in
@@ -55,7 +49,7 @@ module _ (g : Graph) (usable : Usable) (chosen : List (Option ℕ)) (plan : IsPl
       let apart : (i == k) ≡ false =
       ne_eqb i k (λ (q : i ≡ k).
       let here : w ≡ v = sym own.own ∙ ap (row_vehicle g) q ∙ row.own in
-      differs (sym (same_some i j (sym is ∙ ap (choice_at chosen) here ∙ e)) ∙ q)) in
+      differs (sym (same_Some i j (sym is ∙ ap (choice_at chosen) here ∙ e)) ∙ q)) in
       whole (usable i) (i == k) apart
     where
       whole : (a b : Bool) → b ≡ false → (a && not b) ≡ a
