@@ -101,7 +101,7 @@ pub use Rattle.route_drive.specs.declared.day_run.DriveFault.TheVariants.{OutOfM
 pub use Rattle.route_drive.specs.declared.tree.Found.{Found}
 pub use Rattle.route_drive.specs.declared.walk.WalkStep.{WalkStep}
 pub use Rattle.route_drive.specs.work.Counting.{AddsServed, AreServed, IsDelayed, all_served_by, served_by, waited}
-pub use Rattle.route_drive.specs.work.Drive.{HasCome, HasEnded, IsCounted, IsInTime, IsLastLate, IsLastOn, IsRoundLate, IsRoundOn, IsStoppedAt, IsTaken, IsUnderWay, Takes, at_rest, fault_at, reported_place, step_from}
+pub use Rattle.route_drive.specs.work.Drive.{HasCome, HasEnded, IsCounted, IsInTime, IsLastOn, IsLateAt, IsRoundOn, IsStoppedAt, IsTaken, IsUnderWay, Takes, at_rest, fault_at, reported_place, step_from}
 pub use Rattle.route_drive.specs.work.Places.{ArePlaced, heading_of, headings_of, told_by, told_of}
 pub use Rattle.route_drive.specs.work.Rounds.{Adds}
 pub use Rattle.route_drive.specs.work.Serving.{AreReached, AreReported, HasCalls, HasSeatsFor, IsBound, IsBoundBy, IsDayState, IsDone, IsKept, IsOfVehicle, IsPromiseKept, IsReadyForSeal, IsRightDropoff, IsRightPickup, IsRightStop, IsServing, KeepsBounds, LeavesAll, LeavesOthers, ShowsRiders, calls_of, chosen_stops, closed, course_of, is_stop_of, party_at, seats_after, stops_with}

@@ -1,7 +1,7 @@
 -- A day under way, round by round.
 use Rattle.std.proofs.lemmas.List.{get_or_past, map_push}
 use Rattle.std.proofs.Common.{◌≡◌, ◌≢◌, ℕ, zero, suc, ◌+◌, ◌-◌, ◌<◌, List, [], ◌∷◌, ◌++◌, length, get_or, map, take, drop, replicate, Option, None, Some, inl, inr, refl, sym, ap, ◌∙◌, subst, arith, append-nil, All}
-use Rattle.route_drive.proofs.Common.{option_map_or, cases_lt, get_or-replicate, length-map, length-replicate, BookView, IsBook, next_position, state_after, Command, Entry, Journal, Planned, State, Settings, Roads, NumberedLanes, empty_round, lane_at, IsReady, IsRoundRun, IsRun, IsSameRun, journal_of, position_after_run, state_after_run, Course, DayRound, DayCounts, DriveFault, AreDriven, HasDrivenToTheEnd, IsDrivenRound, IsLateAnswer, IsTooLateDay, IsNewBook, courses_after, courses_from, courses_left, first_courses, left_course, number_after, plan_in, planned_course, AreCounts, entries_of, seal_of, EntersTooLate, IsInTime, left_commands, AddsServed, AreServed, HasCome, HasEnded, IsCounted, IsLastLate, IsLastOn, IsRoundLate, IsRoundOn, IsStoppedAt, IsTaken, IsUnderWay, Takes, second_of, longest}
+use Rattle.route_drive.proofs.Common.{option_map_or, cases_lt, get_or-replicate, length-map, length-replicate, BookView, IsBook, next_position, state_after, Command, Entry, Journal, Planned, State, Settings, Roads, NumberedLanes, empty_round, lane_at, IsReady, IsRoundRun, IsRun, IsSameRun, journal_of, position_after_run, state_after_run, Course, DayRound, DayCounts, DriveFault, AreDriven, HasDrivenToTheEnd, IsDrivenRound, IsLateAnswer, IsTooLateDay, IsNewBook, courses_after, courses_from, courses_left, first_courses, left_course, number_after, plan_in, planned_course, AreCounts, entries_of, seal_of, EntersTooLate, IsInTime, left_commands, AddsServed, AreServed, HasCome, HasEnded, IsCounted, IsLastOn, IsLateAt, IsRoundOn, IsStoppedAt, IsTaken, IsUnderWay, Takes, second_of, longest}
 use Rattle.std.specs.List.{Any}
 use Rattle.dispatch_engine.proofs.lemmas.RunLemmas.{position-more, run-more, state-more}
 use Rattle.route_drive.proofs.LeaveLemmas.{count_stays}
@@ -186,11 +186,11 @@ module _ (settings : Settings) (roads : Roads) where
           way = way_more s rounds drive come.made come.way round Before After drive' on;
         }
 
-    pub end_late : (answer : DriveFault) → IsLastLate (number_after rounds) drive Before After answer → IsLateAnswer settings roads After s rounds answer
+    pub end_late : (answer : DriveFault) → IsLateAt (number_after rounds) (Any (λ (c : Command). longest < second_of c) (left_commands drive.book.state.vehicles drive.courses.items)) Before After answer → IsLateAnswer settings roads After s rounds answer
     end_late (fault.TooLate n) late = (come.made, late.1 come.made come.taken, last_late s rounds drive come.made come.way n late.0 late.2)
     end_late fault.OutOfMemory late = tt
 
-    pub round_late : (all rest : List NumberedLanes) (round : NumberedLanes) (answer : DriveFault) → all ≡ rounds ++ round ∷ rest → IsRoundLate settings roads round drive Before After answer → IsLateAnswer settings roads After s all answer
+    pub round_late : (all rest : List NumberedLanes) (round : NumberedLanes) (answer : DriveFault) → all ≡ rounds ++ round ∷ rest → IsLateAt round.number ((now : ℕ) × (seal_of round ≡ Some now) × EntersTooLate roads settings.dwell now drive.book.state.vehicles drive.courses.items) Before After answer → IsLateAnswer settings roads After s all answer
     round_late all rest round (fault.TooLate n) parts late = (come.made, late.1 come.made come.taken, next_late s rounds drive come.made come.way all rest round n parts late.0 late.2)
     round_late all rest round fault.OutOfMemory parts late = tt
 
@@ -235,9 +235,11 @@ end_of settings roads [] number drive end Before After some is on = absurd (omeg
 end_of settings roads (r ∷ rounds) number drive end Before After some is on = subst (λ (n : ℕ). IsLastOn settings roads n drive Before After end) is on
 
 -- a round was run, and its journal taken
-taken_of : (settings : Settings) (roads : Roads) (driven : NumberedLanes) (book after : BookView) → IsRoundRun settings roads driven (journal_of after) → IsSameRun book after → IsBook after → IsReady settings roads after
-    → IsTaken settings roads driven book (record { nodes = after.nodes; wait = after.wait; first = next_position after.first after.entries; base = after.state; entries = []; state = after.state; spare = 0 }) (journal_of after)
-taken_of settings roads driven book after run same kept ready = record {
+pub taken_is : (settings : Settings) (roads : Roads) (driven : NumberedLanes) (book after next : BookView) (journal : Journal) → IsRoundRun settings roads driven (journal_of after) → IsSameRun book after → IsBook after → IsReady settings roads after
+    → journal ≡ record { first = after.first; base = after.base; entries = after.entries }
+    → next ≡ record { nodes = after.nodes; wait = after.wait; first = next_position after.first after.entries; base = after.state; entries = []; state = after.state; spare = 0 }
+    → IsTaken settings roads driven book next journal
+taken_is settings roads driven book after next journal run same kept ready is next_is = rw (is, next_is) (record {
   run = run;
   base = same.base;
   first = same.first;
@@ -247,16 +249,7 @@ taken_of settings roads driven book after run same kept ready = record {
   state = kept.state ∙ ap (λ (ns : List ℕ). state_after ns after.wait after.base after.entries) ready.nodes ∙ ap (λ (w : ℕ). state_after roads.nodes w after.base after.entries) ready.wait
       ∙ ap (λ (s : State). state_after roads.nodes settings.wait s after.entries) same.base;
   next = ap (λ (f : ℕ). next_position f after.entries) same.first;
-}
-
-pub taken_is : (settings : Settings) (roads : Roads) (driven : NumberedLanes) (book after next : BookView) (journal : Journal) → IsRoundRun settings roads driven (journal_of after) → IsSameRun book after → IsBook after → IsReady settings roads after
-    → journal ≡ record { first = after.first; base = after.base; entries = after.entries }
-    → next ≡ record { nodes = after.nodes; wait = after.wait; first = next_position after.first after.entries; base = after.state; entries = []; state = after.state; spare = 0 }
-    → IsTaken settings roads driven book next journal
-taken_is settings roads driven book after next journal run same kept ready is next_is =
-    subst (λ (b : BookView). IsTaken settings roads driven book b journal) (sym next_is)
-    (subst (λ (j : Journal). IsTaken settings roads driven book (record { nodes = after.nodes; wait = after.wait; first = next_position after.first after.entries; base = after.state; entries = []; state = after.state; spare = 0 }) j) (sym is)
-    (taken_of settings roads driven book after run same kept ready))
+})
 
 -- a round as it is driven, by another number
 renumbered : (settings : Settings) (roads : Roads) (driven : NumberedLanes) (number : ℕ) (book next : BookView) (journal : Journal) → IsTaken settings roads driven book next journal
@@ -288,16 +281,9 @@ round_on settings roads round driven drive drive' next journal Before After is t
 }
 
 -- why a round stopped
-pub stopped_late : (settings : Settings) (roads : Roads) (round : NumberedLanes) (drive : Drive) (Before : List DayRound → Type 0) (stopped : Stopped) (answer : DriveFault)
-    → IsStoppedAt stopped round.number answer → (stopped ≡ stop.TooLate → (now : ℕ) × (seal_of round ≡ Some now) × EntersTooLate roads settings.dwell now drive.book.state.vehicles drive.courses.items)
-    → IsRoundLate settings roads round drive Before Before answer
-stopped_late settings roads round drive Before stop.TooLate answer is late = subst (IsRoundLate settings roads round drive Before Before) (sym is) (refl, (λ made is. is), late refl)
-stopped_late settings roads round drive Before stop.OutOfMemory answer is late = subst (IsRoundLate settings roads round drive Before Before) (sym is) tt
-
-pub stopped_last : (number : ℕ) (drive : Drive) (Before : List DayRound → Type 0) (stopped : Stopped) (answer : DriveFault)
-    → IsStoppedAt stopped number answer → (stopped ≡ stop.TooLate → Any (λ (c : Command). longest < second_of c) (left_commands drive.book.state.vehicles drive.courses.items)) → IsLastLate number drive Before Before answer
-stopped_last number drive Before stop.TooLate answer is late = subst (IsLastLate number drive Before Before) (sym is) (refl, (λ made is. is), late refl)
-stopped_last number drive Before stop.OutOfMemory answer is late = subst (IsLastLate number drive Before Before) (sym is) tt
+pub stopped_late : (number : ℕ) (Late : Type 0) (Before : List DayRound → Type 0) (stopped : Stopped) (answer : DriveFault) → IsStoppedAt stopped number answer → (stopped ≡ stop.TooLate → Late) → IsLateAt number Late Before Before answer
+stopped_late number Late Before stop.TooLate answer is late = subst (IsLateAt number Late Before Before) (sym is) (refl, (λ made is. is), late refl)
+stopped_late number Late Before stop.OutOfMemory answer is late = subst (IsLateAt number Late Before Before) (sym is) tt
 
 -- the last round was run and taken
 pub last_on : (settings : Settings) (roads : Roads) (driven : NumberedLanes) (number : ℕ) (drive drive' : Drive) (next : BookView) (journal : Journal) (Before After : List DayRound → Type 0)

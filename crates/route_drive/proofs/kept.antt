@@ -10,12 +10,9 @@ pub mod Tables
 pub mod Batches
 pub mod Served
 pub mod Reported
-pub mod Lapse
 pub mod Told
 pub mod Trips
-pub mod Chosen
 pub mod Made
-pub mod Closed
 pub mod Laws
 pub mod Keeping
 pub mod Pending

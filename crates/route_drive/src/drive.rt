@@ -13,7 +13,7 @@ ghost use Rattle.route_drive.specs.Entering.{EntersTooLate, left_commands, secon
 ghost use Rattle.route_drive.specs.declared.entering.Stopped.TheVariants.{TooLate as Late};
 ghost use Rattle.route_drive.specs.Driven.{IsDrivenRound, IsLateAnswer, IsNewBook, courses_after, number_after};
 ghost use Rattle.route_drive.specs.work.Counting.{AddsServed, AreServed};
-ghost use Rattle.route_drive.specs.work.Drive.{HasCome, HasEnded, IsCounted, IsInTime, IsLastLate, IsLastOn, IsRoundLate, IsRoundOn, IsStoppedAt, IsTaken, Takes, at_rest};
+ghost use Rattle.route_drive.specs.work.Drive.{HasCome, HasEnded, IsCounted, IsInTime, IsLastOn, IsLateAt, IsRoundOn, IsStoppedAt, IsTaken, Takes, at_rest};
 
 use crate::counts::{Served, counts_of, note_entries};
 use crate::course::Course;
@@ -145,7 +145,7 @@ fn drive_round<W: Ways, D: Drafter, G: Gate, K: RoundKeeper>(
     requires base { drive.book.base ≡ drive.book.state }
     requires each { length drive.courses.items ≡ length drive.book.state.vehicles }
     ensures run { IfOk result (λ next. (first : K) → IsRoundOn setup.now.settings.now setup.now.network.now round.now drive (K.took first keeper.old) (K.took first keeper.new) next) }
-    ensures late { IfErr result (λ fault. (first : K) → IsRoundLate setup.now.settings.now setup.now.network.now round.now drive (K.took first keeper.old) (K.took first keeper.new) fault) }
+    ensures late { IfErr result (λ fault. (first : K) → IsLateAt round.now.number ((now : ℕ) × (seal_of round.now ≡ Some now) × EntersTooLate setup.now.network.now setup.now.settings.now.dwell now drive.book.state.vehicles drive.courses.items) (K.took first keeper.old) (K.took first keeper.new) fault) }
 {
     match driven_of(rt, alloc, setup, &drive, round) {
         Ok(driven) => run_driven(rt, alloc, drive, round, &driven, setup, keeper),
@@ -353,7 +353,7 @@ fn drive_end<W: Ways, D: Drafter, G: Gate, K: RoundKeeper>(
     requires entries { drive.book.entries ≡ [] }
     requires each { length drive.courses.items ≡ length drive.book.state.vehicles }
     ensures run { IfOk result (λ next. (first : K) → HasEnded setup.now.settings.now setup.now.network.now rounds.now drive (K.took first keeper.old) (K.took first keeper.new) next) }
-    ensures late { IfErr result (λ fault. (first : K) → IsLastLate (number_after rounds.now) drive (K.took first keeper.old) (K.took first keeper.new) fault) }
+    ensures late { IfErr result (λ fault. (first : K) → IsLateAt (number_after rounds.now) (Any (λ c. longest < second_of c) (left_commands drive.book.state.vehicles drive.courses.items)) (K.took first keeper.old) (K.took first keeper.new) fault) }
 {
     if rounds.is_empty() {
         return Ok(drive);

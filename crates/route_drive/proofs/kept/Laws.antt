@@ -5,8 +5,8 @@ use Rattle.batch_snapshot.specs.Kept.{IsFleet}
 use Rattle.request_book.specs.declared.outcome.Outcome.{Outcome}
 use Rattle.route_drive.proofs.kept.Replies.{close_is}
 use Rattle.route_drive.proofs.kept.States.{pickup_done, dropoff_done, stepped}
-use Rattle.route_drive.proofs.kept.Lapse.{all_in_time, nothing_lapses}
-use Rattle.route_drive.proofs.kept.Closed.{closed_kept, closed_bounds}
+use Rattle.route_drive.proofs.kept.Trips.{all_in_time, nothing_lapses}
+use Rattle.route_drive.proofs.kept.Made.{closed_kept, closed_bounds}
 use Rattle.request_book.specs.declared.outcome.Answer.TheVariants as answer
 
 -- a vehicle's next stop is answered picked or dropped, and the vehicle then serves the stops after it, each at its

@@ -104,11 +104,10 @@ abbrev pub IsStoppedAt : Stopped → ℕ → DriveFault → Type 0
 IsStoppedAt stop.TooLate number answer = answer ≡ fault.TooLate number
 IsStoppedAt stop.OutOfMemory number answer = answer ≡ fault.OutOfMemory
 
--- a round is too late
-abbrev pub IsRoundLate : Settings → Roads → NumberedLanes → Drive → (List DayRound → Type 0) → (List DayRound → Type 0) → DriveFault → Type 0
-IsRoundLate settings roads round drive Before After (fault.TooLate number) =
-    (number ≡ round.number) × Stays Before After × ((now : ℕ) × (seal_of round ≡ Some now) × EntersTooLate roads settings.dwell now drive.book.state.vehicles drive.courses.items)
-IsRoundLate settings roads round drive Before After fault.OutOfMemory = Unit {0}
+-- the round of a number is too late, as is said of it
+abbrev pub IsLateAt : ℕ → Type 0 → (List DayRound → Type 0) → (List DayRound → Type 0) → DriveFault → Type 0
+IsLateAt number Late Before After (fault.TooLate round) = (round ≡ number) × Stays Before After × Late
+IsLateAt number Late Before After fault.OutOfMemory = Unit {0}
 
 -- the last round was run, and leaves the day as this
 pub record IsLastOn (settings : Settings) (roads : Roads) (number : ℕ) (drive : Drive) (Before After : List DayRound → Type 0) (drive' : Drive) : Type 0 where
@@ -126,11 +125,6 @@ pub record IsLastOn (settings : Settings) (roads : Roads) (number : ℕ) (drive 
 abbrev pub HasEnded : Settings → Roads → List NumberedLanes → Drive → (List DayRound → Type 0) → (List DayRound → Type 0) → Drive → Type 0
 HasEnded settings roads [] drive Before After end = (end ≡ drive) × Stays Before After
 HasEnded settings roads rounds drive Before After end = IsLastOn settings roads (number_after rounds) drive Before After end
-
--- the last round is too late
-abbrev pub IsLastLate : ℕ → Drive → (List DayRound → Type 0) → (List DayRound → Type 0) → DriveFault → Type 0
-IsLastLate number drive Before After (fault.TooLate round) = (round ≡ number) × Stays Before After × Any (λ c. longest < second_of c) (left_commands drive.book.state.vehicles drive.courses.items)
-IsLastLate number drive Before After fault.OutOfMemory = Unit {0}
 
 -- the rounds that were taken are those of a driven day, and these are its counts
 pub record IsCounted (Took : List DayRound → Type 0) (settings : Settings) (roads : Roads) (s : State) (rounds : List NumberedLanes) (run : DayCounts) : Type 0 where
