@@ -1,6 +1,6 @@
 -- The entries that a row gave, or a batch from its seal to its close.
 use Rattle.std.proofs.Common.{◌≡◌, ◌≢◌, ℕ, Bool, true, false, cond, eqb, List, [], ◌∷◌, ◌++◌, map, Option, None, Some, refl, sym, ap, subst, ◌∙◌, append-nil, All, filter, option_map}
-use Rattle.live_dispatch.proofs.Common.{eqb-false, All-head, All-tail, Batch, of_lane, IsCloseOf, IsLaneRunFrom, IsLaneRun, IsLaneBeginning, IsGoodClose, IsGoodFor, LaneClosesAreGood, ClosesAreGood, plain-quiet, closes-join, ends-closed, stands-plain, GoesOn, commands_of_pass, entry_command, row_command, pass_of, LaneCommand, state_after, RepliesAreSteps, step, Command, Submit, Cancel, Report, Pickup, Dropoff, Seal, Close, Entry, Reply, State, Settings, entry_notices, Roads, MayStand, Line, calls_from, sealed_by, snapshot_after, in_lane}
+use Rattle.live_dispatch.proofs.Common.{eqb-false, All-head, All-tail, Batch, of_lane, IsCloseOf, IsLaneRunFrom, IsLaneRun, IsLaneBeginning, IsGoodClose, IsGoodFor, LaneClosesAreGood, ClosesAreGood, plain-quiet, closes-join, ends-closed, stands-plain, GoesOn, commands_of_pass, entry_command, row_command, pass_of, LaneCommand, state_after, RepliesAreSteps, step, Command, Close, Entry, Reply, State, Settings, entry_notices, Roads, MayStand, Line, calls_from, sealed_by, snapshot_after, in_lane}
 use Rattle.std.proofs.lemmas.Bool.{eq-eqb, ne_eqb, eqb-true}
 use Rattle.batch_solver.specs.Outcome.{IsGoodOutcome}
 use Rattle.dispatch_engine.specs.lemmas.Lanes.{IsPlain}
@@ -13,23 +13,13 @@ use Rattle.live_dispatch.proofs.RowLemmas.{AreOf}
 
 -- a row's command is no close
 pub stands-good : (settings : Settings) (roads : Roads) (lane : ℕ) (s : State) (command : Command) (reply : Reply) → MayStand lane command → IsGoodClose settings roads s command reply
-stands-good settings roads lane s (Submit rider origin destination time party) reply stands = tt
-stands-good settings roads lane s (Cancel rider) reply stands = tt
-stands-good settings roads lane s (Report vehicle node time) reply stands = tt
-stands-good settings roads lane s (Pickup vehicle rider time) reply stands = tt
-stands-good settings roads lane s (Dropoff vehicle rider time) reply stands = tt
-stands-good settings roads lane s (Seal now) reply stands = tt
 stands-good settings roads lane s (Close batch outcome) reply stands = absurd stands
+stands-good settings roads lane s _ reply stands = tt
 
 -- and has no notices
 pub stands-silent : (lane : ℕ) (s : State) (command : Command) (reply : Reply) → MayStand lane command → entry_notices s command reply ≡ []
-stands-silent lane s (Submit rider origin destination time party) reply stands = refl
-stands-silent lane s (Cancel rider) reply stands = refl
-stands-silent lane s (Report vehicle node time) reply stands = refl
-stands-silent lane s (Pickup vehicle rider time) reply stands = refl
-stands-silent lane s (Dropoff vehicle rider time) reply stands = refl
-stands-silent lane s (Seal now) reply stands = refl
 stands-silent lane s (Close batch outcome) reply stands = absurd stands
+stands-silent lane s _ reply stands = refl
 
 -- each command is plain
 abbrev ArePlain : List Command → Type 0

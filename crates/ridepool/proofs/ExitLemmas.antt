@@ -20,13 +20,11 @@ read_within s i read file.Script = inl (reads_within s.script _ read.script)
 read_within s i read file.Report = inr refl
 
 inputs_within : (m : Mode) (s : Sources) (i : Inputs) → AreInputs m s i → (w : Which) → IsWithin w (source_at s w) ⊎ (w ≡ file.Report)
-inputs_within Run s i read w = read_within s i read.0 w
-inputs_within Drive s i read w = read_within s i read.0 w
-inputs_within Audit s i read w = read_within s i read.0 w
 inputs_within (Load shape) s i made file.Network = inl (untouched_within file.Network s.network made.1.network)
 inputs_within (Load shape) s i made file.Fleet = inl (untouched_within file.Fleet s.fleet made.1.fleet)
 inputs_within (Load shape) s i made file.Script = inl (untouched_within file.Script s.script made.1.script)
 inputs_within (Load shape) s i made file.Report = inr refl
+inputs_within _ s i read w = read_within s i read.0 w
 
 -- and each source but the one that a run came to
 others_within : (s : Sources) (w v : Which) → CameTo s w → IsWithin v (source_at s v) ⊎ (v ≡ w)
@@ -59,12 +57,7 @@ stop_limited s (Script fault) why = λ v. at_stop s file.Script v _ (reads_withi
 stop_limited s (TooLong w) why = λ v. too_long s w v (others_within s w v why.0)
 stop_limited s (ReadFault w) why = λ v. at_stop s w v _ why.1 (others_within s w v why.0)
 stop_limited s OutOfMemory why = λ v. at_stop s why.0 v _ why.2 (others_within s why.0 v why.1)
-stop_limited s Done why = absurd why
-stop_limited s (Words fault) why = absurd why
-stop_limited s WriteFault why = absurd why
-stop_limited s (Day fault) why = absurd why
-stop_limited s (TooLate round) why = absurd why
-stop_limited s (Report fault) why = absurd why
+stop_limited s _ why = absurd why
 
 untouched_limited : (s : Sources) (e : RunStatus) → AreUntouched s → IsLimited s e
 untouched_limited s e untouched file.Network = inl (untouched_within file.Network s.network untouched.network)
@@ -165,11 +158,10 @@ no_input seen settings e Drive (inr (fault, is, why)) report out = subst (Answer
 no_input seen settings e (Load shape) (untouched, is) report out = load_answers shape settings seen e untouched (inl (is, out))
 
 no_input_limited : (s : Sources) (e : RunStatus) (m : Mode) → IsNoInput m s e → IsUntouched s.report → IsLimited s e
-no_input_limited s e Run why report = stop_limited s e why
-no_input_limited s e Audit why report = stop_limited s e why
 no_input_limited s e Drive (inl why) report = stop_limited s e why
 no_input_limited s e Drive (inr (fault, is, (i, read, refused))) report = λ w. with_report s e (untouched_report s e report) w (read_within s i read w)
 no_input_limited s e (Load shape) (untouched, is) report = untouched_limited s e untouched
+no_input_limited s e _ why report = stop_limited s e why
 
 pub input_answer : (seen : Seen) (settings : Settings) (e : RunStatus) → AreGood seen.words settings → GotInputs settings seen.sources (Err e) → IsUntouched seen.sources.report → IsSilent seen → Answers seen e
 input_answer seen settings e good got report out =
@@ -219,10 +211,8 @@ without_report s = record { network = s.network; fleet = s.fleet; script = s.scr
 
 -- the sources of an audit's inputs, of which its report is no part
 read_without : (m : Mode) (s : Sources) (i : Inputs) → m ≡ Audit → AreInputs m (without_report s) i → AreReadFrom s i
-read_without Audit s i is inputs = record { network = inputs.0.network; fleet = inputs.0.fleet; script = inputs.0.script }
-read_without Run s i is inputs = record { network = inputs.0.network; fleet = inputs.0.fleet; script = inputs.0.script }
-read_without Drive s i is inputs = record { network = inputs.0.network; fleet = inputs.0.fleet; script = inputs.0.script }
 read_without (Load shape) s i is inputs = absurd (let e : Load shape ≡ Audit = is in cc)
+read_without _ s i is inputs = record { network = inputs.0.network; fleet = inputs.0.fleet; script = inputs.0.script }
 
 module _ (seen : Seen) (settings : Settings) (got : ReadInputs) (good : AreGood seen.words settings) (is : settings.mode ≡ Audit)
     (inputs : GotInputs settings (without_report seen.sources) (Ok got)) (told : IsUntouched seen.notifiers) where
@@ -251,16 +241,7 @@ module _ (seen : Seen) (settings : Settings) (got : ReadInputs) (good : AreGood 
   refused_answer (Report fault) bytes came why quiet =
       of_audit (Report fault) (EndsAudit.refused fault (reads_as seen.sources.report bytes _ came why.1) quiet) why.0 (inl (reads_within seen.sources.report _ came))
   refused_answer OutOfMemory bytes came why quiet = (let within = reads_within seen.sources.report _ came in of_audit OutOfMemory (EndsAudit.unjudged within quiet) tt (inl within))
-  refused_answer Done bytes came why quiet = absurd why
-  refused_answer (Words fault) bytes came why quiet = absurd why
-  refused_answer (Network fault) bytes came why quiet = absurd why
-  refused_answer (Fleet fault) bytes came why quiet = absurd why
-  refused_answer (Script fault) bytes came why quiet = absurd why
-  refused_answer (TooLong w) bytes came why quiet = absurd why
-  refused_answer (ReadFault w) bytes came why quiet = absurd why
-  refused_answer WriteFault bytes came why quiet = absurd why
-  refused_answer (Day fault) bytes came why quiet = absurd why
-  refused_answer (TooLate round) bytes came why quiet = absurd why
+  refused_answer _ bytes came why quiet = absurd why
 
   begins : (audited : Audited) → Reads file.Report seen.sources.report (λ bytes. IsRunReport (inputs_got settings got) bytes audited)
       → AppendsPart seen.out.before.written seen.out.after.written (yes_text audited) → Confirms (inputs_got settings got) seen (AppendsPart seen.out.before.written seen.out.after.written)
@@ -278,10 +259,8 @@ module _ (seen : Seen) (settings : Settings) (got : ReadInputs) (good : AreGood 
 
 -- accepted inputs are a day where vehicles are driven
 day_of_inputs : (m : Mode) (s : Sources) (i : Inputs) → AreInputs m s i → IsDayFor m i.rounds
-day_of_inputs Run s i inputs = tt
-day_of_inputs Audit s i inputs = tt
-day_of_inputs (Load shape) s i inputs = tt
 day_of_inputs Drive s i inputs = inputs.1
+day_of_inputs _ s i inputs = tt
 
 pub got_is_day : (settings : Settings) (s : Sources) (got : ReadInputs) → GotInputs settings s (Ok got) → IsDayFor settings.mode got.script
 got_is_day settings s got inputs = day_of_inputs settings.mode s _ inputs.inputs

@@ -1,5 +1,5 @@
 -- Rounds of a day that are held.
-use Rattle.std.proofs.Common.{◌≡◌, ℕ, zero, suc, ◌<◌, Bool, true, false, List, [], ◌∷◌, ◌++◌, length, get_or, map, refl, sym, ap, subst, arith}
+use Rattle.std.proofs.Common.{◌≡◌, ℕ, zero, suc, ◌<◌, Bool, true, false, List, [], ◌∷◌, ◌++◌, length, get_or, refl, sym, ap, subst, arith}
 use Rattle.ridepool.proofs.Common.{AllZip, NotifierView, HaveHeard}
 use Rattle.rider_notices.specs.declared.notice.Notice.{Notice}
 

@@ -1,6 +1,6 @@
 -- A call of `live`, from its steps.
 use Rattle.std.proofs.Common.{◌≡◌, ℕ, ◌≤◌, List, Option, Some, None, Result, Ok, Err, MatchResult, refl, sym, ap, subst, inl, inr, arith, ◌⊎◌}
-use Rattle.ridepool.proofs.Common.{Appends, IsReady, Change, SinkView, WritesText, ReportFault, lines_in, Which, Rose, Input, BookView, fault_of, Settings, NotifierView, Roads, AreGood, IsWithin, Reads, AnswersLive, AreLimited, AreRowsOf, BeginsLive, EndsLive, ExplainsLive, HasHead, IsFaultlessLive, IsLiveStop, IsSilentCall, LiveCall, LiveInputs, LiveSeen, live_head, opened_book, words_of_run, network_in, vehicles_in, IsUntouched, SourceView, RunStatus, Done, Words, Network, Fleet, Script, TooLong, ReadFault, WriteFault, OutOfMemory, Day, TooLate, Report, HidesNoMemory, IsUnread, StopsAt, status_of}
+use Rattle.ridepool.proofs.Common.{Appends, IsReady, Change, SinkView, WritesText, ReportFault, lines_in, Which, Rose, Input, BookView, fault_of, Settings, NotifierView, Roads, AreGood, IsWithin, Reads, AnswersLive, AreLimited, AreRowsOf, BeginsLive, EndsLive, ExplainsLive, HasHead, IsFaultlessLive, IsLiveStop, IsSilentCall, LiveCall, LiveInputs, LiveSeen, live_head, opened_book, words_of_run, network_in, vehicles_in, IsUntouched, SourceView, RunStatus, Done, Words, Network, Fleet, Script, TooLong, ReadFault, WriteFault, OutOfMemory, Report, HidesNoMemory, IsUnread, StopsAt, status_of}
 use Rattle.std.specs.Result.{IsErrOf}
 use Rattle.live_dispatch.specs.Live.{BeginsRows, RunsRows}
 use Rattle.live_dispatch.specs.declared.fault.LiveFault.{LiveFault}
@@ -76,16 +76,7 @@ module _ (call : LiveCall) (silent : IsSilentCall call.rest) where
   pub words-stop : (status : RunStatus) → IsUntouched call.network → IsUntouched call.fleet → RefusesWords (words_of_run call.words) status → ExplainsLive call status
   words-stop (Words fault) network fleet why = ExplainsLive.refused fault why network fleet silent
   words-stop OutOfMemory network fleet why = ExplainsLive.unstored silent
-  words-stop Done network fleet why = absurd why
-  words-stop (Network fault) network fleet why = absurd why
-  words-stop (Fleet fault) network fleet why = absurd why
-  words-stop (Script fault) network fleet why = absurd why
-  words-stop (TooLong w) network fleet why = absurd why
-  words-stop (ReadFault w) network fleet why = absurd why
-  words-stop WriteFault network fleet why = absurd why
-  words-stop (Day fault) network fleet why = absurd why
-  words-stop (TooLate round) network fleet why = absurd why
-  words-stop (Report fault) network fleet why = absurd why
+  words-stop _ network fleet why = absurd why
 
   network-unread : (settings : Settings) (status : RunStatus) → AreGood (words_of_run call.words) settings → IsUntouched call.fleet → IsUnread call.network file.Network status → ExplainsLive call status
   network-unread settings _ good fleet (IsUnread.long why) = ExplainsLive.stopped _ (good.faultless, IsLiveStop.network_long why fleet, silent)
@@ -159,26 +150,16 @@ answers-live call status why limited hides =
 
 -- the end of a call behind its inputs hides no want of memory
 pub ends-hide : (i : LiveInputs) (seen : LiveSeen) (status : RunStatus) → EndsLive i seen status → HidesNoMemory status
-ends-hide i seen _ (EndsLive.done runs) = tt
 ends-hide i seen _ (EndsLive.headless fields other silent) = λ is. absurd cc
-ends-hide i seen _ (EndsLive.unread begun rose) = tt
-ends-hide i seen _ (EndsLive.failed begun rose) = tt
-ends-hide i seen _ (EndsLive.unstored begun) = tt
+ends-hide i seen _ _ = tt
 
 -- words that are refused hide none
 pub words-hide : (words : List (List ℕ)) (status : RunStatus) → RefusesWords words status → HidesNoMemory status
-words-hide words (Words fault) why = tt
-words-hide words OutOfMemory why = tt
-words-hide words Done why = tt
 words-hide words (Network fault) why = absurd why
 words-hide words (Fleet fault) why = absurd why
 words-hide words (Script fault) why = absurd why
-words-hide words (TooLong w) why = tt
-words-hide words (ReadFault w) why = tt
-words-hide words WriteFault why = tt
-words-hide words (Day fault) why = tt
-words-hide words (TooLate round) why = tt
 words-hide words (Report fault) why = absurd why
+words-hide words _ why = tt
 
 -- why a source stopped a call, and that no more than may be was taken from it
 pub stop-limited : {A E : Type 0} (s : Change SourceView) (w : Which) (refusal : Input E → RunStatus) (read : List ℕ → Result A (Input E)) (status : RunStatus) → StopsAt s w refusal read status

@@ -1,6 +1,6 @@
 -- Texts of rounds, one after the other, and what stands where the last isn't whole.
 use Rattle.std.proofs.Common.{◌≡◌, ℕ, ◌+◌, ◌-◌, ◌^◌, ◌<◌, ◌≤◌, List, [], ◌∷◌, ◌++◌, length, take, drop, get_or, Option, Result, Ok, Err, MatchResult, refl, sym, subst, ap, ◌∙◌, append_assoc, append-nil, add-one, arith, Bool, true, false, not, ◌==◌}
-use Rattle.ridepool.proofs.Common.{Appends, Appends-nil, Appends-trans, Appends-kept, map-append, AppendsPart, IsReady, IsRoundRun, IsRun, IsSameRun, journal_of, position_after_run, state_after_run, Audited, yes_text, ReportFault, Rose, BookView, IsBook, next_position, opening, Mode, Run, Load, Drive, Audit, Settings, Roads, DayRound, NumberedLanes, Inputs, notices, NotifierView, HaveHeard, DrivesDay, AppendsWithPart, IsCutShort, IsPart, IsWhole, Runs, journals_of, rounds_notices, RunsScript, RunsSome, AreAllWith, AreFirst, IsReportWhole, added_by, first_text, head_of, BeginsRounds, EndsRounds, NextJournal, HasPut, PutsRound, IsUnput, StopsIn, RunsAll, RunsFirst, RunsFrom, WritesRound, IsReportFault, IsTextFault, IsRoundFault, IsWritingFault, day_ending, late_status, made_of, status_of, rounds_text, RunStatus, WriteFault, OutOfMemory}
+use Rattle.ridepool.proofs.Common.{Appends, Appends-nil, Appends-trans, Appends-kept, map-append, AppendsPart, IsReady, IsRoundRun, IsRun, IsSameRun, journal_of, position_after_run, state_after_run, Audited, yes_text, ReportFault, Rose, BookView, IsBook, next_position, opening, Mode, Load, Drive, Settings, Roads, DayRound, NumberedLanes, Inputs, notices, NotifierView, HaveHeard, DrivesDay, AppendsWithPart, IsCutShort, IsPart, IsWhole, Runs, journals_of, rounds_notices, RunsScript, RunsSome, AreAllWith, AreFirst, IsReportWhole, added_by, first_text, head_of, BeginsRounds, EndsRounds, NextJournal, HasPut, PutsRound, IsUnput, StopsIn, RunsAll, RunsFirst, RunsFrom, WritesRound, IsReportFault, IsTextFault, IsRoundFault, IsWritingFault, day_ending, late_status, made_of, status_of, rounds_text, RunStatus, WriteFault, OutOfMemory}
 use Rattle.std.specs.List.{flat_map}
 use Rattle.std.proofs.lemmas.Bool.{eqb-true, false≢true}
 use Rattle.std.proofs.lemmas.Grind.{flat_map-append}
@@ -329,9 +329,7 @@ some_bytes x xs = omega (arith, length-append (x ++ 10 ∷ []) (flat_map (λ lin
 some_head : (m : Mode) (s : Settings) (roads : Roads) (count : ℕ) → 0 < length (first_text m s roads count)
 unfolding head_text load_text
 some_head (Load shape) s roads count = some_bytes _ []
-some_head Run s roads count = some_bytes _ _
-some_head Drive s roads count = some_bytes _ _
-some_head Audit s roads count = some_bytes _ _
+some_head _ s roads count = some_bytes _ _
 
 pub some_yes : (audited : Audited) → 0 < length (yes_text audited)
 unfolding yes_text
@@ -390,16 +388,12 @@ runs_of i book rounds made is runs =
     record { numbers = runs.numbers; run = subst (λ b. IsRun i.settings i.roads b.base b.first rounds (journals_of made)) is runs.run }
 
 first_run : (m : Mode) (i : Inputs) (made : List DayRound) → (m ≡ Drive → ⊥) → RunsSome i made → AreFirst m i made
-first_run Run i made undriven first = first
-first_run (Load shape) i made undriven first = first
-first_run Audit i made undriven first = first
 first_run Drive i made undriven first = absurd (undriven refl)
+first_run _ i made undriven first = first
 
 all_run : (m : Mode) (i : Inputs) (made : List DayRound) (end : List ℕ) → (m ≡ Drive → ⊥) → RunsScript i made end → AreAllWith m i made end
-all_run Run i made end undriven all = all
-all_run (Load shape) i made end undriven all = all
-all_run Audit i made end undriven all = all
 all_run Drive i made end undriven all = absurd (undriven refl)
+all_run _ i made end undriven all = all
 
 pub run_serves : (i : Inputs) (book : BookView) (rounds : List NumberedLanes) → (i.settings.mode ≡ Drive → ⊥) → book ≡ opened i → rounds ≡ i.rounds
     → Serves i (RunsFirst i.settings i.roads book rounds) (RunsAll i.settings i.roads book rounds)

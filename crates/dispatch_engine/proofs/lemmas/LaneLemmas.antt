@@ -1,6 +1,6 @@
 -- From what each lane did to the one history in which all of them stand.
 use Rattle.std.proofs.Common.{◌≡◌, ◌≢◌, ℕ, suc, ◌+◌, ◌<◌, ◌≤◌, ◌==◌, Bool, true, false, cond, eqb, List, [], ◌∷◌, ◌++◌, length, map, filter, Option, Some, None, refl, sym, ap, subst, ◌∙◌, inl, inr, arith, All, option_map, slice_index_or}
-use Rattle.dispatch_engine.proofs.Common.{enumerate_from, cases_lt, eqb-false, false≢true, Batch, IsGoodOutcome, BookView, closed_state, first_of, unknown_node, unknown_rider, is_aboard, has_ended, unknown_vehicle, time_back, not_promised, vehicle_full, not_aboard, not_this_batch, state_after, RepliesAreSteps, batch_of, sealed_state, one_more, rider_becomes, vehicle_becomes, step, answer, picked_up, dropped_off, submit_refusal, seal_refusal, submit_step, cancel_step, report_step, pickup_step, dropoff_step, seal_step, close_step, table_step, step-table, by-table, Command, Submit, Cancel, Report, Pickup, Dropoff, Seal, Close, Entry, Answer, BookRefusal, Reply, Accepted, Cancelled, Placed, Picked, Dropped, Sealed, Closed, Refused, State, Settings, Roads, calls_of, LoggedCall, LockedReply, calls_from, call_of, entry_of, sealed_by, snapshot_after, BookPass, IsFinished, of_lane, IsCloseOf, IsLaneRunFrom, IsLaneRun, last_sealed, IsGoodFor, LaneClosesAreGood, IsGoodClose, ClosesAreGood, IsReady, IsPlain, calls_of_lane, calls_of_pass, ArePlain, HaveRun, IsJointRun}
+use Rattle.dispatch_engine.proofs.Common.{enumerate_from, cases_lt, eqb-false, false≢true, Batch, IsGoodOutcome, BookView, closed_state, first_of, unknown_node, unknown_rider, is_aboard, has_ended, unknown_vehicle, time_back, not_promised, vehicle_full, not_aboard, not_this_batch, state_after, RepliesAreSteps, batch_of, sealed_state, one_more, rider_becomes, vehicle_becomes, step, answer, picked_up, dropped_off, submit_refusal, seal_refusal, submit_step, cancel_step, report_step, pickup_step, dropoff_step, seal_step, close_step, table_step, step-table, by-table, Command, Submit, Cancel, Report, Pickup, Dropoff, Seal, Close, Entry, Answer, BookRefusal, Reply, Accepted, Cancelled, Placed, Picked, Dropped, Sealed, Closed, State, Settings, Roads, calls_of, LoggedCall, LockedReply, calls_from, call_of, entry_of, sealed_by, snapshot_after, BookPass, IsFinished, of_lane, IsCloseOf, IsLaneRunFrom, IsLaneRun, last_sealed, IsGoodFor, LaneClosesAreGood, IsGoodClose, ClosesAreGood, IsReady, IsPlain, calls_of_lane, calls_of_pass, ArePlain, HaveRun, IsJointRun}
 use Rattle.std.proofs.lemmas.Bool.{eq-eqb, eqb-true}
 use Rattle.request_book.specs.State.{find_rider, find_vehicle}
 use Rattle.request_book.specs.lemmas.Named.{stands_at}
@@ -52,8 +52,7 @@ table-quiet nodes wait s (Dropoff vehicle rider time) plain =
     let v = find_vehicle vehicle s.vehicles in
     let r = find_rider rider s.riders in
     answer-quiet s (dropped_off s r vehicle time) (first_of (unknown_vehicle v ∷ unknown_rider r ∷ not_aboard r vehicle ∷ time_back v time ∷ [])) Dropped (dropped-seals s r vehicle time) (λ t. refl) refl
-table-quiet nodes wait s (Seal now) plain = absurd plain
-table-quiet nodes wait s (Close batch outcome) plain = absurd plain
+table-quiet nodes wait s _ plain = absurd plain
 
 pub plain-quiet : (nodes : List ℕ) (wait : ℕ) (s : State) (command : Command) → IsPlain command → IsQuiet s (step nodes wait s command)
 plain-quiet nodes wait s command plain = by-table (IsQuiet s) nodes wait s command (table-quiet nodes wait s command plain)
@@ -98,13 +97,9 @@ close-last s batch outcome last is = by (first_of (not_this_batch s.sealed batch
 
 table-last : (nodes : List ℕ) (wait : ℕ) (s : State) (command : Command) (last : Option Batch) → IsLast s last → IsLast (table_step nodes wait s command).0 (last_sealed last (snapshot_after (table_step nodes wait s command).1 (table_step nodes wait s command).0))
 unfolding table_step
-table-last nodes wait s (Submit rider origin destination time party) last is = quiet-last s _ last (table-quiet nodes wait s (Submit rider origin destination time party) tt) is
-table-last nodes wait s (Cancel rider) last is = quiet-last s _ last (table-quiet nodes wait s (Cancel rider) tt) is
-table-last nodes wait s (Report vehicle node time) last is = quiet-last s _ last (table-quiet nodes wait s (Report vehicle node time) tt) is
-table-last nodes wait s (Pickup vehicle rider time) last is = quiet-last s _ last (table-quiet nodes wait s (Pickup vehicle rider time) tt) is
-table-last nodes wait s (Dropoff vehicle rider time) last is = quiet-last s _ last (table-quiet nodes wait s (Dropoff vehicle rider time) tt) is
 table-last nodes wait s (Seal now) last is = seal-last wait s now last is
 table-last nodes wait s (Close batch outcome) last is = close-last s batch outcome.answer last is
+table-last nodes wait s command last is = quiet-last s _ last (table-quiet nodes wait s command tt) is
 
 step-last : (nodes : List ℕ) (wait : ℕ) (s : State) (command : Command) (last : Option Batch) → IsLast s last → IsLast (step nodes wait s command).0 (last_sealed last (snapshot_after (step nodes wait s command).1 (step nodes wait s command).0))
 step-last nodes wait s command last is = by-table (λ p. IsLast p.0 (last_sealed last (snapshot_after p.1 p.0))) nodes wait s command (table-last nodes wait s command last is)
@@ -128,34 +123,17 @@ answered s next (Some refusal) e = absurd cc
 
 module _ (settings : Settings) (roads : Roads) where
   plain-close : (s : State) (command : Command) (reply : Reply) → IsPlain command → IsGoodClose settings roads s command reply
-  plain-close s (Submit rider origin destination time party) reply plain = tt
-  plain-close s (Cancel rider) reply plain = tt
-  plain-close s (Report vehicle node time) reply plain = tt
-  plain-close s (Pickup vehicle rider time) reply plain = tt
-  plain-close s (Dropoff vehicle rider time) reply plain = tt
-  plain-close s (Seal now) reply plain = absurd plain
   plain-close s (Close batch outcome) reply plain = absurd plain
+  plain-close s _ reply plain = tt
 
   -- a close of the lane that seals is good for the batch that stands sealed
   good-close : (s : State) (command : Command) (reply : Reply) (last : Option Batch) → IsLast s last → IsGoodFor settings roads last command → reply ≡ (step roads.nodes settings.wait s command).1 → IsGoodClose settings roads s command reply
   unfolding table_step close_step
-  good-close s (Submit rider origin destination time party) reply last is good e = tt
-  good-close s (Cancel rider) reply last is good e = tt
-  good-close s (Report vehicle node time) reply last is good e = tt
-  good-close s (Pickup vehicle rider time) reply last is good e = tt
-  good-close s (Dropoff vehicle rider time) reply last is good e = tt
-  good-close s (Seal now) reply last is good e = tt
-  good-close s (Close batch outcome) Accepted last is good e = tt
-  good-close s (Close batch outcome) Cancelled last is good e = tt
-  good-close s (Close batch outcome) Placed last is good e = tt
-  good-close s (Close batch outcome) Picked last is good e = tt
-  good-close s (Close batch outcome) Dropped last is good e = tt
-  good-close s (Close batch outcome) (Sealed number) last is good e = tt
-  good-close s (Close batch outcome) (Refused refusal) last is good e = tt
   good-close s (Close batch outcome) Closed last is good e =
       let stands = close-refused s.sealed batch (answered s (closed_state s outcome.answer) _ (e ∙ ap (λ p. p.1) (step-table roads.nodes settings.wait s (Close batch outcome)))) in
       let same : good.0 ≡ stands.0 = (let both : Some good.0 ≡ Some stands.0 = sym good.1 ∙ is stands.0 stands.1 in cc) in
       (stands.0, stands.1, subst (λ (b : Batch). IsGoodOutcome settings roads b outcome) same good.2)
+  good-close s _ _ last is good e = tt
 
   -- one entry more
   close-first : (s : State) (last : Option Batch) (e : Entry) (rest : List (LoggedCall Command LockedReply)) (More : Type 0)
@@ -197,11 +175,6 @@ module _ (nodes : List ℕ) (wait : ℕ) where
   -- where no batch stands sealed, the one of the reply does then
   table-opens : (s : State) (command : Command) → s.sealed ≡ None → Stands (table_step nodes wait s command).0 (sealed_by (table_step nodes wait s command).1)
   unfolding table_step seal_step close_step batch_of sealed_state
-  table-opens s (Submit rider origin destination time party) none = quiet-stands s _ none (table-quiet nodes wait s (Submit rider origin destination time party) tt)
-  table-opens s (Cancel rider) none = quiet-stands s _ none (table-quiet nodes wait s (Cancel rider) tt)
-  table-opens s (Report vehicle node time) none = quiet-stands s _ none (table-quiet nodes wait s (Report vehicle node time) tt)
-  table-opens s (Pickup vehicle rider time) none = quiet-stands s _ none (table-quiet nodes wait s (Pickup vehicle rider time) tt)
-  table-opens s (Dropoff vehicle rider time) none = quiet-stands s _ none (table-quiet nodes wait s (Dropoff vehicle rider time) tt)
   table-opens s (Seal now) none = by (seal_refusal s now)
     where
       by : (o : Option BookRefusal) → Stands (answer s o (Sealed (one_more s.batches)) (sealed_state wait s now)).0 (sealed_by (answer s o (Sealed (one_more s.batches)) (sealed_state wait s now)).1)
@@ -212,6 +185,7 @@ module _ (nodes : List ℕ) (wait : ℕ) where
       by : (o : Option BookRefusal) → Stands (answer s o Closed (closed_state s outcome.answer)).0 (sealed_by (answer s o Closed (closed_state s outcome.answer)).1)
       by None = ap (option_map (λ b. b.number)) (closed-none s outcome.answer)
       by (Some refusal) = ap (option_map (λ b. b.number)) none
+  table-opens s command none = quiet-stands s _ none (table-quiet nodes wait s command tt)
 
   opens : (s : State) (command : Command) → s.sealed ≡ None → Stands (step nodes wait s command).0 (sealed_by (step nodes wait s command).1)
   opens s command none = by-table (λ p. Stands p.0 (sealed_by p.1)) nodes wait s command (table-opens s command none)
@@ -224,15 +198,10 @@ module _ (nodes : List ℕ) (wait : ℕ) where
   -- the close of the batch that stands sealed is taken
   table-closes : (s : State) (command : Command) (batch : ℕ) → Stands s (Some batch) → IsCloseOf batch command → (table_step nodes wait s command).0.sealed ≡ None
   unfolding table_step close_step
-  table-closes s (Submit rider origin destination time party) batch stands is = absurd is
-  table-closes s (Cancel rider) batch stands is = absurd is
-  table-closes s (Report vehicle node time) batch stands is = absurd is
-  table-closes s (Pickup vehicle rider time) batch stands is = absurd is
-  table-closes s (Dropoff vehicle rider time) batch stands is = absurd is
-  table-closes s (Seal now) batch stands is = absurd is
   table-closes s (Close closed outcome) batch stands is =
       ap (λ (o : Option BookRefusal). (answer s o Closed (closed_state s outcome.answer)).0.sealed) (taken s.sealed closed (stands ∙ ap Some (sym is)))
       ∙ closed-none s outcome.answer
+  table-closes s _ batch stands is = absurd is
 
   closes : (s : State) (command : Command) (batch : ℕ) → Stands s (Some batch) → IsCloseOf batch command → (step nodes wait s command).0.sealed ≡ None
   closes s command batch stands is = ap (λ p. p.0.sealed) (step-table nodes wait s command) ∙ table-closes s command batch stands is

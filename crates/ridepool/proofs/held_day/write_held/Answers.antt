@@ -1,4 +1,4 @@
-use Rattle.std.proofs.Common.{◌<◌, ◌≤◌, ◌≡◌, ◌+◌, ◌-◌, ◌^◌, min, length, refl, sym, subst, ◌∙◌, ap, arith, ℕ}
+use Rattle.std.proofs.Common.{◌<◌, ◌≡◌, ◌+◌, ◌-◌, ◌^◌, min, length, refl, ◌∙◌, ap, arith, ℕ}
 use Rattle.ridepool.proofs.Common.{err_from_is_err_and, next_position, HoldsRound}
 use Rattle.ridepool.proofs.HeldLemmas.{zip-at, zip-size}
 use Rattle.ridepool.proofs.WriteLemmas.{put_none, put_next, put_whole, position_next, stops_next}
