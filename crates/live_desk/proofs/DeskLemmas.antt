@@ -156,6 +156,3 @@ log-length d = length-map (log_of d.book) desk_call ∙ calls-length d.book.node
 pub log-short : {A E : Type 0} (r : Result A E) (d : DeskView) → OnOk r (length d.book.entries < 2 ^ 63) → OnOk r (length (desk_log d) < 2 ^ 63)
 log-short (Ok x) d h = omega (arith, h, log-length d)
 log-short (Err e) d h = h
-
-pub next-small : (n first : ℕ) (es : List Entry) → n ≡ next_position first es → n < 2 ^ 64
-next-small n first es e = omega (arith, e)

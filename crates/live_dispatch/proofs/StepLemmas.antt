@@ -22,9 +22,6 @@ row-begun row reply lane = by (eqb row.lane lane) (sealed_by reply) refl
     by true (Some batch) is = (some_close batch ∷ [], (refl, subst (λ (p : Option ℕ). IsLaneRunFrom p [] (some_close batch ∷ [])) (sym is) (refl, tt)))
     by false o is = ([], tt)
 
-none-number : (o : Option Batch) (p : Option ℕ) → option_map (λ (b : Batch). b.number) o ≡ p → o ≡ None → p ≡ None
-none-number o p is none = sym is ∙ ap (option_map (λ (b : Batch). b.number)) none
-
 module _ (settings : Settings) (roads : Roads) where
   -- the nodes of a batch that is sealed are on the roads
   pub sealed-known : (old new : BookView) (lane : ℕ) (command : Command) (b : Batch) → HasTaken old lane command (Some b) new → old.nodes ≡ roads.nodes → All (λ node. Contains roads.nodes node) (named_nodes b)
