@@ -5,15 +5,7 @@ use Rattle.request_book.specs.declared.outcome.Answer.TheVariants.{Overflow}
 use Rattle.request_book.specs.declared.outcome.Outcome.{Outcome}
 use Rattle.shared_book.specs.declared.shared.Receipt.{Receipt}
 use Rattle.shared_book.specs.Locked.{Fits}
-
--- a run, and one more
-run-append : (pending : Option ℕ) (cs ds : List Command) (es fs : List Entry) → IsLaneRunFrom pending cs es → IsLaneRun ds fs → IsLaneRunFrom pending (cs ++ ds) (es ++ fs)
-run-append None [] ds [] fs p q = q
-run-append None [] ds (e ∷ es) fs p q = absurd p
-run-append None (c ∷ cs) ds [] fs p q = absurd p
-run-append None (c ∷ cs) ds (e ∷ es) fs p q = (p.0, run-append (sealed_by e.reply) cs ds es fs p.1 q)
-run-append (Some batch) cs ds [] fs p q = absurd p
-run-append (Some batch) cs ds (e ∷ es) fs p q = (p.0, run-append None cs ds es fs p.1 q)
+use Rattle.dispatch_engine.proofs.lemmas.RunLemmas.{begun-next, run-append}
 
 -- there are runs of any commands
 some-run : (cs : List Command) → (es : List Entry) × IsLaneRun cs es
@@ -26,10 +18,7 @@ begun-more cs ds es p =
     let rest = some-run ds in
     (p.0 ++ rest.0, subst (IsLaneRun (cs ++ ds)) (append_assoc es p.0 rest.0) (run-append None cs ds (es ++ p.0) rest.0 p.1 rest.1))
 
--- after a run of some commands a beginning of a run of others
-begun-next : (cs ds : List Command) (es fs : List Entry) → IsLaneRun cs es → IsLaneBeginning ds fs → IsLaneBeginning (cs ++ ds) (es ++ fs)
-begun-next cs ds es fs p q = (q.0, subst (IsLaneRun (cs ++ ds)) (sym (append_assoc es fs q.0)) (run-append None cs ds es (fs ++ q.0) p q.1))
-
+-- a plain command isn't heavy
 plain-light : (command : Command) → IsPlain command → is_light command ≡ true
 plain-light (Seal now) plain = absurd plain
 plain-light (Close batch outcome) plain = absurd plain

@@ -1,7 +1,8 @@
 -- The entries that a row gave, or a batch from its seal to its close.
 use Rattle.std.proofs.Common.{◌≡◌, ◌≢◌, ℕ, Bool, true, false, cond, eqb, List, [], ◌∷◌, ◌++◌, map, Option, None, Some, refl, sym, ap, subst, ◌∙◌, append-nil, All, filter, option_map}
-use Rattle.live_dispatch.proofs.Common.{eqb-false, All-head, All-tail, Batch, of_lane, IsCloseOf, IsLaneRunFrom, IsLaneRun, IsLaneBeginning, IsGoodClose, IsGoodFor, LaneClosesAreGood, ClosesAreGood, plain-quiet, closes-join, ends-closed, stands-plain, GoesOn, commands_of_pass, entry_command, row_command, pass_of, LaneCommand, state_after, RepliesAreSteps, step, Command, Close, Entry, Reply, State, Settings, entry_notices, Roads, MayStand, Line, calls_from, sealed_by, snapshot_after, in_lane}
+use Rattle.live_dispatch.proofs.Common.{filter-mapped, eqb-false, All-head, All-tail, Batch, of_lane, IsCloseOf, IsLaneRunFrom, IsLaneRun, IsLaneBeginning, IsGoodClose, IsGoodFor, LaneClosesAreGood, ClosesAreGood, plain-quiet, closes-join, ends-closed, stands-plain, GoesOn, commands_of_pass, entry_command, row_command, pass_of, LaneCommand, state_after, RepliesAreSteps, step, Command, Close, Entry, Reply, State, Settings, entry_notices, Roads, MayStand, Line, calls_from, sealed_by, snapshot_after, in_lane}
 use Rattle.std.proofs.lemmas.Bool.{eq-eqb, ne_eqb, eqb-true}
+use Rattle.std.proofs.lemmas.List.Elements.{filter_agree}
 use Rattle.batch_solver.specs.Outcome.{IsGoodOutcome}
 use Rattle.dispatch_engine.specs.lemmas.Lanes.{IsPlain}
 use Rattle.request_book.specs.declared.outcome.Answer.TheVariants.{Overflow}
@@ -48,13 +49,11 @@ rows-told (r ∷ rs) = ap (λ l. r.command ∷ l) (rows-told rs)
 
 -- the first pass plays lane 0
 zero-pass : (es : List Entry) → filter (λ e. eqb (pass_of e.lane) 0) es ≡ of_lane 0 es
-zero-pass [] = refl
-zero-pass (e ∷ es) = by (eqb e.lane 0) (zero-pass es)
+zero-pass es = filter_agree (λ (e : Entry). eqb (pass_of e.lane) 0) (λ (e : Entry). eqb e.lane 0) (λ e. by (eqb e.lane 0)) es
   where
-    by : (b : Bool) → filter (λ e. eqb (pass_of e.lane) 0) es ≡ of_lane 0 es
-        → cond (eqb (cond b 0 1) 0) (e ∷ filter (λ e. eqb (pass_of e.lane) 0) es) (filter (λ e. eqb (pass_of e.lane) 0) es) ≡ cond b (e ∷ of_lane 0 es) (of_lane 0 es)
-    by true same = ap (λ l. e ∷ l) same
-    by false same = same
+    by : (b : Bool) → eqb (cond b 0 1) 0 ≡ b
+    by true = refl
+    by false = refl
 
 pub zero-commands : (es : List Entry) → map (λ e. e.command) (of_lane 0 es) ≡ map told (commands_of_pass 0 es)
 zero-commands es = sym (entries-told (of_lane 0 es)) ∙ ap (λ l. map told (map entry_command l)) (sym (zero-pass es))
@@ -76,13 +75,7 @@ other-pass lane (e ∷ es) other = by (eqb e.lane 0) refl (other-pass lane es ot
     by false h same = kept (eqb e.lane lane) same
 
 rows-lane : (lane : ℕ) (rows : List Line) → filter (λ c. eqb c.lane lane) (map row_command rows) ≡ map row_command (filter (λ l. eqb l.lane lane) rows)
-rows-lane lane [] = refl
-rows-lane lane (r ∷ rs) = by (eqb r.lane lane) (rows-lane lane rs)
-  where
-    by : (b : Bool) → filter (λ c. eqb c.lane lane) (map row_command rs) ≡ map row_command (filter (λ l. eqb l.lane lane) rs)
-        → cond b (row_command r ∷ filter (λ c. eqb c.lane lane) (map row_command rs)) (filter (λ c. eqb c.lane lane) (map row_command rs)) ≡ map row_command (cond b (r ∷ filter (λ l. eqb l.lane lane) rs) (filter (λ l. eqb l.lane lane) rs))
-    by true same = ap (λ l. row_command r ∷ l) same
-    by false same = same
+rows-lane lane rows = filter-mapped row_command (λ (c : LaneCommand). eqb c.lane lane) rows
 
 -- the entries of another lane have the commands of its rows
 other-commands : (lane : ℕ) (es : List Entry) (rows : List Line) → lane ≢ 0 → commands_of_pass 1 es ≡ map row_command rows → map (λ e. e.command) (of_lane lane es) ≡ in_lane rows lane

@@ -1,11 +1,7 @@
 -- What stands after a row, and after an open batch.
-use Rattle.std.proofs.Common.{◌≡◌, ◌≢◌, ℕ, ◌<◌, ◌≤◌, Bool, true, false, cond, eqb, List, [], ◌∷◌, ◌++◌, get_or, length, map, take, Option, None, Some, refl, sym, ap, subst, ◌∙◌, append_assoc, append-nil, arith, All, Contains, option_map}
+use Rattle.std.proofs.Common.{◌≡◌, ◌≢◌, ℕ, ◌<◌, ◌≤◌, Bool, true, false, cond, eqb, List, [], ◌∷◌, ◌++◌, length, map, take, Option, None, Some, refl, sym, ap, subst, ◌∙◌, append_assoc, append-nil, arith, option_map}
 use Rattle.live_dispatch.proofs.Common.{Appends, Appends-trans, Batch, of_lane, IsLaneRunFrom, IsLaneRun, IsLaneBeginning, ClosesAreGood, IsReady, ends-closed, stands-plain, lines_text, entries_lines, entry_text, ReportFault, BeginWithRows, ClosesBatch, TakesRun, commands_of_pass, desk_after, runs-begin, runs-more, takes-start, Halt, IsPassedOn, Outputs, desk_of, desk_root, entries_text, notices_in, text_of, LaneCommand, TakesRows, BookView, next_position, state_after, RepliesAreSteps, step, Command, Seal, Close, Entry, Reply, State, Settings, notices_from, HaveHeard, Notice, all-heard-nothing, Roads, IsBehind, MayStand, Line, is_light, sealed_by, step-seals, BeginsRows, in_lane, last_of, start_text, AppendsSome, HasRunOn, HasTaken, HaveCome, Moment, Stands, entry_for, outputs_of, row_text, entries-append, next-append, next-low, one-text}
-use Rattle.std.proofs.lemmas.Bool.{eqb-true}
-use Rattle.std.proofs.lemmas.Map.Views.{Contains-from_any}
-use Rattle.batch_snapshot.specs.Points.{named_nodes}
 use Rattle.live_desk.specs.declared.desk.DeskRoot.{DeskRoot}
-use Rattle.request_book.specs.Consistent.{IsNode}
 use Rattle.live_dispatch.proofs.BatchLemmas.{batch-begun, batch-closes, batch-ended, batch-lanes, batch-others, batch-unclosed, close-run, none-left, row-lanes, rows-of, some_close, stands-good, stands-silent, told, zero-commands}
 use Rattle.live_dispatch.proofs.StandLemmas.{Gives, begins-broken, begins-one, begins-whole, stands-after}
 use Rattle.live_dispatch.proofs.WriteLemmas.{some-part, some-whole}
@@ -23,14 +19,6 @@ row-begun row reply lane = by (eqb row.lane lane) (sealed_by reply) refl
     by false o is = ([], tt)
 
 module _ (settings : Settings) (roads : Roads) where
-  -- the nodes of a batch that is sealed are on the roads
-  pub sealed-known : (old new : BookView) (lane : ℕ) (command : Command) (b : Batch) → HasTaken old lane command (Some b) new → old.nodes ≡ roads.nodes → All (λ node. Contains roads.nodes node) (named_nodes b)
-  sealed-known old new lane command b taken is = λ k d within.
-      found (get_or (named_nodes b) k d) (subst (λ (ns : List ℕ). IsNode ns (get_or (named_nodes b) k d)) is (taken.fits.named b refl k d within))
-    where
-      found : (node : ℕ) → IsNode roads.nodes node → Contains roads.nodes node
-      found node is = Contains-from_any {eq = λ q n. eqb n q} (λ x y same. sym (eqb-true y x same)) node roads.nodes is
-
   -- the step of a book that is over these roads
   step-is : (b : BookView) (command : Command) → IsReady settings roads b → step b.nodes b.wait b.state command ≡ step roads.nodes settings.wait b.state command
   step-is b command ready = (λ i. step (ready.nodes i) (ready.wait i) b.state command)

@@ -2,6 +2,7 @@
 use Rattle.std.proofs.Common.{◌≡◌, ◌≢◌, ℕ, suc, ◌+◌, ◌<◌, ◌≤◌, ◌==◌, Bool, true, false, cond, eqb, List, [], ◌∷◌, ◌++◌, length, map, filter, Option, Some, None, refl, sym, ap, subst, ◌∙◌, inl, inr, arith, All, option_map, slice_index_or}
 use Rattle.dispatch_engine.proofs.Common.{enumerate_from, cases_lt, eqb-false, false≢true, Batch, IsGoodOutcome, BookView, closed_state, first_of, unknown_node, unknown_rider, is_aboard, has_ended, unknown_vehicle, time_back, not_promised, vehicle_full, not_aboard, not_this_batch, state_after, RepliesAreSteps, batch_of, sealed_state, one_more, rider_becomes, vehicle_becomes, step, answer, picked_up, dropped_off, submit_refusal, seal_refusal, submit_step, cancel_step, report_step, pickup_step, dropoff_step, seal_step, close_step, table_step, step-table, by-table, Command, Submit, Cancel, Report, Pickup, Dropoff, Seal, Close, Entry, Answer, BookRefusal, Reply, Accepted, Cancelled, Placed, Picked, Dropped, Sealed, Closed, State, Settings, Roads, calls_of, LoggedCall, LockedReply, calls_from, call_of, entry_of, sealed_by, snapshot_after, BookPass, IsFinished, of_lane, IsCloseOf, IsLaneRunFrom, IsLaneRun, last_sealed, IsGoodFor, LaneClosesAreGood, IsGoodClose, ClosesAreGood, IsReady, IsPlain, calls_of_lane, calls_of_pass, ArePlain, HaveRun, IsJointRun}
 use Rattle.std.proofs.lemmas.Bool.{eq-eqb, eqb-true}
+use Rattle.dispatch_engine.proofs.lemmas.RunLemmas.{filter-mapped}
 use Rattle.request_book.specs.State.{find_rider, find_vehicle}
 use Rattle.request_book.specs.lemmas.Named.{stands_at}
 use Rattle.request_book.specs.declared.rider.BookRider.{BookRider}
@@ -262,11 +263,10 @@ module _ (P : Entry → Type 0) where
 -- the entries of a run of plain commands are plain
 plain-run : (cs : List Command) (es : List Entry) → ArePlain cs → Each IsTold es → IsLaneRun cs es → Each (λ e. IsPlain e.command) es
 plain-run [] [] plain told run = tt
-plain-run [] (e ∷ es) plain told run = absurd run
-plain-run (c ∷ cs) [] plain told run = absurd run
 plain-run (c ∷ cs) (e ∷ es) plain told run =
     let here : IsPlain e.command = subst IsPlain (sym run.0) plain.0 in
     (here, plain-run cs es plain.1 told.1 (subst (λ (p : Option ℕ). IsLaneRunFrom p cs es) (told.0 here) run.1))
+plain-run _ _ plain told run = absurd run
 
 only-zero : (es : List Entry) → ((k : ℕ) → k ≢ 0 → Each (λ e. IsPlain e.command) (of_lane k es)) → Each IsInZero es
 only-zero [] plain = tt
@@ -298,13 +298,7 @@ calls-cut lane n (c ∷ cs) = by (eqb c.lane lane) (calls-cut lane (n + 1) cs)
     by false e = e
 
 entries-cut : (lane : ℕ) (calls : List (LoggedCall Command LockedReply)) → map entry_of (calls_of_lane lane calls) ≡ of_lane lane (map entry_of calls)
-entries-cut lane [] = refl
-entries-cut lane (c ∷ cs) = by (eqb c.lane lane) (entries-cut lane cs)
-  where
-    by : (b : Bool) → map entry_of (calls_of_lane lane cs) ≡ of_lane lane (map entry_of cs)
-        → map entry_of (cond b (c ∷ calls_of_lane lane cs) (calls_of_lane lane cs)) ≡ cond b (entry_of c ∷ of_lane lane (map entry_of cs)) (of_lane lane (map entry_of cs))
-    by true e = ap (λ l. entry_of c ∷ l) e
-    by false e = e
+entries-cut lane calls = sym (filter-mapped entry_of (λ (e : Entry). e.lane == lane) calls)
 
 -- the calls of entries give the entries back
 calls-entries : (nodes : List ℕ) (wait : ℕ) (s : State) (es : List Entry) → map entry_of (calls_from nodes wait s es) ≡ es
