@@ -1,6 +1,6 @@
 -- How the parts of a call explain its end.
 use Rattle.std.proofs.Common.{◌≡◌, ℕ, List, Option, Some, Ok, Err, length, refl, sym, ap, subst, inl, inr, ⊎_elim, arith, ◌⊎◌, MatchOption}
-use Rattle.ridepool.proofs.Common.{texts_of, Which, AppendsPart, Audited, fault_of, LoadShape, Mode, Run, Load, Drive, Audit, Settings, DayFault, AnswersAudit, Confirms, EndsAudit, yes_text, AnswersDrive, EndsDrive, Inputs, AreGood, AreReadFrom, TellInputs, AreUntouched, CameTo, HasNoWriteFault, IsStop, IsWithin, Reads, StopsOrReads, AnswersLoad, AreTexts, EndsLoad, EndsText, AnswersRun, EndsRun, Change, SinkView, IsUntouched, SourceView, Sources, Seen, IsSilent, source_at, ReadInputs, RunStatus, Done, Words, Network, Fleet, Script, TooLong, ReadFault, WriteFault, OutOfMemory, Day, TooLate, Report, IsSameSink, RefusesBytes, WritesYes, IsAuditFault, IsLimited, IsRunReport, HidesNoMemory, AreInputs, IsUnread, IsNoInput, IsReadAsNoDay, GotInputs, AreAllWith, AreFirst, IsDayFor, IsReportFault, IsReportWhole, IsTextFault, IsWritingFault, added_by, added_text, first_text, head_of}
+use Rattle.ridepool.proofs.Common.{texts_of, Which, AppendsPart, Audited, fault_of, LoadShape, Mode, Run, Load, Drive, Audit, Settings, DayFault, AnswersAudit, Confirms, EndsAudit, yes_text, AnswersDrive, EndsDrive, Inputs, AreGood, AreReadFrom, AreUntouched, CameTo, IsStop, IsWithin, Reads, StopsOrReads, AnswersLoad, AreTexts, EndsLoad, EndsText, AnswersRun, EndsRun, Change, SinkView, IsUntouched, SourceView, Sources, Seen, IsSilent, source_at, ReadInputs, RunStatus, Done, Words, Network, Fleet, Script, TooLong, ReadFault, WriteFault, OutOfMemory, Day, TooLate, Report, IsSameSink, RefusesBytes, WritesYes, IsAuditFault, IsLimited, IsRunReport, HidesNoMemory, AreInputs, IsUnread, IsNoInput, IsReadAsNoDay, GotInputs, inputs_got, AreAllWith, AreFirst, IsDayFor, IsReportFault, IsReportWhole, IsTextFault, IsWritingFault, added_by, added_text, first_text, head_of}
 use Rattle.rider_limits.specs.Settings.{AreGiven}
 use Rattle.rider_limits.specs.declared.word_fault.WordFault.{WordFault}
 use Rattle.ridepool.specs.Answers.{Answers, AnswersAs}
@@ -81,11 +81,11 @@ untouched_report s e report = inl (untouched_within file.Report s.report report)
 
 -- what a call answers, by its command
 run_answers : (settings : Settings) (seen : Seen) (e : RunStatus) → StopsOrReads settings seen e (λ i. IsUntouched seen.sources.report × EndsRun i seen e) → AnswersRun settings seen e
-run_answers settings seen e why = record { explained = why; complete = λ i told whole. by i told whole why }
-  where
-    by : (i : Inputs) → TellInputs seen.sources i → HasNoWriteFault seen → StopsOrReads settings seen e (λ j. IsUntouched seen.sources.report × EndsRun j seen e) → (e ≡ Done) ⊎ (e ≡ OutOfMemory)
-    by i told whole (inl stop) = inr (stops seen.sources i e told stop.0)
-    by i told whole (inr (j, is, read, (report, ends))) = text_ends _ _ _ _ _ _ seen e whole ends
+run_answers settings seen e why =
+    record {
+      explained = why;
+      complete = λ i told whole. ⊎_elim (λ stop. inr (stops seen.sources i e told stop.0)) (λ r. text_ends _ _ _ _ _ _ seen e whole r.3.1) why;
+    }
 
 drive_answers : (settings : Settings) (seen : Seen) (e : RunStatus) → StopsOrReads settings seen e (λ i. IsUntouched seen.sources.report × EndsDrive i seen e) → AnswersDrive settings seen e
 drive_answers settings seen e why =
@@ -105,11 +105,8 @@ audit_answers settings seen e why =
 
 load_answers : (shape : LoadShape) (settings : Settings) (seen : Seen) (e : RunStatus) → AreUntouched seen.sources
     → ((e ≡ OutOfMemory) × IsSilent seen) ⊎ ((i : Inputs) × (i.settings ≡ settings) × AreTexts (texts_of shape) i × EndsLoad shape i seen e) → AnswersLoad shape settings seen e
-load_answers shape settings seen e untouched why = record { untouched = untouched; explained = why; complete = λ whole. by whole why }
-  where
-    by : HasNoWriteFault seen → ((e ≡ OutOfMemory) × IsSilent seen) ⊎ ((i : Inputs) × (i.settings ≡ settings) × AreTexts (texts_of shape) i × EndsLoad shape i seen e) → (e ≡ Done) ⊎ (e ≡ OutOfMemory)
-    by whole (inl lacks) = inr lacks.0
-    by whole (inr (i, is, texts, ends)) = text_ends _ _ _ _ _ _ seen e whole ends
+load_answers shape settings seen e untouched why =
+    record { untouched = untouched; explained = why; complete = λ whole. ⊎_elim (λ lacks. inr lacks.0) (λ r. text_ends _ _ _ _ _ _ seen e whole r.3) why }
 
 -- what a call's answer says, by its words
 abbrev AnswersWords : Seen → RunStatus → Option WordFault → Type 0
@@ -139,10 +136,6 @@ good_answer seen settings e good answers hides limited = answer seen e (subst (A
 pub words_answer : (seen : Seen) (fault : WordFault) → fault_of seen.words ≡ Some fault → AreUntouched seen.sources → IsSilent seen → Answers seen (Words fault)
 words_answer seen fault why sources out =
     answer seen (Words fault) (subst (AnswersWords seen (Words fault)) (sym why) (refl, sources, out)) tt (untouched_limited seen.sources (Words fault) sources)
-
--- the inputs of a call
-abbrev pub inputs_got : Settings → ReadInputs → Inputs
-inputs_got settings got = record { settings = settings; roads = got.network; vehicles = got.fleet; rounds = got.script }
 
 -- inputs that aren't there
 no_day : (seen : Seen) (settings : Settings) (fault : DayFault) → IsReadAsNoDay seen.sources fault → IsUntouched seen.sources.report → IsSilent seen → AnswersDrive settings seen (Day fault)

@@ -1,13 +1,13 @@
 -- Texts of rounds, one after the other, and what stands where the last isn't whole.
-use Rattle.std.proofs.Common.{◌≡◌, ℕ, ◌+◌, ◌-◌, ◌^◌, ◌<◌, ◌≤◌, List, [], ◌∷◌, ◌++◌, length, take, drop, get_or, Option, Result, Ok, Err, MatchResult, refl, sym, subst, ap, ◌∙◌, append_assoc, append-nil, add-one, arith, Bool, true, false, not, ◌==◌}
+use Rattle.std.proofs.Common.{◌≡◌, ℕ, ◌+◌, ◌-◌, ◌^◌, ◌<◌, ◌≤◌, List, [], ◌∷◌, ◌++◌, length, take, drop, get_or, Option, Result, Ok, Err, MatchResult, refl, sym, subst, ap, ◌∙◌, append_assoc, append-nil, arith, Bool, true, false, not, ◌==◌}
 use Rattle.ridepool.proofs.Common.{Appends, Appends-nil, Appends-trans, Appends-kept, map-append, AppendsPart, IsReady, IsRoundRun, IsRun, IsSameRun, journal_of, position_after_run, state_after_run, Audited, yes_text, ReportFault, Rose, BookView, IsBook, next_position, opening, Mode, Load, Drive, Settings, Roads, DayRound, NumberedLanes, Inputs, notices, NotifierView, HaveHeard, DrivesDay, AppendsWithPart, IsCutShort, IsPart, IsWhole, Runs, journals_of, rounds_notices, RunsScript, RunsSome, AreAllWith, AreFirst, IsReportWhole, added_by, first_text, head_of, BeginsRounds, EndsRounds, NextJournal, HasPut, PutsRound, IsUnput, StopsIn, RunsAll, RunsFirst, RunsFrom, WritesRound, IsReportFault, IsTextFault, IsRoundFault, IsWritingFault, day_ending, late_status, made_of, status_of, rounds_text, RunStatus, WriteFault, OutOfMemory}
 use Rattle.std.specs.List.{flat_map}
 use Rattle.std.proofs.lemmas.Bool.{eqb-true, false≢true}
 use Rattle.std.proofs.lemmas.Grind.{flat_map-append}
 use Rattle.std.proofs.lemmas.List.{take-append-drop, length-append}
-use Rattle.std.proofs.Math.Seq.{take-suc, take-length}
+use Rattle.std.proofs.Math.Seq.{take-length}
 use Rattle.batch_snapshot.specs.Kept.{IsFleet}
-use Rattle.dispatch_engine.proofs.lemmas.RunLemmas.{position-more, run-more, state-more}
+use Rattle.dispatch_engine.proofs.lemmas.RunLemmas.{position-more, run-more, state-more, take_next}
 use Rattle.dispatch_report.specs.Head.{head_text}
 use Rattle.dispatch_report.specs.Lines.{lines_text}
 use Rattle.dispatch_report.specs.Round.{end_text}
@@ -26,10 +26,6 @@ use Rattle.route_drive.specs.declared.day_run.DriveFault.TheVariants as drive
 pub position_after_run-most : (position : ℕ) (js : List Journal) → position ≤ 2 ^ 64 - 1 → position_after_run position js ≤ 2 ^ 64 - 1
 position_after_run-most position [] most = most
 position_after_run-most position (k ∷ js) most = position_after_run-most (next_position position k.entries) js (omega arith)
-
--- a list up to the next item
-take_next : {X : Type 0} (xs : List X) (i : ℕ) (x : X) → i < length xs → x ≡ get_or xs i x → take i xs ++ x ∷ [] ≡ take (i + 1) xs
-take_next xs i x within is = ap (λ y. take i xs ++ y ∷ []) is ∙ sym (rw add-one (take-suc xs i x within))
 
 -- journals, numbers, texts and notices of rounds, and of one more
 journals_more : (made : List DayRound) (r : DayRound) → journals_of (made ++ r ∷ []) ≡ journals_of made ++ r.journal ∷ []
@@ -274,15 +270,6 @@ module _ (settings : Settings) (roads : Roads) where
         base = ap (λ k. k.base) is ∙ same.base;
       }
 
-  -- the same of a round whose number is another's
-  pub puts_numbered : (p q : ℕ) (j : Journal) (a b : Option (List ℕ)) (n m : List NotifierView) → p ≡ q
-      → PutsRound settings roads (record { number = p; journal = j }) a b n m → PutsRound settings roads (record { number = q; journal = j }) a b n m
-  puts_numbered p q j a b n m same w = subst (λ k. PutsRound settings roads (record { number = k; journal = j }) a b n m) same w
-
-  pub unput_numbered : (p q : ℕ) (j : Journal) (a b : Option (List ℕ)) (n m : List NotifierView) (low high : ℕ) (s : RunStatus) → p ≡ q
-      → IsUnput settings roads (record { number = p; journal = j }) a b n m low high s → IsUnput settings roads (record { number = q; journal = j }) a b n m low high s
-  unput_numbered p q j a b n m low high s same why = subst (λ k. IsUnput settings roads (record { number = k; journal = j }) a b n m low high s) same why
-
   -- a round, run and written
   pub wrote_round : (book after next : BookView) (r : NumberedLanes) (a b : Option (List ℕ)) (n m : List NotifierView) (j : Journal)
       → IsRoundRun settings roads r (journal_of after) → IsSameRun book after → IsBook after → IsReady settings roads after → j ≡ journal_of after
@@ -313,13 +300,6 @@ pub text_unwritten : (text : List ℕ) (a b : Option (List ℕ)) (low high : ℕ
     → s ≡ status_of fault → AppendsPart a b text → (fault ≡ report.WriteFault → Rose low high) → IsTextFault text a b low high s
 text_unwritten text a b low high report.WriteFault s is part rose = subst (IsTextFault text a b low high) (sym is) (IsTextFault.failed (rose refl) part)
 text_unwritten text a b low high report.OutOfMemory s is part rose = subst (IsTextFault text a b low high) (sym is) (IsTextFault.unstored part)
-
--- the same of equal bytes
-pub part_as : (text bytes : List ℕ) (a b : Option (List ℕ)) → bytes ≡ text → AppendsPart a b bytes → AppendsPart a b text
-part_as text bytes a b is part = subst (AppendsPart a b) is part
-
-pub appends_of : (text bytes : List ℕ) (a b : Option (List ℕ)) → bytes ≡ text → Appends a b bytes → Appends a b text
-appends_of text bytes a b is whole = subst (Appends a b) is whole
 
 -- lines have bytes
 some_bytes : (x : List ℕ) (xs : List (List ℕ)) → 0 < length (lines_text (x ∷ xs))
