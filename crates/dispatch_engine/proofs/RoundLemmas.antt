@@ -1,6 +1,6 @@
 -- From the lanes of a round to its journal.
 use Rattle.std.proofs.Common.{◌≡◌, ◌≢◌, ℕ, suc, ◌+◌, ◌<◌, ◌≤◌, List, [], ◌∷◌, ◌++◌, length, sym, ap, subst, ◌∙◌, arith, Result, Ok, Err, OnErr}
-use Rattle.dispatch_engine.proofs.Common.{BookView, IsBook, IsSameBook, state_after, RepliesAreSteps, Command, Entry, State, Settings, Roads, IsRound, MayStand, NumberedLanes, lane_at, BookPass, IsFinished, of_lane, ClosesAreGood, IsLaneRun, IsReady, IsRoundRun, IsSameRun, journal_of, HaveRunLanes, ArePlain, IsJointRun}
+use Rattle.dispatch_engine.proofs.Common.{AllByRecursion, BookView, IsBook, IsSameBook, state_after, RepliesAreSteps, Command, Entry, State, Settings, Roads, IsRound, MayStand, NumberedLanes, lane_at, BookPass, IsFinished, of_lane, ClosesAreGood, IsLaneRun, IsReady, IsRoundRun, IsSameRun, journal_of, HaveRunLanes, IsPlain, IsJointRun}
 use Rattle.std.specs.List.{All}
 use Rattle.dispatch_engine.proofs.lemmas.LaneLemmas.{joined}
 use Rattle.dispatch_engine.proofs.lemmas.StandLemmas.{stands-plain}
@@ -11,7 +11,7 @@ on-err (Ok x) P p = tt
 on-err (Err e) P p = p
 
 -- all commands of a lane other than the first are plain
-all-plain : (lane : ℕ) (commands : List Command) → lane ≢ 0 → All (MayStand lane) commands → ArePlain commands
+all-plain : (lane : ℕ) (commands : List Command) → lane ≢ 0 → All (MayStand lane) commands → AllByRecursion IsPlain commands
 all-plain lane [] other stand = tt
 all-plain lane (c ∷ cs) other stand = (
   stands-plain lane c other (stand 0 c (omega arith)),

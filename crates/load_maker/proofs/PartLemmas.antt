@@ -1,5 +1,5 @@
 use Rattle.std.proofs.Common.{◌≡◌, ℕ, ◌+◌, List, [], ◌∷◌, ◌++◌, refl, sym, ap, subst, ◌∙◌}
-use Rattle.load_maker.proofs.Common.{Stream, Field, csv_line, csv_lines, nothing, Part, plain, both, each, Writes}
+use Rattle.load_maker.proofs.Common.{Stream, Field, csv_line, csv_lines, nothing, Part, plain, both, Writes}
 use Rattle.std.proofs.lemmas.List.{append-nil, append_assoc}
 use Rattle.std.proofs.lemmas.List.Concat.{flat_map-append}
 

@@ -1,6 +1,9 @@
 -- How the parts of a call explain its end.
 use Rattle.std.proofs.Common.{◌≡◌, ℕ, List, Option, Some, Ok, Err, length, refl, sym, ap, subst, inl, inr, ⊎_elim, arith, ◌⊎◌, MatchOption}
-use Rattle.ridepool.proofs.Common.{texts_of, Which, AppendsPart, Audited, fault_of, LoadShape, Mode, Run, Load, Drive, Audit, Settings, DayFault, AnswersAudit, Confirms, EndsAudit, yes_text, AnswersDrive, EndsDrive, Inputs, AreGood, AreReadFrom, AreUntouched, CameTo, IsStop, IsWithin, Reads, StopsOrReads, AnswersLoad, AreTexts, EndsLoad, EndsText, AnswersRun, EndsRun, Change, SinkView, IsUntouched, SourceView, Sources, Seen, IsSilent, source_at, ReadInputs, RunStatus, Done, Words, Network, Fleet, Script, TooLong, ReadFault, WriteFault, OutOfMemory, Day, TooLate, Report, IsSameSink, RefusesBytes, WritesYes, IsAuditFault, IsLimited, IsRunReport, HidesNoMemory, AreInputs, IsUnread, IsNoInput, IsReadAsNoDay, GotInputs, inputs_got, AreAllWith, AreFirst, IsDayFor, IsReportFault, IsReportWhole, IsTextFault, IsWritingFault, added_by, added_text, first_text, head_of}
+use Rattle.ridepool.proofs.Common.{texts_of, Which, AppendsPart, Audited, fault_of, LoadShape, Mode, Run, Load, Drive, Audit, Settings, DayFault, AnswersAudit, Confirms, EndsAudit, yes_text, AnswersDrive, EndsDrive, Inputs, AreGood, AreReadFrom, AreUntouched, CameTo, IsStop, IsWithin, Reads, StopsOrReads, AnswersLoad, AreTexts, EndsText, AnswersRun, RunsScript, RunsSome, Change, SinkView, IsUntouched, SourceView, Sources, Seen, IsSilent, source_at, ReadInputs, RunStatus, Done, Words, Network, Fleet, Script, TooLong, ReadFault, WriteFault, OutOfMemory, Day, TooLate, Report, IsSameSink, RefusesBytes, WritesYes, IsAuditFault, IsLimited, IsRunReport, HidesNoMemory, AreInputs, IsUnread, IsNoInput, IsReadAsNoDay, GotInputs, inputs_got, AreAllWith, AreFirst, IsDayFor, IsReportFault, IsReportWhole, IsTextFault, IsWritingFault, added_by, added_text, first_text, head_of}
+use Rattle.dispatch_report.specs.Head.{head_text}
+use Rattle.dispatch_report.specs.Round.{round_text}
+use Rattle.dispatch_report.specs.Summary.{load_text, summary_text}
 use Rattle.rider_limits.specs.Settings.{AreGiven}
 use Rattle.rider_limits.specs.declared.word_fault.WordFault.{WordFault}
 use Rattle.ridepool.specs.Answers.{Answers, AnswersAs}
@@ -80,7 +83,8 @@ untouched_report : (s : Sources) (e : RunStatus) → IsUntouched s.report → Is
 untouched_report s e report = inl (untouched_within file.Report s.report report)
 
 -- what a call answers, by its command
-run_answers : (settings : Settings) (seen : Seen) (e : RunStatus) → StopsOrReads settings seen e (λ i. IsUntouched seen.sources.report × EndsRun i seen e) → AnswersRun settings seen e
+run_answers : (settings : Settings) (seen : Seen) (e : RunStatus) → StopsOrReads settings seen e (λ i. IsUntouched seen.sources.report × EndsText i.settings i.roads (λ r. round_text r.number i.settings.proof r.journal) (head_text i.settings i.roads (length i.vehicles)) (RunsSome i) (RunsScript i) seen e)
+    → AnswersRun settings seen e
 run_answers settings seen e why =
     record {
       explained = why;
@@ -104,7 +108,8 @@ audit_answers settings seen e why =
     }
 
 load_answers : (shape : LoadShape) (settings : Settings) (seen : Seen) (e : RunStatus) → AreUntouched seen.sources
-    → ((e ≡ OutOfMemory) × IsSilent seen) ⊎ ((i : Inputs) × (i.settings ≡ settings) × AreTexts (texts_of shape) i × EndsLoad shape i seen e) → AnswersLoad shape settings seen e
+    → ((e ≡ OutOfMemory) × IsSilent seen) ⊎ ((i : Inputs) × (i.settings ≡ settings) × AreTexts (texts_of shape) i
+    × EndsText i.settings i.roads (λ r. summary_text r.journal) (load_text shape) (RunsSome i) (RunsScript i) seen e) → AnswersLoad shape settings seen e
 load_answers shape settings seen e untouched why =
     record { untouched = untouched; explained = why; complete = λ whole. ⊎_elim (λ lacks. inr lacks.0) (λ r. text_ends _ _ _ _ _ _ seen e whole r.3) why }
 

@@ -1,6 +1,6 @@
 -- From what each lane did to the one history in which all of them stand.
 use Rattle.std.proofs.Common.{◌≡◌, ◌≢◌, ℕ, suc, ◌+◌, ◌<◌, ◌≤◌, ◌==◌, Bool, true, false, cond, eqb, List, [], ◌∷◌, ◌++◌, length, map, filter, Option, Some, None, refl, sym, ap, subst, ◌∙◌, inl, inr, arith, All, option_map, slice_index_or}
-use Rattle.dispatch_engine.proofs.Common.{enumerate_from, cases_lt, eqb-false, false≢true, Batch, IsGoodOutcome, BookView, closed_state, first_of, unknown_node, unknown_rider, is_aboard, has_ended, unknown_vehicle, time_back, not_promised, vehicle_full, not_aboard, not_this_batch, state_after, RepliesAreSteps, batch_of, sealed_state, one_more, rider_becomes, vehicle_becomes, step, answer, picked_up, dropped_off, submit_refusal, seal_refusal, submit_step, cancel_step, report_step, pickup_step, dropoff_step, seal_step, close_step, table_step, step-table, by-table, Command, Submit, Cancel, Report, Pickup, Dropoff, Seal, Close, Entry, Answer, BookRefusal, Reply, Accepted, Cancelled, Placed, Picked, Dropped, Sealed, Closed, State, Settings, Roads, calls_of, LoggedCall, LockedReply, calls_from, call_of, entry_of, sealed_by, snapshot_after, BookPass, IsFinished, of_lane, IsCloseOf, IsLaneRunFrom, IsLaneRun, last_sealed, IsGoodFor, LaneClosesAreGood, IsGoodClose, ClosesAreGood, IsReady, IsPlain, calls_of_lane, calls_of_pass, ArePlain, HaveRun, IsJointRun}
+use Rattle.dispatch_engine.proofs.Common.{AllByRecursion, enumerate_from, cases_lt, eqb-false, false≢true, Batch, IsGoodOutcome, BookView, closed_state, first_of, unknown_node, unknown_rider, is_aboard, has_ended, unknown_vehicle, time_back, not_promised, vehicle_full, not_aboard, not_this_batch, state_after, RepliesAreSteps, batch_of, sealed_state, one_more, rider_becomes, vehicle_becomes, step, answer, picked_up, dropped_off, submit_refusal, seal_refusal, submit_step, cancel_step, report_step, pickup_step, dropoff_step, seal_step, close_step, table_step, step-table, by-table, Command, Submit, Cancel, Report, Pickup, Dropoff, Seal, Close, Entry, Answer, BookRefusal, Reply, Accepted, Cancelled, Placed, Picked, Dropped, Sealed, Closed, State, Settings, Roads, calls_of, LoggedCall, LockedReply, calls_from, call_of, entry_of, sealed_by, snapshot_after, BookPass, IsFinished, of_lane, IsCloseOf, IsLaneRunFrom, IsLaneRun, last_sealed, IsGoodFor, LaneClosesAreGood, IsGoodClose, ClosesAreGood, IsReady, IsPlain, calls_of_lane, calls_of_pass, HaveRun, IsJointRun}
 use Rattle.std.proofs.lemmas.Bool.{eq-eqb, eqb-true}
 use Rattle.dispatch_engine.proofs.lemmas.RunLemmas.{filter-mapped}
 use Rattle.request_book.specs.State.{find_rider, find_vehicle}
@@ -105,13 +105,8 @@ table-last nodes wait s command last is = quiet-last s _ last (table-quiet nodes
 step-last : (nodes : List ℕ) (wait : ℕ) (s : State) (command : Command) (last : Option Batch) → IsLast s last → IsLast (step nodes wait s command).0 (last_sealed last (snapshot_after (step nodes wait s command).1 (step nodes wait s command).0))
 step-last nodes wait s command last is = by-table (λ p. IsLast p.0 (last_sealed last (snapshot_after p.1 p.0))) nodes wait s command (table-last nodes wait s command last is)
 
--- a rule of each element
-abbrev Each : {X : Type 0} → (X → Type 0) → List X → Type 0
-Each P [] = Unit {0}
-Each P (x ∷ xs) = P x × Each P xs
-
 -- lane 0 alone seals and closes
-abbrev IsInZero : Entry → Type 0
+abbrev pub IsInZero : Entry → Type 0
 IsInZero e = e.lane ≢ 0 → IsPlain e.command
 
 -- a plain command seals no batch
@@ -153,7 +148,7 @@ module _ (settings : Settings) (roads : Roads) where
       let quiet = plain-quiet roads.nodes settings.wait s e.command plain in
       (plain-close s e.command e.reply plain, more last (λ b f. is b (sym quiet.sealed ∙ f)) good)
 
-  pub closes-join : (s : State) (last : Option Batch) (es : List Entry) → IsLast s last → RepliesAreSteps roads.nodes settings.wait s es → Each IsInZero es → LaneClosesAreGood settings roads last (calls_of_lane 0 (calls_from roads.nodes settings.wait s es)) → ClosesAreGood settings roads s es
+  pub closes-join : (s : State) (last : Option Batch) (es : List Entry) → IsLast s last → RepliesAreSteps roads.nodes settings.wait s es → AllByRecursion IsInZero es → LaneClosesAreGood settings roads last (calls_of_lane 0 (calls_from roads.nodes settings.wait s es)) → ClosesAreGood settings roads s es
   unfolding RepliesAreSteps calls_from ClosesAreGood
   closes-join s last [] is replies zeroth good = tt
   closes-join s last (e ∷ es) is replies zeroth good =
@@ -226,7 +221,7 @@ module _ (nodes : List ℕ) (wait : ℕ) where
   ends-none s (Some batch) cs stands run = absurd run
 
   -- after a run of lane 0 no batch stands sealed
-  pub ends-closed : (s : State) (pending : Option ℕ) (cs : List Command) (es : List Entry) → Stands s pending → RepliesAreSteps nodes wait s es → Each IsInZero es → IsLaneRunFrom pending cs (of_lane 0 es) → (state_after nodes wait s es).sealed ≡ None
+  pub ends-closed : (s : State) (pending : Option ℕ) (cs : List Command) (es : List Entry) → Stands s pending → RepliesAreSteps nodes wait s es → AllByRecursion IsInZero es → IsLaneRunFrom pending cs (of_lane 0 es) → (state_after nodes wait s es).sealed ≡ None
   unfolding RepliesAreSteps state_after
   ends-closed s pending cs [] stands replies zeroth run = ends-none s pending cs stands run
   ends-closed s pending cs (e ∷ es) stands replies zeroth run =
@@ -234,7 +229,7 @@ module _ (nodes : List ℕ) (wait : ℕ) where
       ends-first s pending cs e (of_lane 0 es) ((state_after nodes wait next es).sealed ≡ None) stands replies.0 zeroth.0
       (λ p left here rest. ends-closed next p left es here replies.1 zeroth.1 rest) (eqb e.lane 0) refl run
 
-  pub each-told : (s : State) (es : List Entry) → RepliesAreSteps nodes wait s es → Each IsTold es
+  pub each-told : (s : State) (es : List Entry) → RepliesAreSteps nodes wait s es → AllByRecursion IsTold es
   unfolding RepliesAreSteps
   each-told s [] replies = tt
   each-told s (e ∷ es) replies = (
@@ -244,31 +239,31 @@ module _ (nodes : List ℕ) (wait : ℕ) where
 
 -- elements of a lane
 module _ (P : Entry → Type 0) where
-  each-cut : (b : Bool) (e : Entry) (rest : List Entry) → Each P (cond b (e ∷ rest) rest) → Each P rest
+  each-cut : (b : Bool) (e : Entry) (rest : List Entry) → AllByRecursion P (cond b (e ∷ rest) rest) → AllByRecursion P rest
   each-cut true e rest all = all.1
   each-cut false e rest all = all
 
-  each-kept : (b : Bool) (e : Entry) (rest : List Entry) → P e → Each P rest → Each P (cond b (e ∷ rest) rest)
+  each-kept : (b : Bool) (e : Entry) (rest : List Entry) → P e → AllByRecursion P rest → AllByRecursion P (cond b (e ∷ rest) rest)
   each-kept true e rest p all = (p, all)
   each-kept false e rest p all = all
 
-  each-here : (b : Bool) (e : Entry) (rest : List Entry) → b ≡ true → Each P (cond b (e ∷ rest) rest) → P e
+  each-here : (b : Bool) (e : Entry) (rest : List Entry) → b ≡ true → AllByRecursion P (cond b (e ∷ rest) rest) → P e
   each-here true e rest h all = all.0
   each-here false e rest h all = absurd (false≢true h)
 
-  each-lane : (lane : ℕ) (es : List Entry) → Each P es → Each P (of_lane lane es)
+  each-lane : (lane : ℕ) (es : List Entry) → AllByRecursion P es → AllByRecursion P (of_lane lane es)
   each-lane lane [] all = tt
   each-lane lane (e ∷ es) all = each-kept (eqb e.lane lane) e (of_lane lane es) all.0 (each-lane lane es all.1)
 
 -- the entries of a run of plain commands are plain
-plain-run : (cs : List Command) (es : List Entry) → ArePlain cs → Each IsTold es → IsLaneRun cs es → Each (λ e. IsPlain e.command) es
+plain-run : (cs : List Command) (es : List Entry) → AllByRecursion IsPlain cs → AllByRecursion IsTold es → IsLaneRun cs es → AllByRecursion (λ e. IsPlain e.command) es
 plain-run [] [] plain told run = tt
 plain-run (c ∷ cs) (e ∷ es) plain told run =
     let here : IsPlain e.command = subst IsPlain (sym run.0) plain.0 in
     (here, plain-run cs es plain.1 told.1 (subst (λ (p : Option ℕ). IsLaneRunFrom p cs es) (told.0 here) run.1))
 plain-run _ _ plain told run = absurd run
 
-only-zero : (es : List Entry) → ((k : ℕ) → k ≢ 0 → Each (λ e. IsPlain e.command) (of_lane k es)) → Each IsInZero es
+only-zero : (es : List Entry) → ((k : ℕ) → k ≢ 0 → AllByRecursion (λ e. IsPlain e.command) (of_lane k es)) → AllByRecursion IsInZero es
 only-zero [] plain = tt
 only-zero (e ∷ es) plain = (
   λ ne. each-here (λ (x : Entry). IsPlain x.command) (eqb e.lane e.lane) e (of_lane e.lane es) (eq-eqb e.lane e.lane refl) (plain e.lane ne),
@@ -341,7 +336,7 @@ module _ (settings : Settings) (roads : Roads) (lanes : ℕ → List Command) (s
   pub joined : IsJointRun settings roads start.state lanes done.since
   joined =
       let told = each-told roads.nodes settings.wait start.state done.since replies in
-      let zeroth : Each IsInZero done.since = only-zero done.since (λ k ne. plain-run (lanes k) (of_lane k done.since) (run.plain k ne) (each-lane IsTold k done.since told) (ran pass k)) in
+      let zeroth : AllByRecursion IsInZero done.since = only-zero done.since (λ k ne. plain-run (lanes k) (of_lane k done.since) (run.plain k ne) (each-lane IsTold k done.since told) (ran pass k)) in
       record {
         lanes = ran pass;
         closes = closes-join settings roads start.state None done.since
