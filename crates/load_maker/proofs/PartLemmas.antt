@@ -1,5 +1,5 @@
 use Rattle.std.proofs.Common.{◌≡◌, ℕ, ◌+◌, List, [], ◌∷◌, ◌++◌, refl, sym, ap, subst, ◌∙◌}
-use Rattle.load_maker.proofs.Common.{Stream, Field, csv_line, csv_lines, nothing, Part, plain, both, each, Writes}
+use Rattle.load_maker.proofs.Common.{Stream, Field, csv_line, csv_lines, nothing, Part, plain, both, Writes}
 use Rattle.std.proofs.lemmas.List.{append-nil, append_assoc}
 use Rattle.std.proofs.lemmas.List.Concat.{flat_map-append}
 
@@ -28,7 +28,3 @@ Writes-both first second old mid new s t u here rest = record {
 -- a part that was written, under another name
 pub Writes-same : (part other : Part) (old new : List ℕ) (s t : Stream) → part ≡ other → Writes part old new s t → Writes other old new s t
 Writes-same part other old new s t is writes = subst (λ p. Writes p old new s t) is writes
-
--- as many parts were written as there are
-pub Writes-each_all : (parts : ℕ → Part) (n count : ℕ) (old new : List ℕ) (s t : Stream) → n ≡ count → Writes (each parts n) old new s t → Writes (each parts count) old new s t
-Writes-each_all parts n count old new s t is writes = subst (λ k. Writes (each parts k) old new s t) is writes

@@ -30,6 +30,7 @@ fn put_vehicle(
 }
 
 /// The vehicles.
+#[tactic(auto, unfolding(crate::specs::lemmas::Parts::fleet_part))]
 pub(crate) fn put_fleet(
     text: &mut Vec<u8>,
     rng: &mut SplitMix64,

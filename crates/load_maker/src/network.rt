@@ -70,6 +70,7 @@ fn put_down(
     Ok(())
 }
 
+#[tactic(auto, unfolding(crate::specs::lemmas::Parts::arcs_of_row))]
 fn put_row_arcs(
     text: &mut Vec<u8>,
     rng: &mut SplitMix64,
@@ -88,6 +89,7 @@ fn put_row_arcs(
 }
 
 /// The arcs of the square.
+#[tactic(auto, unfolding(crate::specs::lemmas::Parts::network_part))]
 pub(crate) fn put_network(
     text: &mut Vec<u8>,
     rng: &mut SplitMix64,

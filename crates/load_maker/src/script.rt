@@ -35,6 +35,7 @@ fn put_report(
     )
 }
 
+#[tactic(auto, unfolding(crate::specs::lemmas::Parts::all_reports))]
 fn put_all_reports(
     text: &mut Vec<u8>,
     rng: &mut SplitMix64,
@@ -103,6 +104,7 @@ fn put_submit(
     )
 }
 
+#[tactic(auto, unfolding(crate::specs::lemmas::Parts::submits))]
 fn put_submits(
     text: &mut Vec<u8>,
     rng: &mut SplitMix64,
@@ -151,6 +153,7 @@ fn put_batch(
 }
 
 /// The batches.
+#[tactic(auto, unfolding(crate::specs::lemmas::Parts::script_part))]
 pub(crate) fn put_script(
     text: &mut Vec<u8>,
     rng: &mut SplitMix64,
