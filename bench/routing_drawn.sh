@@ -14,7 +14,7 @@ for seed in 1 2 3; do
     : > "$work/ours"
     : > "$work/theirs"
     for _ in 1 2 3; do
-        crates/calls_bench/out/calls_bench routing "$seed" "$tasks" >> "$work/ours"
+        crates/calls_bench/out/calls_bench routing "$seed" "$tasks" >> "$work/ours" 2>&1
         "$work/native" "$seed" "$tasks" >> "$work/theirs"
     done
     if [ "$(grep served "$work/ours")" != "$(grep served "$work/theirs")" ]; then

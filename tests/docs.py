@@ -293,7 +293,7 @@ def undocumented(crate):
 
 def libraries():
     """The folders of the crates that others use."""
-    tested = {"input_tests", "travel_tests", "book_tests", "drawn_plans", "whole_calls"}
+    tested = {"single_calls", "whole_calls"}
     crates = (path.parent.parent for path in sorted((TOP / "crates").glob("*/src/lib.rt")))
     return [crate for crate in crates if crate.name not in tested]
 

@@ -3,7 +3,7 @@
 //! The tree grows at the leaf of least value, on rows that a vehicle may still use; the bound never falls,
 //! and it meets the plan's cost unless the budget of nodes is spent.
 //!
-//! A caller, from the tests of `drawn_plans`:
+//! A caller, from the tests of `single_calls`:
 //!
 //! ```
 //! /// What a search with this budget says: its bound, its cost, how many nodes it has, and what the checker

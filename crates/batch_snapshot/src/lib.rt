@@ -4,7 +4,7 @@
 //! only. `Points` are the distinct nodes that a snapshot names, by rising name; the layers above work
 //! with their places in that list.
 //!
-//! A caller, from the tests of `input_tests`:
+//! A caller:
 //!
 //! ```
 //! /// Whether a copy tells the same, and each node that is named stands once.

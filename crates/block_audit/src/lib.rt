@@ -3,7 +3,7 @@
 //! A text begins with the block of at most one good outcome of a batch, whoever printed it. It is found where there is
 //! one; else it is said what is wrong: where the text is cut or a line out of form, or the first point that fails.
 //!
-//! A caller, from the tests of `whole_calls`:
+//! A caller:
 //!
 //! ```
 //! let gate = FreeGate;

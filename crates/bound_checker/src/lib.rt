@@ -4,7 +4,7 @@
 //! With the search it shares the types alone: which rows may be chosen at a node, what a leaf shows and which
 //! places are dead ends it computes by loops of its own, as plain as the definitions.
 //!
-//! A caller, from the tests of `drawn_plans`:
+//! A caller:
 //!
 //! ```
 //! let fives = Tree::of(vec![in alloc; leaf(alloc, 5120)?]?);

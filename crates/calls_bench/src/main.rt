@@ -21,7 +21,7 @@ usage: calls_bench routing SEED TASKS
        calls_bench tables NETWORK POINTS REPEATS WAY
 
 routing draws tasks of 2 to 6 riders and 0 to 8 passengers, and finds the least delay of each. It prints how many can
-be served, the sum of their least delays, and the microseconds that all took.
+be served and the sum of their least delays, and on standard error the microseconds that all took.
 
   SEED      of the draws, any 64-bit number
   TASKS     how many, 0 to 100000

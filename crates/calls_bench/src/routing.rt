@@ -38,7 +38,7 @@ pub fn time_routing(rt: &HostRuntime) -> Result<(), Fault> {
     let answers = answers_of(rt.alloc(), &tasks, &times)?;
     let took = start.elapsed(rt)?.as_micros();
     println!(rt; "served {}, delays {}", answers.served, answers.delays)?;
-    println!(rt; "{took} microseconds")?;
+    eprintln!(rt; "{took} microseconds")?;
     Ok(())
 }
 

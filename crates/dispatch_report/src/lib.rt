@@ -5,7 +5,7 @@
 //! an error a beginning that isn't the whole. Text goes out in pieces of whole lines: a piece is written as soon as
 //! it has 32 KB, and at the end of each call. No line is longer than that, so a piece has at most 64 KB.
 //!
-//! A caller, from the tests of `book_tests`:
+//! A caller:
 //!
 //! ```
 //! fn writes_head(alloc: Global) -> bool {

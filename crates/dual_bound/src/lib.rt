@@ -3,7 +3,7 @@
 //!
 //! A leaf value is computed exactly, in whole numbers, and takes no memory. It judges what an ascent reaches.
 //!
-//! A caller, from the tests of `drawn_plans`:
+//! A caller:
 //!
 //! ```
 //! fn fitted(alloc: Global, graph: &TripGraph) -> Result<(Multipliers, Multipliers), OutOfMemory> {

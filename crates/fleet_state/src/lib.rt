@@ -3,7 +3,7 @@
 //! Rows are judged in their order, and each fault is named with its row and column; every vehicle stands
 //! at a node of the network, with nobody aboard, and no id stands twice.
 //!
-//! A caller, from the tests of `book_tests`:
+//! A caller:
 //!
 //! ```
 //! fn book_on(alloc: Global, network: &Network, fleet: &[u8]) -> Option<Book> {

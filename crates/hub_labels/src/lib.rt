@@ -4,19 +4,19 @@
 //! names, so there is one labelling of a network (canonical hub labels: Abraham, Delling, Goldberg and Werneck 2012). It
 //! is made by pruned searches, by rank, one forward and one backward from each node (Akiba, Iwata and Yoshida 2013).
 //!
-//! A caller, from the tests of `travel_tests`:
+//! A caller, from the tests of `single_calls`:
 //!
 //! ```
-//! fn labels_of_a_line(rt: HostRuntime) -> Result<(), Fail> {
-//!     let network = read(&rt, rt.alloc(), LINE);
-//!     let labels = Labels::build(rt.alloc(), &network)?;
-//!     assert_eq!(rt; labels.len(), 5);
-//!     assert_eq!(rt; forward(&labels, 0), [hub(1, 60), hub(0, 0)].as_slice());
-//!     let of_five = [hub(1, 180), hub(2, 120), hub(3, 60), hub(4, 0)];
-//!     assert_eq!(rt; forward(&labels, 4), of_five.as_slice());
-//!     assert_eq!(rt; backward(&labels, 4), of_five.as_slice());
-//!     assert_eq!(rt; seconds(&labels, 0, 4), Some(240));
-//!     Ok(())
+//! fn judged(
+//!     alloc: Global,
+//!     network: &Network,
+//!     ahead: Option<Hub>,
+//!     back: Option<Hub>,
+//! ) -> Option<Result<(), LabelFault>> {
+//!     let labels = Labels::build(alloc, network).ok()?;
+//!     let forward = copied(alloc, &labels, false, ahead).ok()?;
+//!     let backward = copied(alloc, &labels, true, back).ok()?;
+//!     Some(Labels::checked(alloc, network, forward, backward).map(|_| ()))
 //! }
 //! ```
 //!

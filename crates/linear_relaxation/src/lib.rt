@@ -3,7 +3,7 @@
 //! Multipliers come out of it that nobody has to trust: a leaf value judges them. Numbers are in fixed
 //! point, so that each machine does the same.
 //!
-//! A caller, from the tests of `drawn_plans`:
+//! A caller:
 //!
 //! ```
 //! fn relaxed(alloc: Global, graph: &TripGraph) -> Result<(i128, usize), OutOfMemory> {

@@ -1,6 +1,6 @@
 -- The names that the proofs of this crate cite from elsewhere, passed on from one place. Declares nothing.
 pub use Rattle.std.proofs.lemmas.Bool.{cases_eq, false≢true, or_cases, or_from, or_left, or_right}
-pub use Rattle.std.proofs.lemmas.List.{get_or-map, get_or_append_left, get_or_at, get_or_default, length-map, length_push}
+pub use Rattle.std.proofs.lemmas.List.{get_or-map, get_or_default, length-map}
 pub use Rattle.std.proofs.lemmas.List.Folds.{list_any-append, list_any_none}
 pub use Rattle.std.proofs.lemmas.Nat.{mod_below}
 pub use Rattle.std.specs.List.{list_any, position_from}
@@ -18,7 +18,7 @@ unfoldable pub use Rattle.load_maker.specs.lemmas.Parts.{all_reports, arcs_down,
 pub use Rattle.load_maker.specs.lemmas.Parts.{csv_lines, draws_of, nothing, other_than, seal_row}
 pub use Rattle.made_inputs.specs.Accepted.{AreReadable, IsFleetText, IsNetworkText, IsScriptText}
 pub use Rattle.pool_base.proofs.lemmas.DistinctLemmas.{any-distinct, length-distinct}
-pub use Rattle.pool_base.proofs.lemmas.InOrderLemmas.{all_or_first-all, first_fault-all}
+pub use Rattle.pool_base.proofs.lemmas.InOrderLemmas.{all_or_first-all, all_or_first-ok, first_fault-all}
 pub use Rattle.pool_base.specs.Header.{fleet_header, network_header, script_header}
 pub use Rattle.pool_base.specs.InOrder.{all_or_first, refused_where, ◌>>=◌}
 pub use Rattle.pool_base.specs.Numeral.{number_at, number_up_to}

@@ -33,6 +33,10 @@ number_up_to-decimal most n within small =
     number_up_to-given most (decimal n) (is_numeral-digits (decimal n) is.some is.digits) (omega (arith, is.value))
     ∙ ap (λ v. Some v) is.value
 
+-- the text of a number of the files
+pub small_number : (n : ℕ) → n ≤ 1000000000 → number_up_to 1000000000 (decimal n) ≡ Some n
+small_number n small = number_up_to-decimal 1000000000 n small (omega arith)
+
 -- the number of a field is a number of the files
 abbrev pub Fits : Field → Type 0
 Fits (Number n) = n ≤ 1000000000

@@ -1,5 +1,6 @@
 pub mod FieldLemmas
 pub mod TextLemmas
+pub mod PartLemmas
 pub mod NetworkLemmas
 pub mod NodeLemmas
 pub mod FleetLemmas

@@ -1,7 +1,7 @@
-use Rattle.std.proofs.Common.{◌≡◌, ℕ, zero, suc, ◌+◌, ◌*◌, ◌/◌, ◌%◌, ◌<◌, ◌≤◌, ◌==◌, Bool, true, false, ◌||◌, cond, ltb, List, [], ◌∷◌, Some, map, inl, inr, decimal, unwrap_or, refl, sym, ap, subst, ◌∙◌, arith}
-use Rattle.made_inputs.proofs.Common.{list_any, false≢true, or_cases, or_left, or_right, list_any-append, mod_below, Stream, number_up_to, number_at, has_node, greatest_name, nodes_of, names_in, any-distinct, LoadShape, Field, draw, Part, both, each, draws_of, nothing, arcs_right, arcs_down, arcs_of_row, network_part, node_id, arcs_between}
+use Rattle.std.proofs.Common.{◌≡◌, ℕ, zero, suc, ◌+◌, ◌*◌, ◌/◌, ◌%◌, ◌<◌, ◌≤◌, ◌==◌, Bool, true, false, ◌||◌, cond, ltb, List, [], ◌∷◌, map, inl, inr, unwrap_or, refl, ap, subst, ◌∙◌, arith}
+use Rattle.made_inputs.proofs.Common.{list_any, cases_eq, false≢true, or_cases, or_left, or_right, list_any-append, mod_below, Stream, number_at, has_node, greatest_name, nodes_of, names_in, any-distinct, LoadShape, Field, draw, Part, both, each, draws_of, nothing, arcs_right, arcs_down, arcs_of_row, network_part, node_id, arcs_between}
 use Rattle.std.specs.List.{flat_map}
-use Rattle.std.proofs.lemmas.Bool.{lt-ltb, ltb-false, ltb-true, eq-eqb}
+use Rattle.std.proofs.lemmas.Bool.{lt-ltb, eq-eqb}
 use Rattle.std.proofs.lemmas.Nat.{div-add-mod'}
 use Rattle.std.proofs.Math.Bool.{or-true}
 use Rattle.std.proofs.Math.Nat.{div-lt_iff_lt-mul}
@@ -29,66 +29,51 @@ Naming-right n first second rest s =
     ∙ ap (λ b. list_any (starts_at n) (first s).0 || b) (rest (first s).1)
     ∙ or-true (list_any (starts_at n) (first s).0)
 
-Naming-last : (n : ℕ) (parts : ℕ → Part) (k m : ℕ) → k ≡ m → Naming n (parts k) → Naming n (parts m)
-Naming-last n parts k m same is = subst (λ i. Naming n (parts i)) same is
-
-Naming-each_by : (n : ℕ) (parts : ℕ → Part) (k m : ℕ) (below : Bool) → ltb k m ≡ below → k < suc m → (k < m → Naming n (each parts m)) → Naming n (parts k) → Naming n (both (each parts m) (parts m))
-Naming-each_by n parts k m true e inside before is = Naming-left n (each parts m) (parts m) (before (ltb-true k m e))
-Naming-each_by n parts k m false e inside before is =
-    let last : m ≤ k = ltb-false k m e in
-    Naming-right n (each parts m) (parts m) (Naming-last n parts k m (omega (arith, last, inside)) is)
-
 Naming-each : (n : ℕ) (parts : ℕ → Part) (k count : ℕ) → k < count → Naming n (parts k) → Naming n (each parts count)
 Naming-each n parts k zero inside is = absurd (omega arith)
-Naming-each n parts k (suc m) inside is = λ s. Naming-each_by n parts k m (ltb k m) refl inside (λ below. Naming-each n parts k m below is) is s
+Naming-each n parts k (suc m) inside is =
+    elim (cases_eq k m) [
+      | inl same ↦ Naming-right n (each parts m) (parts m) (subst (λ i. Naming n (parts i)) same is)
+      | inr other ↦ Naming-left n (each parts m) (parts m) (Naming-each n parts k m (omega (arith, inside, other)) is)
+    ]
 
 Naming-where : (n : ℕ) (c : Bool) (part other : Part) → c ≡ true → Naming n part → Naming n (cond c part other)
 Naming-where n true part other e is = is
 Naming-where n false part other e is = absurd (false≢true e)
 
-starts : (a b t n : ℕ) → a ≤ greatest_name → a ≡ n → starts_at n (field.Number a ∷ field.Number b ∷ field.Number t ∷ []) ≡ true
-starts a b t n small same =
-    let is : number_up_to greatest_name (decimal a) ≡ Some a = number_up_to-decimal greatest_name a small (omega arith) in
-    ap (λ o. unwrap_or o 0 == n) is ∙ eq-eqb a n same
+starts : (a b t : ℕ) → a ≤ greatest_name → starts_at a (field.Number a ∷ field.Number b ∷ field.Number t ∷ []) ≡ true
+starts a b t small = ap (λ o. unwrap_or o 0 == a) (number_up_to-decimal greatest_name a small (omega arith)) ∙ eq-eqb a a refl
 
-Naming-first : (a b n : ℕ) → a ≤ greatest_name → a ≡ n → Naming n (arcs_between a b)
+-- two arcs between two nodes start at either
+Naming-first : (a b : ℕ) → a ≤ greatest_name → Naming a (arcs_between a b)
 unfolding arcs_between
-Naming-first a b n small same s =
+Naming-first a b small s =
     let t : ℕ = 20 + (draw 41 s).0 in
-    ap (λ c. c || (starts_at n (field.Number b ∷ field.Number a ∷ field.Number t ∷ []) || false)) (starts a b t n small same)
+    ap (λ c. c || (starts_at a (field.Number b ∷ field.Number a ∷ field.Number t ∷ []) || false)) (starts a b t small)
 
-Naming-second : (a b n : ℕ) → b ≤ greatest_name → b ≡ n → Naming n (arcs_between a b)
+Naming-second : (a b : ℕ) → b ≤ greatest_name → Naming b (arcs_between a b)
 unfolding arcs_between
-Naming-second a b n small same s =
+Naming-second a b small s =
     let t : ℕ = 20 + (draw 41 s).0 in
-    ap (λ c. starts_at n (field.Number a ∷ field.Number b ∷ field.Number t ∷ []) || (c || false)) (starts b a t n small same)
-    ∙ or-true (starts_at n (field.Number a ∷ field.Number b ∷ field.Number t ∷ []))
+    ap (λ c. starts_at b (field.Number a ∷ field.Number b ∷ field.Number t ∷ []) || (c || false)) (starts b a t small)
+    ∙ or-true (starts_at b (field.Number a ∷ field.Number b ∷ field.Number t ∷ []))
 
-Naming-row_last : (side i j k : ℕ) → j ≡ k + 1 → side ≤ 100 → i < side → j < side → Naming (node_id side i j) (arcs_of_row side i)
+-- what the arcs between a node and the next name, their row of the square names
+Naming-right_of : (n side i k : ℕ) → k + 1 < side → Naming n (arcs_between (node_id side i k) (node_id side i (k + 1))) → Naming n (arcs_of_row side i)
 unfolding arcs_of_row arcs_right
-Naming-row_last side i j k next small row column =
-    let n : ℕ = node_id side i j in
-    let same : node_id side i (k + 1) ≡ n = ap (λ x. node_id side i x) (sym next) in
-    let fits : node_id side i (k + 1) ≤ greatest_name = node_small side i (k + 1) small (omega arith) (omega arith) in
-    let here : Naming n (arcs_between (node_id side i k) (node_id side i (k + 1))) = Naming-second (node_id side i k) (node_id side i (k + 1)) n fits same in
-    Naming-each n (λ x. both (arcs_right side i x) (arcs_down side i x)) k side (omega arith)
+Naming-right_of n side i k inside here =
+    Naming-each n (λ j. both (arcs_right side i j) (arcs_down side i j)) k side (omega (arith, inside))
     (Naming-left n (arcs_right side i k) (arcs_down side i k)
-    (Naming-where n (ltb (k + 1) side) (arcs_between (node_id side i k) (node_id side i (k + 1))) nothing (lt-ltb (k + 1) side (omega arith)) here))
+    (Naming-where n (ltb (k + 1) side) (arcs_between (node_id side i k) (node_id side i (k + 1))) nothing (lt-ltb (k + 1) side inside) here))
 
-Naming-row_by : (side i j : ℕ) (more : Bool) → ltb (j + 1) side ≡ more → 2 ≤ side → side ≤ 100 → i < side → j < side → Naming (node_id side i j) (arcs_of_row side i)
-unfolding arcs_of_row arcs_right
-Naming-row_by side i j true e two small row column =
-    let n : ℕ = node_id side i j in
-    let here : Naming n (arcs_between n (node_id side i (j + 1))) = Naming-first n (node_id side i (j + 1)) n (node_small side i j small (omega arith) (omega arith)) refl in
-    Naming-each n (λ k. both (arcs_right side i k) (arcs_down side i k)) j side column
-    (Naming-left n (arcs_right side i j) (arcs_down side i j)
-    (Naming-where n (ltb (j + 1) side) (arcs_between n (node_id side i (j + 1))) nothing e here))
-Naming-row_by side i zero false e two small row column = (let last : side ≤ 0 + 1 = ltb-false (0 + 1) side e in absurd (omega (arith, last, two)))
-Naming-row_by side i (suc k) false e two small row column = Naming-row_last side i (suc k) k (omega arith) small row column
-
--- a row of the square names each of its nodes
+-- a row of the square names each of its nodes: the first with the arcs to the next, the others with those from the one before
 Naming-row : (side i j : ℕ) → 2 ≤ side → side ≤ 100 → i < side → j < side → Naming (node_id side i j) (arcs_of_row side i)
-Naming-row side i j two small row column = Naming-row_by side i j (ltb (j + 1) side) refl two small row column
+Naming-row side i zero two small row column =
+    Naming-right_of (node_id side i 0) side i 0 (omega (arith, two)) (Naming-first (node_id side i 0) (node_id side i (0 + 1)) (node_small side i 0 small (omega arith) (omega arith)))
+Naming-row side i (suc k) two small row column =
+    let n : ℕ = node_id side i (k + 1) in
+    subst (λ j. Naming (node_id side i j) (arcs_of_row side i)) (omega arith)
+    (Naming-right_of n side i k (omega (arith, column)) (Naming-second (node_id side i k) n (node_small side i (k + 1) small (omega arith) (omega arith))))
 
 Naming-network : (shape : LoadShape) (i j : ℕ) → 2 ≤ shape.side → shape.side ≤ 100 → i < shape.side → j < shape.side → Naming (node_id shape.side i j) (network_part shape)
 unfolding network_part

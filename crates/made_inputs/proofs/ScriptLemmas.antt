@@ -1,8 +1,7 @@
-use Rattle.std.proofs.Common.{◌≡◌, ℕ, zero, suc, ◌+◌, ◌-◌, ◌*◌, ◌%◌, ◌<◌, ◌≤◌, Bool, true, false, cond, ltb, List, [], ◌∷◌, ◌++◌, Some, Ok, Err, map, length, get_or, unwrap_or, decimal, refl, sym, ap, ◌∙◌, arith}
-use Rattle.made_inputs.proofs.Common.{length-map, mod_below, Stream, next_u64, ◌>>=◌, all_or_first, number_up_to, number_at, all_or_first-all, LoadShape, Field, draw, Part, plain, both, each, draws_of, nothing, all_reports, other_than, seal_row, reports, submits, script_part, fleet_part, network_part, drawn_node, report_row, submit_row, batch_rows}
+use Rattle.std.proofs.Common.{◌≡◌, ℕ, zero, suc, ◌+◌, ◌-◌, ◌*◌, ◌%◌, ◌<◌, ◌≤◌, Bool, true, false, cond, ltb, List, [], ◌∷◌, Ok, Err, map, length, get_or, unwrap_or, refl, sym, ap, ◌∙◌, arith}
+use Rattle.made_inputs.proofs.Common.{length-map, mod_below, Stream, next_u64, ◌>>=◌, all_or_first, number_at, all_or_first-all, LoadShape, Field, draw, plain, both, each, draws_of, nothing, all_reports, other_than, seal_row, reports, submits, script_part, fleet_part, network_part, drawn_node, report_row, submit_row, batch_rows}
 use Rattle.std.proofs.lemmas.Bool.{le-ltb}
-use Rattle.std.proofs.lemmas.List.{length-append}
-use Rattle.std.proofs.Math.Nat.{mul-le-mul, suc-mul}
+use Rattle.std.proofs.Math.Nat.{mul-le-mul}
 use Rattle.request_book.specs.declared.command.Command.{Command}
 use Rattle.script_rows.specs.declared.fault.ScriptFault.TheVariants.{TooManyRows}
 use Rattle.script_rows.specs.declared.version.ScriptVersion.TheVariants.{One}
@@ -11,8 +10,9 @@ use Rattle.script_rows.specs.Line.{party_in, submit_in, three_in, command_in, le
 use Rattle.script_rows.specs.Round.{NumberedLanes}
 use Rattle.script_rows.specs.Script.{round_before, script_of}
 use Rattle.script_rows.specs.lemmas.Named.{line_at, rounds_of}
-use Rattle.made_inputs.proofs.FieldLemmas.{AllFit, number_up_to-decimal}
+use Rattle.made_inputs.proofs.FieldLemmas.{AllFit, small_number}
 use Rattle.made_inputs.proofs.TextLemmas.{fields_of, RowsFit}
+use Rattle.made_inputs.proofs.PartLemmas.{Step, Lead, Lead-fit, IsPart, IsPart-nothing, IsPart-both, IsPart-each, IsPart-cond}
 use Rattle.made_inputs.proofs.FleetLemmas.{drawn_small}
 use Rattle.request_book.specs.declared.command.Command.TheVariants as command
 use Rattle.load_maker.specs.declared.row.Field.TheVariants as field
@@ -26,62 +26,13 @@ pub record IsLine (round : ℕ) (row : List Field) : Type 0 where
   pub named : number_at (fields_of row) 0 ≡ round
   pub given : (number last : ℕ) → last ≤ round → line_in One number last (fields_of row) ≡ Ok (record { round = round; lane = lane; command = command })
 
--- rows of commands whose rounds never fall, from one round on and up to another
-abbrev pub AreLines : ℕ → ℕ → List (List Field) → Type 0
-AreLines low high [] = low ≤ high
-AreLines low high (row ∷ rows) = (round : ℕ) × (low ≤ round) × IsLine round row × AreLines round high rows
-
-AreLines-lower : (low mid high : ℕ) (rows : List (List Field)) → low ≤ mid → AreLines mid high rows → AreLines low high rows
-AreLines-lower low mid high [] below lines = omega arith
-AreLines-lower low mid high (row ∷ rows) below lines = (lines.0, omega (arith, lines.1), lines.2, lines.3)
-
-AreLines-append : (low mid high : ℕ) (xs ys : List (List Field)) → AreLines low mid xs → AreLines mid high ys → AreLines low high (xs ++ ys)
-AreLines-append low mid high [] ys left right = AreLines-lower low mid high ys left right
-AreLines-append low mid high (row ∷ xs) ys left right = (left.0, left.1, left.2, AreLines-append left.0 mid high xs ys left.3 right)
-
--- a part of so many such rows at the most
-pub record IsLines (low high most : ℕ) (part : Part) : Type 0 where
-  pub lines : (s : Stream) → AreLines low high (part s).0
-  pub few : (s : Stream) → length (part s).0 ≤ most
-
-IsLines-nothing : (low high most : ℕ) → low ≤ high → IsLines low high most nothing
-IsLines-nothing low high most below = record { lines = λ s. below; few = λ s. omega arith }
-
-IsLines-both : (low mid high m n : ℕ) (first second : Part) → IsLines low mid m first → IsLines mid high n second → IsLines low high (m + n) (both first second)
-IsLines-both low mid high m n first second here rest = record {
-  lines = λ s. AreLines-append low mid high (first s).0 (second (first s).1).0 (here.lines s) (rest.lines (first s).1);
-  few = λ s.
-      let one : length (first s).0 ≤ m = here.few s in
-      let two : length (second (first s).1).0 ≤ n = rest.few (first s).1 in
-      omega (arith, one, two, length-append (first s).0 (second (first s).1).0);
-}
-
--- parts, each of which goes on at the round where the one before ended
-IsLines-each : (round : ℕ → ℕ) (most : ℕ) (parts : ℕ → Part) (n : ℕ) → ((k : ℕ) → k < n → IsLines (round k) (round (suc k)) most (parts k)) → IsLines (round 0) (round n) (n * most) (each parts n)
-IsLines-each round most parts zero all = record { lines = λ s. omega arith; few = λ s. omega arith }
-IsLines-each round most parts (suc n) all =
-    let before : IsLines (round 0) (round n) (n * most) (each parts n) = IsLines-each round most parts n (λ k below. all k (omega arith)) in
-    let here : IsLines (round n) (round (suc n)) most (parts n) = all n (omega arith) in
-    record {
-      lines = λ s. AreLines-append (round 0) (round n) (round (suc n)) (each parts n s).0 (parts n (each parts n s).1).0 (before.lines s) (here.lines (each parts n s).1);
-      few = λ s.
-          let one : length (each parts n s).0 ≤ n * most = before.few s in
-          let two : length (parts n (each parts n s).1).0 ≤ most = here.few (each parts n s).1 in
-          let size : suc n * most ≡ n * most + most = suc-mul n most in
-          omega (arith, one, two, size, length-append (each parts n s).0 (parts n (each parts n s).1).0);
-    }
-
-IsLines-cond : (low high most : ℕ) (c : Bool) (one other : Part) → IsLines low high most one → IsLines low high most other → IsLines low high most (cond c one other)
-IsLines-cond low high most true one other one_is other_is = one_is
-IsLines-cond low high most false one other one_is other_is = other_is
-
--- a row alone
-one_line : (low round high : ℕ) (row : List Field) → low ≤ round → round ≤ high → IsLine round row → AreLines low high (row ∷ [])
-one_line low round high row below above line = (round, below, line, above)
+-- a row of a command of a round between two numbers
+abbrev pub LineStep : Step
+LineStep low row next = (round : ℕ) × (low ≤ round) × (round ≤ next) × IsLine round row
 
 -- the number in a row's first column
 named_first : (n : ℕ) (fields : List Field) → n ≤ 1000000000 → number_at (fields_of (field.Number n ∷ fields)) 0 ≡ n
-named_first n fields small = ap (λ o. unwrap_or o 0) (number_up_to-decimal 1000000000 n small (omega arith))
+named_first n fields small = ap (λ o. unwrap_or o 0) (small_number n small)
 
 -- a vehicle's report is accepted
 report_given : (round vehicle node time number last : ℕ) → round ≤ 1000000000 → vehicle ≤ 1000000000 → node ≤ 1000000000 → time ≤ 1000000000 → last ≤ round
@@ -89,12 +40,7 @@ report_given : (round vehicle node time number last : ℕ) → round ≤ 1000000
     ≡ Ok (record { round = round; lane = 0; command = command.Report vehicle node time })
 unfolding line_in command_in three_in leaves_empty word_of
 report_given round vehicle node time number last round_small vehicle_small node_small time_small behind =
-    let one : number_up_to 1000000000 (decimal round) ≡ Some round = number_up_to-decimal 1000000000 round round_small (omega arith) in
-    let two : number_up_to 1000000000 (decimal 0) ≡ Some 0 = number_up_to-decimal 1000000000 0 (omega arith) (omega arith) in
-    let three : number_up_to 1000000000 (decimal vehicle) ≡ Some vehicle = number_up_to-decimal 1000000000 vehicle vehicle_small (omega arith) in
-    let four : number_up_to 1000000000 (decimal node) ≡ Some node = number_up_to-decimal 1000000000 node node_small (omega arith) in
-    let five : number_up_to 1000000000 (decimal time) ≡ Some time = number_up_to-decimal 1000000000 time time_small (omega arith) in
-    rw (one, two, three, four, five, le-ltb round last behind) refl
+    rw (small_number round round_small, small_number 0 (omega arith), small_number vehicle vehicle_small, small_number node node_small, small_number time time_small, le-ltb round last behind) refl
 
 -- a request is accepted
 submit_given : (round lane rider origin destination time number last : ℕ) → round ≤ 1000000000 → lane ≤ 15 → rider ≤ 1000000000 → origin ≤ 1000000000 → destination ≤ 1000000000 → time ≤ 1000000000 → last ≤ round
@@ -102,13 +48,7 @@ submit_given : (round lane rider origin destination time number last : ℕ) → 
     ≡ Ok (record { round = round; lane = lane; command = command.Submit rider origin destination time 1 })
 unfolding line_in command_in submit_in party_in leaves_empty word_of
 submit_given round lane rider origin destination time number last round_small lane_small rider_small origin_small destination_small time_small behind =
-    let one : number_up_to 1000000000 (decimal round) ≡ Some round = number_up_to-decimal 1000000000 round round_small (omega arith) in
-    let two : number_up_to 1000000000 (decimal lane) ≡ Some lane = number_up_to-decimal 1000000000 lane (omega arith) (omega arith) in
-    let three : number_up_to 1000000000 (decimal rider) ≡ Some rider = number_up_to-decimal 1000000000 rider rider_small (omega arith) in
-    let four : number_up_to 1000000000 (decimal origin) ≡ Some origin = number_up_to-decimal 1000000000 origin origin_small (omega arith) in
-    let five : number_up_to 1000000000 (decimal destination) ≡ Some destination = number_up_to-decimal 1000000000 destination destination_small (omega arith) in
-    let six : number_up_to 1000000000 (decimal time) ≡ Some time = number_up_to-decimal 1000000000 time time_small (omega arith) in
-    rw (one, two, three, four, five, six, le-ltb 15 lane lane_small, le-ltb round last behind) refl
+    rw (small_number round round_small, small_number lane (omega arith), small_number rider rider_small, small_number origin origin_small, small_number destination destination_small, small_number time time_small, le-ltb 15 lane lane_small, le-ltb round last behind) refl
 
 -- a seal is accepted
 seal_given : (round now number last : ℕ) → round ≤ 1000000000 → now ≤ 1000000000 → last ≤ round
@@ -116,46 +56,50 @@ seal_given : (round now number last : ℕ) → round ≤ 1000000000 → now ≤ 
     ≡ Ok (record { round = round; lane = 0; command = command.Seal now })
 unfolding line_in command_in leaves_empty word_of
 seal_given round now number last round_small now_small behind =
-    let one : number_up_to 1000000000 (decimal round) ≡ Some round = number_up_to-decimal 1000000000 round round_small (omega arith) in
-    let two : number_up_to 1000000000 (decimal 0) ≡ Some 0 = number_up_to-decimal 1000000000 0 (omega arith) (omega arith) in
-    let three : number_up_to 1000000000 (decimal now) ≡ Some now = number_up_to-decimal 1000000000 now now_small (omega arith) in
-    rw (one, two, three, le-ltb round last behind) refl
+    rw (small_number round round_small, small_number 0 (omega arith), small_number now now_small, le-ltb round last behind) refl
 
 -- the reports of a batch
-IsLines-report : (shape : LoadShape) (k v : ℕ) → 2 ≤ shape.side → shape.side ≤ 100 → k < 100 → v ≤ 500 → IsLines (2 * k) (2 * k) 1 (report_row shape k v)
+IsLines-report : (shape : LoadShape) (k v : ℕ) → 2 ≤ shape.side → shape.side ≤ 100 → k < 100 → v ≤ 500 → IsPart LineStep (2 * k) (2 * k) 1 (report_row shape k v)
 unfolding report_row
 IsLines-report shape k v two small early few = record {
-  lines = λ s.
+  lead = λ s.
       let node : ℕ = (drawn_node shape.side s).0 in
-      let node_small : node ≤ 1000000000 = drawn_small shape.side s two small in
-      one_line (2 * k) (2 * k) (2 * k) (field.Number (2 * k) ∷ field.Number 0 ∷ field.Report ∷ field.Number v ∷ field.Number node ∷ field.Number (60 * k) ∷ field.Empty ∷ []) (omega arith) (omega arith)
-      (record {
-        long = refl;
-        named = named_first (2 * k) [] (omega arith);
-        fits = (omega arith, (omega arith, (tt, (omega arith, (node_small, (omega arith, (tt, tt)))))));
-        lane = 0;
-        command = command.Report v node (60 * k);
-        given = λ number last behind. report_given (2 * k) v node (60 * k) number last (omega arith) (omega arith) node_small (omega arith) behind;
-      });
+      let node_small : node ≤ 1000000000 = drawn_small shape.side s two small in (
+        2 * k,
+        (
+          2 * k,
+          omega arith,
+          omega arith,
+          record {
+            long = refl;
+            named = named_first (2 * k) [] (omega arith);
+            fits = (omega arith, (omega arith, (tt, (omega arith, (node_small, (omega arith, (tt, tt)))))));
+            lane = 0;
+            command = command.Report v node (60 * k);
+            given = λ number last behind. report_given (2 * k) v node (60 * k) number last (omega arith) (omega arith) node_small (omega arith) behind;
+          },
+        ),
+        refl,
+      );
   few = λ s. omega arith;
 }
 
-IsLines-reports : (shape : LoadShape) (k : ℕ) → 2 ≤ shape.side → shape.side ≤ 100 → shape.vehicles ≤ 500 → k < 100 → IsLines (2 * k) (2 * k) (shape.vehicles * 1) (reports shape k)
+IsLines-reports : (shape : LoadShape) (k : ℕ) → 2 ≤ shape.side → shape.side ≤ 100 → shape.vehicles ≤ 500 → k < 100 → IsPart LineStep (2 * k) (2 * k) (shape.vehicles * 1) (reports shape k)
 unfolding reports all_reports
 IsLines-reports shape k two small few early =
-    IsLines-cond (2 * k) (2 * k) (shape.vehicles * 1) (ltb 0 k) (each (λ n. report_row shape k (n + 1)) shape.vehicles) nothing
-    (IsLines-each (λ n. 2 * k) 1 (λ n. report_row shape k (n + 1)) shape.vehicles (λ n below. IsLines-report shape k (n + 1) two small early (omega arith)))
-    (IsLines-nothing (2 * k) (2 * k) (shape.vehicles * 1) (omega arith))
+    IsPart-cond LineStep (2 * k) (2 * k) (shape.vehicles * 1) (ltb 0 k) (each (λ n. report_row shape k (n + 1)) shape.vehicles) nothing
+    (IsPart-each LineStep (λ n. 2 * k) 1 (λ n. report_row shape k (n + 1)) shape.vehicles (λ n below. IsLines-report shape k (n + 1) two small early (omega arith)))
+    (IsPart-nothing LineStep (2 * k) (shape.vehicles * 1))
 
 other_small_by : (origin n : ℕ) (c : Bool) → cond c n (n + 1) ≤ n + 1
 other_small_by origin n true = omega arith
 other_small_by origin n false = omega arith
 
 -- the requests of a batch
-IsLines-submit : (shape : LoadShape) (k m : ℕ) → 2 ≤ shape.side → shape.side ≤ 100 → shape.riders ≤ 1000 → k < 100 → m ≤ 1000 → IsLines (2 * k) (2 * k) 1 (submit_row shape k m)
+IsLines-submit : (shape : LoadShape) (k m : ℕ) → 2 ≤ shape.side → shape.side ≤ 100 → shape.riders ≤ 1000 → k < 100 → m ≤ 1000 → IsPart LineStep (2 * k) (2 * k) 1 (submit_row shape k m)
 unfolding submit_row draw
 IsLines-submit shape k m two small few early within = record {
-  lines = λ s.
+  lead = λ s.
       let least : 2 * 2 ≤ shape.side * shape.side = mul-le-mul two two in
       let most : shape.side * shape.side ≤ 100 * 100 = mul-le-mul small small in
       let origin : ℕ = (drawn_node shape.side s).0 in
@@ -170,60 +114,72 @@ IsLines-submit shape k m two small few early within = record {
       let second : ℕ = (next_u64 later).0 % 60 in
       let second_below : second < 60 = mod_below (next_u64 later).0 60 (omega arith) in
       let third : m % 3 < 3 = mod_below m 3 (omega arith) in
-      let ids : k * shape.riders ≤ 100 * 1000 = mul-le-mul (let low : k ≤ 100 = omega arith in low) few in
-      one_line (2 * k) (2 * k) (2 * k)
-      (field.Number (2 * k) ∷ field.Number (1 + m % 3) ∷ field.Submit ∷ field.Number (k * shape.riders + m) ∷ field.Number origin ∷ field.Number destination ∷ field.Number (60 * k + second) ∷ []) (omega arith) (omega arith)
-      (record {
-        long = refl;
-        named = named_first (2 * k) [] (omega arith);
-        fits = (omega arith, (omega (arith, third), (tt, (omega (arith, ids), (origin_small, (destination_small, (omega (arith, second_below), tt)))))));
-        lane = 1 + m % 3;
-        command = command.Submit (k * shape.riders + m) origin destination (60 * k + second) 1;
-        given = λ number last behind.
-            submit_given (2 * k) (1 + m % 3) (k * shape.riders + m) origin destination (60 * k + second) number last (omega arith) (omega (arith, third)) (omega (arith, ids)) origin_small destination_small
-            (omega (arith, second_below)) behind;
-      });
+      let ids : k * shape.riders ≤ 100 * 1000 = mul-le-mul (let low : k ≤ 100 = omega arith in low) few in (
+        2 * k,
+        (
+          2 * k,
+          omega arith,
+          omega arith,
+          record {
+            long = refl;
+            named = named_first (2 * k) [] (omega arith);
+            fits = (omega arith, (omega (arith, third), (tt, (omega (arith, ids), (origin_small, (destination_small, (omega (arith, second_below), tt)))))));
+            lane = 1 + m % 3;
+            command = command.Submit (k * shape.riders + m) origin destination (60 * k + second) 1;
+            given = λ number last behind.
+                submit_given (2 * k) (1 + m % 3) (k * shape.riders + m) origin destination (60 * k + second) number last (omega arith) (omega (arith, third)) (omega (arith, ids)) origin_small destination_small
+                (omega (arith, second_below)) behind;
+          },
+        ),
+        refl,
+      );
   few = λ s. omega arith;
 }
 
-IsLines-submits : (shape : LoadShape) (k : ℕ) → 2 ≤ shape.side → shape.side ≤ 100 → shape.riders ≤ 1000 → k < 100 → IsLines (2 * k) (2 * k) (shape.riders * 1) (submits shape k)
+IsLines-submits : (shape : LoadShape) (k : ℕ) → 2 ≤ shape.side → shape.side ≤ 100 → shape.riders ≤ 1000 → k < 100 → IsPart LineStep (2 * k) (2 * k) (shape.riders * 1) (submits shape k)
 unfolding submits
 IsLines-submits shape k two small few early =
-    IsLines-each (λ n. 2 * k) 1 (λ n. submit_row shape k (n + 1)) shape.riders (λ n below. IsLines-submit shape k (n + 1) two small few early (omega arith))
+    IsPart-each LineStep (λ n. 2 * k) 1 (λ n. submit_row shape k (n + 1)) shape.riders (λ n below. IsLines-submit shape k (n + 1) two small few early (omega arith))
 
 -- the seal of a batch, before the round of the next
-IsLines-seal : (k : ℕ) → k < 100 → IsLines (2 * k) (2 * suc k) 1 (plain (seal_row k ∷ []))
+IsLines-seal : (k : ℕ) → k < 100 → IsPart LineStep (2 * k) (2 * suc k) 1 (plain (seal_row k ∷ []))
 IsLines-seal k early = record {
-  lines = λ s.
-      one_line (2 * k) (2 * k + 1) (2 * suc k) (seal_row k) (omega arith) (omega arith)
-      (record {
+  lead = λ s. (
+    2 * suc k,
+    (
+      2 * k + 1,
+      omega arith,
+      omega arith,
+      record {
         long = refl;
         named = named_first (2 * k + 1) [] (omega arith);
         fits = (omega arith, (omega arith, (tt, (omega arith, (tt, (tt, (tt, tt)))))));
         lane = 0;
         command = command.Seal (60 * (k + 1));
         given = λ number last behind. seal_given (2 * k + 1) (60 * (k + 1)) number last (omega arith) (omega arith) behind;
-      });
+      },
+    ),
+    refl,
+  );
   few = λ s. omega arith;
 }
 
-IsLines-batch : (shape : LoadShape) (k : ℕ) → 2 ≤ shape.side → shape.side ≤ 100 → shape.vehicles ≤ 500 → shape.riders ≤ 1000 → k < 100 → IsLines (2 * k) (2 * suc k) (shape.vehicles * 1 + (shape.riders * 1 + 1)) (batch_rows shape k)
+IsLines-batch : (shape : LoadShape) (k : ℕ) → 2 ≤ shape.side → shape.side ≤ 100 → shape.vehicles ≤ 500 → shape.riders ≤ 1000 → k < 100 → IsPart LineStep (2 * k) (2 * suc k) (shape.vehicles * 1 + (shape.riders * 1 + 1)) (batch_rows shape k)
 unfolding batch_rows reports all_reports submits
 IsLines-batch shape k two small vehicles riders early =
-    IsLines-both (2 * k) (2 * k) (2 * suc k) (shape.vehicles * 1) (shape.riders * 1 + 1) (reports shape k) (both (submits shape k) (plain (seal_row k ∷ [])))
+    IsPart-both LineStep (2 * k) (2 * k) (2 * suc k) (shape.vehicles * 1) (shape.riders * 1 + 1) (reports shape k) (both (submits shape k) (plain (seal_row k ∷ [])))
     (IsLines-reports shape k two small vehicles early)
-    (IsLines-both (2 * k) (2 * k) (2 * suc k) (shape.riders * 1) 1 (submits shape k) (plain (seal_row k ∷ [])) (IsLines-submits shape k two small riders early) (IsLines-seal k early))
+    (IsPart-both LineStep (2 * k) (2 * k) (2 * suc k) (shape.riders * 1) 1 (submits shape k) (plain (seal_row k ∷ [])) (IsLines-submits shape k two small riders early) (IsLines-seal k early))
 
-IsLines-script : (shape : LoadShape) → 2 ≤ shape.side → shape.side ≤ 100 → shape.vehicles ≤ 500 → shape.riders ≤ 1000 → shape.rounds ≤ 100 → IsLines 0 (2 * shape.rounds) (shape.rounds * (shape.vehicles * 1 + (shape.riders * 1 + 1))) (script_part shape)
+IsLines-script : (shape : LoadShape) → 2 ≤ shape.side → shape.side ≤ 100 → shape.vehicles ≤ 500 → shape.riders ≤ 1000 → shape.rounds ≤ 100 → IsPart LineStep 0 (2 * shape.rounds) (shape.rounds * (shape.vehicles * 1 + (shape.riders * 1 + 1))) (script_part shape)
 unfolding script_part
 IsLines-script shape two small vehicles riders rounds =
-    IsLines-each (λ k. 2 * k) (shape.vehicles * 1 + (shape.riders * 1 + 1)) (batch_rows shape) shape.rounds (λ k below. IsLines-batch shape k two small vehicles riders (omega arith))
+    IsPart-each LineStep (λ k. 2 * k) (shape.vehicles * 1 + (shape.riders * 1 + 1)) (batch_rows shape) shape.rounds (λ k below. IsLines-batch shape k two small vehicles riders (omega arith))
 
-rows_fit : (low high : ℕ) (rows : List (List Field)) → AreLines low high rows → RowsFit 7 rows
-rows_fit low high [] lines = tt
-rows_fit low high (row ∷ rows) lines =
-    let line : IsLine lines.0 row = lines.2 in
-    (line.long, line.fits, rows_fit lines.0 high rows lines.3)
+line_fits : (low next : ℕ) (row : List Field) → LineStep low row next → (length row ≡ 7) × AllFit row
+line_fits low next row step =
+    let line : IsLine step.0 row = step.3 in
+    (line.long, line.fits)
 
 -- the round before a row, where the rows stand behind a row of this round
 abbrev round_behind : ℕ → List (List (List ℕ)) → ℕ → ℕ
@@ -240,28 +196,28 @@ behind_first low round row rows zero named = sym named
 behind_first low round row rows (suc k) named = refl
 
 -- rows of commands whose rounds never fall are accepted, each behind the one before
-lines_given : (low high : ℕ) (rows : List (List Field)) (number k : ℕ) → AreLines low high rows → k < length rows → (line : _) × (line_in One number (round_behind low (map fields_of rows) k) (get_or (map fields_of rows) k []) ≡ Ok line)
-lines_given low high [] number k lines below = absurd (omega (arith, below))
-lines_given low high (row ∷ rows) number zero lines below =
-    let line : IsLine lines.0 row = lines.2 in
-    (record { round = lines.0; lane = line.lane; command = line.command }, line.given number low lines.1)
-lines_given low high (row ∷ rows) number (suc k) lines below =
-    let line : IsLine lines.0 row = lines.2 in
-    let rest = lines_given lines.0 high rows number k lines.3 (omega (arith, below)) in
-    (rest.0, ap (λ last. line_in One number last (get_or (map fields_of rows) k [])) (sym (behind_first low lines.0 row rows k line.named)) ∙ rest.1)
+lines_given : (last low high : ℕ) (rows : List (List Field)) (number k : ℕ) → last ≤ low → Lead LineStep low high rows → k < length rows → (line : _) × (line_in One number (round_behind last (map fields_of rows) k) (get_or (map fields_of rows) k []) ≡ Ok line)
+lines_given last low high [] number k behind lead below = absurd (omega (arith, below))
+lines_given last low high (row ∷ rows) number zero behind lead below =
+    let line : IsLine lead.1.0 row = lead.1.3 in
+    (record { round = lead.1.0; lane = line.lane; command = line.command }, line.given number last (omega (arith, behind, lead.1.1)))
+lines_given last low high (row ∷ rows) number (suc k) behind lead below =
+    let line : IsLine lead.1.0 row = lead.1.3 in
+    let rest = lines_given lead.1.0 lead.0 high rows number k lead.1.2 lead.2 (omega (arith, below)) in
+    (rest.0, ap (λ before. line_in One number before (get_or (map fields_of rows) k [])) (sym (behind_first last lead.1.0 row rows k line.named)) ∙ rest.1)
 
 -- the rounds that rows give
 pub record GiveScript (records : List (List (List ℕ))) : Type 0 where
   pub rounds : List NumberedLanes
   pub is : script_of One records ≡ Ok rounds
 
-script_given : (high : ℕ) (rows : List (List Field)) → AreLines 0 high rows → length rows ≤ 200000 → GiveScript (map fields_of rows)
+script_given : (high : ℕ) (rows : List (List Field)) → Lead LineStep 0 high rows → length rows ≤ 200000 → GiveScript (map fields_of rows)
 script_given high rows lines few =
     let records : List (List (List ℕ)) = map fields_of rows in
     let size : length records ≡ length rows = length-map rows fields_of in
     let given = all_or_first-all (line_at One records) (length records)
     (λ k below.
-    let line = lines_given 0 high rows (k + 1) k lines (omega (arith, below, size)) in
+    let line = lines_given 0 0 high rows (k + 1) k (omega arith) lines (omega (arith, below, size)) in
     (line.0, ap (λ last. line_in One (k + 1) last (get_or records k [])) (same_before records k) ∙ line.1)) in
     record {
       rounds = rounds_of given.0;
@@ -277,10 +233,10 @@ script_rows shape = (script_part shape (fleet_part shape (network_part shape (dr
 -- the rows of a shape's script give its rounds
 pub script_accepted : (shape : LoadShape) → 2 ≤ shape.side → shape.side ≤ 100 → shape.vehicles ≤ 500 → shape.riders ≤ 1000 → shape.rounds ≤ 100 → RowsFit 7 (script_rows shape) × GiveScript (map fields_of (script_rows shape))
 script_accepted shape two small vehicles riders rounds =
-    let is : IsLines 0 (2 * shape.rounds) (shape.rounds * (shape.vehicles * 1 + (shape.riders * 1 + 1))) (script_part shape) = IsLines-script shape two small vehicles riders rounds in
+    let is : IsPart LineStep 0 (2 * shape.rounds) (shape.rounds * (shape.vehicles * 1 + (shape.riders * 1 + 1))) (script_part shape) = IsLines-script shape two small vehicles riders rounds in
     let draws : Stream = (fleet_part shape (network_part shape (draws_of shape.seed)).1).1 in
-    let lines : AreLines 0 (2 * shape.rounds) (script_rows shape) = is.lines draws in
+    let lines : Lead LineStep 0 (2 * shape.rounds) (script_rows shape) = is.lead draws in
     let count : length (script_rows shape) ≤ shape.rounds * (shape.vehicles * 1 + (shape.riders * 1 + 1)) = is.few draws in
     let batch : shape.vehicles * 1 + (shape.riders * 1 + 1) ≤ 1501 = omega (arith, vehicles, riders) in
     let most : shape.rounds * (shape.vehicles * 1 + (shape.riders * 1 + 1)) ≤ 100 * 1501 = mul-le-mul rounds batch in
-    (rows_fit 0 (2 * shape.rounds) (script_rows shape) lines, script_given (2 * shape.rounds) (script_rows shape) lines (omega (arith, count, most)))
+    (Lead-fit LineStep 7 line_fits 0 (2 * shape.rounds) (script_rows shape) lines, script_given (2 * shape.rounds) (script_rows shape) lines (omega (arith, count, most)))

@@ -16,10 +16,6 @@ abbrev pub RowsFit : ℕ → List (List Field) → Type 0
 RowsFit k [] = Unit {0}
 RowsFit k (row ∷ rows) = (length row ≡ k) × AllFit row × RowsFit k rows
 
-pub RowsFit-append : (k : ℕ) (xs ys : List (List Field)) → RowsFit k xs → RowsFit k ys → RowsFit k (xs ++ ys)
-RowsFit-append k [] ys left right = right
-RowsFit-append k (row ∷ xs) ys left right = (left.0, left.1, RowsFit-append k xs ys left.2 right)
-
 some_byte : (fields : List Field) → fields ≢ [] → 1 ≤ length (csv_line fields)
 some_byte [] some = absurd (some refl)
 some_byte (field ∷ []) some = omega (arith, length-append (field_text field) (10 ∷ []))

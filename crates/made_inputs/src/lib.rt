@@ -1,7 +1,7 @@
 //! Made workloads, read: the readers of files make a network, a fleet and a script of the texts that are
 //! made of any shape, and refuse none of them.
 //!
-//! A caller, from the tests of `input_tests`:
+//! A caller:
 //!
 //! ```
 //! fn answers_with_memory(rt: HostRuntime) -> Result<(), Fail> {

@@ -2,7 +2,7 @@
 //!
 //! Both graphs are exact: an edge stands in its list exactly where an order of stops serves, once, in order.
 //!
-//! A caller, from the tests of `whole_calls`:
+//! A caller:
 //!
 //! ```
 //! fn put_rv(

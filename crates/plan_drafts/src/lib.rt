@@ -4,7 +4,7 @@
 //! the same rows give the same draft, whatever the number of workers: a fixed number of nodes is parted at once, and
 //! a fixed number of scouts looks for plans, each with a relaxation, a plan and draws of its own.
 //!
-//! A caller, from the tests of `drawn_plans`:
+//! A caller:
 //!
 //! ```
 //! fn drafted<R: Threads + Sync>(rt: &R, alloc: Global) -> Result<(i64, i64), OutOfMemory> {

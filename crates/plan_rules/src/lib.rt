@@ -4,11 +4,11 @@
 //! A graph is good by its type; the held plan is always lawful; and no lawful plan costs less than the
 //! value of a sound tree. The search and the separate checker both stand on these definitions.
 //!
-//! A caller, from the tests of `drawn_plans`:
+//! A caller, from the tests of `single_calls`:
 //!
 //! ```
 //! /// The graph of three vehicles, three riders and these rows, if there are few.
-//! pub fn graph_of(
+//! fn graph_of(
 //!     alloc: Global,
 //!     rows: Vec<TripRow>,
 //!     held: Vec<Option<u32>>,

@@ -4,7 +4,7 @@
 //! the source really failed. Sources and sinks in memory plan their failures and short calls; adapters
 //! over std's readers and writers are the edge to the world. Rows are what the `csv` crate reads.
 //!
-//! A caller, from the tests of `input_tests`:
+//! A caller, from the tests of `single_calls`:
 //!
 //! ```
 //! fn is_read(alloc: Global, text: &[u8]) -> bool {

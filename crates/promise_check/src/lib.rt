@@ -3,7 +3,7 @@
 //! A vehicle is live where some order of stops serves its passengers and all riders promised to it, each by
 //! the promised second. Their limits then hold for every vehicle; other promises have lapsed.
 //!
-//! A caller, from the tests of `whole_calls`:
+//! A caller:
 //!
 //! ```
 //! fn told_over(

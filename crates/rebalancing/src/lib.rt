@@ -3,7 +3,7 @@
 //! `rebalance` matches the two one to one over reachable pairs: most pairs first, then the least total of
 //! seconds. Its answer comes with potentials, from which `potentials_show_best` has it that no other matching is better.
 //!
-//! A caller, from the tests of `drawn_plans`:
+//! A caller:
 //!
 //! ```
 //! fn moves_over(alloc: Global, times: &Times, pairs: &[(usize, usize)], total: u64) -> bool {

@@ -4,7 +4,7 @@
 //! legal run, of which every batch was closed with a good outcome; a no says where the text stops being the beginning of
 //! one, and why. Nothing is searched for.
 //!
-//! A caller, from the tests of `whole_calls`:
+//! A caller:
 //!
 //! ```
 //! fn audited<T: Threads + Sync>(

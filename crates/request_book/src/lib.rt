@@ -5,7 +5,7 @@
 //! lists; the book keeps that its state is that step run over its journal. A refused command is an entry
 //! of the journal and changes nothing else.
 //!
-//! A caller, from the tests of `book_tests`:
+//! A caller:
 //!
 //! ```
 //! // The reply in lane 0; none for want of memory.

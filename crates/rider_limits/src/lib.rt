@@ -3,7 +3,7 @@
 //! Words are a command and `key=value` pairs; every fault is found in the order of the words and named
 //! with its place. The types keep each number within its range, so that no crate above checks one again.
 //!
-//! A caller, from the tests of `input_tests`:
+//! A caller:
 //!
 //! ```
 //! fn an_audit_has_four_files_and_workers(rt: HostRuntime) -> Result<(), Fail> {

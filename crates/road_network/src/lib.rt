@@ -3,10 +3,11 @@
 //! A network is what its rows say, or their first refusal with its place. Walks along its arcs and the
 //! least time over them are defined here too. Reading is linear in the bytes.
 //!
-//! A caller, from the tests of `input_tests`:
+//! A caller, from the tests of `single_calls`:
 //!
 //! ```
-//! fn network_of(alloc: Global, text: &[u8]) -> Option<Network> {
+//! /// The network of a file; `None` where it is refused, and for want of memory.
+//! pub fn network_of(alloc: Global, text: &[u8]) -> Option<Network> {
 //!     match rows(alloc, text, b"from,to,seconds") {
 //!         Ok(table) => match read_network(alloc, &table) {
 //!             Ok(network) => Some(network),

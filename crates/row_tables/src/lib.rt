@@ -3,7 +3,7 @@
 //!
 //! Nothing is proved of what is made of them: it is judged where it is used.
 //!
-//! A caller, from the tests of `drawn_plans`, shortened:
+//! A caller:
 //!
 //! ```
 //! fn table_of_pairs(alloc: Global) -> Result<RowTable, OutOfMemory> {

@@ -3,7 +3,7 @@
 //! A sink is watched: its bytes pass through unchanged, and what they say of rounds and batches is shown. A gate shows
 //! how far labels and days are.
 //!
-//! A caller, from the tests of `book_tests`:
+//! A caller:
 //!
 //! ```
 //! // What stands on the terminal and in the sink after some rounds; nothing where a call fails.

@@ -3,7 +3,7 @@
 //! Rows are judged in their order, and each fault is named with its row and column. A round holds the
 //! rows of one number; each of its lanes holds its rows in order.
 //!
-//! A caller, from the tests of `book_tests`:
+//! A caller:
 //!
 //! ```
 //! fn read(

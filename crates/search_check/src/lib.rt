@@ -3,7 +3,7 @@
 //! Each call decides its question exactly: a yes says that it holds, a no that it doesn't. The search's own
 //! tables, guides and drafts are not asked.
 //!
-//! A caller, from the tests of `drawn_plans`:
+//! A caller:
 //!
 //! ```
 //! fn is_shown(

@@ -4,22 +4,18 @@
 //! calls it made, with their replies and their positions, and `finish` shows that the value's log is
 //! just those calls of all passes. That a waiting call returns, and which lane comes first, is not said.
 //!
-//! A caller, from the tests of `book_tests`:
+//! A caller, from the tests of `single_calls`:
 //!
 //! ```
-//! fn play_one<R: Wait>(
-//!     rt: &R,
-//!     alloc: Global,
-//!     lock: &SeatLock<Counter>,
-//!     passes: &mut Vec<Pass<Counter>>,
-//!     lane: usize,
-//!     amount: u64,
-//! ) -> Option<Played<u64>>
-//!     requires all { AreAllPasses lock.now passes.old.items }
-//!     requires lane { lane < vec_len passes.old }
-//!     ensures { AreAllPasses lock.now passes.new.items }
+//! fn play_all<R: Wait>(rt: &R, alloc: Global, lock: &SeatLock<Counter>, pass: &mut Pass<Counter>)
+//!     requires { IsPassOf lock.now pass.old }
+//!     ensures { IsPassOf lock.now pass.new × (pass.new.lane ≡ pass.old.lane) }
 //! {
-//!     lock.with_turn(rt, alloc, &mut passes[lane], amount).ok()
+//!     for amount in 0..CALLS {
+//!         if lock.with_turn(rt, alloc, pass, amount).is_err() {
+//!             return;
+//!         }
+//!     }
 //! }
 //! ```
 //!

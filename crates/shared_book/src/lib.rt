@@ -4,7 +4,7 @@
 //! that the book's new entries are just those calls of all passes, in one history that the step table
 //! replays; and that the snapshot which a seal handed out is the one that stood in the book at its entry.
 //!
-//! A caller, from the tests of `book_tests`:
+//! A caller:
 //!
 //! ```
 //! // What a lane is told of a command: its position and the reply.

@@ -3,7 +3,7 @@
 //! What is found serves and has that delay, no serving order has less, and none is found only where no order serves.
 //! The search goes through labels: what was done, where the vehicle is, since when, and with how much delay.
 //!
-//! A caller, from the tests of `travel_tests`:
+//! A caller, from the tests of `single_calls`:
 //!
 //! ```
 //! fn counted<L: Ledger>(

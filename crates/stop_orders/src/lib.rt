@@ -4,13 +4,13 @@
 //! of its stops, its delay, the trips that a vehicle can serve, and the edges between riders and vehicles.
 //! The calls decide them exactly, and the laws say that whoever is left out of a serving order leaves one.
 //!
-//! A caller, from the tests of `travel_tests`:
+//! A caller, from the tests of `single_calls`:
 //!
 //! ```
 //! fn out_of_reach(rt: HostRuntime) -> Result<(), Fail> {
 //!     let cells = vec![in rt.alloc(); 0, 60, Times::NEVER, 0]?;
 //!     let times = Times::checked(2, cells)?;
-//!     let mut task = vehicle(4);
+//!     let mut task = vehicle(0, 4);
 //!     let _rider = task.riders.try_push(leg(1, 0, 0));
 //!     let stops = [Stop::Pick(0), Stop::Drop(0)];
 //!     assert!(rt; is_valid(&task, times.len()));

@@ -3,10 +3,11 @@
 //! `times_between` runs one search with a priority queue for each point, rows in parallel. Its table has, for
 //! each two points, the least seconds over all walks, and says so exactly where there is none.
 //!
-//! A caller, from the tests of `travel_tests`:
+//! A caller, from the tests of `single_calls`:
 //!
 //! ```
-//! fn fast(
+//! /// The table between these nodes, where all are known.
+//! pub fn fast(
 //!     rt: &(impl Threads + Sync),
 //!     alloc: Global,
 //!     network: &Network,

@@ -4,7 +4,7 @@
 //! vehicles and riders, the edges between riders, and the rows, none missing and none twice; or there are
 //! more rows than allowed.
 //!
-//! A caller, from the tests of `whole_calls`:
+//! A caller:
 //!
 //! ```
 //! fn text_of_rows(

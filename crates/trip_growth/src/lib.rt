@@ -3,17 +3,17 @@
 //! A trip is tried only where every trip with one rider fewer is a row already, since whoever is left out
 //! of a serving order leaves a serving order. The rows are exact: none is missing, none stands twice.
 //!
-//! A caller, from the tests of `whole_calls`:
+//! A caller, from the tests of `single_calls`:
 //!
 //! ```
-//! fn text_of_first<L: Ledger>(
+//! fn count_of_first<L: Ledger>(
 //!     alloc: Global,
 //!     settled: &Settled,
 //!     times: &Times,
 //!     pairs: &PairList,
 //!     room: u64,
 //!     blank: Blank,
-//! ) -> Result<String, OutOfMemory>
+//! ) -> Result<Option<usize>, OutOfMemory>
 //!     requires sound { IsSound 6 (point_count times.now) (travel_time times.now) settled.now }
 //!     requires pairs { (a b : ℕ) → IsRrEdge (travel_time times.now) settled.now a b → Contains pairs.now (a, b) }
 //!     requires some { 0 < length settled.now.vehicles }
@@ -23,8 +23,8 @@
 //! {
 //!     let mut steps = Steps::<L>::new(blank);
 //!     match grow(alloc, settled, times, pairs, 0, 4, room, &mut steps)? {
-//!         Grown::All(trips) => text_of_grown(alloc, trips.rows()),
-//!         Grown::TooMany => text_of(alloc, "too many"),
+//!         Grown::All(trips) => Ok(Some(trips.rows().len())),
+//!         Grown::TooMany => Ok(None),
 //!     }
 //! }
 //! ```

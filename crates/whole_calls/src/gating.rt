@@ -1,5 +1,6 @@
 //! What a gate sees of whole runs: lanes that meet, a lane that is answered during growth, and pieces of growth.
-use crate::calls::{RUN, SMOOTH, Texts, shown_to};
+use crate::calls::ends_with;
+use rider_notices::Notifier;
 use std::alloc::{AllocError, Global};
 use std::sync::Wait;
 use std::sync::atomic::{AtomicU64, Ordering};
@@ -8,9 +9,7 @@ use std::thread;
 use std::thread::Threads;
 use worker_gate::Gate;
 
-const FOUR_SEATS: &[u8] = b"vehicle,seats,node,second\n1,4,1,0\n";
-
-const TWO_SEATS: &[u8] = b"vehicle,seats,node,second\n1,2,1,0\n";
+const FLEET: &[u8] = b"vehicle,seats,node,second\n1,2,1,0\n";
 
 // Lane 0 seals, and lane 1 asks twice.
 const SEAL_AND_ASK: &[u8] =
@@ -54,19 +53,31 @@ impl Gate for AllLanes {
     }
 }
 
-// Holds lane 1's first answer until piece 0 was begun, and piece 0 until lane 1's second answer.
+// Holds lane 1's first answer until piece 0 was begun, and piece 0 until lane 1 had so many answers.
 #[derive(Drop)]
 struct DuringGrowth {
+    awaited: u64,
     begun: AtomicU64,
     answers: AtomicU64,
     ran_out: AtomicU64,
+}
+
+impl DuringGrowth {
+    fn until(awaited: u64) -> DuringGrowth {
+        DuringGrowth {
+            awaited,
+            begun: AtomicU64::new(0),
+            answers: AtomicU64::new(0),
+            ran_out: AtomicU64::new(0),
+        }
+    }
 }
 
 impl Gate for DuringGrowth {
     fn enter(&self, piece: u32) {
         if piece == 0 {
             self.begun.fetch_add(1, Ordering::SeqCst);
-            hold(&self.answers, 2, &self.ran_out);
+            hold(&self.answers, self.awaited, &self.ran_out);
         }
     }
 
@@ -77,80 +88,22 @@ impl Gate for DuringGrowth {
     }
 }
 
-// Counts how often piece 0 is begun.
-#[derive(Drop)]
-struct FirstPieces {
-    begun: AtomicU64,
-}
-
-impl Gate for FirstPieces {
-    fn enter(&self, piece: u32) {
-        if piece == 0 {
-            self.begun.fetch_add(1, Ordering::SeqCst);
-        }
-    }
-
-    fn answered(&self, _lane: u8) {}
-}
-
-// The text behind the first place of a part.
-fn behind_part<'a>(text: &'a [u8], part: &[u8]) -> Option<&'a [u8]> {
-    for at in 0..text.len() {
-        if let Some(rest) = text[at..].strip_prefix(part) {
-            return Some(rest);
-        }
-    }
-    None
-}
-
-// Whether a run ended well, and wrote these parts one behind the other.
-fn has_in_order(text: &[u8], parts: &[&[u8]]) -> bool {
-    let mut rest = text;
-    for part in parts {
-        match behind_part(rest, part) {
-            Some(behind) => rest = behind,
-            None => return false,
-        }
-    }
-    text.starts_with(b"|")
-}
-
-// What a run of this script by this fleet shows.
+// Whether a run of this script ends so, where nobody is told anything.
 fn ran<G: Gate>(
     rt: &(impl Threads + Wait + Sync),
     alloc: Global,
-    fleet: &[u8],
     script: &[u8],
+    end: &[u8],
     gate: &G,
-) -> Result<Vec<u8>, AllocError> {
-    let texts = Texts {
-        words: RUN,
-        fleet,
-        script,
-        report: b"",
-    };
-    shown_to(rt, alloc, &texts, SMOOTH, gate)
+) -> Result<bool, AllocError> {
+    let mut nobody: Vec<Box<dyn Notifier>> = Vec::new(alloc);
+    ends_with(rt, alloc, FLEET, script, end, &mut nobody, gate)
 }
 
 #[test]
 fn a_lane_is_answered_during_growth(rt: HostRuntime) -> Result<(), Fail> {
-    let gate = DuringGrowth {
-        begun: AtomicU64::new(0),
-        answers: AtomicU64::new(0),
-        ran_out: AtomicU64::new(0),
-    };
-    let text = ran(&rt, rt.alloc(), FOUR_SEATS, SEAL_AND_ASK, &gate)?;
-    assert!(rt;
-        has_in_order(
-            &text,
-            &[
-                b" 1 submit 1 2 4 0 accepted\n",
-                b" 1 submit 2 3 5 0 accepted\n",
-                b" 0 close 1 closed\n",
-                b"done 4\n",
-            ]
-        )
-    );
+    let gate = DuringGrowth::until(2);
+    assert!(rt; ran(&rt, rt.alloc(), SEAL_AND_ASK, b"\ndone 4\n", &gate)?);
     assert_eq!(rt; gate.ran_out.load(Ordering::SeqCst), 0);
     Ok(())
 }
@@ -161,9 +114,7 @@ fn sixteen_lanes_meet(rt: HostRuntime) -> Result<(), Fail> {
         answers: AtomicU64::new(0),
         ran_out: AtomicU64::new(0),
     };
-    let text = ran(&rt, rt.alloc(), FOUR_SEATS, SIXTEEN, &gate)?;
-    assert!(rt; has_in_order(&text, &[b" 2 4 0 accepted\n".as_slice(); 16]));
-    assert!(rt; text.ends_with(b"\ndone 16\n"));
+    assert!(rt; ran(&rt, rt.alloc(), SIXTEEN, b"\ndone 16\n", &gate)?);
     assert_eq!(rt; gate.ran_out.load(Ordering::SeqCst), 0);
     Ok(())
 }
@@ -171,11 +122,8 @@ fn sixteen_lanes_meet(rt: HostRuntime) -> Result<(), Fail> {
 // In each of the two batches the trips of one rider, of two and of three are a run of their own.
 #[test]
 fn each_size_is_grown_in_runs_of_its_own(rt: HostRuntime) -> Result<(), Fail> {
-    let gate = FirstPieces {
-        begun: AtomicU64::new(0),
-    };
-    let text = ran(&rt, rt.alloc(), TWO_SEATS, THREE_ROUNDS, &gate)?;
-    assert!(rt; has_in_order(&text, &[b"\nround 2\n", b"\ndone 6\n"]));
+    let gate = DuringGrowth::until(0);
+    assert!(rt; ran(&rt, rt.alloc(), THREE_ROUNDS, b"\ndone 6\n", &gate)?);
     assert_eq!(rt; gate.begun.load(Ordering::SeqCst), 6);
     Ok(())
 }

@@ -4,7 +4,7 @@
 //! pieces, whatever the schedule and the number of workers. A gate hears of each piece as it begins. That
 //! pieces run at the same time is not said: tests show it.
 //!
-//! A caller, from the tests of `book_tests`:
+//! A caller:
 //!
 //! ```
 //! impl Job for Squares {

@@ -1,5 +1,0 @@
-use Rattle.std.proofs.Common.{refl}
-use Rattle.travel_tests.proofs.walking.fast.Goals as goal
-
-pub times_between-requires-clause-known : goal.times_between-requires-clause-known
-times_between-requires-clause-known g c κs within = c.if-are_known.ensures.0 refl
