@@ -39,7 +39,7 @@ module _ (nodes : List ℕ) (wait : ℕ) where
 
   pub gained-calls : (s : State) (es all : List Entry) (more : List (LoggedCall Command LockedReply)) → calls_from nodes wait s all ≡ calls_from nodes wait s es ++ more → calls_from nodes wait (state_after nodes wait s es) (map entry_of more) ≡ more
   gained-calls s es all more gained = append_cancel_left (calls_from nodes wait s es) _ _
-      (sym (calls-append s es (map entry_of more)) ∙ ap (calls_from nodes wait s) (sym (gained-entries s es all more gained)) ∙ gained)
+      (sym (calls-append nodes wait s es (map entry_of more)) ∙ ap (calls_from nodes wait s) (sym (gained-entries s es all more gained)) ∙ gained)
 
 pub finished : ((nodes : List ℕ) (wait : ℕ) (s : State) (round later : List Entry) → state_after nodes wait s (round ++ later) ≡ state_after nodes wait (state_after nodes wait s round) later)
     → (start book : BookView) (passes : List BookPass) → IsBook start → IsBook book → root_of book ≡ root_of start → GainsCalls (log_of start) (log_of book) passes → IsFinished start passes book
