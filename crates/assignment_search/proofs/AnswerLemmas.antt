@@ -115,8 +115,10 @@ so_far_grow g budget limit nodes values place ends new news t lowest parted room
     let can = parting.can in
     let has : HasUsable g s.usable = usable_here g (take place nodes) s.usable s.later (grown_reads g low limit (take place nodes) (take place values) (every_row ∷ []) (s.usable ∷ s.later) s.before) in
     let judged : get_or values place (pos 0) ≡ leaf_value g s.usable parted.parent = here.judged ∙ ap (leaf_value g s.usable) (sym parent_is) in
-    let only_up = value_rises g s.usable (only_row g s.usable ends.vehicle ends.row) parted.parent (λ k e. only_fewer g s.usable ends.vehicle ends.row k e) (usable_only g s.usable ends.vehicle ends.row can has) in
-    let without_up = value_rises g s.usable (without_row s.usable ends.row) parted.parent (λ k e. without_fewer s.usable ends.row k e) (usable_without g s.usable ends.vehicle ends.row can has) in
+    let only_up : leaf_value g s.usable parted.parent ≤ℤ leaf_value g (only_row g s.usable ends.vehicle ends.row) parted.parent =
+    value_rises g s.usable (only_row g s.usable ends.vehicle ends.row) parted.parent (λ k e. only_fewer g s.usable ends.vehicle ends.row k e) (usable_only g s.usable ends.vehicle ends.row can has) in
+    let without_up : leaf_value g s.usable parted.parent ≤ℤ leaf_value g (without_row s.usable ends.row) parted.parent =
+    value_rises g s.usable (without_row s.usable ends.row) parted.parent (λ k e. without_fewer s.usable ends.row k e) (usable_without g s.usable ends.vehicle ends.row can has) in
     let floor_only = rounded_up_mono (get_or values place (pos 0)) (leaf_value g (only_row g s.usable ends.vehicle ends.row) parted.parent) (subst (λ (z : ℤ). z ≤ℤ leaf_value g (only_row g s.usable ends.vehicle ends.row) parted.parent) (sym judged) only_up) in
     let floor_without = rounded_up_mono (get_or values place (pos 0)) (leaf_value g (without_row s.usable ends.row) parted.parent) (subst (λ (z : ℤ). z ≤ℤ leaf_value g (without_row s.usable ends.row) parted.parent) (sym judged) without_up) in
     let fit : rounded_up (first_fit_value g s.usable) ≤ℤ low = rounded_up_mono (first_fit_value g s.usable) (get_or values place (pos 0)) here.first_fit in

@@ -33,7 +33,8 @@ term_apart g u w ms v x e other =
 pub value_moved : (g : Graph) (u w : Usable) (ms : List ℤ) (v : ℕ) (z old new : ℤ) → v < g.vehicles → AgreeApart g v u w → z ≡ leaf_value g u ms → old ≡ vehicle_term g u ms v → new ≡ vehicle_term g w ms v → (z -ℤ old) +ℤ new ≡ leaf_value g w ms
 unfolding leaf_value
 value_moved g u w ms v z old new low e value was is =
-    let moved = int_sum_moved g.vehicles v (vehicle_term g u ms) (vehicle_term g w ms) low (λ x l other. term_apart g u w ms v x e other) in
+    let moved : int_sum_below g.vehicles (vehicle_term g w ms) ≡ (int_sum_below g.vehicles (vehicle_term g u ms) -ℤ vehicle_term g u ms v) +ℤ vehicle_term g w ms v =
+    int_sum_moved g.vehicles v (vehicle_term g u ms) (vehicle_term g w ms) low (λ x l other. term_apart g u w ms v x e other) in
     omega (arith, ints, moved, value, was, is)
 
 -- ---- in 128 bits

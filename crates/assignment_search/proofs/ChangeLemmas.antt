@@ -12,7 +12,8 @@ sum_set zero f chosen v c low within = absurd (omega arith)
 sum_set (suc n) f chosen v c low within =
     ⊎_elim
     (λ (here : v ≡ n).
-    let below = sum_below_same n (λ w. f (choice_at (set chosen v c) w)) (λ w. f (choice_at chosen w)) (λ w l. ap f (get_or-set_other chosen v w c None (λ (e : w ≡ v). omega arith))) in
+    let below : sum_below n (λ w. f (choice_at (set chosen v c) w)) ≡ sum_below n (λ w. f (choice_at chosen w)) =
+    sum_below_same n (λ w. f (choice_at (set chosen v c) w)) (λ w. f (choice_at chosen w)) (λ w l. ap f (get_or-set_other chosen v w c None (λ (e : w ≡ v). omega arith))) in
     let new : f (choice_at (set chosen v c) n) ≡ f c = ap f (subst (λ (w : ℕ). choice_at (set chosen v c) w ≡ c) here (get_or-set_same chosen v c None within)) in
     let old : f (choice_at chosen v) ≡ f (choice_at chosen n) = ap (λ (w : ℕ). f (choice_at chosen w)) here in
     omega arith)

@@ -1,10 +1,10 @@
 -- The names that the proofs of this crate cite from elsewhere, passed on from one place. Declares nothing.
-pub use Rattle.std.proofs.lemmas.Bool.{and_from, and_left, and_parts, both_ways, cases_Bool, cases_eq, cases_lt, cond-false, cond-true, false_from_ne_true, false≢true, or_left, or_right}
+pub use Rattle.std.proofs.lemmas.Bool.{and_from, and_left, and_parts, both_ways, cases_Bool, cases_eq, cases_lt, cond-false, cond-true, false≢true, or_left, or_right}
 pub use Rattle.std.proofs.lemmas.Int.{int_min_is, ints}
 pub use Rattle.std.proofs.lemmas.List.{get_or-replicate, get_or_append_left, get_or_push, get_or_read, length_push, set-get_or, set_past}
 pub use Rattle.std.proofs.lemmas.List.Sorted.{sum_by_popped, sum_by_pushed}
 pub use Rattle.std.proofs.lemmas.List.Sums.{sum_by-cons}
-pub use Rattle.std.proofs.lemmas.Option.{MatchOption-at_some, none-some, same_Some}
+pub use Rattle.std.proofs.lemmas.Option.{none-some, same_Some}
 pub use Rattle.std.specs.BinaryHeap.{IsHeap}
 pub use Rattle.std.specs.List.{AllByRecursion, list_any}
 pub use Rattle.std.specs.declared.cmp.Reverse.{Reverse}
@@ -25,7 +25,7 @@ pub use Rattle.plan_rules.proofs.lemmas.UsableLemmas.{Agree, agree_back, can_bra
 pub use Rattle.plan_rules.specs.Graph.{Graph, HasNoRow, IsGoodGraph, IsRowOf, choice_at, cost_at, has_rider, is_in, must_be_served, riders_at, row_vehicle}
 pub use Rattle.plan_rules.specs.Greedy.{IsGreedy, IsTaken, IsTriedBefore}
 unfoldable pub use Rattle.plan_rules.specs.Multipliers.{first_fit_below, leaf_value}
-pub use Rattle.plan_rules.specs.Multipliers.{Usable, first_fit, first_fit_of, first_fit_value, is_usable_by, multiplier_at, reduced_cost, rider_term, room_at, usable_of, vehicle_term}
+pub use Rattle.plan_rules.specs.Multipliers.{Usable, first_fit, first_fit_of, first_fit_value, is_usable_by, multiplier_at, multiplier_sum, reduced_cost, rider_term, room_at, usable_of, vehicle_term}
 pub use Rattle.plan_rules.specs.Path.{IsPathOf, Standing, standing_of}
 unfoldable pub use Rattle.plan_rules.specs.Plan.{cost_of}
 pub use Rattle.plan_rules.specs.Plan.{IsBound, IsLawful, IsPlan, choice_cost}

@@ -1,6 +1,6 @@
 -- A leaf where no vehicle has a choice holds one plan, whose cost is the first-fit value.
 use Rattle.std.proofs.Common.{◌≡◌, ◌==◌, ◌&&◌, ℕ, zero, suc, ◌+◌, ◌*◌, ◌/◌, ◌<◌, ◌≤◌, Bool, true, false, ltb, List, [], ◌∷◌, length, Option, Some, None, MatchOption, ℤ, pos, ◌+ℤ◌, ◌-ℤ◌, ◌≤ℤ◌, refl, sym, ap, ◌∙◌, subst, inl, inr, ⊎_elim, arith, eq-eqb, eqb-true, ne_eqb, lt-ltb, le-ltb, unwrap_or}
-use Rattle.assignment_search.proofs.Common.{MatchOption-at_some, false_from_ne_true, none-some, ints, cases_eq, cases_lt, cases_Bool, and_from, and_parts, cond-true, cond-false, get_or_push, get_or_append_left, sum_below, count_below, int_sum_below, lesser, Graph, IsRowOf, HasNoRow, riders_at, row_vehicle, has_rider, choice_at, is_in, must_be_served, IsGoodGraph, IsPlan, IsLawful, choice_cost, cost_of, times_chosen, left_out, Usable, multiplier_at, is_usable_by, reduced_cost, vehicle_term, rider_term, leaf_value, room_at, first_fit_of, first_fit_below, first_fit, first_fit_value, MayUse, IsSoleRow, IsDeadEnd, rounded_up, flag, flag-true, flag-false, part, int_sum_same, int_sum_le, int_sum_zero, least_below_some, least_below_none, least_below_found, count_below_found, times_served_as_count, times_served_some, in_choice, has_choice, HasUsable, IsFixed, IsSolePlan}
+use Rattle.assignment_search.proofs.Common.{same_Some, none-some, ints, cases_eq, cases_lt, cases_Bool, and_from, and_parts, cond-true, cond-false, get_or_push, get_or_append_left, sum_below, count_below, int_sum_below, least_below, lesser, Graph, IsRowOf, HasNoRow, riders_at, row_vehicle, has_rider, choice_at, is_in, must_be_served, IsGoodGraph, IsPlan, IsLawful, choice_cost, cost_of, times_chosen, left_out, Usable, multiplier_at, multiplier_sum, is_usable_by, reduced_cost, vehicle_term, rider_term, leaf_value, room_at, first_fit_of, first_fit_below, first_fit, first_fit_value, MayUse, IsSoleRow, IsDeadEnd, rounded_up, flag, flag-true, flag-false, part, int_sum_same, int_sum_le, int_sum_zero, least_below_some, least_below_none, least_below_found, count_below_found, times_served_as_count, times_served_some, in_choice, has_choice, HasUsable, IsFixed, IsSolePlan}
 use Rattle.plan_rules.proofs.lemmas.DualityLemmas.{choices_sum, multiplier_sum_is, prices_sum, riders_give, served_give}
 use Rattle.plan_rules.proofs.lemmas.TreeLemmas.{rounded_up_mono}
 use Rattle.dual_bound.proofs.lemmas.FirstFitLemmas.{length-first_fit}
@@ -24,7 +24,11 @@ count_two_found (suc n) p h =
 module _ (g : Graph) (u : Usable) (chosen : List (Option ℕ)) (good : IsGoodGraph g) (sized : length chosen ≡ g.vehicles) (sole : IsSolePlan g u chosen) (fixed : IsFixed g u) (has : HasUsable g u) (alive : IsDeadEnd g u → ⊥) where
   -- a choice may be used
   may_choice : (v k : ℕ) → v < g.vehicles → choice_at chosen v ≡ Some k → MayUse g u v k
-  may_choice v k l e = MatchOption-at_some ((j : ℕ) → MayUse g u v j → ⊥) (MayUse g u v) k e (sole v l)
+  may_choice v k l e = pick (choice_at chosen v) (sole v l) e
+    where
+      pick : (c : Option ℕ) → MatchOption c ((j : ℕ) → MayUse g u v j → ⊥) (MayUse g u v) → c ≡ Some k → MayUse g u v k
+      pick None h e = absurd (none-some k e)
+      pick (Some j) h e = subst (MayUse g u v) (same_Some j k e) h
 
   own : (v : ℕ) → (c : Option ℕ) → MatchOption c ((j : ℕ) → MayUse g u v j → ⊥) (MayUse g u v) → MatchOption c (HasNoRow g v) (IsRowOf g v)
   own v None h = λ k row. let j = has v k row in h (j.0) (j.1)
@@ -74,9 +78,13 @@ module _ (g : Graph) (u : Usable) (chosen : List (Option ℕ)) (good : IsGoodGra
   sole_keeps r must =
       ⊎_elim
       (λ (none : times_chosen g chosen r ≡ 0).
-      absurd (alive (inr (record { rider = r; must = must; nowhere = λ k l may. false_from_ne_true _ (λ e. omega (arith, none, sole_serves r k l may e)) }))))
+      absurd (alive (inr (record { rider = r; must = must; nowhere = λ k l may. not_in none k l may (has_rider g k r) refl }))))
       (λ (some : times_chosen g chosen r ≡ 0 → ⊥). omega (arith, some, sole_once r))
       (cases_eq (times_chosen g chosen r) 0)
+    where
+      not_in : times_chosen g chosen r ≡ 0 → (k : ℕ) → k < length g.rows → u k ≡ true → (b : Bool) → has_rider g k r ≡ b → has_rider g k r ≡ false
+      not_in none k l may false e = e
+      not_in none k l may true e = absurd (omega (arith, none, sole_serves r k l may e))
 
   pub sole_is_lawful : IsLawful g chosen
   sole_is_lawful = record { plan = sole_is_plan; once = sole_once; kept = sole_keeps }
@@ -85,7 +93,8 @@ module _ (g : Graph) (u : Usable) (chosen : List (Option ℕ)) (good : IsGoodGra
 
   term_is : (ms : List ℤ) (v : ℕ) → v < g.vehicles → (c : Option ℕ) → choice_at chosen v ≡ c → vehicle_term g u ms v ≡ (pos (1024 * choice_cost g c) -ℤ riders_give g ms c)
   term_is ms v l None e =
-      let none = least_below_none (length g.rows) (is_usable_by g u v) (reduced_cost g ms) (λ k low. false_from_ne_true _ (foreign k low)) in
+      let none : least_below (length g.rows) (is_usable_by g u v) (reduced_cost g ms) ≡ None =
+      least_below_none (length g.rows) (is_usable_by g u v) (reduced_cost g ms) (λ k low. foreign k low (is_usable_by g u v k) refl) in
       let term : vehicle_term g u ms v ≡ pos 0 = ap (λ (p : Option ℤ). unwrap_or p (pos 0)) none in
       let nobody : int_sum_below g.riders (λ r. pos 0) ≡ pos 0 = int_sum_zero g.riders in
       omega (arith, ints)
@@ -94,10 +103,11 @@ module _ (g : Graph) (u : Usable) (chosen : List (Option ℕ)) (good : IsGoodGra
       unfit None h e = h
       unfit (Some k) h e = absurd (none-some k (sym e))
 
-      foreign : (k : ℕ) → k < length g.rows → is_usable_by g u v k ≡ true → ⊥
-      foreign k low is =
+      foreign : (k : ℕ) → k < length g.rows → (b : Bool) → is_usable_by g u v k ≡ b → is_usable_by g u v k ≡ false
+      foreign k low false is = is
+      foreign k low true is =
           let parts = and_parts (row_vehicle g k == v) (u k) is in
-          unfit (choice_at chosen v) (sole v l) e k (record { row = record { within = low; own = eqb-true (row_vehicle g k) v (parts.0) }; usable_row = parts.1 })
+          absurd (unfit (choice_at chosen v) (sole v l) e k (record { row = record { within = low; own = eqb-true (row_vehicle g k) v (parts.0) }; usable_row = parts.1 }))
   term_is ms v l (Some k) e =
       let may : MayUse g u v k = may_choice v k l e in
       let passes : is_usable_by g u v k ≡ true = and_from (row_vehicle g k == v) (u k) (eq-eqb (row_vehicle g k) v may.row.own) may.usable_row in
@@ -108,7 +118,8 @@ module _ (g : Graph) (u : Usable) (chosen : List (Option ℕ)) (good : IsGoodGra
       let reached : w.0 ≡ reduced_cost g ms k = found.3 ∙ ap (reduced_cost g ms) same in
       let term : vehicle_term g u ms v ≡ w.0 = ap (λ (p : Option ℤ). unwrap_or p (pos 0)) (w.1) in
       let row = good.rows k may.row.within in
-      let riders = multiplier_sum_is ms g.riders (riders_at g k) row.members.rising row.members.below in
+      let riders : multiplier_sum ms (riders_at g k) ≡ int_sum_below g.riders (λ r. part (has_rider g k r) (multiplier_at ms r)) =
+      multiplier_sum_is ms g.riders (riders_at g k) row.members.rising row.members.below in
       omega (arith, ints)
 
   vehicles_are : (ms : List ℤ) → int_sum_below g.vehicles (vehicle_term g u ms) ≡ (pos (1024 * sum_below g.vehicles (λ v. choice_cost g (choice_at chosen v))) -ℤ served_give g ms chosen)
@@ -160,7 +171,11 @@ first_fit_left : (g : Graph) (u : Usable) (r : ℕ) → r < g.riders → ((k : �
 first_fit_left g u r l nowhere =
     first_fit_read g u g.riders r l
     ∙ ap (λ (o : Option ℤ). lesser o (pos (1024 * g.penalty)))
-    (least_below_none (length g.rows) (λ k. u k && has_rider g k r) (room_at g u (first_fit_below g u r)) (λ k low. false_from_ne_true _ (λ e. let parts = and_parts (u k) (has_rider g k r) e in nowhere k low (parts.0) (parts.1))))
+    (least_below_none (length g.rows) (λ k. u k && has_rider g k r) (room_at g u (first_fit_below g u r)) (λ k low. not_both k low (u k && has_rider g k r) refl))
+  where
+    not_both : (k : ℕ) → k < length g.rows → (b : Bool) → (u k && has_rider g k r) ≡ b → (u k && has_rider g k r) ≡ false
+    not_both k low false e = e
+    not_both k low true e = let parts = and_parts (u k) (has_rider g k r) e in absurd (nowhere k low (parts.0) (parts.1))
 
 -- ---- together
 

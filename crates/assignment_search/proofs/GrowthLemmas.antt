@@ -13,13 +13,17 @@ good_sound g low limit u (Branch v k) z h = h.0
 
 pub grown_reads : (g : Graph) (low : ℤ) (limit : ℕ) (nodes : List Node) (values : List ℤ) (coming rest : List Usable) → IsGrown g low limit coming nodes values rest → ReadsTo g coming nodes rest
 grown_reads g low limit [] [] coming rest h = h
+grown_reads g low limit [] (z ∷ values) coming rest h = absurd h
+grown_reads g low limit (n ∷ nodes) [] coming rest h = absurd h
+grown_reads g low limit (n ∷ nodes) (z ∷ values) [] rest h = absurd h
 grown_reads g low limit (n ∷ nodes) (z ∷ values) (u ∷ us) rest h = (good_sound g low limit u n z (h.0), grown_reads g low limit nodes values (coming_after g u n us) rest (h.1))
-grown_reads g low limit _ _ _ rest h = absurd h
 
 pub grown_length : (g : Graph) (low : ℤ) (limit : ℕ) (nodes : List Node) (values : List ℤ) (coming rest : List Usable) → IsGrown g low limit coming nodes values rest → length values ≡ length nodes
 grown_length g low limit [] [] coming rest h = refl
+grown_length g low limit [] (z ∷ values) coming rest h = absurd h
+grown_length g low limit (n ∷ nodes) [] coming rest h = absurd h
+grown_length g low limit (n ∷ nodes) (z ∷ values) [] rest h = absurd h
 grown_length g low limit (n ∷ nodes) (z ∷ values) (u ∷ us) rest h = ap suc (grown_length g low limit nodes values (coming_after g u n us) rest (h.1))
-grown_length g low limit _ _ _ rest h = absurd h
 
 -- ---- a node of a grown tree, with what is before and after it
 
@@ -32,16 +36,19 @@ pub record IsSplit (g : Graph) (low : ℤ) (limit : ℕ) (coming : List Usable) 
 
 pub grown_split : (g : Graph) (low : ℤ) (limit : ℕ) (nodes : List Node) (values : List ℤ) (coming rest : List Usable) (i : ℕ) → IsGrown g low limit coming nodes values rest → i < length nodes → IsSplit g low limit coming nodes values rest i
 grown_split g low limit [] values coming rest i h l = absurd (omega (arith, l))
+grown_split g low limit (n ∷ nodes) [] coming rest i h l = absurd h
+grown_split g low limit (n ∷ nodes) (z ∷ values) [] rest i h l = absurd h
 grown_split g low limit (n ∷ nodes) (z ∷ values) (u ∷ us) rest zero h l = record { usable = u; later = us; before = refl; here = h.0; after = h.1 }
 grown_split g low limit (n ∷ nodes) (z ∷ values) (u ∷ us) rest (suc i) h l =
     let s = grown_split g low limit nodes values (coming_after g u n us) rest i (h.1) (omega (arith, l)) in
     record { usable = s.usable; later = s.later; before = (h.0, s.before); here = s.here; after = s.after }
-grown_split g low limit _ _ _ rest i h l = absurd h
 
 pub grown_join : (g : Graph) (low : ℤ) (limit : ℕ) (xs : List Node) (zs : List ℤ) (ys : List Node) (ws : List ℤ) (a b d : List Usable) → IsGrown g low limit a xs zs b → IsGrown g low limit b ys ws d → IsGrown g low limit a (xs ++ ys) (zs ++ ws) d
 grown_join g low limit [] [] ys ws a b d first second = subst (λ (c : List Usable). IsGrown g low limit c ys ws d) (sym first) second
+grown_join g low limit [] (z ∷ zs) ys ws a b d first second = absurd first
+grown_join g low limit (n ∷ xs) [] ys ws a b d first second = absurd first
+grown_join g low limit (n ∷ xs) (z ∷ zs) ys ws [] b d first second = absurd first
 grown_join g low limit (n ∷ xs) (z ∷ zs) ys ws (u ∷ us) b d first second = (first.0, grown_join g low limit xs zs ys ws (coming_after g u n us) b d (first.1) second)
-grown_join g low limit _ _ ys ws _ b d first second = absurd first
 
 -- ---- a leaf becomes a branch
 
@@ -93,11 +100,13 @@ raise_node g low new limit u (Branch v k) z up floor h =
 
 pub raised : (g : Graph) (low new : ℤ) (limit : ℕ) (nodes : List Node) (values : List ℤ) (coming rest : List Usable) → low ≤ℤ new → LeavesAbove new nodes values → IsGrown g low limit coming nodes values rest → IsGrown g new limit coming nodes values rest
 raised g low new limit [] [] coming rest up above h = h
+raised g low new limit [] (z ∷ values) coming rest up above h = h
+raised g low new limit (n ∷ nodes) [] coming rest up above h = h
+raised g low new limit (n ∷ nodes) (z ∷ values) [] rest up above h = h
 raised g low new limit (n ∷ nodes) (z ∷ values) (u ∷ us) rest up above h = (
   raise_node g low new limit u n z up (λ ms e. above 0 ms (omega arith) e) (h.0),
   raised g low new limit nodes values (coming_after g u n us) rest up (λ k ms l e. above (suc k) ms (omega (arith, l)) e) (h.1),
 )
-raised g low new limit _ _ _ rest up above h = absurd h
 
 -- no leaf is below the lowest
 pub lowest_above : (nodes : List Node) (values : List ℤ) (i : ℕ) → IsLowest nodes values i → LeavesAbove (rounded_up (get_or values i (pos 0))) nodes values
@@ -114,6 +123,9 @@ lowest_floor g low limit nodes values i grown lowest =
 
 least_low : (g : Graph) (low : ℤ) (limit : ℕ) (nodes : List Node) (values : List ℤ) (coming rest : List Usable) → IsGrown g low limit coming nodes values rest → (z : ℤ) → least_leaf g (places_from g coming nodes) ≡ Some z → low ≤ℤ z
 least_low g low limit [] [] coming rest h z e = absurd (none-some z e)
+least_low g low limit [] (w ∷ values) coming rest h z e = absurd h
+least_low g low limit (n ∷ nodes) [] coming rest h z e = absurd h
+least_low g low limit (n ∷ nodes) (w ∷ values) [] rest h z e = absurd h
 least_low g low limit (Leaf ms ∷ nodes) (w ∷ values) (u ∷ us) rest h z e =
     let leaf = h.0 in
     let floor : low ≤ℤ rounded_up (leaf_value g u ms) = subst (λ (y : ℤ). low ≤ℤ rounded_up y) leaf.judged leaf.floor in
@@ -126,11 +138,12 @@ least_low g low limit (Leaf ms ∷ nodes) (w ∷ values) (u ∷ us) rest h z e =
         omega (arith, ints, int_min_is y (rounded_up (leaf_value g u ms)))
 least_low g low limit (Dead ∷ nodes) (w ∷ values) (u ∷ us) rest h z e = least_low g low limit nodes values us rest (h.1) z e
 least_low g low limit (Branch v k ∷ nodes) (w ∷ values) (u ∷ us) rest h z e = least_low g low limit nodes values (only_row g u v k ∷ without_row u k ∷ us) rest (h.1) z e
-least_low g low limit _ _ _ rest h z e = absurd h
 
 -- a leaf's value is not below the least
 least_high : (g : Graph) (low : ℤ) (limit : ℕ) (nodes : List Node) (values : List ℤ) (coming rest : List Usable) (i : ℕ) (ms : List ℤ) → IsGrown g low limit coming nodes values rest → i < length nodes → get_or nodes i Dead ≡ Leaf ms → (z : ℤ) × (least_leaf g (places_from g coming nodes) ≡ Some z) × (z ≤ℤ rounded_up (get_or values i (pos 0)))
 least_high g low limit [] values coming rest i ms h l e = absurd (omega (arith, l))
+least_high g low limit (n ∷ nodes) [] coming rest i ms h l e = absurd h
+least_high g low limit (n ∷ nodes) (w ∷ values) [] rest i ms h l e = absurd h
 least_high g low limit (Leaf ns ∷ nodes) (w ∷ values) (u ∷ us) rest zero ms h l e =
     let leaf = h.0 in
     let same : rounded_up (leaf_value g u ns) ≡ rounded_up w = ap rounded_up (sym leaf.judged) in
@@ -155,7 +168,6 @@ least_high g low limit (Branch v k ∷ nodes) (w ∷ values) (u ∷ us) rest zer
     differ : Branch v k ≡ Leaf ms → ⊥
     differ e = cc
 least_high g low limit (Branch v k ∷ nodes) (w ∷ values) (u ∷ us) rest (suc i) ms h l e = least_high g low limit nodes values (only_row g u v k ∷ without_row u k ∷ us) rest i ms (h.1) (omega (arith, l)) e
-least_high g low limit _ _ _ rest i ms h l e = absurd h
 
 -- the tree's value is that of its lowest leaf
 pub value_is : (g : Graph) (limit : ℕ) (nodes : List Node) (values : List ℤ) (i : ℕ) → IsGrown g (rounded_up (get_or values i (pos 0))) limit (every_row ∷ []) nodes values [] → IsLowest nodes values i → value_read g nodes ≡ rounded_up (get_or values i (pos 0))
@@ -172,6 +184,9 @@ value_is g limit nodes values i grown lowest =
 pub nodes_fair : (g : Graph) (low : ℤ) (limit : ℕ) → limit ≤ cost_of g g.held → ((chosen : List (Option ℕ)) → IsGreedy g chosen → IsLawful g chosen → limit ≤ cost_of g chosen)
     → (nodes : List Node) (values : List ℤ) (coming rest : List Usable) → IsGrown g low limit coming nodes values rest → ByRecursion (λ p. IsFairNode g low p.usable p.node) (places_from g coming nodes)
 nodes_fair g low limit held greedy [] [] coming rest h = tt
+nodes_fair g low limit held greedy [] (z ∷ values) coming rest h = absurd h
+nodes_fair g low limit held greedy (n ∷ nodes) [] coming rest h = absurd h
+nodes_fair g low limit held greedy (n ∷ nodes) (z ∷ values) [] rest h = absurd h
 nodes_fair g low limit held greedy (n ∷ nodes) (z ∷ values) (u ∷ us) rest h = (fair n (h.0), nodes_fair g low limit held greedy nodes values (coming_after g u n us) rest (h.1))
   where
     fair : (m : Node) → IsGoodNode g low limit u m z → IsFairNode g low u m
@@ -185,7 +200,6 @@ nodes_fair g low limit held greedy (n ∷ nodes) (z ∷ values) (u ∷ us) rest 
           below_held = omega (arith, ints);
           below_greedy = λ chosen is lawful. let least : limit ≤ cost_of g chosen = greedy chosen is lawful in omega (arith, ints);
         }
-nodes_fair g low limit held greedy _ _ _ rest h = absurd h
 
 -- ---- vehicles keep a usable row
 

@@ -22,6 +22,10 @@ leaf_cons f q (Branch v k) z numbers nodes values = omega arith
 sum_edit : (f : ℕ → ℤ → ℕ) (numbers : List ℕ) (nodes : List Node) (values : List ℤ) (i p q v k : ℕ) (first second : Node) (a b : ℤ) (ms : List ℤ) → i < length nodes → length numbers ≡ length nodes → length values ≡ length nodes → get_or nodes i Dead ≡ Leaf ms
     → leaf_sum f (take i numbers ++ (get_or numbers i 0 ∷ p ∷ q ∷ drop (suc i) numbers)) (take i nodes ++ (Branch v k ∷ first ∷ second ∷ drop (suc i) nodes)) (take i values ++ (get_or values i (pos 0) ∷ a ∷ b ∷ drop (suc i) values)) + f (get_or numbers i 0) (get_or values i (pos 0))
     ≡ leaf_sum f (q ∷ []) (second ∷ []) (b ∷ []) + (leaf_sum f (p ∷ []) (first ∷ []) (a ∷ []) + leaf_sum f numbers nodes values)
+sum_edit f [] [] values i p q v k first second a b ms l same long is = absurd (omega (arith, l))
+sum_edit f (x ∷ numbers) [] values i p q v k first second a b ms l same long is = absurd (omega (arith, l))
+sum_edit f [] (n ∷ nodes) values i p q v k first second a b ms l same long is = absurd (omega (arith, same))
+sum_edit f (x ∷ numbers) (n ∷ nodes) [] i p q v k first second a b ms l same long is = absurd (omega (arith, long))
 sum_edit f (x ∷ numbers) (n ∷ nodes) (z ∷ values) zero p q v k first second a b ms l same long is =
     let one = leaf_cons f p first a (q ∷ numbers) (second ∷ nodes) (b ∷ values) in
     let two = leaf_cons f q second b numbers nodes values in
@@ -32,18 +36,20 @@ sum_edit f (x ∷ numbers) (n ∷ nodes) (z ∷ values) (suc i) p q v k first se
     let new = leaf_cons f x n z (take i numbers ++ (get_or numbers i 0 ∷ p ∷ q ∷ drop (suc i) numbers)) (take i nodes ++ (Branch v k ∷ first ∷ second ∷ drop (suc i) nodes)) (take i values ++ (get_or values i (pos 0) ∷ a ∷ b ∷ drop (suc i) values)) in
     let old = leaf_cons f x n z numbers nodes values in
     omega (arith, rest, new, old)
-sum_edit f _ _ _ i p q v k first second a b ms l same long is = absurd (omega (arith, l, same, long))
 
 -- a leaf counts in the sum
 sum_at : (f : ℕ → ℤ → ℕ) (numbers : List ℕ) (nodes : List Node) (values : List ℤ) (i : ℕ) (ms : List ℤ) → i < length nodes → length numbers ≡ length nodes → length values ≡ length nodes → get_or nodes i Dead ≡ Leaf ms
     → f (get_or numbers i 0) (get_or values i (pos 0)) ≤ leaf_sum f numbers nodes values
+sum_at f [] [] values i ms l same long is = absurd (omega (arith, l))
+sum_at f (x ∷ numbers) [] values i ms l same long is = absurd (omega (arith, l))
+sum_at f [] (n ∷ nodes) values i ms l same long is = absurd (omega (arith, same))
+sum_at f (x ∷ numbers) (n ∷ nodes) [] i ms l same long is = absurd (omega (arith, long))
 sum_at f (x ∷ numbers) (n ∷ nodes) (z ∷ values) zero ms l same long is =
     let old : leaf_sum f (x ∷ numbers) (n ∷ nodes) (z ∷ values) ≡ f x z + leaf_sum f numbers nodes values = ap (λ (m : Node). leaf_sum f (x ∷ numbers) (m ∷ nodes) (z ∷ values)) is in
     omega (arith, old)
 sum_at f (x ∷ numbers) (n ∷ nodes) (z ∷ values) (suc i) ms l same long is =
     let rest = sum_at f numbers nodes values i ms (omega (arith, l)) (omega (arith, same)) (omega (arith, long)) is in
     omega (arith, rest, leaf_cons f x n z numbers nodes values)
-sum_at f _ _ _ i ms l same long is = absurd (omega (arith, l, same, long))
 
 -- what counts in the sum is a leaf
 record IsCounted (f : ℕ → ℤ → ℕ) (numbers : List ℕ) (nodes : List Node) (values : List ℤ) : Type 0 where

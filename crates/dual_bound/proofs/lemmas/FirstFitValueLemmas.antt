@@ -1,6 +1,6 @@
 -- What the first-fit multipliers are worth: none is negative, and the cheapest usable rows stay the cheapest.
 use Rattle.std.proofs.Common.{◌≡◌, ◌==◌, ◌&&◌, ℕ, zero, suc, ◌*◌, ◌<◌, ◌≤◌, Bool, true, false, List, [], ◌∷◌, ◌++◌, length, Option, Some, None, ℤ, pos, ◌+ℤ◌, ◌*ℤ◌, ◌≤ℤ◌, refl, sym, ap, ◌∙◌, subst, ⊎_elim, arith, eq-eqb, eqb-true, ne_eqb, unwrap_or}
-use Rattle.dual_bound.proofs.Common.{false_from_ne_true, none-some, int_min, ints, int_min_is, cases_eq, cases_lt, cases_Bool, and_from, and_parts, cond-true, cond-false, get_or_push, get_or_append_left, get_or_past, length_push, int_sum_below, least_below, lesser, Graph, riders_at, row_vehicle, cost_at, has_rider, must_be_served, IsGoodGraph, Usable, multiplier_at, multiplier_sum, is_usable_by, reduced_cost, vehicle_term, rider_term, leaf_value, least_cost, room_at, first_fit_of, first_fit_below, first_fit, first_fit_value, part, int_sum_same, int_sum_plus, int_sum_single, least_below_some, least_below_none, least_below_found, lesser-le_right, lesser-le_left}
+use Rattle.dual_bound.proofs.Common.{none-some, int_min, ints, int_min_is, cases_eq, cases_lt, cases_Bool, and_from, and_parts, cond-true, cond-false, get_or_push, get_or_append_left, get_or_past, length_push, int_sum_below, least_below, lesser, Graph, riders_at, row_vehicle, cost_at, has_rider, must_be_served, IsGoodGraph, Usable, multiplier_at, multiplier_sum, is_usable_by, reduced_cost, vehicle_term, rider_term, leaf_value, least_cost, room_at, first_fit_of, first_fit_below, first_fit, first_fit_value, part, int_sum_same, int_sum_plus, int_sum_single, least_below_some, least_below_none, least_below_found, lesser-le_right, lesser-le_left}
 use Rattle.plan_rules.proofs.lemmas.DualityLemmas.{multiplier_sum_is}
 use Rattle.dual_bound.proofs.lemmas.FirstFitLemmas.{length-first_fit}
 
@@ -65,13 +65,17 @@ pushed_sum : (g : Graph) (k : ℕ) (ms : List ℤ) (n : ℕ) (m : ℤ) → IsGoo
 pushed_sum g k ms n m good l low long =
     let row = good.rows k l in
     let more = ms ++ m ∷ [] in
-    let before = multiplier_sum_is ms g.riders (riders_at g k) row.members.rising row.members.below in
-    let after = multiplier_sum_is more g.riders (riders_at g k) row.members.rising row.members.below in
+    let before : multiplier_sum ms (riders_at g k) ≡ int_sum_below g.riders (λ r. part (has_rider g k r) (multiplier_at ms r)) =
+    multiplier_sum_is ms g.riders (riders_at g k) row.members.rising row.members.below in
+    let after : multiplier_sum more (riders_at g k) ≡ int_sum_below g.riders (λ r. part (has_rider g k r) (multiplier_at more r)) =
+    multiplier_sum_is more g.riders (riders_at g k) row.members.rising row.members.below in
     let each : int_sum_below g.riders (λ r. part (has_rider g k r) (multiplier_at more r)) ≡ int_sum_below g.riders (λ r. part (has_rider g k r) (multiplier_at ms r) +ℤ part (n == r) (part (has_rider g k r) m)) =
     int_sum_same g.riders (λ r. part (has_rider g k r) (multiplier_at more r)) (λ r. part (has_rider g k r) (multiplier_at ms r) +ℤ part (n == r) (part (has_rider g k r) m))
     (λ r _. ap (part (has_rider g k r)) (pushed_at ms n m r long) ∙ part_of_sum (has_rider g k r) (n == r) (multiplier_at ms r) m) in
-    let apart = int_sum_plus g.riders (λ r. part (has_rider g k r) (multiplier_at ms r)) (λ r. part (n == r) (part (has_rider g k r) m)) in
-    let one = int_sum_single g.riders n (λ r. part (has_rider g k r) m) low in
+    let apart : int_sum_below g.riders (λ r. part (has_rider g k r) (multiplier_at ms r) +ℤ part (n == r) (part (has_rider g k r) m)) ≡ int_sum_below g.riders (λ r. part (has_rider g k r) (multiplier_at ms r)) +ℤ int_sum_below g.riders (λ r. part (n == r) (part (has_rider g k r) m)) =
+    int_sum_plus g.riders (λ r. part (has_rider g k r) (multiplier_at ms r)) (λ r. part (n == r) (part (has_rider g k r) m)) in
+    let one : int_sum_below g.riders (λ r. part (n == r) (part (has_rider g k r) m)) ≡ part (has_rider g k n) m =
+    int_sum_single g.riders n (λ r. part (has_rider g k r) m) low in
     omega (arith, ints)
 
 -- the next multiplier takes no more room than there is
@@ -170,14 +174,16 @@ reduced_le g ms k h =
 vehicle_term_is : (g : Graph) (u : Usable) (ms : List ℤ) (v : ℕ) → LeavesRoom g u ms → vehicle_term g u ms v ≡ pos 1024 *ℤ least_cost g u v
 vehicle_term_is g u ms v roomy = by_least (least_below (length g.rows) (is_usable_by g u v) (λ k. pos (cost_at g k))) refl
   where
-    unfit : least_below (length g.rows) (is_usable_by g u v) (λ k. pos (cost_at g k)) ≡ None → (k : ℕ) → k < length g.rows → is_usable_by g u v k ≡ true → ⊥
-    unfit none k l e =
+    unfit : least_below (length g.rows) (is_usable_by g u v) (λ k. pos (cost_at g k)) ≡ None → (k : ℕ) → k < length g.rows → (b : Bool) → is_usable_by g u v k ≡ b → is_usable_by g u v k ≡ false
+    unfit none k l false e = e
+    unfit none k l true e =
         let w = least_below_some (length g.rows) (is_usable_by g u v) (λ j. pos (cost_at g j)) k l e in
-        none-some (w.0) (sym none ∙ w.1)
+        absurd (none-some (w.0) (sym none ∙ w.1))
 
     by_least : (o : Option ℤ) → least_below (length g.rows) (is_usable_by g u v) (λ k. pos (cost_at g k)) ≡ o → vehicle_term g u ms v ≡ pos 1024 *ℤ least_cost g u v
     by_least None e =
-        let none = least_below_none (length g.rows) (is_usable_by g u v) (reduced_cost g ms) (λ k l. false_from_ne_true _ (unfit e k l)) in
+        let none : least_below (length g.rows) (is_usable_by g u v) (reduced_cost g ms) ≡ None =
+        least_below_none (length g.rows) (is_usable_by g u v) (reduced_cost g ms) (λ k l. unfit e k l (is_usable_by g u v k) refl) in
         let term : vehicle_term g u ms v ≡ pos 0 = ap (λ (o : Option ℤ). unwrap_or o (pos 0)) none in
         let cost : least_cost g u v ≡ pos 0 = ap (λ (o : Option ℤ). unwrap_or o (pos 0)) e in
         omega (arith, ints, term, cost)
@@ -216,9 +222,11 @@ int_sum_scale (suc n) f =
 roomy_value : (g : Graph) (u : Usable) (ms : List ℤ) → LeavesRoom g u ms → leaf_value g u ms ≡ pos 1024 *ℤ int_sum_below g.vehicles (least_cost g u) +ℤ int_sum_below g.riders (multiplier_at ms)
 unfolding leaf_value
 roomy_value g u ms roomy =
-    let vehicles = int_sum_same g.vehicles (vehicle_term g u ms) (λ v. pos 1024 *ℤ least_cost g u v) (λ v l. vehicle_term_is g u ms v roomy) in
+    let vehicles : int_sum_below g.vehicles (vehicle_term g u ms) ≡ int_sum_below g.vehicles (λ v. pos 1024 *ℤ least_cost g u v) =
+    int_sum_same g.vehicles (vehicle_term g u ms) (λ v. pos 1024 *ℤ least_cost g u v) (λ v l. vehicle_term_is g u ms v roomy) in
     let scaled = int_sum_scale g.vehicles (least_cost g u) in
-    let riders = int_sum_same g.riders (rider_term g ms) (multiplier_at ms) (λ r l. rider_term_is g ms r (roomy.most r)) in
+    let riders : int_sum_below g.riders (rider_term g ms) ≡ int_sum_below g.riders (multiplier_at ms) =
+    int_sum_same g.riders (rider_term g ms) (multiplier_at ms) (λ r l. rider_term_is g ms r (roomy.most r)) in
     omega (arith, ints)
 
 pub first_fit_value_is : (g : Graph) (u : Usable) → IsGoodGraph g → first_fit_value g u ≡ pos 1024 *ℤ int_sum_below g.vehicles (least_cost g u) +ℤ int_sum_below g.riders (multiplier_at (first_fit g u))
