@@ -4,7 +4,7 @@ pub use Rattle.std.proofs.lemmas.Int.{int_min_is, ints}
 pub use Rattle.std.proofs.lemmas.List.{at_drop_more, get_or_append_left, get_or_past, get_or_push, length_push, take_more, with_items_is}
 pub use Rattle.std.proofs.lemmas.Option.{none-some, same_Some}
 pub use Rattle.bound_checker.specs.lemmas.Visit.{coming_of}
-pub use Rattle.bound_checker.specs.work.DeadEnd.{AreSoleRows, IsApart, IsOnlyOf, MarksStanding, ShareARider, StandsInNone, StandsInSome}
+pub use Rattle.bound_checker.specs.work.DeadEnd.{AreSoleRows, IsApart, MarksStanding, ShareARider}
 pub use Rattle.bound_checker.specs.work.Leaf.{AreLeast}
 pub use Rattle.bound_checker.specs.work.Visit.{IsNodeFault, IsReady}
 pub use Rattle.plan_rules.proofs.lemmas.GraphLemmas.{has_at, row_read}
@@ -24,5 +24,6 @@ pub use Rattle.plan_rules.specs.Tree.{IsClash, IsDeadEnd, IsSoleRow, IsStranded,
 pub use Rattle.plan_rules.specs.declared.node.Node.{Node}
 pub use Rattle.plan_rules.specs.declared.path.Decision.{Decision}
 pub use Rattle.plan_rules.specs.declared.row.TripRow.{TripRow}
+pub use Rattle.plan_rules.specs.lemmas.DeadEnd.{IsOnlyOf, StandsInNone, StandsInSome}
 pub use Rattle.plan_rules.specs.lemmas.Tree.{IsWholeTree, places_read, value_read}
 pub use mir.Syntax.{w128}
