@@ -39,9 +39,10 @@ pub(crate) fn courses_after(
 ) -> Result<Vec<Course>, OutOfMemory>
     ensures { IfOk result (λ after. after.items ≡ courses_after state.now round.now entries.now courses.now) }
 {
+    let seal = first_seal(round.lane(0));
     match plan_in(entries) {
         Some(planned) => planned_courses(alloc, state, planned),
-        None => left_courses(alloc, first_seal(round.lane(0)), courses),
+        None => left_courses(alloc, &seal, courses),
     }
 }
 
@@ -147,10 +148,10 @@ fn copied_stops(stops: &ArrayVec<PlannedStop, 22>) -> ArrayVec<PlannedStop, 22>
 /// What a seal leaves on its way, or what was on its way without one.
 fn left_courses(
     alloc: Global,
-    seal: Option<Second>,
+    seal: &Option<Second>,
     courses: &[Course],
 ) -> Result<Vec<Course>, OutOfMemory>
-    ensures { IfOk result (λ left. left.items ≡ map (left_course seal) courses.now) }
+    ensures { IfOk result (λ left. left.items ≡ map (left_course seal.now) courses.now) }
 {
     let mut left = Vec::with_capacity(alloc, courses.len())?;
     for course in courses {
@@ -159,8 +160,8 @@ fn left_courses(
     Ok(left)
 }
 
-fn left_course(seal: Option<Second>, course: &Course) -> Course
-    ensures { result ≡ left_course seal course.now }
+fn left_course(seal: &Option<Second>, course: &Course) -> Course
+    ensures { result ≡ left_course seal.now course.now }
 {
     match seal {
         None => Course {
@@ -168,7 +169,7 @@ fn left_course(seal: Option<Second>, course: &Course) -> Course
             target: course.target,
         },
         Some(now) => Course {
-            stops: stops_to_come(now, &course.stops),
+            stops: stops_to_come(*now, &course.stops),
             target: course.target,
         },
     }
