@@ -29,7 +29,7 @@ pub record DrivesDay (i : Inputs) (made : List DayRound) (text : List ℕ) : Typ
 pub data EndsDrive (i : Inputs) (seen : Seen) : RunStatus → Type 0 where
   driven : (status : RunStatus) → day_fault i.rounds ≡ None
       → EndsText i.settings i.roads (λ r. round_text r.number i.settings.proof r.journal) (head_text i.settings i.roads (length i.vehicles))
-          (λ made. (rest : List DayRound) × IsKeptDay i.settings i.roads (opening i.vehicles) i.rounds (made ++ rest)) (DrivesDay i) seen status
+      (λ made. (rest : List DayRound) × IsKeptDay i.settings i.roads (opening i.vehicles) i.rounds (made ++ rest)) (DrivesDay i) seen status
       → EndsDrive i seen status
   no_day : (fault : DayFault) → day_fault i.rounds ≡ Some fault → IsSilent seen → EndsDrive i seen (Day fault)
   too_late : (round : ℕ) (made : List DayRound) → day_fault i.rounds ≡ None → IsTooLateDay i.settings i.roads (opening i.vehicles) i.rounds round made

@@ -13,10 +13,10 @@ returns c =
     c.index-stand.ensures ∙ get_or_default lanes lane c.index-stand.result.now at_start low ∙ ap (λ (ls : List LaneStand). stand_at ls lane) c.self.view_is in
     let stands : (command : Command) → IsNext (lane_at round lane) (stand_at old lane) command → set lanes lane c.behind.result ≡ set old lane (stand_after (stand_at old lane) reply) =
     λ command next.
-        let told : IsNext c.lane.result.now c.index-stand.result.now command =
-        subst (λ (s : LaneStand). IsNext c.lane.result.now s command) (sym here) (subst (λ (cs : List Command). IsNext cs (stand_at old lane) command) (sym c.lane.ensures.commands) next) in
-        let after : c.behind.result ≡ stand_after (stand_at old lane) reply = c.behind.ensures command told ∙ ap (λ (s : LaneStand). stand_after s reply) here in
-        ap (λ (s : LaneStand). set lanes lane s) after ∙ ap (λ (ls : List LaneStand). set ls lane (stand_after (stand_at old lane) reply)) c.self.view_is in
+    let told : IsNext c.lane.result.now c.index-stand.result.now command =
+    subst (λ (s : LaneStand). IsNext c.lane.result.now s command) (sym here) (subst (λ (cs : List Command). IsNext cs (stand_at old lane) command) (sym c.lane.ensures.commands) next) in
+    let after : c.behind.result ≡ stand_after (stand_at old lane) reply = c.behind.ensures command told ∙ ap (λ (s : LaneStand). stand_after s reply) here in
+    ap (λ (s : LaneStand). set lanes lane s) after ∙ ap (λ (ls : List LaneStand). set ls lane (stand_after (stand_at old lane) reply)) c.self.view_is in
     record {
       come = λ entries command come next.
           let e : Entry = record { lane = lane; command = command; reply = reply } in
