@@ -28,7 +28,7 @@ pub use Rattle.request_book.specs.declared.journal.Journal.{Journal}
 pub use Rattle.request_book.specs.declared.outcome.Answer.{Answer}
 pub use Rattle.request_book.specs.declared.reply.BookRefusal.{BookRefusal}
 pub use Rattle.request_book.specs.declared.reply.Reply.{Reply}
-pub use Rattle.request_book.specs.declared.reply.Reply.TheVariants.{Accepted, Cancelled, Closed, Dropped, Picked, Placed, Refused, Sealed}
+pub use Rattle.request_book.specs.declared.reply.Reply.TheVariants.{Accepted, Cancelled, Closed, Dropped, Picked, Placed, Sealed}
 pub use Rattle.request_book.specs.declared.state.State.{State}
 unfoldable pub use Rattle.request_book.specs.lemmas.Closing.{closed_state}
 unfoldable pub use Rattle.request_book.specs.lemmas.Refusals.{first_of}

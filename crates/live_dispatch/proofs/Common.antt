@@ -35,7 +35,7 @@ pub use Rattle.request_book.specs.Book.{BookView, IsBook, next_position}
 unfoldable pub use Rattle.request_book.specs.Replay.{RepliesAreSteps, state_after}
 pub use Rattle.request_book.specs.Step.{step}
 pub use Rattle.request_book.specs.declared.command.Command.{Command}
-pub use Rattle.request_book.specs.declared.command.Command.TheVariants.{Cancel, Close, Dropoff, Pickup, Report, Seal, Submit}
+pub use Rattle.request_book.specs.declared.command.Command.TheVariants.{Close, Seal}
 pub use Rattle.request_book.specs.declared.journal.Entry.{Entry}
 pub use Rattle.request_book.specs.declared.journal.Journal.{Journal}
 pub use Rattle.request_book.specs.declared.reply.Reply.{Reply}
