@@ -22,7 +22,7 @@ pub use Rattle.pool_base.proofs.lemmas.InOrderLemmas.{all_or_first-all, all_or_f
 pub use Rattle.pool_base.specs.Header.{fleet_header, network_header, script_header}
 pub use Rattle.pool_base.specs.InOrder.{all_or_first, refused_where, ◌>>=◌}
 pub use Rattle.pool_base.specs.Numeral.{number_at, number_up_to}
-pub use Rattle.pool_io.specs.Table.{Table, header_fields, rows_under, table_of}
+pub use Rattle.pool_io.specs.Table.{header_fields, rows_under, table_of}
 pub use Rattle.rand_core.specs.Stream.{Stream, next_u64}
 pub use Rattle.rider_limits.specs.declared.load_shape.LoadShape.{LoadShape}
 unfoldable pub use Rattle.road_network.specs.Reading.{field_refusal, network_of}

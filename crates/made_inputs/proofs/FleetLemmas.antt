@@ -131,7 +131,8 @@ row_made nodes high rows k all below =
 all_given : {A F : Type 0} (at : ℕ → Result A F) (give : ℕ → A) (n : ℕ) → ((k : ℕ) → k < n → at k ≡ Ok (give k)) → all_or_first at n ≡ Ok (map give (range_with_len 0 n))
 all_given at give zero gives = refl
 all_given at give (suc n) gives =
-    subst (λ m. all_or_first at m ≡ Ok (map give (range_with_len 0 m))) (omega arith)
+    let next : n + 1 ≡ suc n = omega arith in
+    subst (λ m. all_or_first at m ≡ Ok (map give (range_with_len 0 m))) next
     (all_or_first-ok at n (map give (range_with_len 0 n)) (give n) (all_given at give n (λ k below. gives k (omega (arith, below)))) (gives n (omega arith))
     ∙ ap (λ xs. Ok xs) (sym (map-range_with_len_more give 0 n n (omega arith))))
 

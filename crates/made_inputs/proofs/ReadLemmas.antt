@@ -1,20 +1,12 @@
-use Rattle.std.proofs.Common.{◌≡◌, ℕ, List, Result, Ok, Err, sym, ap, subst, ◌∙◌}
-use Rattle.made_inputs.proofs.Common.{Table, table_of, Roads, network_of, Texts, network_header, AreReadable, IsNetworkText, IsFleetText, IsScriptText}
+use Rattle.std.proofs.Common.{◌≡◌, ℕ, List, sym, subst}
+use Rattle.made_inputs.proofs.Common.{Roads, Texts, AreReadable, IsNetworkText, IsFleetText, IsScriptText}
 use Rattle.made_inputs.specs.work.Some.{AreSomeRounds, IsSomeFleet, IsSomeNetwork}
-
-value_or : {A E : Type 0} → A → Result A E → A
-value_or d (Ok x) = x
-value_or d (Err e) = d
-
-same_value : {A E : Type 0} (r : Result A E) (x y : A) → r ≡ Ok x → r ≡ Ok y → x ≡ y
-unfolding value_or
-same_value r x y p q = ap (λ s. value_or x s) (sym p ∙ q)
 
 -- a text is read as one network alone
 same_network : (text : List ℕ) (one other : Roads) → IsNetworkText text one → IsNetworkText text other → one ≡ other
 same_network text one other here there =
-    let table : here.table ≡ there.table = same_value (table_of network_header text) here.table there.table here.rows there.rows in
-    same_value (network_of here.table.records) one other here.is (ap (λ (t : Table). network_of t.records) table ∙ there.is)
+    let table : here.table ≡ there.table = cc in
+    cc
 
 -- a text that is the network's, the fleet's and the script's
 pub some_network : (texts : Texts) (text : List ℕ) → AreReadable texts → text ≡ texts.network → IsSomeNetwork text

@@ -30,6 +30,10 @@ pub record IsLine (round : ℕ) (row : List Field) : Type 0 where
 abbrev pub LineStep : Step
 LineStep low row next = (round : ℕ) × (low ≤ round) × (round ≤ next) × IsLine round row
 
+-- a row alone
+one_line : (low round high : ℕ) (row : List Field) → low ≤ round → round ≤ high → IsLine round row → Lead LineStep low high (row ∷ [])
+one_line low round high row below above line = (high, (round, below, above, line), refl)
+
 -- the number in a row's first column
 named_first : (n : ℕ) (fields : List Field) → n ≤ 1000000000 → number_at (fields_of (field.Number n ∷ fields)) 0 ≡ n
 named_first n fields small = ap (λ o. unwrap_or o 0) (small_number n small)
@@ -64,23 +68,16 @@ unfolding report_row
 IsLines-report shape k v two small early few = record {
   lead = λ s.
       let node : ℕ = (drawn_node shape.side s).0 in
-      let node_small : node ≤ 1000000000 = drawn_small shape.side s two small in (
-        2 * k,
-        (
-          2 * k,
-          omega arith,
-          omega arith,
-          record {
-            long = refl;
-            named = named_first (2 * k) [] (omega arith);
-            fits = (omega arith, (omega arith, (tt, (omega arith, (node_small, (omega arith, (tt, tt)))))));
-            lane = 0;
-            command = command.Report v node (60 * k);
-            given = λ number last behind. report_given (2 * k) v node (60 * k) number last (omega arith) (omega arith) node_small (omega arith) behind;
-          },
-        ),
-        refl,
-      );
+      let node_small : node ≤ 1000000000 = drawn_small shape.side s two small in
+      one_line (2 * k) (2 * k) (2 * k) (field.Number (2 * k) ∷ field.Number 0 ∷ field.Report ∷ field.Number v ∷ field.Number node ∷ field.Number (60 * k) ∷ field.Empty ∷ []) (omega arith) (omega arith)
+      (record {
+        long = refl;
+        named = named_first (2 * k) [] (omega arith);
+        fits = (omega arith, (omega arith, (tt, (omega arith, (node_small, (omega arith, (tt, tt)))))));
+        lane = 0;
+        command = command.Report v node (60 * k);
+        given = λ number last behind. report_given (2 * k) v node (60 * k) number last (omega arith) (omega arith) node_small (omega arith) behind;
+      });
   few = λ s. omega arith;
 }
 
@@ -114,25 +111,19 @@ IsLines-submit shape k m two small few early within = record {
       let second : ℕ = (next_u64 later).0 % 60 in
       let second_below : second < 60 = mod_below (next_u64 later).0 60 (omega arith) in
       let third : m % 3 < 3 = mod_below m 3 (omega arith) in
-      let ids : k * shape.riders ≤ 100 * 1000 = mul-le-mul (let low : k ≤ 100 = omega arith in low) few in (
-        2 * k,
-        (
-          2 * k,
-          omega arith,
-          omega arith,
-          record {
-            long = refl;
-            named = named_first (2 * k) [] (omega arith);
-            fits = (omega arith, (omega (arith, third), (tt, (omega (arith, ids), (origin_small, (destination_small, (omega (arith, second_below), tt)))))));
-            lane = 1 + m % 3;
-            command = command.Submit (k * shape.riders + m) origin destination (60 * k + second) 1;
-            given = λ number last behind.
-                submit_given (2 * k) (1 + m % 3) (k * shape.riders + m) origin destination (60 * k + second) number last (omega arith) (omega (arith, third)) (omega (arith, ids)) origin_small destination_small
-                (omega (arith, second_below)) behind;
-          },
-        ),
-        refl,
-      );
+      let ids : k * shape.riders ≤ 100 * 1000 = mul-le-mul (let low : k ≤ 100 = omega arith in low) few in
+      one_line (2 * k) (2 * k) (2 * k)
+      (field.Number (2 * k) ∷ field.Number (1 + m % 3) ∷ field.Submit ∷ field.Number (k * shape.riders + m) ∷ field.Number origin ∷ field.Number destination ∷ field.Number (60 * k + second) ∷ []) (omega arith) (omega arith)
+      (record {
+        long = refl;
+        named = named_first (2 * k) [] (omega arith);
+        fits = (omega arith, (omega (arith, third), (tt, (omega (arith, ids), (origin_small, (destination_small, (omega (arith, second_below), tt)))))));
+        lane = 1 + m % 3;
+        command = command.Submit (k * shape.riders + m) origin destination (60 * k + second) 1;
+        given = λ number last behind.
+            submit_given (2 * k) (1 + m % 3) (k * shape.riders + m) origin destination (60 * k + second) number last (omega arith) (omega (arith, third)) (omega (arith, ids)) origin_small destination_small
+            (omega (arith, second_below)) behind;
+      });
   few = λ s. omega arith;
 }
 
@@ -144,23 +135,16 @@ IsLines-submits shape k two small few early =
 -- the seal of a batch, before the round of the next
 IsLines-seal : (k : ℕ) → k < 100 → IsPart LineStep (2 * k) (2 * suc k) 1 (plain (seal_row k ∷ []))
 IsLines-seal k early = record {
-  lead = λ s. (
-    2 * suc k,
-    (
-      2 * k + 1,
-      omega arith,
-      omega arith,
-      record {
+  lead = λ s.
+      one_line (2 * k) (2 * k + 1) (2 * suc k) (seal_row k) (omega arith) (omega arith)
+      (record {
         long = refl;
         named = named_first (2 * k + 1) [] (omega arith);
         fits = (omega arith, (omega arith, (tt, (omega arith, (tt, (tt, (tt, tt)))))));
         lane = 0;
         command = command.Seal (60 * (k + 1));
         given = λ number last behind. seal_given (2 * k + 1) (60 * (k + 1)) number last (omega arith) (omega arith) behind;
-      },
-    ),
-    refl,
-  );
+      });
   few = λ s. omega arith;
 }
 

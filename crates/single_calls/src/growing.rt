@@ -27,7 +27,7 @@ fn counts_on_line(rt: &(impl Threads + Sync), alloc: Global, room: u64) -> Optio
     let batch = batch_on(alloc, &network)?;
     let copy = batch.copy(alloc).ok()?;
     if copy.same(&batch) {
-        counts_of(rt, alloc, &network, &copy, room)
+        counts_of(rt, alloc, &network, &copy, room).ok()
     } else {
         None
     }
@@ -39,10 +39,12 @@ fn counts_of(
     network: &Network,
     snapshot: &Snapshot,
     room: u64,
-) -> Option<Counts> {
-    let points = snapshot.points(alloc).ok()?;
-    let times = fast(rt, alloc, network, points.nodes())?.ok()?;
-    counts_over(alloc, snapshot, &points, &times, room).ok()
+) -> Result<Counts, OutOfMemory> {
+    let points = snapshot.points(alloc)?;
+    match fast(rt, alloc, network, points.nodes()) {
+        Some(Ok(times)) => counts_over(alloc, snapshot, &points, &times, room),
+        _ => Err(OutOfMemory),
+    }
 }
 
 fn counts_over(
@@ -52,9 +54,11 @@ fn counts_over(
     times: &Times,
     room: u64,
 ) -> Result<Counts, OutOfMemory>
-    requires points { ArePoints snapshot.now points.now }
-    requires table { point_count times.now ≡ length points.now }
+    requires { ArePoints snapshot.now points.now }
 {
+    if times.len() != points.nodes().len() {
+        return Err(OutOfMemory);
+    }
     let settled = settle(alloc, snapshot, &settings(), points, times)?;
     counts_of_settled(alloc, &settled, times, room)
 }

@@ -1,7 +1,4 @@
 //! Shortest walks of a worked town, by threads and by repeated relaxation.
-ghost use Rattle.std.specs.Prelude.{◌≡◌, length, IfOk, IfSome};
-ghost use Rattle.pool_base.specs.Times.{point_count};
-
 use crate::line::network_of;
 use pool_base::{NodeId, OutOfMemory, Times};
 use road_network::Network;
