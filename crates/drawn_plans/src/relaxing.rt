@@ -25,7 +25,6 @@ fn counts(alloc: Global, graph: &TripGraph) -> Result<(usize, usize), OutOfMemor
     let first = first_multipliers(alloc, &table, 20)?;
     let mut relaxation = Relaxation::new(alloc, &table, graph.held())?;
     relaxation.fill_pool(&table, &first, 20)?;
-    relaxation.fill_pool_whole(&table)?;
     let mut saved = Saved::new(alloc);
     relaxation.save(&mut saved)?;
     relaxation.solve(&table, i64::MAX, 20, 10)?;

@@ -8,9 +8,9 @@ use crate::beside::Beside;
 use crate::present::Present;
 use crate::regrets::Regrets;
 use pool_base::OutOfMemory;
+use row_tables::Draws;
 use row_tables::fixed_point::item;
 use row_tables::lists::short;
-use row_tables::{Draws, RowTable};
 use std::alloc::Global;
 
 /// How many moves there are, at most and at most for each row of the table, and how many have the same temperature.
@@ -108,8 +108,7 @@ impl Annealing<'_> {
         let Some(row) = self.proposal() else {
             return Ok(());
         };
-        let old = self.present.row(self.regrets.table.vehicle(row as usize));
-        if old == Some(row) {
+        if self.has(row) {
             return Ok(());
         }
         if self.make(row)? && self.is_taken(temperature) {
@@ -211,18 +210,22 @@ impl Annealing<'_> {
     fn best_with(&self, rider: u32) -> Option<u32> {
         let mut least = 0;
         let mut best = None;
-        for vehicle in self.beside.vehicles_with(rider) {
-            if let Some(row) = self.present.row(*vehicle as usize) {
-                if let Some(wider) = self.beside.with(row, rider) {
-                    let cost = self.cost_of_adding(row, wider, rider);
-                    if cost < least {
-                        least = cost;
-                        best = Some(wider);
-                    }
+        let rows = self.regrets.table.rows_with(rider as usize);
+        for (wider, row) in rows.iter().zip(self.beside.narrower(rider)) {
+            if self.has(*row) {
+                let cost = self.cost_of_adding(*row, *wider);
+                if cost < least {
+                    least = cost;
+                    best = Some(*wider);
                 }
             }
         }
         best
+    }
+
+    /// Whether a vehicle has this row.
+    fn has(&self, row: u32) -> bool {
+        self.present.row(self.regrets.table.vehicle(row as usize)) == Some(row)
     }
 
     /// Adds riders to the rows of those vehicles as long as that saves something.
@@ -247,7 +250,7 @@ impl Annealing<'_> {
         let wider = self.beside.wider(row);
         for (rider, wider) in self.beside.added(row).iter().zip(wider) {
             if self.present.server(*rider).is_none() {
-                let cost = self.cost_of_adding(row, *wider, *rider);
+                let cost = self.cost_of_adding(row, *wider);
                 if cost < least {
                     least = cost;
                     best = Some(*wider);
@@ -257,21 +260,18 @@ impl Annealing<'_> {
         best
     }
 
-    /// What it costs to go on from a row to one with this rider too, less what it costs to leave her out.
-    fn cost_of_adding(&self, row: u32, wider: u32, rider: u32) -> i64 {
-        let cost = self.regrets.table.cost(wider as usize);
-        cost.saturating_sub(self.regrets.table.cost(row as usize))
-            .saturating_sub(self.regrets.table.cost_left(rider as usize))
+    /// What it costs to go on from a row to one with a rider more, less what it costs to leave her out.
+    fn cost_of_adding(&self, row: u32, wider: u32) -> i64 {
+        self.beside
+            .worth(wider)
+            .saturating_sub(self.beside.worth(row))
     }
 
     /// Gives the row to its vehicle, which has one.
     fn set_row(&mut self, row: u32) -> Result<(), OutOfMemory> {
         if let Some(old) = self.replace(row) {
             self.log.push(old)?;
-            self.change = self
-                .change
-                .saturating_add(worth(self.regrets.table, row))
-                .saturating_sub(worth(self.regrets.table, old));
+            self.change = self.change.saturating_add(self.cost_of_adding(old, row));
         }
         Ok(())
     }
@@ -309,13 +309,4 @@ impl Annealing<'_> {
             }
         }
     }
-}
-
-/// What the row costs, less what it costs to leave out its riders.
-fn worth(table: &RowTable, row: u32) -> i64 {
-    let mut worth = table.cost(row as usize);
-    for rider in table.riders_of(row as usize) {
-        worth = worth.saturating_sub(table.cost_left(*rider as usize));
-    }
-    worth
 }

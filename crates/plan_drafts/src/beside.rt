@@ -2,8 +2,8 @@
 
 use pool_base::OutOfMemory;
 use row_tables::RowTable;
-use row_tables::fixed_point::{item, part};
-use row_tables::lists::Lists;
+use row_tables::fixed_point::{at, item, part};
+use row_tables::lists::{Lists, short};
 use std::alloc::Global;
 
 /// The rows beside each row.
@@ -14,8 +14,10 @@ pub struct Beside {
     /// For each row the riders who can be added, rising, and the rows with these.
     added: Lists,
     wider: Lists,
-    /// For each rider the vehicles with a row that has her.
-    vehicles: Lists,
+    /// For each rider the rows without her, none as `u32::MAX`, in the order of those with her.
+    narrower: Lists,
+    /// What each row costs, less what it costs to leave out its riders.
+    worths: Vec<i64>,
 }
 
 impl Beside {
@@ -24,10 +26,15 @@ impl Beside {
             without: rows_without(alloc, table)?,
             added: Lists::new(alloc),
             wider: Lists::new(alloc),
-            vehicles: vehicles_with(alloc, table)?,
+            narrower: Lists::new(alloc),
+            worths: Vec::new(alloc),
         };
         beside.wider.transpose(&beside.without, table.row_count())?;
         beside.list_added(table)?;
+        beside.list_narrower(table)?;
+        for row in 0..table.row_count() {
+            beside.worths.push(worth(table, row))?;
+        }
         Ok(beside)
     }
 
@@ -39,6 +46,17 @@ impl Beside {
                 self.added.push(rider as usize)?;
             }
             self.added.end()?;
+        }
+        Ok(())
+    }
+
+    fn list_narrower(&mut self, table: &RowTable) -> Result<(), OutOfMemory> {
+        for rider in 0..table.rider_count() {
+            for row in table.rows_with(rider) {
+                let narrower = self.without(table, *row, short(rider));
+                self.narrower.push(narrower.unwrap_or(u32::MAX) as usize)?;
+            }
+            self.narrower.end()?;
         }
         Ok(())
     }
@@ -59,9 +77,15 @@ impl Beside {
         None
     }
 
-    /// The vehicles with a row that has this rider.
-    pub fn vehicles_with(&self, rider: u32) -> &[u32] {
-        self.vehicles.list(rider as usize)
+    /// The rows without this rider, none as `u32::MAX`, in the order of those with her.
+    pub fn narrower(&self, rider: u32) -> &[u32] {
+        self.narrower.list(rider as usize)
+    }
+
+    /// What the row costs, less what it costs to leave out its riders.
+    #[inline]
+    pub fn worth(&self, row: u32) -> i64 {
+        at(&self.worths, row as usize)
     }
 
     /// The riders who can be added to this row, rising.
@@ -72,14 +96,6 @@ impl Beside {
     /// The rows that these riders make of it.
     pub fn wider(&self, row: u32) -> &[u32] {
         self.wider.list(row as usize)
-    }
-
-    /// The row with this rider too, if there is one.
-    pub fn with(&self, row: u32, rider: u32) -> Option<u32> {
-        match self.added(row).binary_search(&rider) {
-            Ok(place) => self.wider(row).get(place).copied(),
-            Err(_) => None,
-        }
     }
 }
 
@@ -134,19 +150,11 @@ fn first_other(riders: &[u32], others: &[u32]) -> u32 {
     u32::MAX
 }
 
-/// For each rider the vehicles with a row that has her.
-fn vehicles_with(alloc: Global, table: &RowTable) -> Result<Lists, OutOfMemory> {
-    let mut vehicles = Lists::new(alloc);
-    for rider in 0..table.rider_count() {
-        let mut last = None;
-        for row in table.rows_with(rider) {
-            let vehicle = table.vehicle(*row as usize);
-            if last != Some(vehicle) {
-                vehicles.push(vehicle)?;
-                last = Some(vehicle);
-            }
-        }
-        vehicles.end()?;
+/// What the row costs, less what it costs to leave out its riders.
+fn worth(table: &RowTable, row: usize) -> i64 {
+    let mut worth = table.cost(row);
+    for rider in table.riders_of(row) {
+        worth = worth.saturating_sub(table.cost_left(*rider as usize));
     }
-    Ok(vehicles)
+    worth
 }

@@ -146,8 +146,13 @@ impl DraftTree {
                 break;
             }
             self.part_all(rt, alloc, table, workers, &mut team);
+            let mut is_tired = false;
             for parter in team.iter_mut() {
                 self.take_in(alloc, table, parter)?;
+                is_tired = is_tired || parter.decided.relaxation.is_tired();
+            }
+            if is_tired {
+                break;
             }
         }
         Ok(())

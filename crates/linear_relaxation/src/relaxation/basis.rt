@@ -31,7 +31,7 @@ pub struct Basis {
     /// How much each condition has: a little more than one where a rider may be left out, so that no two
     /// levels are used up at once.
     capacities: Vec<i64>,
-    factors: Factors,
+    pub factors: Factors,
     /// How many columns came in, and with how many numbers, when the factors were made; none where there are none.
     made: Option<(usize, usize)>,
     /// The last columns that had factors.
@@ -188,7 +188,7 @@ impl Basis {
     }
 
     /// Writes the inverse's row of a place over the conditions.
-    pub fn find_row(&self, place: usize, row: &mut Sparse) {
+    pub fn find_row(&mut self, place: usize, row: &mut Sparse) {
         row.clear();
         row.set(place, ONE);
         self.factors.price(row);
@@ -242,9 +242,9 @@ impl Basis {
         let mut most = LEAST_WRONG;
         for place in 0..self.levels.len() {
             let level = self.level(place);
-            let is_wrong = level < 0 || item(is_forbidden, self.column(place), false);
-            if level.saturating_abs() > most && is_wrong {
-                most = level.saturating_abs();
+            let size = level.saturating_abs();
+            if size > most && (level < 0 || item(is_forbidden, self.column(place), false)) {
+                most = size;
                 best = Some(place);
             }
         }
@@ -272,6 +272,7 @@ impl Basis {
         self.factors.enter(place, &self.entering)?;
         let (count, size) = self.made.unwrap_or((0, 0));
         let most = self.columns.len().saturating_mul(8).saturating_add(2000);
+        let most = most.max(size.saturating_sub(self.columns.len().saturating_mul(32)));
         Ok(
             self.factors.len().saturating_sub(count) < MOST_EXCHANGES
                 && self.factors.size().saturating_sub(size) <= most,
