@@ -108,7 +108,8 @@ impl Annealing<'_> {
         let Some(row) = self.proposal() else {
             return Ok(());
         };
-        if self.has(row) {
+        let old = self.present.row(self.regrets.table.vehicle(row as usize));
+        if old == Some(row) {
             return Ok(());
         }
         if self.make(row)? && self.is_taken(temperature) {
@@ -210,22 +211,18 @@ impl Annealing<'_> {
     fn best_with(&self, rider: u32) -> Option<u32> {
         let mut least = 0;
         let mut best = None;
-        let rows = self.regrets.table.rows_with(rider as usize);
-        for (wider, row) in rows.iter().zip(self.beside.narrower(rider)) {
-            if self.has(*row) {
-                let cost = self.cost_of_adding(*row, *wider);
-                if cost < least {
-                    least = cost;
-                    best = Some(*wider);
+        for vehicle in self.beside.vehicles_with(rider) {
+            if let Some(row) = self.present.row(*vehicle as usize) {
+                if let Some(wider) = self.beside.with(row, rider) {
+                    let cost = self.beside.change(row, wider);
+                    if cost < least {
+                        least = cost;
+                        best = Some(wider);
+                    }
                 }
             }
         }
         best
-    }
-
-    /// Whether a vehicle has this row.
-    fn has(&self, row: u32) -> bool {
-        self.present.row(self.regrets.table.vehicle(row as usize)) == Some(row)
     }
 
     /// Adds riders to the rows of those vehicles as long as that saves something.
@@ -250,7 +247,7 @@ impl Annealing<'_> {
         let wider = self.beside.wider(row);
         for (rider, wider) in self.beside.added(row).iter().zip(wider) {
             if self.present.server(*rider).is_none() {
-                let cost = self.cost_of_adding(row, *wider);
+                let cost = self.beside.change(row, *wider);
                 if cost < least {
                     least = cost;
                     best = Some(*wider);
@@ -260,18 +257,11 @@ impl Annealing<'_> {
         best
     }
 
-    /// What it costs to go on from a row to one with a rider more, less what it costs to leave her out.
-    fn cost_of_adding(&self, row: u32, wider: u32) -> i64 {
-        self.beside
-            .worth(wider)
-            .saturating_sub(self.beside.worth(row))
-    }
-
     /// Gives the row to its vehicle, which has one.
     fn set_row(&mut self, row: u32) -> Result<(), OutOfMemory> {
         if let Some(old) = self.replace(row) {
             self.log.push(old)?;
-            self.change = self.change.saturating_add(self.cost_of_adding(old, row));
+            self.change = self.change.saturating_add(self.beside.change(old, row));
         }
         Ok(())
     }

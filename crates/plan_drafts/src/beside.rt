@@ -3,7 +3,7 @@
 use pool_base::OutOfMemory;
 use row_tables::RowTable;
 use row_tables::fixed_point::{at, item, part};
-use row_tables::lists::{Lists, short};
+use row_tables::lists::Lists;
 use std::alloc::Global;
 
 /// The rows beside each row.
@@ -14,8 +14,8 @@ pub struct Beside {
     /// For each row the riders who can be added, rising, and the rows with these.
     added: Lists,
     wider: Lists,
-    /// For each rider the rows without her, none as `u32::MAX`, in the order of those with her.
-    narrower: Lists,
+    /// For each rider the vehicles with a row that has her.
+    vehicles: Lists,
     /// What each row costs, less what it costs to leave out its riders.
     worths: Vec<i64>,
 }
@@ -26,12 +26,11 @@ impl Beside {
             without: rows_without(alloc, table)?,
             added: Lists::new(alloc),
             wider: Lists::new(alloc),
-            narrower: Lists::new(alloc),
+            vehicles: vehicles_with(alloc, table)?,
             worths: Vec::new(alloc),
         };
         beside.wider.transpose(&beside.without, table.row_count())?;
         beside.list_added(table)?;
-        beside.list_narrower(table)?;
         for row in 0..table.row_count() {
             beside.worths.push(worth(table, row))?;
         }
@@ -46,17 +45,6 @@ impl Beside {
                 self.added.push(rider as usize)?;
             }
             self.added.end()?;
-        }
-        Ok(())
-    }
-
-    fn list_narrower(&mut self, table: &RowTable) -> Result<(), OutOfMemory> {
-        for rider in 0..table.rider_count() {
-            for row in table.rows_with(rider) {
-                let narrower = self.without(table, *row, short(rider));
-                self.narrower.push(narrower.unwrap_or(u32::MAX) as usize)?;
-            }
-            self.narrower.end()?;
         }
         Ok(())
     }
@@ -77,15 +65,14 @@ impl Beside {
         None
     }
 
-    /// The rows without this rider, none as `u32::MAX`, in the order of those with her.
-    pub fn narrower(&self, rider: u32) -> &[u32] {
-        self.narrower.list(rider as usize)
+    /// What the next row costs more than this one, each less what it costs to leave out its riders.
+    pub fn change(&self, row: u32, next: u32) -> i64 {
+        at(&self.worths, next as usize).saturating_sub(at(&self.worths, row as usize))
     }
 
-    /// What the row costs, less what it costs to leave out its riders.
-    #[inline]
-    pub fn worth(&self, row: u32) -> i64 {
-        at(&self.worths, row as usize)
+    /// The vehicles with a row that has this rider.
+    pub fn vehicles_with(&self, rider: u32) -> &[u32] {
+        self.vehicles.list(rider as usize)
     }
 
     /// The riders who can be added to this row, rising.
@@ -96,6 +83,14 @@ impl Beside {
     /// The rows that these riders make of it.
     pub fn wider(&self, row: u32) -> &[u32] {
         self.wider.list(row as usize)
+    }
+
+    /// The row with this rider too, if there is one.
+    pub fn with(&self, row: u32, rider: u32) -> Option<u32> {
+        match self.added(row).binary_search(&rider) {
+            Ok(place) => self.wider(row).get(place).copied(),
+            Err(_) => None,
+        }
     }
 }
 
@@ -148,6 +143,23 @@ fn first_other(riders: &[u32], others: &[u32]) -> u32 {
         }
     }
     u32::MAX
+}
+
+/// For each rider the vehicles with a row that has her.
+fn vehicles_with(alloc: Global, table: &RowTable) -> Result<Lists, OutOfMemory> {
+    let mut vehicles = Lists::new(alloc);
+    for rider in 0..table.rider_count() {
+        let mut last = None;
+        for row in table.rows_with(rider) {
+            let vehicle = table.vehicle(*row as usize);
+            if last != Some(vehicle) {
+                vehicles.push(vehicle)?;
+                last = Some(vehicle);
+            }
+        }
+        vehicles.end()?;
+    }
+    Ok(vehicles)
 }
 
 /// What the row costs, less what it costs to leave out its riders.
