@@ -13,8 +13,11 @@ use row_tables::fixed_point::item;
 use row_tables::lists::short;
 use std::alloc::Global;
 
-/// How many moves there are, at most and at most for each row of the table, and how many have the same temperature.
+/// How many moves there are, at most, at most by the number of vehicles, since a move looks at many of them, and at most
+/// for each row of the table; and how many have the same temperature.
 const MOVES: u64 = 1_200_000;
+
+const MOVES_BY_VEHICLES: u64 = 120_000_000;
 
 const MOVES_A_ROW: u64 = 150;
 
@@ -78,7 +81,9 @@ impl Annealing<'_> {
     /// Makes all moves while it cools.
     fn run(&mut self) -> Result<(), OutOfMemory> {
         let most = (self.regrets.table.row_count() as u64).saturating_mul(MOVES_A_ROW);
-        let moves = MOVES.min(most);
+        let vehicles = self.regrets.table.vehicle_count() as u64;
+        let dear = MOVES_BY_VEHICLES.checked_div(vehicles).unwrap_or(MOVES);
+        let moves = MOVES.min(most).min(dear);
         let stages = moves / MOVES_EACH;
         for stage in 0..stages {
             let part = (stage << 20).checked_div(stages).unwrap_or(0).min(1 << 20) as i64;
