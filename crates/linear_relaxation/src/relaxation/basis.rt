@@ -242,9 +242,9 @@ impl Basis {
         let mut most = LEAST_WRONG;
         for place in 0..self.levels.len() {
             let level = self.level(place);
-            let size = level.saturating_abs();
-            if size > most && (level < 0 || item(is_forbidden, self.column(place), false)) {
-                most = size;
+            let is_wrong = level < 0 || item(is_forbidden, self.column(place), false);
+            if level.saturating_abs() > most && is_wrong {
+                most = level.saturating_abs();
                 best = Some(place);
             }
         }
