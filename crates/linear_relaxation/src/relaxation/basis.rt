@@ -256,7 +256,8 @@ impl Basis {
         self.entering.at(place)
     }
 
-    /// Puts the column that was found into this place. False where the factors should be made anew.
+    /// Puts the column that was found into this place. False where the factors should be made anew, which is dear where
+    /// they have many numbers.
     pub fn exchange(
         &mut self,
         place: usize,
@@ -272,7 +273,7 @@ impl Basis {
         self.factors.enter(place, &self.entering)?;
         let (count, size) = self.made.unwrap_or((0, 0));
         let most = self.columns.len().saturating_mul(8).saturating_add(2000);
-        let most = most.max(size.saturating_sub(self.columns.len().saturating_mul(32)));
+        let most = most.max(size.saturating_sub(48_000));
         Ok(
             self.factors.len().saturating_sub(count) < MOST_EXCHANGES
                 && self.factors.size().saturating_sub(size) <= most,
