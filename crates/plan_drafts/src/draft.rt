@@ -232,19 +232,20 @@ fn send_scouts<R: Threads + Sync>(
     Ok(scouts)
 }
 
-/// Solves the relaxation, at first with little to pay for a rider who is left out.
+/// Solves the relaxation, at first with little to pay for a rider who is left out. Where it gets tired the first
+/// multipliers may be the best.
 fn solve(alloc: Global, table: &RowTable, relaxation: &mut Relaxation) -> Result<(), OutOfMemory> {
     let rows = table.row_count();
     let is_dear = rows > table.condition_count().saturating_mul(MANY_A_CONDITION);
-    let turns = if rows > MANY_ROWS && !is_dear {
-        MORE_TURNS
-    } else {
-        TURNS
-    };
+    let is_long = rows > MANY_ROWS && !is_dear;
+    let turns = if is_long { MORE_TURNS } else { TURNS };
     let first = first_multipliers(alloc, table, turns)?;
     relaxation.fill_pool(table, &first, MOST_ROWS)?;
     relaxation.set_boxed_costs(table, &first, BOX);
     relaxation.pivot_on(table)?;
     relaxation.set_true_costs(table);
-    relaxation.solve(table, i64::MAX, MOST_ROWS, u32::MAX)
+    relaxation.solve(table, i64::MAX, MOST_ROWS, u32::MAX)?;
+    relaxation.fill_pool(table, &first, 0)?;
+    relaxation.pass(table, 0)?;
+    Ok(())
 }
