@@ -232,8 +232,8 @@ fn send_scouts<R: Threads + Sync>(
     Ok(scouts)
 }
 
-/// Solves the relaxation, at first with little to pay for a rider who is left out. Where it gets tired the first
-/// multipliers may be the best.
+/// Solves the relaxation, at first with little to pay for a rider who is left out. If it tires before it is solved, the
+/// first multipliers are taken where they are better.
 fn solve(alloc: Global, table: &RowTable, relaxation: &mut Relaxation) -> Result<(), OutOfMemory> {
     let rows = table.row_count();
     let is_dear = rows > table.condition_count().saturating_mul(MANY_A_CONDITION);
@@ -245,7 +245,9 @@ fn solve(alloc: Global, table: &RowTable, relaxation: &mut Relaxation) -> Result
     relaxation.pivot_on(table)?;
     relaxation.set_true_costs(table);
     relaxation.solve(table, i64::MAX, MOST_ROWS, u32::MAX)?;
-    relaxation.fill_pool(table, &first, 0)?;
-    relaxation.pass(table, 0)?;
+    if relaxation.is_tired() {
+        relaxation.fill_pool(table, &first, 0)?;
+        relaxation.pass(table, 0)?;
+    }
     Ok(())
 }
