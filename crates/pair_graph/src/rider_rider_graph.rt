@@ -69,36 +69,11 @@ fn add_first<L: Ledger>(
 {
     let mut task = task_of_first(settled, first);
     for second in first + 1..settled.riders.as_slice().len() {
-        add_pair(
-            workspace, settled, times, &mut task, first, second, pairs, steps,
-        )?;
+        if !is_edge(workspace, settled, times, &mut task, first, second, steps)? {
+            continue;
+        }
+        pairs.push((first, second))?;
     }
-    Ok(())
-}
-
-/// Puts the pair, if it is an edge, behind those before it.
-fn add_pair<L: Ledger>(
-    workspace: &mut Workspace,
-    settled: &Settled,
-    times: &Times,
-    task: &mut Task,
-    first: usize,
-    second: usize,
-    pairs: &mut Vec<(usize, usize)>,
-    steps: &mut Steps<L>,
-) -> Result<(), OutOfMemory>
-    requires sound { IsSound 6 (point_count times.now) (travel_time times.now) settled.now }
-    requires below { first < second }
-    requires within { second < length settled.now.riders }
-    requires task { IsTaskOfFirst settled.now first task.old }
-    requires upto { IsRrGraphUpTo (travel_time times.now) settled.now first second pairs.old.items }
-    ensures upto { OnOk result (IsRrGraphUpTo (travel_time times.entry.now) settled.entry.now first (second + 1) pairs.new.items) }
-    ensures task { OnOk result (IsTaskOfFirst settled.entry.now first task.new) }
-{
-    if !is_edge(workspace, settled, times, task, first, second, steps)? {
-        return Ok(());
-    }
-    pairs.push((first, second))?;
     Ok(())
 }
 

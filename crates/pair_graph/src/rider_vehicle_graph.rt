@@ -69,31 +69,11 @@ fn add_vehicle<L: Ledger>(
     ensures { OnOk result (IsRvGraphUpTo (travel_time times.entry.now) settled.entry.now (vehicle + 1) 0 edges.new.items) }
 {
     for rider in 0..settled.riders.as_slice().len() {
-        add_edge(workspace, settled, times, vehicle, rider, edges, steps)?;
+        if !can_serve(workspace, settled, times, vehicle, rider, steps)? {
+            continue;
+        }
+        edges.push(RvEdge { vehicle, rider })?;
     }
-    Ok(())
-}
-
-/// Puts the edge of the vehicle and the rider, if it is one, behind those before it.
-fn add_edge<L: Ledger>(
-    workspace: &mut Workspace,
-    settled: &Settled,
-    times: &Times,
-    vehicle: usize,
-    rider: usize,
-    edges: &mut Vec<RvEdge>,
-    steps: &mut Steps<L>,
-) -> Result<(), OutOfMemory>
-    requires sound { IsSound 6 (point_count times.now) (travel_time times.now) settled.now }
-    requires vehicle { vehicle < length settled.now.vehicles }
-    requires rider { rider < length settled.now.riders }
-    requires upto { IsRvGraphUpTo (travel_time times.now) settled.now vehicle rider edges.old.items }
-    ensures { OnOk result (IsRvGraphUpTo (travel_time times.entry.now) settled.entry.now vehicle (rider + 1) edges.new.items) }
-{
-    if !can_serve(workspace, settled, times, vehicle, rider, steps)? {
-        return Ok(());
-    }
-    edges.push(RvEdge { vehicle, rider })?;
     Ok(())
 }
 

@@ -1,6 +1,6 @@
-use Rattle.std.proofs.Common.{ℕ, ◌+◌, length, ap, arith}
+use Rattle.std.proofs.Common.{ℕ, ◌+◌, length, refl, ap, arith}
 use Rattle.pair_graph.proofs.Common.{travel_time, IsRrEdge}
-use Rattle.pair_graph.proofs.lemmas.Listing.{lists_next, lists_skipped}
+use Rattle.pair_graph.proofs.lemmas.Listing.{lists_taken, lists_passed, lists_next, lists_skipped}
 use Rattle.pair_graph.proofs.Graphs.{rr_lists, rr_upto}
 use Rattle.pair_graph.proofs.rider_rider_graph.add_first.Goals as goal
 
@@ -12,6 +12,28 @@ loop-second-init g c =
           (lists_skipped (ℕ × ℕ) (λ p. p) (λ a b. (a, b)) (0, 0) (IsRrEdge tau settled) c.args.first 0 (c.args.first + 1) c.args.pairs.now.items (omega arith)
           (λ d _ h e. let under = e.below in omega arith) (rr_lists tau settled c.args.first 0 c.args.pairs.now.items c.requires.upto));
       task = c.task_of_first-task.ensures;
+    }
+
+pub loop-second-preserved-then-not-branch : goal.loop-second-preserved-then-not-branch
+loop-second-preserved-then-not-branch g c =
+    let tau = travel_time c.args.times.now in let settled = c.args.settled.now in
+    let never = rw c.if-not-branch.true at c.in_ok-is_edge.ensures.edge in
+    record {
+      upto = rr_upto tau settled c.args.first _ c.loop-second.pairs.items
+          (lists_passed (ℕ × ℕ) (λ p. p) (λ a b. (a, b)) (0, 0) (IsRrEdge tau settled) c.args.first c.loop-second.second c.loop-second.pairs.items
+          never (rr_lists tau settled c.args.first c.loop-second.second c.loop-second.pairs.items c.loop-second.invariant.upto));
+      task = c.in_ok-is_edge.ensures.task;
+    }
+
+pub loop-second-preserved : goal.loop-second-preserved
+loop-second-preserved g c =
+    let tau = travel_time c.args.times.now in let settled = c.args.settled.now in
+    let edge = rw c.if-not-branch.false at c.in_ok-is_edge.ensures.edge in
+    record {
+      upto = rw c.in_ok-push.ensures.items (rr_upto tau settled c.args.first _ _
+          (lists_taken (ℕ × ℕ) (λ p. p) (λ a b. (a, b)) (0, 0) (IsRrEdge tau settled) c.args.first c.loop-second.second c.loop-second.pairs.items
+          (c.args.first, c.loop-second.second) refl refl edge (rr_lists tau settled c.args.first c.loop-second.second c.loop-second.pairs.items c.loop-second.invariant.upto)));
+      task = c.in_ok-is_edge.ensures.task;
     }
 
 pub returns : goal.returns
