@@ -632,7 +632,7 @@ module _ (settings : Settings) (roads : Roads) (s : State) (stops : ℕ → List
 
       by : (t : Status) → was.of.status ≡ t → IsBoundBy limit t → IsBound planned_state z limit
       by (Promised p) e le =
-          let n = number_in_batch was.of (promised_in_batch z was.of p was.found e) in
+          let n = number_in_batch b.riders was.of.id (promised_in_batch z was.of p was.found e) in
           let there = shows.promised z was.of p was.found e in
           let id : was.of.id ≡ z = found_id z s.riders was.of was.found in
           let at : look_up (λ (r : Rider). r.id) (request_at b.riders n.0).id b.riders ≡ Some (request_at b.riders n.0) = look_up-at (λ (r : Rider). r.id) n.0 b.riders no_request (KeysDiffer-from_rise (λ (r : Rider). r.id) b.riders shows.rise) n.1 in
