@@ -1,13 +1,14 @@
 -- What a search finds.
-use Rattle.std.proofs.Common.{◌≡◌, ℕ, suc, ◌+◌, ◌*◌, ◌<◌, ◌≤◌, Bool, true, List, [], ◌∷◌, ◌++◌, length, get_or, set, take, drop, Option, Result, Ok, Err, ℤ, pos, negsuc, ◌≤ℤ◌, ◌<ℤ◌, FitsSigned, to_z, of_z, All, refl, sym, ap, ◌∙◌, subst, arith}
+use Rattle.std.proofs.Common.{◌≡◌, ℕ, suc, ◌+◌, ◌*◌, ◌<◌, ◌≤◌, Bool, true, List, [], ◌∷◌, ◌++◌, length, get_or, set, take, drop, Option, Result, Ok, Err, ℤ, pos, ◌≤ℤ◌, ◌<ℤ◌, to_z, of_z, All, refl, sym, ap, ◌∙◌, subst, arith}
 use Rattle.assignment_search.proofs.Common.{w128, ints, Graph, IsGoodGraph, IsBound, IsLawful, cost_of, IsGreedy, Usable, usable_of, leaf_value, first_fit_value, every_row, only_row, without_row, CanBranch, IsDeadEnd, Place, rounded_up, places, places_read, ReadsTo, Node, Branch, Leaf, Dead, held_is_lawful, within_every_row, dead_end_holds_none, tree_value_bounds, Agree, agree_back, leaf_value_agrees, first_fit_value_agrees, dead_end_agrees, may_use_agrees, can_branch_agrees, both_ways, IsSmallSum, IsWorthBranching, IsGoodLeaf, IsGoodNode, IsGrown, HasUsable, IsFixed, IsSolePlan, IsLowest, HasLeaf, IsNewEnd, IsJudged, choice_count, IsBestNear, IsFairNode, IsSearchAnswer, IsTreeSoFar, IsParting, IsPartedAt}
 use Rattle.std.specs.Result.{IfOk}
-use Rattle.std.proofs.lemmas.Int.{to_z-of_z}
 use Rattle.std.proofs.lemmas.List.Elements.{All-from_recursion}
 use Rattle.plan_rules.proofs.lemmas.SearchTreeLemmas.{tree_of_reads, places_are, value_is_read}
 use Rattle.assignment_search.specs.declared.found.Found.{Found}
 use Rattle.assignment_search.specs.declared.parting.Ends.{Ends}
-use Rattle.assignment_search.proofs.GrowthLemmas.{IsSplit, grown_split, grown_reads, grown_length, branched, raised, lowest_above, lowest_floor, value_is, nodes_fair, usable_here, usable_only, usable_without, reads_unique, rounded_up_mono}
+use Rattle.assignment_search.proofs.GrowthLemmas.{IsSplit, grown_split, grown_reads, branched, raised, lowest_above, lowest_floor, value_is, nodes_fair, usable_here, usable_only, usable_without, reads_unique}
+use Rattle.plan_rules.proofs.lemmas.TreeLemmas.{rounded_up_mono}
+use Rattle.assignment_search.proofs.ApartLemmas.{back}
 use Rattle.assignment_search.proofs.RiseLemmas.{value_rises, only_fewer, without_fewer}
 use Rattle.assignment_search.proofs.CountLemmas.{tree_short}
 use Rattle.assignment_search.proofs.FixedLemmas.{sole_is_lawful, sole_reaches}
@@ -21,12 +22,8 @@ if_ok_map P Q f (Err e) h = h
 
 -- ---- small numbers
 
-small_fits : (z : ℤ) → IsSmallSum 1500 z → FitsSigned w128 z
-small_fits (pos n) h = record { sfits = omega (arith, ints, h.high) }
-small_fits (negsuc n) h = record { sfits = omega (arith, ints, h.low) }
-
 pub small_back : (z : ℤ) → IsSmallSum 1500 z → to_z w128 (of_z w128 z) ≡ z
-small_back z h = to_z-of_z w128 z (small_fits z h)
+small_back z h = back z (record { low = omega (arith, ints, h.low); high = omega (arith, ints, h.high) })
 
 -- ---- ends
 
@@ -78,9 +75,6 @@ so_far_start g budget limit ms z nodes values some leaf is vals =
 
 pub so_far_leaf : (g : Graph) (budget limit : ℕ) (nodes : List Node) (values : List ℤ) → IsGoodGraph g → IsTreeSoFar g budget limit nodes values → HasLeaf nodes
 so_far_leaf g budget limit nodes values good t = sound_has_leaf g nodes good (grown_reads g t.low limit nodes values (every_row ∷ []) [] t.grown)
-
-pub so_far_length : (g : Graph) (budget limit : ℕ) (nodes : List Node) (values : List ℤ) → IsTreeSoFar g budget limit nodes values → length values ≡ length nodes
-so_far_length g budget limit nodes values t = grown_length g t.low limit nodes values (every_row ∷ []) [] t.grown
 
 pub so_far_raised : (g : Graph) (budget limit : ℕ) (nodes : List Node) (values : List ℤ) (place : ℕ) → IsTreeSoFar g budget limit nodes values → IsLowest nodes values place → IsGrown g (rounded_up (get_or values place (pos 0))) limit (every_row ∷ []) nodes values []
 so_far_raised g budget limit nodes values place t lowest =
@@ -233,10 +227,7 @@ module _ (g : Graph) (budget limit place : ℕ) (nodes : List Node) (values : Li
   module _ (found : Found) (of : found.plan ≡ plan) (costs : found.cost ≡ cost_of g plan) (is : found.bound ≡ low) (same : found.tree ≡ nodes) where
     answer_found : IsSearchAnswer g budget (record { plan = plan; cost = cost_of g plan; bound = low; tree = nodes }) → IsSearchAnswer g budget found
     answer_found answer =
-        subst (λ (chosen : List (Option ℕ)). IsSearchAnswer g budget (record { plan = chosen; cost = found.cost; bound = found.bound; tree = found.tree })) (sym of)
-        (subst (λ (cost : ℕ). IsSearchAnswer g budget (record { plan = plan; cost = cost; bound = found.bound; tree = found.tree })) (sym costs)
-        (subst (λ (bound : ℤ). IsSearchAnswer g budget (record { plan = plan; cost = cost_of g plan; bound = bound; tree = found.tree })) (sym is)
-        (subst (λ (tree : List Node). IsSearchAnswer g budget (record { plan = plan; cost = cost_of g plan; bound = low; tree = tree })) (sym same) answer)))
+        subst (IsSearchAnswer g budget) (λ i. record { plan = sym of i; cost = sym costs i; bound = sym is i; tree = sym same i }) answer
 
     -- the plan costs no more than the tree shows
     pub answer_met : pos (cost_of g plan) ≤ℤ low → IsSearchAnswer g budget found

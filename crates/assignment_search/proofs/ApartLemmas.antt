@@ -43,7 +43,7 @@ fits : (z : ℤ) → IsSmallSum 1502 z → FitsSigned w128 z
 fits (pos n) h = record { sfits = omega (arith, ints, h.high) }
 fits (negsuc n) h = record { sfits = omega (arith, ints, h.low) }
 
-back : (z : ℤ) → IsSmallSum 1502 z → to_z w128 (of_z w128 z) ≡ z
+pub back : (z : ℤ) → IsSmallSum 1502 z → to_z w128 (of_z w128 z) ≡ z
 back z h = to_z-of_z w128 z (fits z h)
 
 -- nothing is lost as the value is computed

@@ -4,9 +4,9 @@ pub use Rattle.std.proofs.lemmas.Int.{int_min_is, ints}
 pub use Rattle.std.proofs.lemmas.List.{get_or-replicate, get_or_append_left, get_or_push, get_or_read, length_push, set-get_or, set_past}
 pub use Rattle.std.proofs.lemmas.List.Sorted.{sum_by_popped, sum_by_pushed}
 pub use Rattle.std.proofs.lemmas.List.Sums.{sum_by-cons}
+pub use Rattle.std.proofs.lemmas.Option.{none-some, same_Some}
 pub use Rattle.std.specs.BinaryHeap.{IsHeap}
 pub use Rattle.std.specs.List.{AllByRecursion, list_any}
-pub use Rattle.std.specs.List.Sorted.{IsStrictlyIncreasing}
 pub use Rattle.std.specs.declared.cmp.Reverse.{Reverse}
 pub use Rattle.assignment_search.specs.Found.{IsBestNear, IsFairNode, IsSearchAnswer}
 unfoldable pub use Rattle.assignment_search.specs.Growth.{choice_count}
@@ -17,9 +17,9 @@ pub use Rattle.assignment_search.specs.work.Found.{IsTreeSoFar}
 pub use Rattle.assignment_search.specs.work.Growth.{HasLeaf, HasUsable, IsFixed, IsGoodLeaf, IsGoodNode, IsGrown, IsJudged, IsLowest, IsNewEnd, IsSolePlan, IsWorthBranching}
 pub use Rattle.assignment_search.specs.work.Next.{IsNext, IsPartedAt, IsParting}
 pub use Rattle.assignment_search.specs.work.OpenLeaves.{AreOpen, leaf_cmp, leaf_sum}
-pub use Rattle.plan_rules.proofs.lemmas.GraphLemmas.{has, has_at, head_apart, in_choice, tail_rises, times_served_as_count, times_served_some}
+pub use Rattle.plan_rules.proofs.lemmas.GraphLemmas.{has_at, in_choice, times_served_as_count, times_served_some}
 pub use Rattle.plan_rules.proofs.lemmas.PlanLemmas.{has_choice, held_is_lawful}
-pub use Rattle.plan_rules.proofs.lemmas.SumLemmas.{count_below_found, count_below_none, count_below_same, count_below_some, count_below_two, flag, flag-false, flag-true, int_sum_le, int_sum_minus, int_sum_once, int_sum_plus, int_sum_pos, int_sum_same, int_sum_swap, int_sum_zero, least_below_found, least_below_none, least_below_some, part, sum_below_plus, sum_below_same, sum_below_scale}
+pub use Rattle.plan_rules.proofs.lemmas.SumLemmas.{count_below_found, count_below_same, count_below_some, count_below_two, flag, flag-false, flag-true, int_sum_le, int_sum_same, int_sum_zero, least_below_found, least_below_none, least_below_some, part, sum_below_plus, sum_below_same}
 pub use Rattle.plan_rules.proofs.lemmas.TreeLemmas.{dead_end_holds_none, each_plan_at_one_end, no_plan_at_dead_ends, tree_value_bounds, within_every_row}
 pub use Rattle.plan_rules.proofs.lemmas.UsableLemmas.{Agree, agree_back, can_branch_agrees, dead_end_agrees, first_fit_value_agrees, leaf_value_agrees, least_below_agrees, may_use_agrees}
 pub use Rattle.plan_rules.specs.Graph.{Graph, HasNoRow, IsGoodGraph, IsRowOf, choice_at, cost_at, has_rider, is_in, must_be_served, riders_at, row_vehicle}

@@ -4,9 +4,6 @@ use Rattle.assignment_search.proofs.Common.{cases_lt, set-get_or, set_past, coun
 use Rattle.std.proofs.lemmas.List.{get_or-set_same, get_or-set_other}
 use Rattle.assignment_search.specs.Change.{HasNoBetterChange}
 
-none_some : (k : ℕ) → ◌≡◌ {A = Option ℕ} None (Some k) → ⊥
-none_some k e = cc
-
 -- a row with a rider of another vehicle's chosen row makes no lawful plan
 pub shared_betters_nothing : (g : Graph) (chosen : List (Option ℕ)) (v k : ℕ) → length chosen ≡ g.vehicles → v < g.vehicles → IsShared g chosen v k → BettersNothing g chosen v k
 shared_betters_nothing g chosen v k sized low s lawful =

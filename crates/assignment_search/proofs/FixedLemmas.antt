@@ -1,15 +1,10 @@
 -- A leaf where no vehicle has a choice holds one plan, whose cost is the first-fit value.
-use Rattle.std.proofs.Common.{◌≡◌, ◌==◌, ◌&&◌, ℕ, zero, suc, ◌+◌, ◌*◌, ◌/◌, ◌<◌, ◌≤◌, Bool, true, false, ltb, List, [], ◌∷◌, length, Option, Some, None, MatchOption, ℤ, pos, negsuc, ◌+ℤ◌, ◌-ℤ◌, ◌≤ℤ◌, refl, sym, ap, ◌∙◌, subst, inl, inr, ⊎_elim, arith, eq-eqb, eqb-true, ne_eqb, lt-ltb, le-ltb, unwrap_or}
-use Rattle.assignment_search.proofs.Common.{ints, cases_eq, cases_lt, cases_Bool, and_from, and_parts, cond-true, cond-false, get_or_push, get_or_append_left, sum_below, count_below, int_sum_below, least_below, lesser, Graph, IsRowOf, HasNoRow, riders_at, row_vehicle, has_rider, choice_at, is_in, must_be_served, IsGoodGraph, IsPlan, IsLawful, choice_cost, cost_of, times_chosen, left_out, Usable, multiplier_at, multiplier_sum, is_usable_by, reduced_cost, vehicle_term, rider_term, leaf_value, room_at, first_fit_of, first_fit_below, first_fit, first_fit_value, MayUse, IsSoleRow, IsDeadEnd, rounded_up, flag, flag-true, flag-false, part, sum_below_scale, int_sum_same, int_sum_le, int_sum_plus, int_sum_minus, int_sum_pos, int_sum_zero, int_sum_swap, int_sum_once, least_below_some, least_below_none, least_below_found, count_below_found, times_served_as_count, times_served_some, in_choice, has_choice, HasUsable, IsFixed, IsSolePlan}
-use Rattle.plan_rules.proofs.lemmas.DualityLemmas.{multiplier_sum_is}
+use Rattle.std.proofs.Common.{◌≡◌, ◌==◌, ◌&&◌, ℕ, zero, suc, ◌+◌, ◌*◌, ◌/◌, ◌<◌, ◌≤◌, Bool, true, false, ltb, List, [], ◌∷◌, length, Option, Some, None, MatchOption, ℤ, pos, ◌+ℤ◌, ◌-ℤ◌, ◌≤ℤ◌, refl, sym, ap, ◌∙◌, subst, inl, inr, ⊎_elim, arith, eq-eqb, eqb-true, ne_eqb, lt-ltb, le-ltb, unwrap_or}
+use Rattle.assignment_search.proofs.Common.{same_Some, none-some, ints, cases_eq, cases_lt, cases_Bool, and_from, and_parts, cond-true, cond-false, get_or_push, get_or_append_left, sum_below, count_below, int_sum_below, least_below, lesser, Graph, IsRowOf, HasNoRow, riders_at, row_vehicle, has_rider, choice_at, is_in, must_be_served, IsGoodGraph, IsPlan, IsLawful, choice_cost, cost_of, times_chosen, left_out, Usable, multiplier_at, multiplier_sum, is_usable_by, reduced_cost, vehicle_term, rider_term, leaf_value, room_at, first_fit_of, first_fit_below, first_fit, first_fit_value, MayUse, IsSoleRow, IsDeadEnd, rounded_up, flag, flag-true, flag-false, part, int_sum_same, int_sum_le, int_sum_zero, least_below_some, least_below_none, least_below_found, count_below_found, times_served_as_count, times_served_some, in_choice, has_choice, HasUsable, IsFixed, IsSolePlan}
+use Rattle.plan_rules.proofs.lemmas.DualityLemmas.{choices_sum, multiplier_sum_is, prices_sum, riders_give, served_give}
+use Rattle.plan_rules.proofs.lemmas.TreeLemmas.{rounded_up_mono}
 use Rattle.dual_bound.proofs.lemmas.FirstFitLemmas.{length-first_fit}
 use Rattle.dual_bound.proofs.lemmas.FirstFitValueLemmas.{first_fit_leaves_room, rider_term_is}
-
-same_some : (j k : ℕ) → Some j ≡ Some k → j ≡ k
-same_some j k e = cc
-
-none_some : (k : ℕ) → ◌≡◌ {A = Option ℕ} None (Some k) → ⊥
-none_some k e = cc
 
 -- where two are counted, two pass
 count_two_found : (n : ℕ) (p : ℕ → Bool) → 2 ≤ count_below n p → (j : ℕ) × (k : ℕ) × (j < k) × (k < n) × (p j ≡ true) × (p k ≡ true)
@@ -26,18 +21,14 @@ count_two_found (suc n) p h =
     (w.0, w.1, w.2, omega (arith, w.3), w.4, w.5))
     (cases_Bool (p n))
 
--- what a choice's riders give, summed over all riders
-abbrev riders_give : Graph → List ℤ → Option ℕ → ℤ
-riders_give g ms c = int_sum_below g.riders (λ r. part (is_in g c r) (multiplier_at ms r))
-
 module _ (g : Graph) (u : Usable) (chosen : List (Option ℕ)) (good : IsGoodGraph g) (sized : length chosen ≡ g.vehicles) (sole : IsSolePlan g u chosen) (fixed : IsFixed g u) (has : HasUsable g u) (alive : IsDeadEnd g u → ⊥) where
   -- a choice may be used
   may_choice : (v k : ℕ) → v < g.vehicles → choice_at chosen v ≡ Some k → MayUse g u v k
   may_choice v k l e = pick (choice_at chosen v) (sole v l) e
     where
       pick : (c : Option ℕ) → MatchOption c ((j : ℕ) → MayUse g u v j → ⊥) (MayUse g u v) → c ≡ Some k → MayUse g u v k
-      pick None h e = absurd (none_some k e)
-      pick (Some j) h e = subst (MayUse g u v) (same_some j k e) h
+      pick None h e = absurd (none-some k e)
+      pick (Some j) h e = subst (MayUse g u v) (same_Some j k e) h
 
   own : (v : ℕ) → (c : Option ℕ) → MatchOption c ((j : ℕ) → MayUse g u v j → ⊥) (MayUse g u v) → MatchOption c (HasNoRow g v) (IsRowOf g v)
   own v None h = λ k row. let j = has v k row in h (j.0) (j.1)
@@ -110,7 +101,7 @@ module _ (g : Graph) (u : Usable) (chosen : List (Option ℕ)) (good : IsGoodGra
     where
       unfit : (c : Option ℕ) → MatchOption c ((j : ℕ) → MayUse g u v j → ⊥) (MayUse g u v) → c ≡ None → (j : ℕ) → MayUse g u v j → ⊥
       unfit None h e = h
-      unfit (Some k) h e = absurd (none_some k (sym e))
+      unfit (Some k) h e = absurd (none-some k (sym e))
 
       foreign : (k : ℕ) → k < length g.rows → (b : Bool) → is_usable_by g u v k ≡ b → is_usable_by g u v k ≡ false
       foreign k low false is = is
@@ -131,30 +122,10 @@ module _ (g : Graph) (u : Usable) (chosen : List (Option ℕ)) (good : IsGoodGra
       multiplier_sum_is ms g.riders (riders_at g k) row.members.rising row.members.below in
       omega (arith, ints)
 
-  vehicles_are : (ms : List ℤ) → int_sum_below g.vehicles (vehicle_term g u ms) ≡ (pos (1024 * sum_below g.vehicles (λ v. choice_cost g (choice_at chosen v))) -ℤ int_sum_below g.riders (λ r. part (ltb 0 (times_chosen g chosen r)) (multiplier_at ms r)))
+  vehicles_are : (ms : List ℤ) → int_sum_below g.vehicles (vehicle_term g u ms) ≡ (pos (1024 * sum_below g.vehicles (λ v. choice_cost g (choice_at chosen v))) -ℤ served_give g ms chosen)
   vehicles_are ms =
-      let each : int_sum_below g.vehicles (vehicle_term g u ms) ≡ int_sum_below g.vehicles (λ v. pos (1024 * choice_cost g (choice_at chosen v)) -ℤ riders_give g ms (choice_at chosen v)) =
-      int_sum_same g.vehicles (vehicle_term g u ms) (λ v. pos (1024 * choice_cost g (choice_at chosen v)) -ℤ riders_give g ms (choice_at chosen v))
-      (λ v l. term_is ms v l (choice_at chosen v) refl) in
-      let apart : int_sum_below g.vehicles (λ v. pos (1024 * choice_cost g (choice_at chosen v)) -ℤ riders_give g ms (choice_at chosen v)) ≡ int_sum_below g.vehicles (λ v. pos (1024 * choice_cost g (choice_at chosen v))) -ℤ int_sum_below g.vehicles (λ v. riders_give g ms (choice_at chosen v)) =
-      int_sum_minus g.vehicles (λ v. pos (1024 * choice_cost g (choice_at chosen v))) (λ v. riders_give g ms (choice_at chosen v)) in
-      let costs : int_sum_below g.vehicles (λ v. pos (1024 * choice_cost g (choice_at chosen v))) ≡ pos (sum_below g.vehicles (λ v. 1024 * choice_cost g (choice_at chosen v))) =
-      int_sum_pos g.vehicles (λ v. 1024 * choice_cost g (choice_at chosen v)) in
-      let scaled : sum_below g.vehicles (λ v. 1024 * choice_cost g (choice_at chosen v)) ≡ 1024 * sum_below g.vehicles (λ v. choice_cost g (choice_at chosen v)) =
-      sum_below_scale g.vehicles 1024 (λ v. choice_cost g (choice_at chosen v)) in
-      let swapped : int_sum_below g.vehicles (λ v. riders_give g ms (choice_at chosen v)) ≡ int_sum_below g.riders (λ r. int_sum_below g.vehicles (λ v. part (is_in g (choice_at chosen v) r) (multiplier_at ms r))) =
-      int_sum_swap g.vehicles g.riders (λ v r. part (is_in g (choice_at chosen v) r) (multiplier_at ms r)) in
-      let counted : int_sum_below g.riders (λ r. int_sum_below g.vehicles (λ v. part (is_in g (choice_at chosen v) r) (multiplier_at ms r))) ≡ int_sum_below g.riders (λ r. part (ltb 0 (times_chosen g chosen r)) (multiplier_at ms r)) =
-      int_sum_same g.riders (λ r. int_sum_below g.vehicles (λ v. part (is_in g (choice_at chosen v) r) (multiplier_at ms r))) (λ r. part (ltb 0 (times_chosen g chosen r)) (multiplier_at ms r))
-      (λ r l. once_given r) in
-      omega (arith, ints)
-    where
-      once_given : (r : ℕ) → int_sum_below g.vehicles (λ v. part (is_in g (choice_at chosen v) r) (multiplier_at ms r)) ≡ part (ltb 0 (times_chosen g chosen r)) (multiplier_at ms r)
-      once_given r =
-          let count : times_chosen g chosen r ≡ count_below g.vehicles (λ v. is_in g (choice_at chosen v) r) = times_served_as_count g chosen g.vehicles r in
-          let low : times_chosen g chosen r ≤ 1 = sole_once r in
-          int_sum_once g.vehicles (λ v. is_in g (choice_at chosen v) r) (multiplier_at ms r) (omega arith)
-          ∙ ap (λ (n : ℕ). part (ltb 0 n) (multiplier_at ms r)) (sym count)
+      int_sum_same g.vehicles (vehicle_term g u ms) (λ v. pos (1024 * choice_cost g (choice_at chosen v)) -ℤ riders_give g ms (choice_at chosen v)) (λ v l. term_is ms v l (choice_at chosen v) refl)
+      ∙ choices_sum g ms chosen sole_once
 
 -- a rider's term is at least her multiplier where she is served, and the penalty where she is left out
 rider_term_ge : (g : Graph) (ms : List ℤ) (r t : ℕ) → multiplier_at ms r ≤ℤ pos (1024 * g.penalty) → (t ≡ 0 → multiplier_at ms r ≡ pos (1024 * g.penalty)) → (part (ltb 0 t) (multiplier_at ms r) +ℤ pos (1024 * (g.penalty * flag (t == 0)))) ≤ℤ rider_term g ms r
@@ -175,22 +146,12 @@ rider_term_ge g ms r t most all =
     (cases_eq t 0)
 
 riders_ge : (g : Graph) (ms : List ℤ) (chosen : List (Option ℕ)) → ((r : ℕ) → r < g.riders → multiplier_at ms r ≤ℤ pos (1024 * g.penalty)) → ((r : ℕ) → r < g.riders → times_chosen g chosen r ≡ 0 → multiplier_at ms r ≡ pos (1024 * g.penalty))
-    → (int_sum_below g.riders (λ r. part (ltb 0 (times_chosen g chosen r)) (multiplier_at ms r)) +ℤ pos (1024 * (g.penalty * left_out g chosen))) ≤ℤ int_sum_below g.riders (rider_term g ms)
+    → (served_give g ms chosen +ℤ pos (1024 * (g.penalty * left_out g chosen))) ≤ℤ int_sum_below g.riders (rider_term g ms)
 riders_ge g ms chosen most all =
     let each : int_sum_below g.riders (λ r. part (ltb 0 (times_chosen g chosen r)) (multiplier_at ms r) +ℤ pos (1024 * (g.penalty * flag (times_chosen g chosen r == 0)))) ≤ℤ int_sum_below g.riders (rider_term g ms) =
     int_sum_le g.riders (λ r. part (ltb 0 (times_chosen g chosen r)) (multiplier_at ms r) +ℤ pos (1024 * (g.penalty * flag (times_chosen g chosen r == 0)))) (rider_term g ms)
     (λ r l. rider_term_ge g ms r (times_chosen g chosen r) (most r l) (all r l)) in
-    let apart : int_sum_below g.riders (λ r. part (ltb 0 (times_chosen g chosen r)) (multiplier_at ms r) +ℤ pos (1024 * (g.penalty * flag (times_chosen g chosen r == 0)))) ≡ int_sum_below g.riders (λ r. part (ltb 0 (times_chosen g chosen r)) (multiplier_at ms r)) +ℤ int_sum_below g.riders (λ r. pos (1024 * (g.penalty * flag (times_chosen g chosen r == 0)))) =
-    int_sum_plus g.riders (λ r. part (ltb 0 (times_chosen g chosen r)) (multiplier_at ms r)) (λ r. pos (1024 * (g.penalty * flag (times_chosen g chosen r == 0)))) in
-    let prices : int_sum_below g.riders (λ r. pos (1024 * (g.penalty * flag (times_chosen g chosen r == 0)))) ≡ pos (sum_below g.riders (λ r. 1024 * (g.penalty * flag (times_chosen g chosen r == 0)))) =
-    int_sum_pos g.riders (λ r. 1024 * (g.penalty * flag (times_chosen g chosen r == 0))) in
-    let scaled : sum_below g.riders (λ r. 1024 * (g.penalty * flag (times_chosen g chosen r == 0))) ≡ 1024 * sum_below g.riders (λ r. g.penalty * flag (times_chosen g chosen r == 0)) =
-    sum_below_scale g.riders 1024 (λ r. g.penalty * flag (times_chosen g chosen r == 0)) in
-    let counted : sum_below g.riders (λ r. g.penalty * flag (times_chosen g chosen r == 0)) ≡ g.penalty * left_out g chosen =
-    sum_below_scale g.riders g.penalty (λ r. flag (times_chosen g chosen r == 0)) in
-    let whole : pos (sum_below g.riders (λ r. 1024 * (g.penalty * flag (times_chosen g chosen r == 0)))) ≡ pos (1024 * (g.penalty * left_out g chosen)) =
-    ap pos (scaled ∙ ap (λ (n : ℕ). 1024 * n) counted) in
-    omega (arith, ints)
+    omega (arith, ints, prices_sum g ms chosen)
 
 -- ---- the first-fit multipliers there
 
@@ -218,12 +179,10 @@ first_fit_left g u r l nowhere =
 
 -- ---- together
 
-pub rounded_up_ge : (z : ℤ) (c : ℕ) → pos (1024 * c) ≤ℤ z → pos c ≤ℤ rounded_up z
-rounded_up_ge (pos n) c h =
-    let le : 1024 * c ≤ n = omega (arith, ints, h) in
-    let q : c ≤ (n + 1023) / 1024 = omega arith in
-    omega (arith, ints)
-rounded_up_ge (negsuc n) c h = absurd (omega (arith, ints, h))
+rounded_up_ge : (z : ℤ) (c : ℕ) → pos (1024 * c) ≤ℤ z → pos c ≤ℤ rounded_up z
+rounded_up_ge z c h =
+    let whole : (1024 * c + 1023) / 1024 ≡ c = omega arith in
+    omega (arith, ints, rounded_up_mono (pos (1024 * c)) z h)
 
 module _ (g : Graph) (u : Usable) (chosen : List (Option ℕ)) (good : IsGoodGraph g) (sized : length chosen ≡ g.vehicles) (sole : IsSolePlan g u chosen) (fixed : IsFixed g u) (has : HasUsable g u) (alive : IsDeadEnd g u → ⊥) where
   value_reaches : pos (1024 * cost_of g chosen) ≤ℤ first_fit_value g u

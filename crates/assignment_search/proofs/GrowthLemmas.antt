@@ -1,7 +1,8 @@
 -- Trees that grow.
-use Rattle.std.proofs.Common.{◌≡◌, ◌==◌, ◌||◌, not, ℕ, zero, suc, ◌+◌, ◌/◌, ◌<◌, ◌≤◌, true, List, [], ◌∷◌, ◌++◌, length, get_or, take, drop, Option, Some, None, ℤ, pos, negsuc, ◌≤ℤ◌, ◌<ℤ◌, refl, sym, ap, ◌∙◌, subst, ⊎_elim, arith, eq-eqb, ne_eqb, unwrap_or}
-use Rattle.assignment_search.proofs.Common.{ints, int_min_is, cases_eq, and_from, or_left, or_right, lesser, Graph, IsRowOf, row_vehicle, Usable, leaf_value, first_fit_value, every_row, only_row, without_row, CanBranch, rounded_up, least_leaf, IsSoundNode, coming_after, ReadsTo, places_from, value_read, IsLawful, cost_of, IsGreedy, Node, Branch, Leaf, Dead, IsWorthBranching, IsGoodLeaf, IsGoodNode, IsGrown, HasUsable, IsLowest, IsNewEnd, IsFairNode}
+use Rattle.std.proofs.Common.{◌≡◌, ◌==◌, ◌||◌, not, ℕ, zero, suc, ◌<◌, ◌≤◌, true, List, [], ◌∷◌, ◌++◌, length, get_or, take, drop, Option, Some, None, ℤ, pos, ◌≤ℤ◌, ◌<ℤ◌, refl, sym, ap, ◌∙◌, subst, ⊎_elim, arith, eq-eqb, ne_eqb, unwrap_or}
+use Rattle.assignment_search.proofs.Common.{none-some, same_Some, ints, int_min_is, cases_eq, and_from, or_left, or_right, lesser, Graph, IsRowOf, row_vehicle, Usable, leaf_value, first_fit_value, every_row, only_row, without_row, CanBranch, rounded_up, least_leaf, IsSoundNode, coming_after, ReadsTo, places_from, value_read, IsLawful, cost_of, IsGreedy, Node, Branch, Leaf, Dead, IsWorthBranching, IsGoodLeaf, IsGoodNode, IsGrown, HasUsable, IsLowest, IsNewEnd, IsFairNode}
 use Rattle.std.specs.List.{AllByRecursion as ByRecursion}
+use Rattle.plan_rules.proofs.lemmas.TreeLemmas.{rounded_up_mono}
 
 -- ---- grown trees are sound
 
@@ -64,18 +65,6 @@ new_end_ends g u w parent (Leaf ms) z c h = refl
 new_end_ends g u w parent Dead z c h = refl
 new_end_ends g u w parent (Branch v k) z c h = absurd h
 
-pub rounded_up_mono : (a b : ℤ) → a ≤ℤ b → rounded_up a ≤ℤ rounded_up b
-rounded_up_mono (pos n) (pos m) h =
-    let le : n ≤ m = omega (arith, ints, h) in
-    let q : (n + 1023) / 1024 ≤ (m + 1023) / 1024 = omega arith in
-    omega (arith, ints)
-rounded_up_mono (pos n) (negsuc m) h = absurd (omega (arith, ints, h))
-rounded_up_mono (negsuc n) (pos m) h = omega (arith, ints)
-rounded_up_mono (negsuc n) (negsuc m) h =
-    let le : m ≤ n = omega (arith, ints, h) in
-    let q : suc m / 1024 ≤ suc n / 1024 = omega arith in
-    omega (arith, ints)
-
 -- the tree with the leaf at i made a branch with these ends
 pub branched : (g : Graph) (low : ℤ) (limit : ℕ) (nodes : List Node) (values : List ℤ) (i v k : ℕ) (parent : List ℤ) (first second : Node) (a b x : ℤ) → IsGrown g low limit (every_row ∷ []) nodes values [] → i < length nodes → get_or nodes i Dead ≡ Leaf parent
     → (s : IsSplit g low limit (every_row ∷ []) nodes values [] i) → CanBranch g s.usable v k → IsWorthBranching g low limit s.usable
@@ -133,21 +122,15 @@ lowest_floor g low limit nodes values i grown lowest =
 -- ---- the tree's value
 
 least_low : (g : Graph) (low : ℤ) (limit : ℕ) (nodes : List Node) (values : List ℤ) (coming rest : List Usable) → IsGrown g low limit coming nodes values rest → (z : ℤ) → least_leaf g (places_from g coming nodes) ≡ Some z → low ≤ℤ z
-least_low g low limit [] [] coming rest h z e = absurd (none z e)
-  where
-    none : (z : ℤ) → ◌≡◌ {A = Option ℤ} None (Some z) → ⊥
-    none z e = cc
+least_low g low limit [] [] coming rest h z e = absurd (none-some z e)
 least_low g low limit [] (w ∷ values) coming rest h z e = absurd h
 least_low g low limit (n ∷ nodes) [] coming rest h z e = absurd h
 least_low g low limit (n ∷ nodes) (w ∷ values) [] rest h z e = absurd h
 least_low g low limit (Leaf ms ∷ nodes) (w ∷ values) (u ∷ us) rest h z e =
     let leaf = h.0 in
     let floor : low ≤ℤ rounded_up (leaf_value g u ms) = subst (λ (y : ℤ). low ≤ℤ rounded_up y) leaf.judged leaf.floor in
-    both (least_leaf g (places_from g us nodes)) (least_low g low limit nodes values us rest (h.1)) floor (inner e)
+    both (least_leaf g (places_from g us nodes)) (least_low g low limit nodes values us rest (h.1)) floor (same_Some _ _ e)
   where
-    inner : {a b : ℤ} → Some a ≡ Some b → a ≡ b
-    inner e = cc
-
     both : (o : Option ℤ) → ((y : ℤ) → o ≡ Some y → low ≤ℤ y) → low ≤ℤ rounded_up (leaf_value g u ms) → lesser o (rounded_up (leaf_value g u ms)) ≡ z → low ≤ℤ z
     both None before here is = omega (arith, ints)
     both (Some y) before here is =
@@ -220,8 +203,8 @@ nodes_fair g low limit held greedy (n ∷ nodes) (z ∷ values) (u ∷ us) rest 
 
 -- ---- vehicles keep a usable row
 
-only_usable : (g : Graph) (u : Usable) (v k : ℕ) → CanBranch g u v k → HasUsable g u → HasUsable g (only_row g u v k)
-only_usable g u v k can has w i row =
+pub usable_only : (g : Graph) (u : Usable) (v k : ℕ) → CanBranch g u v k → HasUsable g u → HasUsable g (only_row g u v k)
+usable_only g u v k can has w i row =
     ⊎_elim
     (λ (here : w ≡ v). (
       k,
@@ -239,8 +222,8 @@ only_usable g u v k can has w i row =
     ))
     (cases_eq w v)
 
-without_usable : (g : Graph) (u : Usable) (v k : ℕ) → CanBranch g u v k → HasUsable g u → HasUsable g (without_row u k)
-without_usable g u v k can has w i row =
+pub usable_without : (g : Graph) (u : Usable) (v k : ℕ) → CanBranch g u v k → HasUsable g u → HasUsable g (without_row u k)
+usable_without g u v k can has w i row =
     ⊎_elim
     (λ (here : w ≡ v). (
       can.other,
@@ -267,7 +250,7 @@ usable_along g (n ∷ nodes) [] rest h all = absurd h
 usable_along g (Leaf ms ∷ nodes) (u ∷ us) rest h all = usable_along g nodes us rest (h.1) (all.1)
 usable_along g (Dead ∷ nodes) (u ∷ us) rest h all = usable_along g nodes us rest (h.1) (all.1)
 usable_along g (Branch v k ∷ nodes) (u ∷ us) rest h all =
-    usable_along g nodes (only_row g u v k ∷ without_row u k ∷ us) rest (h.1) (only_usable g u v k (h.0) (all.0), (without_usable g u v k (h.0) (all.0), all.1))
+    usable_along g nodes (only_row g u v k ∷ without_row u k ∷ us) rest (h.1) (usable_only g u v k (h.0) (all.0), (usable_without g u v k (h.0) (all.0), all.1))
 
 every_usable : (g : Graph) → HasUsable g every_row
 every_usable g v k row = (k, record { row = row; usable_row = refl })
@@ -275,12 +258,6 @@ every_usable g v k row = (k, record { row = row; usable_row = refl })
 -- where a walk from the root stands, each vehicle may use a row
 pub usable_here : (g : Graph) (nodes : List Node) (u : Usable) (later : List Usable) → ReadsTo g (every_row ∷ []) nodes (u ∷ later) → HasUsable g u
 usable_here g nodes u later h = (usable_along g nodes (every_row ∷ []) (u ∷ later) h (every_usable g, tt)).0
-
-pub usable_only : (g : Graph) (u : Usable) (v k : ℕ) → CanBranch g u v k → HasUsable g u → HasUsable g (only_row g u v k)
-usable_only = only_usable
-
-pub usable_without : (g : Graph) (u : Usable) (v k : ℕ) → CanBranch g u v k → HasUsable g u → HasUsable g (without_row u k)
-usable_without = without_usable
 
 -- reading is a function
 pub reads_unique : (g : Graph) (nodes : List Node) (a b d : List Usable) → ReadsTo g a nodes b → ReadsTo g a nodes d → b ≡ d

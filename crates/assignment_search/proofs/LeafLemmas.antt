@@ -1,9 +1,7 @@
 -- A sound tree has a leaf.
-use Rattle.std.proofs.Common.{◌≡◌, ℕ, suc, ◌+◌, ◌≤◌, Bool, cond, List, [], ◌∷◌, Option, count_by, refl, arith}
-use Rattle.assignment_search.proofs.Common.{sum_by-cons, Graph, IsGoodGraph, Usable, every_row, only_row, without_row, Place, belongs_to_end, belongs_to_dead_end, is_within, places_from, IsWholeTree, Node, Branch, Leaf, Dead, flag, held_is_lawful, each_plan_at_one_end, no_plan_at_dead_ends, HasLeaf}
-
-count-cons : {X : Type 0} (p : X → Bool) (x : X) (xs : List X) → count_by p (x ∷ xs) ≡ flag (p x) + count_by p xs
-count-cons p x xs = sum_by-cons (λ y. cond (p y) 1 0) x xs
+use Rattle.std.proofs.Common.{◌≡◌, ℕ, suc, ◌+◌, ◌≤◌, List, [], ◌∷◌, Option, count_by, refl, arith}
+use Rattle.assignment_search.proofs.Common.{Graph, IsGoodGraph, Usable, every_row, only_row, without_row, Place, belongs_to_end, belongs_to_dead_end, is_within, places_from, IsWholeTree, Node, Branch, Leaf, Dead, flag, held_is_lawful, each_plan_at_one_end, no_plan_at_dead_ends, HasLeaf}
+use Rattle.plan_rules.proofs.lemmas.TreeLemmas.{count-cons}
 
 later : (n : Node) (nodes : List Node) → HasLeaf nodes → HasLeaf (n ∷ nodes)
 later n nodes h = record { place = suc h.place; multipliers = h.multipliers; within = omega (arith, h.within); leaf = h.leaf }

@@ -1,9 +1,6 @@
 -- The fewer rows are usable, the greater is a leaf's value.
 use Rattle.std.proofs.Common.{◌≡◌, ◌==◌, ◌||◌, not, ℕ, ◌<◌, Bool, true, false, List, length, Option, Some, None, ℤ, pos, ◌≤ℤ◌, refl, sym, ap, ◌∙◌, arith, eq-eqb, eqb-true, unwrap_or}
-use Rattle.assignment_search.proofs.Common.{ints, and_from, and_parts, int_sum_below, least_below, Graph, IsRowOf, row_vehicle, Usable, is_usable_by, reduced_cost, vehicle_term, leaf_value, MayUse, only_row, without_row, int_sum_le, least_below_some, least_below_none, least_below_found, HasUsable}
-
-not_some : (z : ℤ) → ◌≡◌ {A = Option ℤ} None (Some z) → ⊥
-not_some z e = cc
+use Rattle.assignment_search.proofs.Common.{none-some, ints, and_from, and_parts, int_sum_below, least_below, Graph, IsRowOf, row_vehicle, Usable, is_usable_by, reduced_cost, vehicle_term, leaf_value, MayUse, only_row, without_row, int_sum_le, least_below_some, least_below_none, least_below_found, HasUsable}
 
 -- a vehicle that keeps a row has no lesser term
 pub term_rises : (g : Graph) (u w : Usable) (ms : List ℤ) (v : ℕ) → ((k : ℕ) → w k ≡ true → u k ≡ true) → ((k : ℕ) → IsRowOf g v k → (j : ℕ) × MayUse g w v j) → vehicle_term g u ms v ≤ℤ vehicle_term g w ms v
@@ -17,7 +14,7 @@ term_rises g u w ms v fewer has = by_least (least_below (length g.rows) (is_usab
         let may = j.1 in
         let passes : is_usable_by g w v (j.0) ≡ true = and_from (row_vehicle g (j.0) == v) (w (j.0)) (eq-eqb (row_vehicle g (j.0)) v may.row.own) may.usable_row in
         let some = least_below_some (length g.rows) (is_usable_by g w v) (reduced_cost g ms) (j.0) may.row.within passes in
-        absurd (not_some (some.0) (sym e ∙ some.1))
+        absurd (none-some (some.0) (sym e ∙ some.1))
 
     by_least : (o : Option ℤ) → least_below (length g.rows) (is_usable_by g w v) (reduced_cost g ms) ≡ o → vehicle_term g u ms v ≤ℤ unwrap_or o (pos 0)
     by_least None e =

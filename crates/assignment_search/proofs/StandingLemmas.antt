@@ -42,20 +42,14 @@ next_of g (n ∷ nodes) (u ∷ us) rest coming (suc k) h l before =
     let w = next_of g nodes (coming_after g u n us) rest coming k (h.1) (omega (arith, l)) (before.1) in
     record { usable = w.usable; later = w.later; here = w.here; sound = w.sound; after = (h.0, w.after) }
 
-heads : (u w : Usable) (us ws : List Usable) → u ∷ us ≡ w ∷ ws → u ≡ w
-heads u w us ws e = cc
+pub head_is : (u w : Usable) (us ws : List Usable) → u ∷ us ≡ w ∷ ws → u ≡ w
+head_is u w us ws e = cc
 
-tails : (u w : Usable) (us ws : List Usable) → u ∷ us ≡ w ∷ ws → us ≡ ws
-tails u w us ws e = cc
+pub tail_is : (u w : Usable) (us ws : List Usable) → u ∷ us ≡ w ∷ ws → us ≡ ws
+tail_is u w us ws e = cc
 
 none : (w : Usable) (ws : List Usable) → [] ≡ w ∷ ws → ⊥
 none w ws e = cc
-
-pub head_is : (u w : Usable) (us ws : List Usable) → u ∷ us ≡ w ∷ ws → u ≡ w
-head_is = heads
-
-pub tail_is : (u w : Usable) (us ws : List Usable) → u ∷ us ≡ w ∷ ws → us ≡ ws
-tail_is = tails
 
 -- where a subtree is to come after an end, a walk that leaves the end stands there
 pub left_next : (g : Graph) (b : Bool) (old new : List Decision) (u : Usable) (us : List Usable) → MatchBool b ((standing_of g old).coming ≡ (standing_of g new).usable ∷ (standing_of g new).coming) ((standing_of g old).coming ≡ []) → (standing_of g old).coming ≡ u ∷ us → (standing_of g new).usable ∷ (standing_of g new).coming ≡ u ∷ us

@@ -4,5 +4,4 @@ pub mod Change
 pub mod Found
 pub mod Growth
 pub mod Lookups
-pub mod Marks
 pub mod Next

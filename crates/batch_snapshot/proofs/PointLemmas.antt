@@ -1,27 +1,15 @@
-use Rattle.std.proofs.Common.{◌≡◌, ℕ, zero, suc, ◌+◌, ◌<◌, ◌≤◌, List, length, get_or, slice_get, Some, Ok, Err, Result, MatchResult, Contains, arith, ◌∙◌, ◌-◌, inl, inr}
+use Rattle.std.proofs.Common.{◌≡◌, ℕ, ◌<◌, ◌≤◌, List, length, get_or, slice_get, Some, Ok, Err, Result, MatchResult, Contains, arith, ◌∙◌, inl, inr, ap}
 use Rattle.std.specs.List.Sorted.{IsStrictlyIncreasing, IsBinarySearchResult}
 use Rattle.std.specs.Ordering.{nat_cmp}
 use Rattle.std.proofs.lemmas.List.{get_or_default}
 use Rattle.std.proofs.lemmas.Bool.{cases_lt}
+use Rattle.std.proofs.lemmas.List.Kept.{AllPairs-from_increasing}
 use Rattle.std.proofs.lemmas.List.Sorted.{searched}
 use Rattle.std.proofs.lemmas.Option.{slice_get-get_or}
-use Rattle.std.proofs.Common.{ap}
 
 -- numbers that rise don't fall
-pub rising_far : (xs : List ℕ) → IsStrictlyIncreasing xs → (i n : ℕ) → i + n < length xs → get_or xs i 0 ≤ get_or xs (i + n) 0
-rising_far xs up i zero h = let same : i + 0 ≡ i = omega arith in omega (arith, ap (λ k. get_or xs k 0) same)
-rising_far xs up i (suc n) h =
-    let before : get_or xs i 0 ≤ get_or xs (i + n) 0 = rising_far xs up i n (omega arith) in
-    let next : get_or xs (i + n) 0 < get_or xs (i + n + 1) 0 = up (i + n) (omega arith) in
-    let same : i + n + 1 ≡ i + suc n = omega arith in
-    omega (arith, ap (λ k. get_or xs k 0) same)
-
 pub rising_between : (xs : List ℕ) → IsStrictlyIncreasing xs → (i j : ℕ) → i ≤ j → j < length xs → get_or xs i 0 ≤ get_or xs j 0
-rising_between xs up i j le within =
-    let n : ℕ = j - i in
-    let is : i + n ≡ j = omega arith in
-    let far : get_or xs i 0 ≤ get_or xs (i + n) 0 = rising_far xs up i n (omega arith) in
-    omega (arith, far, ap (λ k. get_or xs k 0) is)
+rising_between xs up i j le within = grind (arith, AllPairs-from_increasing xs up i j 0)
 
 -- what a search of rising numbers finds, and what it means that it finds nothing
 pub found_place : (xs : List ℕ) (x : ℕ) (r : Result ℕ ℕ) → IsBinarySearchResult (λ y. nat_cmp y x) xs r → IsStrictlyIncreasing xs → MatchResult r (λ i. slice_get xs i ≡ Some x) (λ _. Contains xs x → ⊥)

@@ -1,7 +1,8 @@
-use Rattle.std.proofs.Common.{◌≡◌, ℕ, List, Bool, refl, sym, ap, ◌∙◌, ◌&&◌}
+use Rattle.std.proofs.Common.{◌≡◌, ℕ, List, Bool, refl, sym, ap, ◌∙◌, ◌&&◌, arith}
 use Rattle.std.proofs.Math.Dec.{eqb}
 use Rattle.std.specs.Bool.{Decides}
-use Rattle.std.proofs.lemmas.Bool.{and_parts, and_from, eqb-true, eq-eqb}
+use Rattle.std.proofs.lemmas.Bool.{and_from, eq-eqb}
+use Rattle.std.proofs.lemmas.Bool.Decides.{nat_tests}
 use Rattle.batch_snapshot.specs.declared.passenger.Passenger.{Passenger}
 use Rattle.batch_snapshot.specs.declared.rider.Rider.{Rider}
 use Rattle.batch_snapshot.specs.declared.vehicle.Vehicle.{Vehicle}
@@ -23,15 +24,11 @@ vehicles_agree E a b = eqb a.id b.id && (eqb a.seats b.seats && (eqb a.node b.no
 pub vehicles_agree-Decides : (E : List Passenger → List Passenger → Bool) → ((xs ys : List Passenger) → Decides (E xs ys) (xs ≡ ys)) → (a b : Vehicle) → Decides (vehicles_agree E a b) (a ≡ b)
 vehicles_agree-Decides E decides a b = (
   (λ h.
-      let p = and_parts (eqb a.id b.id) (eqb a.seats b.seats && (eqb a.node b.node && (eqb a.time b.time && E a.aboard.items b.aboard.items))) h in
-      let q = and_parts (eqb a.seats b.seats) (eqb a.node b.node && (eqb a.time b.time && E a.aboard.items b.aboard.items)) p.1 in
-      let r = and_parts (eqb a.node b.node) (eqb a.time b.time && E a.aboard.items b.aboard.items) q.1 in
-      let s = and_parts (eqb a.time b.time) (E a.aboard.items b.aboard.items) r.1 in
-      let id : a.id ≡ b.id = eqb-true a.id b.id p.0 in
-      let seats : a.seats ≡ b.seats = eqb-true a.seats b.seats q.0 in
-      let node : a.node ≡ b.node = eqb-true a.node b.node r.0 in
-      let time : a.time ≡ b.time = eqb-true a.time b.time s.0 in
-      let aboard : a.aboard.items ≡ b.aboard.items = (decides a.aboard.items b.aboard.items).0 s.1 in
+      let id : a.id ≡ b.id = grind (arith, nat_tests) in
+      let seats : a.seats ≡ b.seats = grind (arith, nat_tests) in
+      let node : a.node ≡ b.node = grind (arith, nat_tests) in
+      let time : a.time ≡ b.time = grind (arith, nat_tests) in
+      let aboard : a.aboard.items ≡ b.aboard.items = (decides a.aboard.items b.aboard.items).0 (grind (arith, nat_tests)) in
       sym (vehicle_of-parts a) ∙ rw (id, seats, node, time, aboard) (vehicle_of-parts b)),
   (λ e.
       and_from _ _ (eq-eqb a.id b.id (ap (λ (v : Vehicle). v.id) e))

@@ -3,4 +3,3 @@ pub mod Batch
 pub mod Kept
 pub mod Points
 pub mod lemmas
-pub mod work

@@ -1,5 +1,5 @@
 -- The names that the proofs of this crate cite from elsewhere, passed on from one place. Declares nothing.
-pub use Rattle.std.proofs.lemmas.List.{drop_more, get_or-replicate, get_or_default, get_or_read, length-map, length-replicate, length_push, nil_from_length}
+pub use Rattle.std.proofs.lemmas.List.{drop_more, get_or_default, get_or_read, length-map, length_push, nil_from_length}
 pub use Rattle.std.proofs.lemmas.List.Elements.{All-contains, All-filter, All-from_get_or, All-map, All-nil, Contains-get_or}
 pub use Rattle.std.specs.List.{AllByRecursion, AllZip, list_any, range_with_len}
 pub use Rattle.batch_snapshot.specs.Batch.{Batch}
@@ -7,13 +7,11 @@ pub use Rattle.batch_solver.specs.Moves.{AreMoves, HasPlaces, idle_vehicles, is_
 pub use Rattle.batch_solver.specs.Points.{Posed}
 pub use Rattle.batch_solver.specs.Told.{left_riders, rider_id, row_line, rr_line, rv_line, told_stop, told_stops, vehicle_id}
 pub use Rattle.batch_solver.specs.Trips.{AreLate, AreTrips, IsLate, IsLateOrder, IsTripOf}
-pub use Rattle.batch_solver.specs.work.Left.{MarksChosen}
 pub use Rattle.batch_solver.specs.work.Lists.{AreLists}
-pub use Rattle.plan_rules.proofs.lemmas.GraphLemmas.{row_read, times_served_more, times_served_none}
-pub use Rattle.plan_rules.proofs.lemmas.MarkLemmas.{IsMarking, marking_more, marking_none}
-pub use Rattle.plan_rules.specs.Graph.{Graph, HasNoRow, IsGoodGraph, IsGraphRow, IsRowOf, choice_at, cost_at, is_in, no_row, riders_at, row_at, times_served}
+pub use Rattle.plan_rules.proofs.lemmas.GraphLemmas.{row_read}
+pub use Rattle.plan_rules.specs.Graph.{Graph, HasNoRow, IsGoodGraph, IsGraphRow, IsRowOf, choice_at, cost_at, is_in, no_row, riders_at, row_at}
 pub use Rattle.plan_rules.specs.declared.row.TripRow.{TripRow}
-pub use Rattle.plan_rules.specs.lemmas.Plan.{times_chosen}
+pub use Rattle.plan_rules.specs.lemmas.Plan.{MarksServed, times_chosen}
 pub use Rattle.pool_base.specs.Times.{point_count, travel_time}
 pub use Rattle.promise_check.proofs.lemmas.Promises.{filter_range_skips, filter_range_takes}
 pub use Rattle.rebalancing.specs.Matching.{IsBestMatching, IsMatching}

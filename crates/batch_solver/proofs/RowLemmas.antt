@@ -1,5 +1,5 @@
-use Rattle.std.proofs.Common.{◌≡◌, ℕ, ◌<◌, ◌≤◌, List, length, get_or, Option, Some, None, MatchOption, sym, ap, ◌∙◌, subst, arith}
-use Rattle.batch_solver.proofs.Common.{get_or_default, TripRow, Graph, IsRowOf, HasNoRow, choice_at, riders_at, cost_at, no_row, ChosenTrip, Settings, Settled, Stop, Task, IsTrip, trip_task, IsLeastDelay, Serves, order_delay, vehicle_id, told_stops, IsTripOf}
+use Rattle.std.proofs.Common.{◌≡◌, ℕ, ◌<◌, ◌≤◌, List, length, get_or, Option, Some, None, MatchOption, sym, ◌∙◌, subst, arith}
+use Rattle.batch_solver.proofs.Common.{get_or_default, Graph, IsRowOf, HasNoRow, choice_at, riders_at, cost_at, no_row, ChosenTrip, Settings, Settled, Stop, Task, IsTrip, trip_task, IsLeastDelay, Serves, order_delay, vehicle_id, told_stops, IsTripOf}
 use Rattle.plan_rules.specs.Plan.{IsLawful}
 use Rattle.trip_graph.specs.Answer.{IsTripGraphOf}
 
@@ -13,9 +13,6 @@ pub record IsServedRow (tau : ℕ → ℕ → ℕ) (settled : Settled) (graph : 
 -- what is chosen for a vehicle is what stands at its number
 pub choice_read : (chosen : List (Option ℕ)) (v : ℕ) (x : Option ℕ) → v < length chosen → get_or chosen v x ≡ choice_at chosen v
 choice_read chosen v x h = get_or_default chosen v x None h
-
-pub row_read : (graph : Graph) (rows : List TripRow) (k : ℕ) (x : TripRow) → rows ≡ graph.rows → k < length graph.rows → get_or rows k x ≡ get_or graph.rows k no_row
-row_read graph rows k x e h = ap (λ (list : List TripRow). get_or list k x) e ∙ get_or_default graph.rows k x no_row h
 
 module _ (settings : Settings) (tau : ℕ → ℕ → ℕ) (settled : Settled) (graph : Graph) (chosen : List (Option ℕ)) (exact : IsTripGraphOf settings tau settled graph) (lawful : IsLawful graph chosen) where
   pub chosen_long : (v : ℕ) → v < length settled.vehicles → v < length chosen

@@ -1,10 +1,9 @@
-ghost use Rattle.std.specs.Prelude.{◌≡◌, ◌<◌, ◌≤◌, ◌+◌, ◌||◌, ◌==◌, ℕ, false, All, IfOk, length, slice_index_or};
-ghost use Rattle.std.specs.List.{list_any};
+ghost use Rattle.std.specs.Prelude.{◌≡◌, ◌<◌, ◌≤◌, ◌+◌, All, IfOk, length};
 ghost use Rattle.plan_rules.specs.Plan.{IsPlan};
-ghost use Rattle.batch_solver.specs.work.Left.{MarksChosen};
+ghost use Rattle.plan_rules.specs.lemmas.Plan.{MarksServed};
 ghost use Rattle.batch_solver.specs.Told.{left_riders};
 
-use plan_rules::TripGraph;
+use plan_rules::{TripGraph, mark_riders};
 use pool_base::OutOfMemory;
 use std::alloc::Global;
 
@@ -36,7 +35,7 @@ fn chosen_marks(
     chosen: &[Option<u32>],
 ) -> Result<Vec<bool>, OutOfMemory>
     requires { IsPlan graph.now chosen.now }
-    ensures { IfOk result (λ marks. MarksChosen graph.now chosen.now graph.now.vehicles marks.items) }
+    ensures { IfOk result (λ marks. MarksServed graph.now chosen.now graph.now.vehicles marks.items) }
 {
     let mut marks = vec![in alloc; false; graph.rider_count()]?;
     for vehicle in 0..graph.vehicle_count() {
@@ -49,21 +48,10 @@ fn chosen_marks(
 fn mark_choice(graph: &TripGraph, chosen: &[Option<u32>], vehicle: usize, marks: &mut [bool])
     requires plan { IsPlan graph.now chosen.now }
     requires vehicle { vehicle < graph.now.vehicles }
-    requires marked { MarksChosen graph.now chosen.now vehicle marks.old }
-    ensures { MarksChosen graph.now chosen.now (vehicle + 1) marks.new }
+    requires marked { MarksServed graph.now chosen.now vehicle marks.old }
+    ensures { MarksServed graph.now chosen.now (vehicle + 1) marks.new }
 {
     if let Some(row) = chosen[vehicle] {
-        mark(graph.rows()[row as usize].riders.as_slice(), marks);
-    }
-}
-
-/// Marks these riders.
-fn mark(riders: &[usize], marks: &mut [bool])
-    requires { All (λ r. r < length marks.old) riders.now }
-    ensures len { length marks.new ≡ length marks.old }
-    ensures marked { (r : ℕ) → r < length marks.old → slice_index_or marks.new r false ≡ (slice_index_or marks.old r false || list_any (λ x. x == r) riders.now) }
-{
-    for rider in riders {
-        marks[*rider] = true;
+        mark_riders(graph.rows()[row as usize].riders.as_slice(), marks);
     }
 }

@@ -1,8 +1,7 @@
 -- Sole rows of vehicles, and riders who stand in usable rows.
 use Rattle.std.proofs.Common.{◌≡◌, ◌↔◌, ℕ, ◌<◌, ◌≤◌, Bool, true, false, IsTrue, MatchBool, MatchOption, List, length, get_or, Option, Some, None, sym, ap, ◌∙◌, subst, inr, ⊎_elim, arith}
-use Rattle.bound_checker.proofs.Common.{false≢true, cases_eq, cases_lt, both_ways, get_or_past, Graph, riders_at, row_vehicle, has_rider, choice_at, must_be_served, times_served, IsGoodGraph, Usable, IsSoleRow, IsClash, IsStranded, IsDeadEnd, rider_below, in_choice, times_served_found, AreSoleRows, ShareARider, IsApart, StandsInSome, StandsInNone, MarksStanding}
-use Rattle.std.proofs.lemmas.Bool.{ltb-true}
-use Rattle.plan_rules.proofs.lemmas.PlanLemmas.{own_row, held_own}
+use Rattle.bound_checker.proofs.Common.{same_Some, none-some, false≢true, cases_eq, cases_lt, both_ways, get_or_past, Graph, riders_at, row_vehicle, has_rider, choice_at, must_be_served, IsGoodGraph, Usable, IsSoleRow, IsClash, IsStranded, IsDeadEnd, AreSoleRows, ShareARider, IsApart, StandsInSome, StandsInNone, MarksStanding}
+use Rattle.plan_rules.proofs.lemmas.PlanLemmas.{must_below}
 
 pub when_true : (b : Bool) (A B : Type 0) → b ≡ true → MatchBool b A B → A
 when_true true A B e a = a
@@ -14,15 +13,9 @@ when_false false A B e b = b
 
 -- ---- sole rows
 
-none_is : (k : ℕ) → ◌≡◌ {A = Option ℕ} None (Some k) → ⊥
-none_is k e = cc
-
-some_is : (j k : ℕ) → Some j ≡ Some k → j ≡ k
-some_is j k e = cc
-
 pub below_end : (sole : List (Option ℕ)) (v k : ℕ) → choice_at sole v ≡ Some k → v < length sole
 below_end sole v k e =
-    ⊎_elim (λ (low : v < length sole). low) (λ (high : length sole ≤ v). absurd (none_is k (sym (get_or_past sole v None high) ∙ e))) (cases_lt v (length sole))
+    ⊎_elim (λ (low : v < length sole). low) (λ (high : length sole ≤ v). absurd (none-some k (sym (get_or_past sole v None high) ∙ e))) (cases_lt v (length sole))
 
 sole_at : (g : Graph) (usable : Usable) (n : ℕ) (sole : List (Option ℕ)) (v k : ℕ) → AreSoleRows g usable n sole → choice_at sole v ≡ Some k → IsSoleRow g usable v k
 sole_at g usable n sole v k are e =
@@ -73,23 +66,15 @@ no_clash g usable sole good are apart c =
     second = sole_found g usable c.second c.second_row (choice_at sole c.second) (are.each c.second (low c.second c.second_row c.second_sole)) c.second_sole
 
 pub none_second : (g : Graph) (sole : List (Option ℕ)) (v w : ℕ) → choice_at sole w ≡ None → ShareARider g sole v w → ⊥
-none_second g sole v w e share = none_is share.other (sym e ∙ share.second)
+none_second g sole v w e share = none-some share.other (sym e ∙ share.second)
 
 pub apart_rows : (g : Graph) (sole : List (Option ℕ)) (v w j k : ℕ) → choice_at sole v ≡ Some j → choice_at sole w ≡ Some k → IsApart (riders_at g j) (riders_at g k) → ShareARider g sole v w → ⊥
 apart_rows g sole v w j k one other apart share =
     apart share.rider
-    (subst (λ (q : ℕ). has_rider g q share.rider ≡ true) (some_is share.one j (sym share.first ∙ one)) share.in_first)
-    (subst (λ (q : ℕ). has_rider g q share.rider ≡ true) (some_is share.other k (sym share.second ∙ other)) share.in_second)
+    (subst (λ (q : ℕ). has_rider g q share.rider ≡ true) (same_Some share.one j (sym share.first ∙ one)) share.in_first)
+    (subst (λ (q : ℕ). has_rider g q share.rider ≡ true) (same_Some share.other k (sym share.second ∙ other)) share.in_second)
 
 -- ---- stranded riders
-
--- a rider who must be served is one of the graph's
-must_below : (g : Graph) (r : ℕ) → IsGoodGraph g → must_be_served g r ≡ true → r < g.riders
-must_below g r good must =
-    let v = times_served_found g g.held g.vehicles r (ltb-true 0 (times_served g g.held g.vehicles r) must) in
-    let k = in_choice g (choice_at g.held (v.0)) r (v.2) in
-    let own = own_row g (v.0) (k.0) (choice_at g.held (v.0)) (held_own g (v.0) (choice_at g.held (v.0)) (good.holds (v.0) (v.1))) (k.1) in
-    rider_below g (k.0) r (good.rows (k.0) own.within) (k.2)
 
 pub not_stranded : (g : Graph) (usable : Usable) (marks : List Bool) → IsGoodGraph g → ((r : ℕ) → r < g.riders → must_be_served g r ≡ true → get_or marks r false ≡ true) → MarksStanding g usable (length g.rows) marks → IsStranded g usable → ⊥
 not_stranded g usable marks good all are s =

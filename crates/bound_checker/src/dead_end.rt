@@ -4,7 +4,8 @@ ghost use Rattle.std.specs.List.{list_any};
 ghost use Rattle.plan_rules.specs.Graph.{IsGoodGraph};
 ghost use Rattle.plan_rules.specs.Multipliers.{Usable, usable_of};
 ghost use Rattle.plan_rules.specs.Tree.{IsSoleRow, IsStranded, IsDeadEnd};
-ghost use Rattle.bound_checker.specs.work.DeadEnd.{AreRowsOf, AreSoleRows, ShareARider, MarksStanding, IsInBoth, IsApart};
+ghost use Rattle.plan_rules.specs.lemmas.Graph.{ChoosesRows};
+ghost use Rattle.bound_checker.specs.work.DeadEnd.{AreSoleRows, ShareARider, MarksStanding, IsInBoth, IsApart};
 
 use plan_rules::TripGraph;
 use pool_base::OutOfMemory;
@@ -68,7 +69,7 @@ fn sole_row(graph: &TripGraph, allowed: &[bool], vehicle: usize) -> Option<usize
 
 /// Whether a rider stands in the rows of two vehicles, of which each has one or none.
 fn has_clash(graph: &TripGraph, sole: &[Option<usize>]) -> bool
-    requires { AreRowsOf graph.now sole.now }
+    requires { ChoosesRows graph.now sole.now }
     ensures { MatchBool result ((v : ℕ) × (w : ℕ) × (v < w) × ShareARider graph.now sole.now v w) ((v w : ℕ) → v < w → ShareARider graph.now sole.now v w → ⊥) }
 {
     for first in 0..sole.len() {
@@ -81,7 +82,7 @@ fn has_clash(graph: &TripGraph, sole: &[Option<usize>]) -> bool
 
 /// Whether a rider stands in the rows of this vehicle and of a later one.
 fn clashes(graph: &TripGraph, sole: &[Option<usize>], first: usize) -> bool
-    requires sole { AreRowsOf graph.now sole.now }
+    requires sole { ChoosesRows graph.now sole.now }
     requires first { first < length sole.now }
     ensures { MatchBool result ((w : ℕ) × (first < w) × ShareARider graph.now sole.now first w) ((w : ℕ) → first < w → ShareARider graph.now sole.now first w → ⊥) }
 {

@@ -3,7 +3,7 @@ pub use Rattle.std.proofs.lemmas.Bool.{both_ways, cases_eq, cases_lt, cond-false
 pub use Rattle.std.proofs.lemmas.List.{drop_all, get_or-map, get_or-replicate, get_or_default, get_or_past, length-map, length-replicate, map-append}
 pub use Rattle.std.proofs.lemmas.List.Elements.{All-append, All-cons, All-nil, All-weaker, filter-append}
 pub use Rattle.std.proofs.lemmas.Result.{IfOk-weaker, on_err_weaker, on_ok_weaker}
-pub use Rattle.std.specs.List.{AllZip, enumerate_from}
+pub use Rattle.std.specs.List.{AllByRecursion, AllZip, enumerate_from}
 pub use Rattle.batch_snapshot.specs.Batch.{Batch}
 pub use Rattle.batch_solver.specs.Outcome.{IsGoodOutcome}
 unfoldable pub use Rattle.dispatch_engine.specs.Lane.{ClosesAreGood}
@@ -14,7 +14,7 @@ pub use Rattle.dispatch_engine.specs.declared.crew.LaneWork.{LaneWork}
 pub use Rattle.dispatch_engine.specs.declared.stand.LaneStand.{LaneStand}
 pub use Rattle.dispatch_engine.specs.lemmas.Lanes.{IsPlain}
 pub use Rattle.dispatch_engine.specs.work.Crew.{AreInOrder, HasRunLane, HasTaken, HasWorked, HaveRunLanes, IsSharedBy, IsToWork, at_rest}
-pub use Rattle.dispatch_engine.specs.work.Lanes.{ArePlain, HaveRun, IsJointRun, calls_of_lane, calls_of_pass}
+pub use Rattle.dispatch_engine.specs.work.Lanes.{HaveRun, IsJointRun, calls_of_lane, calls_of_pass}
 pub use Rattle.pool_io.specs.Faults.{one_more}
 pub use Rattle.request_book.proofs.lemmas.StepTable.{by-table, step-table}
 pub use Rattle.request_book.specs.Book.{BookView, IsBook, IsSameBook, next_position}
@@ -28,7 +28,7 @@ pub use Rattle.request_book.specs.declared.journal.Journal.{Journal}
 pub use Rattle.request_book.specs.declared.outcome.Answer.{Answer}
 pub use Rattle.request_book.specs.declared.reply.BookRefusal.{BookRefusal}
 pub use Rattle.request_book.specs.declared.reply.Reply.{Reply}
-pub use Rattle.request_book.specs.declared.reply.Reply.TheVariants.{Accepted, Cancelled, Closed, Dropped, Picked, Placed, Refused, Sealed}
+pub use Rattle.request_book.specs.declared.reply.Reply.TheVariants.{Accepted, Cancelled, Closed, Dropped, Picked, Placed, Sealed}
 pub use Rattle.request_book.specs.declared.state.State.{State}
 unfoldable pub use Rattle.request_book.specs.lemmas.Closing.{closed_state}
 unfoldable pub use Rattle.request_book.specs.lemmas.Refusals.{first_of}

@@ -1,19 +1,11 @@
 -- How a pass runs its lane's commands, piece by piece.
 use Rattle.std.proofs.Common.{◌≡◌, ℕ, ◌≤◌, true, List, [], ◌∷◌, ◌++◌, map, Option, Some, None, refl, sym, ap, subst, ◌∙◌, append_assoc, append-nil, true≢false, arith}
-use Rattle.dispatch_engine.proofs.Common.{map-append, All-nil, All-cons, All-append, All-weaker, Batch, IsGoodOutcome, Command, Submit, Cancel, Report, Pickup, Dropoff, Seal, Close, Entry, Reply, Accepted, Settings, Roads, entry, LoggedCall, LockedReply, entry_of, is_light, sealed_by, BookPass, with_snapshot, HasCalled, HasCalledSome, IsSamePass, IsLaneRunFrom, IsLaneRun, IsLaneBeginning, last_sealed, IsGoodFor, LaneClosesAreGood, HasGained, HasRun, HasBegun, IsPlain, calls_of_pass}
+use Rattle.dispatch_engine.proofs.Common.{map-append, All-nil, All-cons, All-append, All-weaker, Batch, IsGoodOutcome, Command, Seal, Close, Entry, Reply, Accepted, Settings, Roads, entry, LoggedCall, LockedReply, entry_of, is_light, sealed_by, BookPass, with_snapshot, HasCalled, HasCalledSome, IsSamePass, IsLaneRunFrom, IsLaneRun, IsLaneBeginning, last_sealed, IsGoodFor, LaneClosesAreGood, HasGained, HasRun, HasBegun, IsPlain, calls_of_pass}
 use Rattle.request_book.specs.declared.outcome.Answer.TheVariants.{Overflow}
 use Rattle.request_book.specs.declared.outcome.Outcome.{Outcome}
 use Rattle.shared_book.specs.declared.shared.Receipt.{Receipt}
 use Rattle.shared_book.specs.Locked.{Fits}
-
--- a run, and one more
-run-append : (pending : Option ℕ) (cs ds : List Command) (es fs : List Entry) → IsLaneRunFrom pending cs es → IsLaneRun ds fs → IsLaneRunFrom pending (cs ++ ds) (es ++ fs)
-run-append None [] ds [] fs p q = q
-run-append None [] ds (e ∷ es) fs p q = absurd p
-run-append None (c ∷ cs) ds [] fs p q = absurd p
-run-append None (c ∷ cs) ds (e ∷ es) fs p q = (p.0, run-append (sealed_by e.reply) cs ds es fs p.1 q)
-run-append (Some batch) cs ds [] fs p q = absurd p
-run-append (Some batch) cs ds (e ∷ es) fs p q = (p.0, run-append None cs ds es fs p.1 q)
+use Rattle.dispatch_engine.proofs.lemmas.RunLemmas.{begun-next, run-append}
 
 -- there are runs of any commands
 some-run : (cs : List Command) → (es : List Entry) × IsLaneRun cs es
@@ -26,18 +18,11 @@ begun-more cs ds es p =
     let rest = some-run ds in
     (p.0 ++ rest.0, subst (IsLaneRun (cs ++ ds)) (append_assoc es p.0 rest.0) (run-append None cs ds (es ++ p.0) rest.0 p.1 rest.1))
 
--- after a run of some commands a beginning of a run of others
-begun-next : (cs ds : List Command) (es fs : List Entry) → IsLaneRun cs es → IsLaneBeginning ds fs → IsLaneBeginning (cs ++ ds) (es ++ fs)
-begun-next cs ds es fs p q = (q.0, subst (IsLaneRun (cs ++ ds)) (sym (append_assoc es fs q.0)) (run-append None cs ds es (fs ++ q.0) p q.1))
-
+-- a plain command isn't heavy
 plain-light : (command : Command) → IsPlain command → is_light command ≡ true
-plain-light (Submit rider origin destination time party) plain = refl
-plain-light (Cancel rider) plain = refl
-plain-light (Report vehicle node time) plain = refl
-plain-light (Pickup vehicle rider time) plain = refl
-plain-light (Dropoff vehicle rider time) plain = refl
 plain-light (Seal now) plain = absurd plain
 plain-light (Close batch outcome) plain = absurd plain
+plain-light _ plain = refl
 
 -- a command that is no seal is answered without a batch
 light-unsealed : (nodes : List ℕ) (command : Command) (reply : Reply) (snapshot : Option Batch) → is_light command ≡ true → Fits nodes command (with_snapshot reply snapshot) → sealed_by reply ≡ None
@@ -83,13 +68,8 @@ module _ (settings : Settings) (roads : Roads) where
   later last (c ∷ cs) good = (here c.call good.0, by c.reply.snapshot (later last cs) good.1)
     where
       here : (command : Command) → IsGoodFor settings roads None command → IsGoodFor settings roads last command
-      here (Submit rider origin destination time party) g = tt
-      here (Cancel rider) g = tt
-      here (Report vehicle node time) g = tt
-      here (Pickup vehicle rider time) g = tt
-      here (Dropoff vehicle rider time) g = tt
-      here (Seal now) g = tt
       here (Close batch outcome) g = let none : None ≡ Some g.0 = g.1 in absurd cc
+      here _ g = tt
 
       by : (snapshot : Option Batch) → (LaneClosesAreGood settings roads None cs → LaneClosesAreGood settings roads last cs) → LaneClosesAreGood settings roads (last_sealed None snapshot) cs → LaneClosesAreGood settings roads (last_sealed last snapshot) cs
       by None rest g = rest g
@@ -120,13 +100,8 @@ module _ (settings : Settings) (roads : Roads) where
   }
     where
       here : (command : Command) → IsPlain command → IsGoodFor settings roads None command
-      here (Submit rider origin destination time party) p = tt
-      here (Cancel rider) p = tt
-      here (Report vehicle node time) p = tt
-      here (Pickup vehicle rider time) p = tt
-      here (Dropoff vehicle rider time) p = tt
-      here (Seal now) p = absurd p
       here (Close batch outcome) p = absurd p
+      here _ p = tt
 
   -- a seal that is refused
   pub runs-refused : (nodes : List ℕ) (old new : BookPass) (now position : ℕ) (reply : Reply) → HasCalled nodes old (Seal now) position (with_snapshot reply None) new → HasRun settings roads (Seal now ∷ []) old new

@@ -1,6 +1,6 @@
 -- Of two runs of the same commands in one lane: which seals are answered with which batch doesn't depend on what batches gave.
 use Rattle.std.proofs.Common.{◌≡◌, ◌≢◌, ℕ, suc, Bool, true, false, cond, eqb, List, [], ◌∷◌, Option, Some, None, refl, sym, ap, subst, ◌∙◌, inl, inr, arith, All, ◌⊎◌, option_map}
-use Rattle.dispatch_engine.proofs.Common.{AllZip, cases_eq, Batch, next_position, closed_state, first_of, batch_open, clock_back, not_this_batch, state_after, RepliesAreSteps, batch_of, sealed_state, one_more, step, answer, seal_refusal, seal_step, close_step, table_step, by-table, Command, Submit, Cancel, Report, Pickup, Dropoff, Seal, Close, Entry, Journal, Answer, BookRefusal, Reply, Sealed, Closed, State, Settings, Roads, NumberedLanes, lane_at, sealed_by, of_lane, IsCloseOf, IsLaneRunFrom, IsLaneRun, IsRoundRun, IsRun, IsPlain}
+use Rattle.dispatch_engine.proofs.Common.{AllZip, cases_eq, Batch, next_position, closed_state, first_of, batch_open, clock_back, not_this_batch, state_after, RepliesAreSteps, batch_of, sealed_state, one_more, step, answer, seal_refusal, seal_step, close_step, table_step, by-table, Command, Seal, Close, Entry, Journal, Answer, BookRefusal, Reply, Sealed, Closed, State, Settings, Roads, NumberedLanes, lane_at, sealed_by, of_lane, IsCloseOf, IsLaneRunFrom, IsLaneRun, IsRoundRun, IsRun, IsPlain}
 use Rattle.std.proofs.lemmas.Bool.{eq-eqb}
 use Rattle.request_book.specs.declared.reply.BookRefusal.TheVariants.{BatchOpen, NotThisBatch}
 use Rattle.dispatch_engine.specs.Same.{IsInLaneZero, IsSameCommand, HaveSameCommands}
@@ -86,13 +86,8 @@ close-ticks s batch outcome = by s.sealed
     by (Some b) = taken (eqb b.number batch) (NotThisBatch (Some b.number))
 
 same-self : (c : Command) → IsSameCommand c c
-same-self (Submit rider origin destination time party) = refl
-same-self (Cancel rider) = refl
-same-self (Report vehicle node time) = refl
-same-self (Pickup vehicle rider time) = refl
-same-self (Dropoff vehicle rider time) = refl
-same-self (Seal now) = refl
 same-self (Close batch outcome) = refl
+same-self _ = refl
 
 closes-same : (batch : ℕ) (c d : Command) → IsCloseOf batch c → IsCloseOf batch d → IsSameCommand c d
 closes-same batch (Close a o) (Close b p) c d = d ∙ sym c
@@ -134,13 +129,9 @@ module _ (nodes : List ℕ) (wait : ℕ) where
   close-agrees s t batch _ d c e same = absurd c
 
   agrees : (s t : State) (c : Command) → clock_of s ≡ clock_of t → Agrees s t c c
-  agrees s t (Submit rider origin destination time party) same = quiet-agrees s t (Submit rider origin destination time party) tt same
-  agrees s t (Cancel rider) same = quiet-agrees s t (Cancel rider) tt same
-  agrees s t (Report vehicle node time) same = quiet-agrees s t (Report vehicle node time) tt same
-  agrees s t (Pickup vehicle rider time) same = quiet-agrees s t (Pickup vehicle rider time) tt same
-  agrees s t (Dropoff vehicle rider time) same = quiet-agrees s t (Dropoff vehicle rider time) tt same
   agrees s t (Seal now) same = seal-agrees s t now same
   agrees s t (Close batch outcome) same = close-agrees s t batch (Close batch outcome) (Close batch outcome) refl refl same
+  agrees s t c same = quiet-agrees s t c tt same
 
   -- two runs of the same commands have the same commands, and end with one clock
   pub record AreSame (s t : State) (es fs : List Entry) : Type 0 where

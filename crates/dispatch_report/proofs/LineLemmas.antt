@@ -1,13 +1,14 @@
 -- Lines that are written one after the other, and what stands where one of them isn't written whole.
-use Rattle.std.proofs.Common.{◌≡◌, ℕ, ◌+◌, ◌<◌, ◌≤◌, List, [], ◌∷◌, ◌++◌, length, take, Option, Result, Ok, Err, MatchResult, OnOk, arith, refl, sym, ◌∙◌, ap, subst, length-append, append-nil, append_assoc, add-one, map, drop, get_or, suc}
-use Rattle.dispatch_report.proofs.Common.{Appends, take-append-le, take-append-add, map-append, Rose, AppendsPart, Change, SinkView, WritesText, AppendsFirst, WritesBytes, WritesLines}
+use Rattle.std.proofs.Common.{◌≡◌, ℕ, ◌+◌, ◌<◌, ◌≤◌, Bool, true, false, if◌then◌else◌, List, [], ◌∷◌, ◌++◌, length, take, Option, Result, Ok, Err, MatchResult, OnOk, arith, refl, sym, ◌∙◌, ap, subst, length-append, append-nil, append_assoc, add-one, map, get_or}
+use Rattle.dispatch_report.proofs.Common.{Appends, take-append-le, take-append-add, map-append, Rose, AppendsPart, Change, SinkView, WritesText, IsSame, WritesBytes, WritesLines}
 use Rattle.std.specs.List.{flat_map}
 use Rattle.std.proofs.KnownBytes.{Appends-nil, Appends-trans}
 use Rattle.std.proofs.lemmas.Grind.{flat_map-append}
-use Rattle.std.proofs.Math.Seq.{take-suc, drop-cons}
-use Rattle.std.proofs.lemmas.List.{take-append-drop}
+use Rattle.std.proofs.Math.Seq.{take-suc}
 use Rattle.pool_io.specs.declared.writing.WriteAll.{WriteAll}
+use Rattle.dispatch_report.specs.Block.{block_line_text}
 use Rattle.dispatch_report.specs.Lines.{lines_text}
+use Rattle.dispatch_report.specs.declared.block_line.BlockLine.{BlockLine}
 use Rattle.dispatch_report.specs.declared.fault.ReportFault.{ReportFault}
 use Rattle.dispatch_report.specs.declared.fault.ReportFault.TheVariants.{WriteFault, OutOfMemory}
 use Rattle.pool_io.specs.declared.writing.WriteAll.TheVariants as of_write
@@ -45,10 +46,6 @@ part_before a b front back part =
       subst Q (sym (take-append-le part.0 front back within)) part.2,
     )
 
--- nothing is a part of bytes that end with a line feed
-nothing_yet : (a : Option (List ℕ)) (front : List ℕ) → AppendsPart a a (front ++ 10 ∷ [])
-nothing_yet a front = (0, omega (arith, length-append front (10 ∷ [])), Appends-nil a)
-
 -- what waits, bytes behind it, and then others
 across : (p q r xs ys out : List ℕ) → out ++ q ≡ p ++ xs → out ++ (q ++ ys) ≡ p ++ (xs ++ ys)
 across p q r xs ys out is = sym (append_assoc out q ys) ∙ ap (λ l. l ++ ys) is ∙ append_assoc p xs ys
@@ -77,37 +74,6 @@ bytes_then a b c p q r xs ys (Err e) first next =
       never_falls = omega (arith, first.never_falls, next.never_falls);
     }
 
--- no line
-pub no_lines : (a : SinkView) {p : List ℕ} → WritesLines (record { before = a; after = a }) p p [] (Ok tt)
-no_lines a {p} =
-    let P : List ℕ → Type 0 = λ bytes. AppendsFirst a.written a.written (p ++ bytes) p in
-    record { text = record { bytes = subst P (sym lines_text-none) ([], Appends-nil a.written, sym (append-nil p)); fault = λ is. cc is; never_falls = omega arith } }
-
--- a line, of which nothing is written for want of memory
-pub no_memory : (a : SinkView) {p q : List ℕ} (x : List ℕ) → WritesLines (record { before = a; after = a }) p q (x ∷ []) (Err OutOfMemory)
-no_memory a {p} {q} x =
-    let P : List ℕ → Type 0 = λ bytes. AppendsPart a.written a.written bytes in
-    record { text = record { bytes = subst P (append_assoc p x (10 ∷ []) ∙ ap (λ l. p ++ l) (sym (lines_text-one x))) (nothing_yet a.written (p ++ x)); fault = λ is. cc is; never_falls = omega arith } }
-
--- a line's end, for which there is no memory
-pub no_end : (a : SinkView) {p q : List ℕ} → WritesBytes (record { before = a; after = a }) p q (10 ∷ []) (Err OutOfMemory)
-no_end a {p} {q} = record { bytes = nothing_yet a.written p; fault = λ is. cc is; never_falls = omega arith }
-
--- bytes that wait, and no write
-pub waits : (a : SinkView) {p q bytes : List ℕ} → q ≡ p ++ bytes → WritesBytes (record { before = a; after = a }) p q bytes (Ok tt)
-waits a {p} {q} {bytes} is = record { bytes = ([], Appends-nil a.written, is); fault = λ none. cc none; never_falls = omega arith }
-
--- a piece that is written with bytes behind it
-written_by : (s : Change SinkView) (r : Result (Unit {0}) ReportFault) (p q rest bytes : List ℕ) → q ≡ p ++ bytes → WritesBytes s q rest [] r → WritesBytes s p rest bytes r
-written_by s (Ok u) p q rest bytes is w =
-    record { bytes = (w.bytes.0, w.bytes.1, w.bytes.2 ∙ append-nil q ∙ is); fault = w.fault; never_falls = w.never_falls }
-written_by s (Err e) p q rest bytes is w =
-    let P : List ℕ → Type 0 = λ t. AppendsPart s.before.written s.after.written t in
-    record { bytes = subst P (append-nil q ∙ is) w.bytes; fault = w.fault; never_falls = w.never_falls }
-
-pub written_with : {s : Change SinkView} {r : Result (Unit {0}) ReportFault} (p q rest bytes : List ℕ) → q ≡ p ++ bytes → WritesBytes s q rest [] r → WritesBytes s p rest bytes r
-written_with {s} {r} p q rest bytes is w = written_by s r p q rest bytes is w
-
 -- a piece that is written whole
 pub piece_written : (a b : SinkView) (p rest : List ℕ) → Appends a.written b.written p → rest ≡ [] → a.faults ≤ b.faults → WritesBytes (record { before = a; after = b }) p rest [] (Ok tt)
 piece_written a b p rest h is up = record { bytes = (p, h, ap (λ l. p ++ l) is); fault = λ none. cc none; never_falls = up }
@@ -123,88 +89,103 @@ piece_failed a b p rest of_write.OutOfMemory e is part rose up =
     let P : List ℕ → Type 0 = λ bytes. AppendsPart a.written b.written bytes in
     record { bytes = subst P (sym (append-nil p)) part; fault = λ was. cc (was, is); never_falls = up }
 
--- a line that was put behind a piece, and its end
-pub line_is : {s : Change SinkView} {r : Result (Unit {0}) ReportFault} {p items rest : List ℕ} (x : List ℕ) → items ≡ p ++ x → WritesBytes s items rest (10 ∷ []) r → WritesLines s p rest (x ∷ []) r
-line_is {s} {r} {p} {items} {rest} x is w =
-    let front : (items ++ 10 ∷ []) ≡ p ++ (x ++ 10 ∷ []) = ap (λ l. l ++ 10 ∷ []) is ∙ append_assoc p x (10 ∷ []) in
-    record { text = subst (λ l. WritesBytes s p rest l r) (sym (lines_text-one x)) (same_front p items rest (10 ∷ []) (x ++ 10 ∷ []) front w) }
-  where
-    same_front : (p q rest xs ys : List ℕ) → q ++ xs ≡ p ++ ys → WritesBytes s q rest xs r → WritesBytes s p rest ys r
-    same_front p q rest xs ys is w =
-        let M : List ℕ → Type 0 = λ t. MatchResult r (λ _. AppendsFirst s.before.written s.after.written t rest) (λ _. AppendsPart s.before.written s.after.written t) in
-        record { bytes = subst M is w.bytes; fault = w.fault; never_falls = w.never_falls }
+-- no line
+pub no_lines : (a : SinkView) {p : List ℕ} (r : Result (Unit {0}) ReportFault) → WritesLines (record { before = a; after = a }) p p r r []
+no_lines a {p} (Ok u) =
+    let none : WritesBytes (record { before = a; after = a }) p p [] (Ok tt) = record { bytes = ([], Appends-nil a.written, sym (append-nil p)); fault = λ is. cc is; never_falls = omega arith } in
+    record { text = subst (λ l. WritesBytes (record { before = a; after = a }) p p l (Ok tt)) (sym lines_text-none) none }
+no_lines a {p} (Err e) = record { text = (record { seen = refl; waiting = refl }, refl) }
 
--- lines, and then others, which may fail
-pub then : {a b c : SinkView} {p q t : List ℕ} {xs ys : List (List ℕ)} {r : Result (Unit {0}) ReportFault} → WritesLines (record { before = a; after = b }) p q xs (Ok tt)
-    → WritesLines (record { before = b; after = c }) q t ys r → WritesLines (record { before = a; after = c }) p t (xs ++ ys) r
-then {a} {b} {c} {p} {q} {t} {xs} {ys} {r} first next =
-    record { text = subst (λ l. WritesBytes (record { before = a; after = c }) p t l r) (sym (lines_text-append xs ys)) (bytes_then a b c p q t (lines_text xs) (lines_text ys) r first.text next.text) }
+-- one line, where nothing failed before
+pub line_is : {s : Change SinkView} {p q : List ℕ} {r e : Result (Unit {0}) ReportFault} {u : Unit {0}} (x : List ℕ) → r ≡ Ok u → WritesBytes s p q (x ++ 10 ∷ []) e → WritesLines s p q r e (x ∷ [])
+line_is {s} {p} {q} {r} {e} x ok w =
+    subst (λ b. WritesLines s p q b e (x ∷ [])) (sym ok) (record { text = subst (λ l. WritesBytes s p q l e) (sym (lines_text-one x)) w })
 
--- lines that fail, before others
-pub fails : {s : Change SinkView} {p q : List ℕ} {xs : List (List ℕ)} {e : ReportFault} (ys : List (List ℕ)) → WritesLines s p q xs (Err e) → WritesLines s p q (xs ++ ys) (Err e)
-fails {s} {p} {q} {xs} {e} ys w =
-    let P : List ℕ → Type 0 = λ bytes. AppendsPart s.before.written s.after.written bytes in
+-- lines, and then others
+then_of : (a b c : SinkView) (p q t : List ℕ) (x y z : Result (Unit {0}) ReportFault) (xs ys : List (List ℕ)) → WritesLines (record { before = a; after = b }) p q x y xs
+    → WritesLines (record { before = b; after = c }) q t y z ys → WritesLines (record { before = a; after = c }) p t x z (xs ++ ys)
+then_of a b c p q t (Ok u) (Ok v) z xs ys first next =
+    record { text = subst (λ l. WritesBytes (record { before = a; after = c }) p t l z) (sym (lines_text-append xs ys)) (bytes_then a b c p q t (lines_text xs) (lines_text ys) z first.text next.text) }
+then_of a b c p q t (Ok u) (Err e) z xs ys first next =
+    let w = first.text in
+    let P : List ℕ → Type 0 = λ bytes. AppendsPart a.written b.written bytes in
     let whole : (p ++ lines_text xs) ++ lines_text ys ≡ p ++ lines_text (xs ++ ys) =
     append_assoc p (lines_text xs) (lines_text ys) ∙ ap (λ l. p ++ l) (sym (lines_text-append xs ys)) in
-    record {
-      text = record {
-        bytes = subst P whole (part_before s.before.written s.after.written (p ++ lines_text xs) (lines_text ys) w.text.bytes);
-        fault = w.text.fault;
-        never_falls = w.text.never_falls;
-      };
-    }
+    let failed : WritesBytes (record { before = a; after = b }) p t (lines_text (xs ++ ys)) (Err e) =
+    record { bytes = subst P whole (part_before a.written b.written (p ++ lines_text xs) (lines_text ys) w.bytes); fault = w.fault; never_falls = w.never_falls } in
+    let there : WritesBytes (record { before = a; after = c }) p t (lines_text (xs ++ ys)) (Err e) =
+    subst (λ s. WritesBytes (record { before = a; after = s }) p t (lines_text (xs ++ ys)) (Err e)) (sym next.text.0.seen) failed in
+    record { text = subst (λ r. WritesBytes (record { before = a; after = c }) p t (lines_text (xs ++ ys)) r) (sym next.text.1) there }
+then_of a b c p q t (Err e) (Ok v) z xs ys first next = let is : Ok tt ≡ Err e = first.text.1 in cc
+then_of a b c p q t (Err e) (Err f) z xs ys first next =
+    record { text = (record { seen = next.text.0.seen ∙ first.text.0.seen; waiting = next.text.0.waiting ∙ first.text.0.waiting }, next.text.1 ∙ first.text.1) }
 
--- lines that fail, as a text, where no byte waited
-pub failed_text : {s : Change SinkView} {p q : List ℕ} {lines : List (List ℕ)} {e : ReportFault} → p ≡ [] → WritesLines s p q lines (Err e) → WritesText s (lines_text lines) (Err e)
-failed_text {s} {p} {q} {lines} {e} none w =
-    let P : List ℕ → Type 0 = λ bytes. AppendsPart s.before.written s.after.written bytes in
-    record { bytes = subst P (ap (λ l. l ++ lines_text lines) none) w.text.bytes; fault = w.text.fault; never_falls = w.text.never_falls }
+pub then : {a b c : SinkView} {p q t : List ℕ} {x y z : Result (Unit {0}) ReportFault} {xs ys : List (List ℕ)} → WritesLines (record { before = a; after = b }) p q x y xs
+    → WritesLines (record { before = b; after = c }) q t y z ys → WritesLines (record { before = a; after = c }) p t x z (xs ++ ys)
+then {a} {b} {c} {p} {q} {t} {x} {y} {z} {xs} {ys} first next = then_of a b c p q t x y z xs ys first next
 
 -- lines whose last piece is written, as a text, where no byte waited
-as_text_of : (a b c : SinkView) (p q rest : List ℕ) (lines : List (List ℕ)) (r : Result (Unit {0}) ReportFault) → p ≡ [] → OnOk r (rest ≡ []) → WritesLines (record { before = a; after = b }) p q lines (Ok tt)
-    → WritesBytes (record { before = b; after = c }) q rest [] r → WritesText (record { before = a; after = c }) (lines_text lines) r
-as_text_of a b c p q rest lines (Ok u) none empty first last =
-    let w = bytes_then a b c p q rest (lines_text lines) [] (Ok u) first.text last in
+as_text_of : (a b c : SinkView) (p q rest : List ℕ) (lines : List (List ℕ)) (r e : Result (Unit {0}) ReportFault) → p ≡ [] → WritesBytes (record { before = a; after = b }) p q (lines_text lines) r
+    → MatchResult r (λ _. WritesBytes (record { before = b; after = c }) q rest [] e × OnOk e (rest ≡ [])) (λ fault. IsSame (record { before = b; after = c }) q rest × (e ≡ Err fault))
+    → WritesText (record { before = a; after = c }) (lines_text lines) e
+as_text_of a b c p q rest lines (Ok u) (Ok v) none first last =
+    let w = bytes_then a b c p q rest (lines_text lines) [] (Ok v) first last.0 in
     let out : w.bytes.0 ≡ lines_text lines =
-    sym (append-nil w.bytes.0) ∙ ap (λ l. w.bytes.0 ++ l) (sym empty) ∙ w.bytes.2 ∙ ap (λ l. l ++ (lines_text lines ++ [])) none ∙ append-nil (lines_text lines) in
+    sym (append-nil w.bytes.0) ∙ ap (λ l. w.bytes.0 ++ l) (sym last.1) ∙ w.bytes.2 ∙ ap (λ l. l ++ (lines_text lines ++ [])) none ∙ append-nil (lines_text lines) in
     record { bytes = subst (λ t. Appends a.written c.written t) out w.bytes.1; fault = w.fault; never_falls = w.never_falls }
-as_text_of a b c p q rest lines (Err e) none empty first last =
-    let w = bytes_then a b c p q rest (lines_text lines) [] (Err e) first.text last in
+as_text_of a b c p q rest lines (Ok u) (Err e) none first last =
+    let w = bytes_then a b c p q rest (lines_text lines) [] (Err e) first last.0 in
     let P : List ℕ → Type 0 = λ bytes. AppendsPart a.written c.written bytes in
     record { bytes = subst P (ap (λ l. l ++ (lines_text lines ++ [])) none ∙ append-nil (lines_text lines)) w.bytes; fault = w.fault; never_falls = w.never_falls }
+as_text_of a b c p q rest lines (Err f) e none first last =
+    let P : List ℕ → Type 0 = λ bytes. AppendsPart a.written b.written bytes in
+    let failed : WritesText (record { before = a; after = b }) (lines_text lines) (Err f) =
+    record { bytes = subst P (ap (λ l. l ++ lines_text lines) none) first.bytes; fault = first.fault; never_falls = first.never_falls } in
+    let there : WritesText (record { before = a; after = c }) (lines_text lines) (Err f) =
+    subst (λ s. WritesText (record { before = a; after = s }) (lines_text lines) (Err f)) (sym last.0.seen) failed in
+    subst (λ r. WritesText (record { before = a; after = c }) (lines_text lines) r) (sym last.1) there
 
-pub as_text : {a b c : SinkView} {p q rest : List ℕ} {lines : List (List ℕ)} {r : Result (Unit {0}) ReportFault} → p ≡ [] → OnOk r (rest ≡ []) → WritesLines (record { before = a; after = b }) p q lines (Ok tt)
-    → WritesBytes (record { before = b; after = c }) q rest [] r → WritesText (record { before = a; after = c }) (lines_text lines) r
-as_text {a} {b} {c} {p} {q} {rest} {lines} {r} none empty first last = as_text_of a b c p q rest lines r none empty first last
+pub as_text : {a b c : SinkView} {p q : List ℕ} {lines : List (List ℕ)} {r e : Result (Unit {0}) ReportFault} (rest : List ℕ) → p ≡ [] → WritesLines (record { before = a; after = b }) p q (Ok tt) r lines
+    → MatchResult r (λ _. WritesBytes (record { before = b; after = c }) q rest [] e × OnOk e (rest ≡ [])) (λ fault. IsSame (record { before = b; after = c }) q rest × (e ≡ Err fault))
+    → WritesText (record { before = a; after = c }) (lines_text lines) e
+as_text {a} {b} {c} {p} {q} {lines} {r} {e} rest none first last = as_text_of a b c p q rest lines r e none first.text last
 
 -- the same lines
-pub same_lines : {s : Change SinkView} {p q : List ℕ} {r : Result (Unit {0}) ReportFault} (xs ys : List (List ℕ)) → xs ≡ ys → WritesLines s p q xs r → WritesLines s p q ys r
-same_lines {s} {p} {q} {r} xs ys is w = subst (λ ls. WritesLines s p q ls r) is w
+pub same_lines : {s : Change SinkView} {p q : List ℕ} {r e : Result (Unit {0}) ReportFault} (xs ys : List (List ℕ)) → xs ≡ ys → WritesLines s p q r e xs → WritesLines s p q r e ys
+same_lines {s} {p} {q} {r} {e} xs ys is w = subst (λ ls. WritesLines s p q r e ls) is w
 
--- the items of all lists, taken apart at a list
-pub flat_map-at : {X Y : Type 0} (f : X → List Y) (xs : List X) (i : ℕ) (x : X) → i < length xs → x ≡ get_or xs i x → (flat_map f (take i xs) ++ f x) ++ flat_map f (drop (suc i) xs) ≡ flat_map f xs
-flat_map-at f xs i x within is =
-    append_assoc (flat_map f (take i xs)) (f x) (flat_map f (drop (suc i) xs))
-    ∙ ap (λ y. flat_map f (take i xs) ++ (f y ++ flat_map f (drop (suc i) xs))) is
-    ∙ ap (λ ys. flat_map f (take i xs) ++ flat_map f ys) (sym (drop-cons xs i x within))
-    ∙ sym (flat_map-append f (take i xs) (drop i xs))
-    ∙ ap (λ ys. flat_map f ys) (take-append-drop i xs)
+-- lines of a block that were written
+pub record WritesBlock (sink : Change SinkView) (piece rest : List ℕ) (before after : Result (Unit {0}) ReportFault) (lines : List BlockLine) : Type 0 where
+  pub texts : WritesLines sink piece rest before after (map block_line_text lines)
 
+module _ {s : Change SinkView} {p q : List ℕ} {r e : Result (Unit {0}) ReportFault} where
+  pub block : (xs : List BlockLine) → WritesLines s p q r e (map block_line_text xs) → WritesBlock s p q r e xs
+  block xs w = record { texts = w }
+
+  -- those of a list of one kind
+  pub kind : {X : Type 0} {xs : List X} (K : X → BlockLine) → WritesLines s p q r e (map (λ x. block_line_text (K x)) xs) → WritesBlock s p q r e (map K xs)
+  kind {X} {xs} K w = record { texts = same_lines _ _ (fused xs) w }
+    where
+      fused : (ys : List X) → map (λ x. block_line_text (K x)) ys ≡ map block_line_text (map K ys)
+      fused [] = refl
+      fused (y ∷ ys) = ap (λ l. block_line_text (K y) ∷ l) (fused ys)
+
+  -- the same where they are asked for
+  pub asked : {X : Type 0} {xs : List X} (K : X → BlockLine) (proof : Bool) → WritesLines s p q r e (if proof then map (λ x. block_line_text (K x)) xs else []) → WritesBlock s p q r e (if proof then map K xs else [])
+  asked K true w = kind K w
+  asked K false w = block [] w
+
+pub then_block : {a b c : SinkView} {p q t : List ℕ} {x y z : Result (Unit {0}) ReportFault} {xs ys : List BlockLine} → WritesBlock (record { before = a; after = b }) p q x y xs
+    → WritesBlock (record { before = b; after = c }) q t y z ys → WritesBlock (record { before = a; after = c }) p t x z (xs ++ ys)
+then_block {a} {b} {c} {p} {q} {t} {x} {y} {z} {xs} {ys} first next = record { texts = same_lines _ _ (sym (map-append block_line_text xs ys)) (then first.texts next.texts) }
+
+-- the lines of a list up to an item, and those of the item
 pub flat_map-next : {X Y : Type 0} (f : X → List Y) (xs : List X) (i : ℕ) (x : X) → i < length xs → x ≡ get_or xs i x → flat_map f (take i xs) ++ f x ≡ flat_map f (take (i + 1) xs)
 flat_map-next f xs i x within is =
     ap (λ y. flat_map f (take i xs) ++ f y) is
     ∙ ap (λ ys. flat_map f (take i xs) ++ ys) (sym (append-nil (f (get_or xs i x))))
     ∙ sym (flat_map-append f (take i xs) (get_or xs i x ∷ []))
     ∙ ap (λ ys. flat_map f ys) (sym (rw add-one (take-suc xs i x within)))
-
--- the lines of a list, taken apart at an item
-pub map-at : {X : Type 0} (f : X → List ℕ) (xs : List X) (i : ℕ) (x : X) → i < length xs → x ≡ get_or xs i x → (map f (take i xs) ++ f x ∷ []) ++ map f (drop (suc i) xs) ≡ map f xs
-map-at f xs i x within is =
-    append_assoc (map f (take i xs)) (f x ∷ []) (map f (drop (suc i) xs))
-    ∙ ap (λ y. map f (take i xs) ++ (f y ∷ map f (drop (suc i) xs))) is
-    ∙ ap (λ ys. map f (take i xs) ++ map f ys) (sym (drop-cons xs i x within))
-    ∙ sym (map-append f (take i xs) (drop i xs))
-    ∙ ap (λ ys. map f ys) (take-append-drop i xs)
 
 pub map-next : {X : Type 0} (f : X → List ℕ) (xs : List X) (i : ℕ) (x : X) → i < length xs → x ≡ get_or xs i x → map f (take i xs) ++ f x ∷ [] ≡ map f (take (i + 1) xs)
 map-next f xs i x within is =

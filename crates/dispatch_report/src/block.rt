@@ -1,13 +1,15 @@
-ghost use Rattle.std.specs.Prelude.{◌≡◌, ◌++◌, ◌∷◌, [], List, ℕ, OnOk, map, codes, length, Bool, slice_get, unwrap_or, option_map};
+ghost use Rattle.std.specs.Prelude.{◌≡◌, ◌++◌, ◌∷◌, [], List, ℕ, OnOk, map, codes, length, slice_get, unwrap_or, option_map, if◌then◌else◌};
 ghost use Rattle.std.specs.List.{flat_map};
-ghost use Rattle.dispatch_report.specs.Block.{stop_text, late_line, pair_line, pair_text, trip_line, move_text, node_line, answer_lines, block_lines};
+ghost use Rattle.dispatch_report.specs.Block.{stop_text, block_line_text, row_as_line, trip_as_line, late_as_line, tree_line, lines_of_answer, block_lines};
+ghost use Rattle.dispatch_report.specs.declared.block_line.BlockLine.TheVariants.{Alone, Shared, Move as Moved};
 ghost use Rattle.dispatch_report.specs.Words.{numbered, signed};
 ghost use Rattle.dispatch_report.specs.Written.{sink_seen};
-ghost use Rattle.dispatch_report.specs.work.Block.{late_order, graph_lines, plan_lines, bound_lines, tree_lines};
+ghost use Rattle.dispatch_report.specs.work.Block.{late_order};
 ghost use Rattle.dispatch_report.specs.work.Lines.{WritesLines};
+ghost use Rattle.request_book.specs.declared.outcome.Answer.TheVariants.{Planned as Plan};
 
 use crate::fault::ReportFault;
-use crate::lines::{Line, write_line, write_lines, write_list};
+use crate::lines::{Line, write_item, write_lines, write_list};
 use crate::words::{put_multipliers, put_numbered, put_riders, put_signed, put_spaced};
 use plan_rules::{Node, Tree};
 use pool_base::{OutOfMemory, RiderId, VehicleId, put_bytes};
@@ -20,106 +22,87 @@ use request_book::{
 pub(crate) fn write_block<K: Sink>(
     sink: &mut K,
     piece: &mut Vec<u8>,
+    so_far: &mut Result<(), ReportFault>,
     batch: u64,
     outcome: &Outcome,
     proof: bool,
-) -> Result<(), ReportFault>
-    ensures { WritesLines (sink_seen K.written K.faults sink.old sink.new) piece.old.items piece.new.items (block_lines proof batch outcome.now) result }
+)
+    ensures { WritesLines (sink_seen K.written K.faults sink.old sink.new) piece.old.items piece.new.items so_far.old so_far.new (block_lines proof batch outcome.now) }
 {
-    write_number(sink, piece, b"batch ", batch)?;
-    write_list(
-        sink,
-        piece,
-        &Riders { words: b"expired " },
-        &outcome.expired,
-    )?;
-    write_answer(sink, piece, &outcome.answer, proof)?;
-    write_words(sink, piece, b"end")?;
-    Ok(())
+    write_number(sink, piece, so_far, b"batch ", batch);
+    let expired = Riders { words: b"expired " };
+    write_list(sink, piece, so_far, &expired, &outcome.expired);
+    write_answer(sink, piece, so_far, &outcome.answer, proof);
+    write_words(sink, piece, so_far, b"end");
 }
 
 fn write_answer<K: Sink>(
     sink: &mut K,
     piece: &mut Vec<u8>,
+    so_far: &mut Result<(), ReportFault>,
     answer: &Answer,
     proof: bool,
-) -> Result<(), ReportFault>
-    ensures { WritesLines (sink_seen K.written K.faults sink.old sink.new) piece.old.items piece.new.items (answer_lines proof answer.now) result }
+)
+    ensures { WritesLines (sink_seen K.written K.faults sink.old sink.new) piece.old.items piece.new.items so_far.old so_far.new (map block_line_text (lines_of_answer proof answer.now)) }
 {
     match answer {
-        Answer::Overflow => write_words(sink, piece, b"overflow"),
-        Answer::Planned(plan) => {
-            write_graphs(sink, piece, plan)?;
-            write_plan(sink, piece, plan)?;
-            write_bound(sink, piece, plan)?;
-            write_tree(sink, piece, plan, proof)?;
-            Ok(())
-        }
+        Answer::Overflow => write_words(sink, piece, so_far, b"overflow"),
+        Answer::Planned(plan) => write_plan(sink, piece, so_far, plan, proof),
     }
 }
 
-fn write_graphs<K: Sink>(
+fn write_plan<K: Sink>(
     sink: &mut K,
     piece: &mut Vec<u8>,
+    so_far: &mut Result<(), ReportFault>,
     plan: &Planned,
-) -> Result<(), ReportFault>
-    ensures { WritesLines (sink_seen K.written K.faults sink.old sink.new) piece.old.items piece.new.items (graph_lines plan.now) result }
+    proof: bool,
+)
+    ensures { WritesLines (sink_seen K.written K.faults sink.old sink.new) piece.old.items piece.new.items so_far.old so_far.new (map block_line_text (lines_of_answer proof (Plan plan.now))) }
 {
-    write_list(sink, piece, &Riders { words: b"lapsed " }, &plan.lapsed)?;
-    write_list(sink, piece, &Late, &plan.late)?;
-    write_list(sink, piece, &Rv, &plan.rv)?;
-    write_list(sink, piece, &Rr, &plan.rr)?;
-    write_list(sink, piece, &Row, &plan.rows)?;
-    Ok(())
+    write_list(
+        sink,
+        piece,
+        so_far,
+        &Riders { words: b"lapsed " },
+        &plan.lapsed,
+    );
+    write_list(sink, piece, so_far, &Late, &plan.late);
+    write_list(sink, piece, so_far, &Rv, &plan.rv);
+    write_list(sink, piece, so_far, &Rr, &plan.rr);
+    write_list(sink, piece, so_far, &Row, &plan.rows);
+    write_list(sink, piece, so_far, &Trip, &plan.chosen);
+    write_list(sink, piece, so_far, &Riders { words: b"out " }, &plan.left);
+    write_list(sink, piece, so_far, &Move, &plan.moves);
+    write_number(sink, piece, so_far, b"cost ", plan.cost);
+    write_item(sink, piece, so_far, &Bound, &plan.bound);
+    write_nodes(sink, piece, so_far, &plan.tree);
+    write_tree(sink, piece, so_far, plan, proof);
 }
 
-fn write_plan<K: Sink>(sink: &mut K, piece: &mut Vec<u8>, plan: &Planned) -> Result<(), ReportFault>
-    ensures { WritesLines (sink_seen K.written K.faults sink.old sink.new) piece.old.items piece.new.items (plan_lines plan.now) result }
-{
-    write_list(sink, piece, &Trip, &plan.chosen)?;
-    write_list(sink, piece, &Riders { words: b"out " }, &plan.left)?;
-    write_list(sink, piece, &Move, &plan.moves)?;
-    Ok(())
-}
-
-fn write_bound<K: Sink>(
+fn write_nodes<K: Sink>(
     sink: &mut K,
     piece: &mut Vec<u8>,
-    plan: &Planned,
-) -> Result<(), ReportFault>
-    ensures { WritesLines (sink_seen K.written K.faults sink.old sink.new) piece.old.items piece.new.items (bound_lines plan.now) result }
+    so_far: &mut Result<(), ReportFault>,
+    tree: &Tree,
+)
+    ensures { WritesLines (sink_seen K.written K.faults sink.old sink.new) piece.old.items piece.new.items so_far.old so_far.new (numbered (codes "nodes ") (length tree.now) ∷ []) }
 {
-    write_number(sink, piece, b"cost ", plan.cost)?;
-    write_signed(sink, piece, b"bound ", &plan.bound)?;
-    write_nodes(sink, piece, &plan.tree)?;
-    Ok(())
-}
-
-fn write_nodes<K: Sink>(sink: &mut K, piece: &mut Vec<u8>, tree: &Tree) -> Result<(), ReportFault>
-    ensures { WritesLines (sink_seen K.written K.faults sink.old sink.new) piece.old.items piece.new.items (numbered (codes "nodes ") (length tree.now) ∷ []) result }
-{
-    write_number(sink, piece, b"nodes ", tree.nodes().len() as u64)
+    write_number(sink, piece, so_far, b"nodes ", tree.nodes().len() as u64);
 }
 
 fn write_tree<K: Sink>(
     sink: &mut K,
     piece: &mut Vec<u8>,
+    so_far: &mut Result<(), ReportFault>,
     plan: &Planned,
     proof: bool,
-) -> Result<(), ReportFault>
-    ensures { WritesLines (sink_seen K.written K.faults sink.old sink.new) piece.old.items piece.new.items (tree_lines proof plan.now) result }
+)
+    ensures { WritesLines (sink_seen K.written K.faults sink.old sink.new) piece.old.items piece.new.items so_far.old so_far.new (if proof then map (λ node. block_line_text (tree_line plan.now.rows node)) plan.now.tree else []) }
 {
     if proof {
-        write_lines(
-            sink,
-            piece,
-            &TreeNode {
-                rows: plan.rows.as_slice(),
-            },
-            plan.tree.nodes(),
-        )
-    } else {
-        Ok(())
+        let rows = plan.rows.as_slice();
+        write_lines(sink, piece, so_far, &TreeNode { rows }, plan.tree.nodes());
     }
 }
 
@@ -127,37 +110,70 @@ fn write_tree<K: Sink>(
 pub(crate) fn write_words<K: Sink>(
     sink: &mut K,
     piece: &mut Vec<u8>,
+    so_far: &mut Result<(), ReportFault>,
     words: &[u8],
-) -> Result<(), ReportFault>
-    ensures { WritesLines (sink_seen K.written K.faults sink.old sink.new) piece.old.items piece.new.items (words.now ∷ []) result }
+)
+    ensures { WritesLines (sink_seen K.written K.faults sink.old sink.new) piece.old.items piece.new.items so_far.old so_far.new (words.now ∷ []) }
 {
-    put_bytes(piece, words)?;
-    write_line(sink, piece)
+    write_item(sink, piece, so_far, &Words { words }, &());
 }
 
-/// Writes a line of a word and a number.
+/// Writes a line of words and a number.
 pub(crate) fn write_number<K: Sink>(
     sink: &mut K,
     piece: &mut Vec<u8>,
+    so_far: &mut Result<(), ReportFault>,
     words: &[u8],
     number: u64,
-) -> Result<(), ReportFault>
-    ensures { WritesLines (sink_seen K.written K.faults sink.old sink.new) piece.old.items piece.new.items (numbered words.now number ∷ []) result }
+)
+    ensures { WritesLines (sink_seen K.written K.faults sink.old sink.new) piece.old.items piece.new.items so_far.old so_far.new (numbered words.now number ∷ []) }
 {
-    put_numbered(piece, words, number)?;
-    write_line(sink, piece)
+    write_item(sink, piece, so_far, &Number { words }, &number);
 }
 
-fn write_signed<K: Sink>(
-    sink: &mut K,
-    piece: &mut Vec<u8>,
-    words: &[u8],
-    number: &i128,
-) -> Result<(), ReportFault>
-    ensures { WritesLines (sink_seen K.written K.faults sink.old sink.new) piece.old.items piece.new.items (signed words.now number.now ∷ []) result }
-{
-    put_signed(piece, words, number)?;
-    write_line(sink, piece)
+/// Words alone.
+#[derive(Drop)]
+struct Words<'a> {
+    words: &'a [u8],
+}
+
+impl<'a> Line for Words<'a> {
+    type Item = ();
+
+    ghost text = { λ kind _. kind.words.now };
+
+    fn put(&self, line: &mut Vec<u8>, _item: &()) -> Result<(), OutOfMemory> {
+        put_bytes(line, self.words)
+    }
+}
+
+/// Words and a number.
+#[derive(Drop)]
+struct Number<'a> {
+    words: &'a [u8],
+}
+
+impl<'a> Line for Number<'a> {
+    type Item = u64;
+
+    ghost text = { λ kind number. numbered kind.words.now number };
+
+    fn put(&self, line: &mut Vec<u8>, number: &u64) -> Result<(), OutOfMemory> {
+        put_numbered(line, self.words, *number)
+    }
+}
+
+#[derive(Drop)]
+struct Bound;
+
+impl Line for Bound {
+    type Item = i128;
+
+    ghost text = { λ _ bound. signed (codes "bound ") bound };
+
+    fn put(&self, line: &mut Vec<u8>, bound: &i128) -> Result<(), OutOfMemory> {
+        put_signed(line, b"bound ", bound)
+    }
 }
 
 /// Riders, each behind the same words.
@@ -182,7 +198,7 @@ struct Late;
 impl Line for Late {
     type Item = LateVehicle;
 
-    ghost text = { λ _ late. late_line late };
+    ghost text = { λ _ late. block_line_text (late_as_line late) };
 
     fn put(&self, line: &mut Vec<u8>, late: &LateVehicle) -> Result<(), OutOfMemory> {
         put_numbered(line, b"late ", u64::from(late.vehicle.get()))?;
@@ -208,7 +224,7 @@ struct Rv;
 impl Line for Rv {
     type Item = (VehicleId, RiderId);
 
-    ghost text = { λ _ edge. pair_line (codes "rv ") edge };
+    ghost text = { λ _ edge. block_line_text (Alone edge) };
 
     fn put(&self, line: &mut Vec<u8>, edge: &(VehicleId, RiderId)) -> Result<(), OutOfMemory> {
         put_numbered(line, b"rv ", u64::from(edge.0.get()))?;
@@ -222,7 +238,7 @@ struct Rr;
 impl Line for Rr {
     type Item = (RiderId, RiderId);
 
-    ghost text = { λ _ edge. pair_line (codes "rr ") edge };
+    ghost text = { λ _ edge. block_line_text (Shared edge) };
 
     fn put(&self, line: &mut Vec<u8>, edge: &(RiderId, RiderId)) -> Result<(), OutOfMemory> {
         put_numbered(line, b"rr ", u64::from(edge.0.get()))?;
@@ -236,7 +252,7 @@ struct Row;
 impl Line for Row {
     type Item = RowLine;
 
-    ghost text = { λ _ row. pair_text row };
+    ghost text = { λ _ row. block_line_text (row_as_line row) };
 
     fn put(&self, line: &mut Vec<u8>, row: &RowLine) -> Result<(), OutOfMemory> {
         put_numbered(line, b"row ", u64::from(row.vehicle.get()))?;
@@ -251,7 +267,7 @@ struct Trip;
 impl Line for Trip {
     type Item = ChosenTrip;
 
-    ghost text = { λ _ trip. trip_line trip };
+    ghost text = { λ _ trip. block_line_text (trip_as_line trip) };
 
     fn put(&self, line: &mut Vec<u8>, trip: &ChosenTrip) -> Result<(), OutOfMemory> {
         put_numbered(line, b"trip ", u64::from(trip.vehicle.get()))?;
@@ -266,7 +282,7 @@ struct Move;
 impl Line for Move {
     type Item = MoveLine;
 
-    ghost text = { λ _ m. move_text m };
+    ghost text = { λ _ m. block_line_text (Moved m) };
 
     fn put(&self, line: &mut Vec<u8>, item: &MoveLine) -> Result<(), OutOfMemory> {
         put_numbered(line, b"move ", u64::from(item.vehicle.get()))?;
@@ -284,7 +300,7 @@ struct TreeNode<'a> {
 impl<'a> Line for TreeNode<'a> {
     type Item = Node;
 
-    ghost text = { λ kind node. node_line kind.rows.now node };
+    ghost text = { λ kind node. block_line_text (tree_line kind.rows.now node) };
 
     fn put(&self, line: &mut Vec<u8>, node: &Node) -> Result<(), OutOfMemory> {
         match node {

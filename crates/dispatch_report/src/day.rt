@@ -1,12 +1,11 @@
-ghost use Rattle.std.specs.Prelude.{◌≡◌, ◌++◌, ◌∷◌, [], OnOk, codes};
+ghost use Rattle.std.specs.Prelude.{◌≡◌, ◌++◌, OnOk, codes};
 ghost use Rattle.dispatch_report.specs.Day.{day_line, day_end_text};
 ghost use Rattle.dispatch_report.specs.Words.{numbered};
 ghost use Rattle.dispatch_report.specs.Written.{sink_seen, WritesText};
-ghost use Rattle.dispatch_report.specs.work.Lines.{WritesLines};
 
 use crate::block::write_number;
 use crate::fault::ReportFault;
-use crate::lines::{write_line, write_piece};
+use crate::lines::{Line, write_item, write_rest};
 use crate::words::put_numbered;
 use pool_base::OutOfMemory;
 use pool_io::Sink;
@@ -34,27 +33,24 @@ pub fn write_day_end<K: Sink>(
     ensures { WritesText (sink_seen K.written K.faults sink.old sink.new) (day_end_text counts.now entries) result }
 {
     let mut piece = Vec::new(alloc);
-    write_counts(sink, &mut piece, counts)?;
-    write_number(sink, &mut piece, b"done ", entries)?;
-    write_piece(sink, &mut piece)
+    let mut so_far = Ok(());
+    write_item(sink, &mut piece, &mut so_far, &Day, counts);
+    write_number(sink, &mut piece, &mut so_far, b"done ", entries);
+    write_rest(sink, &mut piece, so_far)
 }
 
-fn write_counts<K: Sink>(
-    sink: &mut K,
-    piece: &mut Vec<u8>,
-    counts: &DayCounts,
-) -> Result<(), ReportFault>
-    ensures { WritesLines (sink_seen K.written K.faults sink.old sink.new) piece.old.items piece.new.items (day_line counts.now ∷ []) result }
-{
-    put_counts(piece, counts)?;
-    write_line(sink, piece)
-}
+#[derive(Drop)]
+struct Day;
 
-fn put_counts(line: &mut Vec<u8>, counts: &DayCounts) -> Result<(), OutOfMemory>
-    ensures { OnOk result (line.new.items ≡ line.old.items ++ day_line counts.now) }
-{
-    put_riders_served(line, counts)?;
-    put_worst(line, counts)
+impl Line for Day {
+    type Item = DayCounts;
+
+    ghost text = { λ _ counts. day_line counts };
+
+    fn put(&self, line: &mut Vec<u8>, counts: &DayCounts) -> Result<(), OutOfMemory> {
+        put_riders_served(line, counts)?;
+        put_worst(line, counts)
+    }
 }
 
 fn put_riders_served(line: &mut Vec<u8>, counts: &DayCounts) -> Result<(), OutOfMemory>

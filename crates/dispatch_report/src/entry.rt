@@ -4,7 +4,7 @@ ghost use Rattle.dispatch_report.specs.Words.{numbered, spaced};
 
 use crate::reply::put_reply;
 use crate::words::{put_numbered, put_spaced};
-use pool_base::{NodeId, OutOfMemory, Party, RiderId, Second, VehicleId, put_bytes, put_number};
+use pool_base::{NodeId, OutOfMemory, Party, RiderId, Second, put_bytes, put_number};
 use request_book::{Command, Entry};
 
 /// Appends the line of an entry at its position, without its end. It fails only for want of memory.
@@ -35,17 +35,17 @@ fn put_command(line: &mut Vec<u8>, command: &Command) -> Result<(), OutOfMemory>
             vehicle,
             node,
             time,
-        } => put_report(line, *vehicle, *node, *time),
+        } => put_three(line, b"report ", vehicle.get(), node.get(), time.get()),
         Command::Pickup {
             vehicle,
             rider,
             time,
-        } => put_visit(line, b"pickup ", *vehicle, *rider, *time),
+        } => put_three(line, b"pickup ", vehicle.get(), rider.get(), time.get()),
         Command::Dropoff {
             vehicle,
             rider,
             time,
-        } => put_visit(line, b"dropoff ", *vehicle, *rider, *time),
+        } => put_three(line, b"dropoff ", vehicle.get(), rider.get(), time.get()),
         Command::Seal { now } => put_numbered(line, b"seal ", u64::from(now.get())),
         Command::Close { batch, .. } => put_numbered(line, b"close ", *batch),
     }
@@ -68,31 +68,18 @@ fn put_submit(
     put_party(line, party)
 }
 
-fn put_report(
-    line: &mut Vec<u8>,
-    vehicle: VehicleId,
-    node: NodeId,
-    time: Second,
-) -> Result<(), OutOfMemory>
-    ensures { OnOk result (line.new.items ≡ line.old.items ++ (numbered (codes "report ") vehicle ++ spaced node ++ spaced time)) }
-{
-    put_numbered(line, b"report ", u64::from(vehicle.get()))?;
-    put_spaced(line, u64::from(node.get()))?;
-    put_spaced(line, u64::from(time.get()))
-}
-
-fn put_visit(
+fn put_three(
     line: &mut Vec<u8>,
     words: &[u8],
-    vehicle: VehicleId,
-    rider: RiderId,
-    time: Second,
+    first: u32,
+    second: u32,
+    third: u32,
 ) -> Result<(), OutOfMemory>
-    ensures { OnOk result (line.new.items ≡ line.old.items ++ (numbered words.now vehicle ++ spaced rider ++ spaced time)) }
+    ensures { OnOk result (line.new.items ≡ line.old.items ++ (numbered words.now first ++ spaced second ++ spaced third)) }
 {
-    put_numbered(line, words, u64::from(vehicle.get()))?;
-    put_spaced(line, u64::from(rider.get()))?;
-    put_spaced(line, u64::from(time.get()))
+    put_numbered(line, words, u64::from(first))?;
+    put_spaced(line, u64::from(second))?;
+    put_spaced(line, u64::from(third))
 }
 
 fn put_party(line: &mut Vec<u8>, party: Party) -> Result<(), OutOfMemory>

@@ -6,7 +6,7 @@ ghost use Rattle.dispatch_report.specs.work.Lines.{WritesLines};
 
 use crate::block::{write_number, write_words};
 use crate::fault::ReportFault;
-use crate::lines::{write_line, write_piece};
+use crate::lines::{Line, write_item, write_rest};
 use crate::words::put_numbered;
 use batch_snapshot::Fleet;
 use pool_base::{OutOfMemory, put_bytes};
@@ -29,53 +29,53 @@ pub fn write_head<K: Sink>(
     ensures { WritesText (sink_seen K.written K.faults sink.old sink.new) (head_text settings.now network.now (length fleet.now)) result }
 {
     let mut piece = Vec::new(alloc);
-    write_words(sink, &mut piece, b"ridepool report 1")?;
-    write_settings(sink, &mut piece, settings)?;
-    write_network(sink, &mut piece, network)?;
-    write_fleet(sink, &mut piece, fleet)?;
-    write_piece(sink, &mut piece)
+    let mut so_far = Ok(());
+    write_words(sink, &mut piece, &mut so_far, b"ridepool report 1");
+    write_item(sink, &mut piece, &mut so_far, &RunSettings, settings);
+    write_item(sink, &mut piece, &mut so_far, &NetworkSizes, network);
+    write_fleet(sink, &mut piece, &mut so_far, fleet);
+    write_rest(sink, &mut piece, so_far)
 }
 
-fn write_settings<K: Sink>(
+fn write_fleet<K: Sink>(
     sink: &mut K,
     piece: &mut Vec<u8>,
-    settings: &Settings,
-) -> Result<(), ReportFault>
-    ensures { WritesLines (sink_seen K.written K.faults sink.old sink.new) piece.old.items piece.new.items (settings_line settings.now ∷ []) result }
+    so_far: &mut Result<(), ReportFault>,
+    fleet: &Fleet,
+)
+    ensures { WritesLines (sink_seen K.written K.faults sink.old sink.new) piece.old.items piece.new.items so_far.old so_far.new (numbered (codes "fleet vehicles=") (length fleet.now) ∷ []) }
 {
-    put_settings(piece, settings)?;
-    write_line(sink, piece)
+    let vehicles = fleet.vehicles().len() as u64;
+    write_number(sink, piece, so_far, b"fleet vehicles=", vehicles);
 }
 
-fn write_network<K: Sink>(
-    sink: &mut K,
-    piece: &mut Vec<u8>,
-    network: &Network,
-) -> Result<(), ReportFault>
-    ensures { WritesLines (sink_seen K.written K.faults sink.old sink.new) piece.old.items piece.new.items ((numbered (codes "network nodes=") (length network.now.nodes) ++ numbered (codes " arcs=") (length network.now.arcs)) ∷ []) result }
-{
-    put_network(piece, network)?;
-    write_line(sink, piece)
+#[derive(Drop)]
+struct NetworkSizes;
+
+impl Line for NetworkSizes {
+    type Item = Network;
+
+    ghost text = { λ _ network. numbered (codes "network nodes=") (length network.nodes) ++ numbered (codes " arcs=") (length network.arcs) };
+
+    fn put(&self, line: &mut Vec<u8>, network: &Network) -> Result<(), OutOfMemory> {
+        put_network(line, network)
+    }
 }
 
-fn write_fleet<K: Sink>(sink: &mut K, piece: &mut Vec<u8>, fleet: &Fleet) -> Result<(), ReportFault>
-    ensures { WritesLines (sink_seen K.written K.faults sink.old sink.new) piece.old.items piece.new.items (numbered (codes "fleet vehicles=") (length fleet.now) ∷ []) result }
-{
-    write_number(
-        sink,
-        piece,
-        b"fleet vehicles=",
-        fleet.vehicles().len() as u64,
-    )
-}
+#[derive(Drop)]
+struct RunSettings;
 
-fn put_settings(line: &mut Vec<u8>, settings: &Settings) -> Result<(), OutOfMemory>
-    ensures { OnOk result (line.new.items ≡ line.old.items ++ settings_line settings.now) }
-{
-    put_limits(line, settings)?;
-    put_search(line, settings)?;
-    put_proof(line, settings.proof)?;
-    put_dwell(line, settings.dwell)
+impl Line for RunSettings {
+    type Item = Settings;
+
+    ghost text = { λ _ settings. settings_line settings };
+
+    fn put(&self, line: &mut Vec<u8>, settings: &Settings) -> Result<(), OutOfMemory> {
+        put_limits(line, settings)?;
+        put_search(line, settings)?;
+        put_proof(line, settings.proof)?;
+        put_dwell(line, settings.dwell)
+    }
 }
 
 fn put_limits(line: &mut Vec<u8>, settings: &Settings) -> Result<(), OutOfMemory>

@@ -1,12 +1,12 @@
-ghost use Rattle.std.specs.Prelude.{◌≡◌, ◌++◌, ◌∷◌, [], List, ℕ, OnOk, map};
+ghost use Rattle.std.specs.Prelude.{◌≡◌, ◌++◌, ◌∷◌, [], List, ℕ, OnOk, map, MatchResult, Err};
 ghost use Rattle.dispatch_report.specs.Written.{sink_seen};
-ghost use Rattle.dispatch_report.specs.work.Lines.{WritesBytes, WritesLines};
+ghost use Rattle.dispatch_report.specs.work.Lines.{IsSame, WritesBytes, WritesLines};
 
 use crate::fault::ReportFault;
-use pool_base::{OutOfMemory, Sequence};
+use pool_base::{OutOfMemory, Sequence, put_bytes};
 use pool_io::{Sink, write_all};
 
-/// A kind of line that stands once for each item of a list.
+/// A kind of line, by what it tells.
 pub(crate) trait Line {
     type Item;
 
@@ -20,26 +20,39 @@ pub(crate) trait Line {
 /// A piece is written as soon as it has so many bytes. No line has as many, so a piece stays below 64 KB.
 const FULL: usize = 32_768;
 
-/// Ends the line that the piece ends with, and writes the piece where it is full.
-pub(crate) fn write_line<K: Sink>(sink: &mut K, piece: &mut Vec<u8>) -> Result<(), ReportFault>
-    ensures { WritesBytes (sink_seen K.written K.faults sink.old sink.new) piece.old.items piece.new.items (10 ∷ []) result }
+/// Writes the line of an item. `so_far` tells what came of the lines before it: behind a fault nothing is written.
+pub(crate) fn write_item<K: Sink, L: Line>(
+    sink: &mut K,
+    piece: &mut Vec<u8>,
+    so_far: &mut Result<(), ReportFault>,
+    kind: &L,
+    item: &L::Item,
+)
+    ensures { WritesLines (sink_seen K.written K.faults sink.old sink.new) piece.old.items piece.new.items so_far.old so_far.new (L.text kind.now item.now ∷ []) }
 {
-    end_line(piece)?;
+    if let Ok(()) = *so_far {
+        *so_far = put_item(sink, piece, kind, item);
+    }
+}
+
+fn put_item<K: Sink, L: Line>(
+    sink: &mut K,
+    piece: &mut Vec<u8>,
+    kind: &L,
+    item: &L::Item,
+) -> Result<(), ReportFault>
+    ensures { WritesBytes (sink_seen K.written K.faults sink.old sink.new) piece.old.items piece.new.items (L.text kind.now item.now ++ 10 ∷ []) result }
+{
+    kind.put(piece, item)?;
+    put_bytes(piece, b"\n")?;
     if piece.len() < FULL {
         return Ok(());
     }
     write_piece(sink, piece)
 }
 
-fn end_line(line: &mut Vec<u8>) -> Result<(), OutOfMemory>
-    ensures { OnOk result (line.new.items ≡ line.old.items ++ 10 ∷ []) }
-{
-    line.push(b'\n')?;
-    Ok(())
-}
-
 /// Writes the piece and empties it.
-pub(crate) fn write_piece<K: Sink>(sink: &mut K, piece: &mut Vec<u8>) -> Result<(), ReportFault>
+fn write_piece<K: Sink>(sink: &mut K, piece: &mut Vec<u8>) -> Result<(), ReportFault>
     ensures bytes { WritesBytes (sink_seen K.written K.faults sink.old sink.new) piece.old.items piece.new.items [] result }
     ensures empty { OnOk result (piece.new.items ≡ []) }
 {
@@ -48,41 +61,46 @@ pub(crate) fn write_piece<K: Sink>(sink: &mut K, piece: &mut Vec<u8>) -> Result<
     Ok(())
 }
 
+/// Writes the last piece.
+pub(crate) fn write_rest<K: Sink>(
+    sink: &mut K,
+    piece: &mut Vec<u8>,
+    so_far: Result<(), ReportFault>,
+) -> Result<(), ReportFault>
+    ensures { MatchResult so_far
+        (λ _. WritesBytes (sink_seen K.written K.faults sink.old sink.new) piece.old.items piece.new.items [] result × OnOk result (piece.new.items ≡ []))
+        (λ fault. IsSame (sink_seen K.written K.faults sink.old sink.new) piece.old.items piece.new.items × (result ≡ Err fault)) }
+{
+    match so_far {
+        Ok(()) => write_piece(sink, piece),
+        Err(fault) => Err(fault),
+    }
+}
+
 /// Writes the line of each item.
 pub(crate) fn write_lines<K: Sink, L: Line>(
     sink: &mut K,
     piece: &mut Vec<u8>,
+    so_far: &mut Result<(), ReportFault>,
     kind: &L,
     items: &[L::Item],
-) -> Result<(), ReportFault>
-    ensures { WritesLines (sink_seen K.written K.faults sink.old sink.new) piece.old.items piece.new.items (map (L.text kind.now) items.now) result }
+)
+    ensures { WritesLines (sink_seen K.written K.faults sink.old sink.new) piece.old.items piece.new.items so_far.old so_far.new (map (L.text kind.now) items.now) }
 {
     'items: for item in items {
-        write_item(sink, piece, kind, item)?;
+        write_item(sink, piece, so_far, kind, item);
     }
-    Ok(())
 }
 
 /// The same for a list.
 pub(crate) fn write_list<K: Sink, L: Line>(
     sink: &mut K,
     piece: &mut Vec<u8>,
+    so_far: &mut Result<(), ReportFault>,
     kind: &L,
     items: &Sequence<L::Item>,
-) -> Result<(), ReportFault>
-    ensures { WritesLines (sink_seen K.written K.faults sink.old sink.new) piece.old.items piece.new.items (map (L.text kind.now) items.now) result }
+)
+    ensures { WritesLines (sink_seen K.written K.faults sink.old sink.new) piece.old.items piece.new.items so_far.old so_far.new (map (L.text kind.now) items.now) }
 {
-    write_lines(sink, piece, kind, items.as_slice())
-}
-
-fn write_item<K: Sink, L: Line>(
-    sink: &mut K,
-    piece: &mut Vec<u8>,
-    kind: &L,
-    item: &L::Item,
-) -> Result<(), ReportFault>
-    ensures { WritesLines (sink_seen K.written K.faults sink.old sink.new) piece.old.items piece.new.items (L.text kind.now item.now ∷ []) result }
-{
-    kind.put(piece, item)?;
-    write_line(sink, piece)
+    write_lines(sink, piece, so_far, kind, items.as_slice());
 }

@@ -1,10 +1,9 @@
 ghost use Rattle.std.specs.Prelude.{◌≡◌, ◌++◌, ℕ, Option, OnOk};
 ghost use Rattle.dispatch_report.specs.Entry.{rider_status_text, refusal_text, reply_text};
 ghost use Rattle.dispatch_report.specs.lemmas.Named.{spaced_or_none};
-ghost use Rattle.dispatch_report.specs.Words.{numbered};
 
 use crate::words::{put_numbered, put_spaced};
-use pool_base::{OutOfMemory, Second, VehicleId, put_bytes};
+use pool_base::{OutOfMemory, VehicleId, put_bytes};
 use request_book::{BookRefusal, Reply, Status};
 
 /// Appends the words of a reply.
@@ -36,13 +35,15 @@ fn put_refusal(line: &mut Vec<u8>, refusal: BookRefusal) -> Result<(), OutOfMemo
         BookRefusal::PoolFull => put_bytes(line, b"pool-full"),
         BookRefusal::BookFull => put_bytes(line, b"book-full"),
         BookRefusal::UnknownRider => put_bytes(line, b"unknown-rider"),
-        BookRefusal::IsAboard { vehicle } => put_vehicle(line, b"is-aboard ", vehicle),
+        BookRefusal::IsAboard { vehicle } => {
+            put_numbered(line, b"is-aboard ", u64::from(vehicle.get()))
+        }
         BookRefusal::Ended { status } => {
             put_bytes(line, b"ended ")?;
             put_bytes(line, status_word(status))
         }
         BookRefusal::UnknownVehicle => put_bytes(line, b"unknown-vehicle"),
-        BookRefusal::TimeBack { last } => put_second(line, b"time-back ", last),
+        BookRefusal::TimeBack { last } => put_numbered(line, b"time-back ", u64::from(last.get())),
         BookRefusal::NotPromised { holder } => {
             put_bytes(line, b"not-promised")?;
             put_holder(line, holder)
@@ -50,24 +51,16 @@ fn put_refusal(line: &mut Vec<u8>, refusal: BookRefusal) -> Result<(), OutOfMemo
         BookRefusal::VehicleFull => put_bytes(line, b"vehicle-full"),
         BookRefusal::NotAboard => put_bytes(line, b"not-aboard"),
         BookRefusal::BatchOpen { batch } => put_numbered(line, b"batch-open ", batch),
-        BookRefusal::ClockBack { last } => put_second(line, b"clock-back ", last),
+        BookRefusal::ClockBack { last } => put_numbered(
+            line,
+            b"clock-back ",
+            u64::from(last.get()),
+        ),
         BookRefusal::NotThisBatch { current } => {
             put_bytes(line, b"not-this-batch")?;
             put_spaced_or_none(line, current)
         }
     }
-}
-
-fn put_vehicle(line: &mut Vec<u8>, words: &[u8], vehicle: VehicleId) -> Result<(), OutOfMemory>
-    ensures { OnOk result (line.new.items ≡ line.old.items ++ numbered words.now vehicle) }
-{
-    put_numbered(line, words, u64::from(vehicle.get()))
-}
-
-fn put_second(line: &mut Vec<u8>, words: &[u8], second: Second) -> Result<(), OutOfMemory>
-    ensures { OnOk result (line.new.items ≡ line.old.items ++ numbered words.now second) }
-{
-    put_numbered(line, words, u64::from(second.get()))
 }
 
 fn put_holder(line: &mut Vec<u8>, holder: Option<VehicleId>) -> Result<(), OutOfMemory>

@@ -3,7 +3,7 @@ ghost use Rattle.dispatch_report.specs.Round.{entry_text, round_line};
 ghost use Rattle.dispatch_report.specs.Written.{sink_seen, WritesText};
 
 use crate::fault::ReportFault;
-use crate::lines::write_piece;
+use crate::lines::write_rest;
 use crate::round::{write_entry, write_round_line};
 use pool_io::Sink;
 use request_book::Entry;
@@ -19,8 +19,9 @@ pub fn write_round_start<K: Sink>(
     ensures { WritesText (sink_seen K.written K.faults sink.old sink.new) (round_line number) result }
 {
     piece.clear();
-    write_round_line(sink, piece, number)?;
-    write_piece(sink, piece)
+    let mut so_far = Ok(());
+    write_round_line(sink, piece, &mut so_far, number);
+    write_rest(sink, piece, so_far)
 }
 
 /// Writes the line of an entry, and after a close the block of its batch, with the search tree where `proof` is
@@ -37,6 +38,7 @@ pub fn write_step<K: Sink>(
     ensures { WritesText (sink_seen K.written K.faults sink.old sink.new) (entry_text proof position entry.now) result }
 {
     piece.clear();
-    write_entry(sink, piece, position, entry, proof)?;
-    write_piece(sink, piece)
+    let mut so_far = Ok(());
+    write_entry(sink, piece, &mut so_far, position, entry, proof);
+    write_rest(sink, piece, so_far)
 }

@@ -7,7 +7,7 @@ ghost use Rattle.dispatch_report.specs.Written.{sink_seen, WritesText};
 ghost use Rattle.dispatch_report.specs.work.Lines.{WritesLines};
 
 use crate::fault::ReportFault;
-use crate::lines::{write_line, write_piece};
+use crate::lines::{Line, write_item, write_rest};
 use crate::words::{put_numbered, put_signed};
 use pool_base::{OutOfMemory, RiderId, Sequence, put_bytes};
 use pool_io::Sink;
@@ -27,8 +27,9 @@ pub fn write_load<K: Sink>(
     ensures { WritesText (sink_seen K.written K.faults sink.old sink.new) (load_text shape.now) result }
 {
     let mut piece = Vec::new(alloc);
-    write_shape(sink, &mut piece, shape)?;
-    write_piece(sink, &mut piece)
+    let mut so_far = Ok(());
+    write_item(sink, &mut piece, &mut so_far, &Shape, shape);
+    write_rest(sink, &mut piece, so_far)
 }
 
 /// Writes what a round adds to a made workload's text: for each close that was answered `closed` a line
@@ -45,81 +46,85 @@ pub fn write_summary<K: Sink>(
     ensures { WritesText (sink_seen K.written K.faults sink.old sink.new) (summary_text journal.now) result }
 {
     let mut piece = Vec::new(alloc);
-    write_batches(sink, &mut piece, journal.entries.as_slice())?;
-    write_piece(sink, &mut piece)
-}
-
-fn write_shape<K: Sink>(
-    sink: &mut K,
-    piece: &mut Vec<u8>,
-    shape: &LoadShape,
-) -> Result<(), ReportFault>
-    ensures { WritesLines (sink_seen K.written K.faults sink.old sink.new) piece.old.items piece.new.items (((numbered (codes "load seed=") shape.now.seed ++ numbered (codes " side=") shape.now.side) ++ (numbered (codes " vehicles=") shape.now.vehicles ++ numbered (codes " riders=") shape.now.riders ++ numbered (codes " rounds=") shape.now.rounds)) ∷ []) result }
-{
-    put_shape(piece, shape)?;
-    write_line(sink, piece)
+    let mut so_far = Ok(());
+    write_batches(sink, &mut piece, &mut so_far, journal.entries.as_slice());
+    write_rest(sink, &mut piece, so_far)
 }
 
 fn write_batches<K: Sink>(
     sink: &mut K,
     piece: &mut Vec<u8>,
+    so_far: &mut Result<(), ReportFault>,
     entries: &[Entry],
-) -> Result<(), ReportFault>
-    ensures { WritesLines (sink_seen K.written K.faults sink.old sink.new) piece.old.items piece.new.items (flat_map (λ e. batch_lines e.command e.reply) entries.now) result }
+)
+    ensures { WritesLines (sink_seen K.written K.faults sink.old sink.new) piece.old.items piece.new.items so_far.old so_far.new (flat_map (λ e. batch_lines e.command e.reply) entries.now) }
 {
     for entry in entries {
-        write_entry_summary(sink, piece, entry)?;
+        write_entry_summary(sink, piece, so_far, entry);
     }
-    Ok(())
 }
 
 fn write_entry_summary<K: Sink>(
     sink: &mut K,
     piece: &mut Vec<u8>,
+    so_far: &mut Result<(), ReportFault>,
     entry: &Entry,
-) -> Result<(), ReportFault>
-    ensures { WritesLines (sink_seen K.written K.faults sink.old sink.new) piece.old.items piece.new.items (batch_lines entry.now.command entry.now.reply) result }
+)
+    ensures { WritesLines (sink_seen K.written K.faults sink.old sink.new) piece.old.items piece.new.items so_far.old so_far.new (batch_lines entry.now.command entry.now.reply) }
 {
     match &entry.command {
         Command::Close { batch, outcome } => {
-            write_closed(sink, piece, *batch, outcome, entry.reply)
+            write_closed(sink, piece, so_far, *batch, outcome, entry.reply);
         }
-        _ => Ok(()),
+        _ => {}
     }
 }
 
 fn write_closed<K: Sink>(
     sink: &mut K,
     piece: &mut Vec<u8>,
+    so_far: &mut Result<(), ReportFault>,
     batch: u64,
     outcome: &Outcome,
     reply: Reply,
-) -> Result<(), ReportFault>
-    ensures { WritesLines (sink_seen K.written K.faults sink.old sink.new) piece.old.items piece.new.items (batch_lines (Command.Close batch outcome.now) reply) result }
+)
+    ensures { WritesLines (sink_seen K.written K.faults sink.old sink.new) piece.old.items piece.new.items so_far.old so_far.new (batch_lines (Command.Close batch outcome.now) reply) }
 {
     match reply {
-        Reply::Closed => write_batch(sink, piece, batch, outcome),
-        _ => Ok(()),
+        Reply::Closed => write_item(sink, piece, so_far, &Closed { batch }, &outcome.answer),
+        _ => {}
     }
 }
 
-fn write_batch<K: Sink>(
-    sink: &mut K,
-    piece: &mut Vec<u8>,
+/// What came of a batch.
+#[derive(Drop)]
+struct Closed {
     batch: u64,
-    outcome: &Outcome,
-) -> Result<(), ReportFault>
-    ensures { WritesLines (sink_seen K.written K.faults sink.old sink.new) piece.old.items piece.new.items ((numbered (codes "batch ") batch ++ answer_text outcome.now.answer) ∷ []) result }
-{
-    put_batch(piece, batch, outcome)?;
-    write_line(sink, piece)
 }
 
-fn put_shape(line: &mut Vec<u8>, shape: &LoadShape) -> Result<(), OutOfMemory>
-    ensures { OnOk result (line.new.items ≡ line.old.items ++ ((numbered (codes "load seed=") shape.now.seed ++ numbered (codes " side=") shape.now.side) ++ (numbered (codes " vehicles=") shape.now.vehicles ++ numbered (codes " riders=") shape.now.riders ++ numbered (codes " rounds=") shape.now.rounds))) }
-{
-    put_square(line, shape)?;
-    put_sizes(line, shape)
+impl Line for Closed {
+    type Item = Answer;
+
+    ghost text = { λ kind answer. numbered (codes "batch ") kind.batch ++ answer_text answer };
+
+    fn put(&self, line: &mut Vec<u8>, answer: &Answer) -> Result<(), OutOfMemory> {
+        put_numbered(line, b"batch ", self.batch)?;
+        put_answer(line, answer)
+    }
+}
+
+#[derive(Drop)]
+struct Shape;
+
+impl Line for Shape {
+    type Item = LoadShape;
+
+    ghost text = { λ _ shape. (numbered (codes "load seed=") shape.seed ++ numbered (codes " side=") shape.side) ++ (numbered (codes " vehicles=") shape.vehicles ++ numbered (codes " riders=") shape.riders ++ numbered (codes " rounds=") shape.rounds) };
+
+    fn put(&self, line: &mut Vec<u8>, shape: &LoadShape) -> Result<(), OutOfMemory> {
+        put_square(line, shape)?;
+        put_sizes(line, shape)
+    }
 }
 
 fn put_square(line: &mut Vec<u8>, shape: &LoadShape) -> Result<(), OutOfMemory>
@@ -135,13 +140,6 @@ fn put_sizes(line: &mut Vec<u8>, shape: &LoadShape) -> Result<(), OutOfMemory>
     put_numbered(line, b" vehicles=", u64::from(shape.vehicles))?;
     put_numbered(line, b" riders=", u64::from(shape.riders))?;
     put_numbered(line, b" rounds=", u64::from(shape.rounds))
-}
-
-fn put_batch(line: &mut Vec<u8>, batch: u64, outcome: &Outcome) -> Result<(), OutOfMemory>
-    ensures { OnOk result (line.new.items ≡ line.old.items ++ (numbered (codes "batch ") batch ++ answer_text outcome.now.answer)) }
-{
-    put_numbered(line, b"batch ", batch)?;
-    put_answer(line, &outcome.answer)
 }
 
 fn put_answer(line: &mut Vec<u8>, answer: &Answer) -> Result<(), OutOfMemory>

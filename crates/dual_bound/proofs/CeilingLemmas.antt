@@ -1,7 +1,7 @@
 -- What lowers a ceiling of the first-fit multipliers keeps it one.
-use Rattle.std.proofs.Common.{◌≡◌, ℕ, zero, suc, ◌*◌, ◌<◌, ◌≤◌, true, List, [], ◌∷◌, length, get_or, set, ℤ, pos, ◌+ℤ◌, ◌-ℤ◌, ◌*ℤ◌, ◌≤ℤ◌, All, refl, sym, ap, ◌∙◌, subst, ⊎_elim, arith}
+use Rattle.std.proofs.Common.{◌≡◌, ℕ, zero, suc, ◌*◌, ◌<◌, ◌≤◌, true, List, [], ◌∷◌, length, get_or, set, ℤ, pos, ◌+ℤ◌, ◌-ℤ◌, ◌*ℤ◌, ◌≤ℤ◌, All, sym, ap, ◌∙◌, subst, ⊎_elim, arith}
 use Rattle.dual_bound.proofs.Common.{ints, cases_eq, cases_lt, get_or_past, int_sum_below, Graph, riders_at, row_vehicle, cost_at, IsGoodGraph, Usable, multiplier_at, multiplier_sum, least_cost, room_at, first_fit, first_fit_value, int_sum_same, int_sum_le, IsModest, HasLeastCosts, AreCeilings}
-use Rattle.std.proofs.lemmas.List.{get_or-set_same, get_or-set_other, length-set}
+use Rattle.std.proofs.lemmas.List.{get_or_default, get_or-set_same, get_or-set_other, length-set}
 use Rattle.dual_bound.proofs.lemmas.FirstFitValueLemmas.{positive_sum, first_fit_leaves_room, first_fit_value_is}
 
 -- where multipliers aren't negative, each is at most what they come to
@@ -10,18 +10,13 @@ each_fits ms [] z p l k d low = absurd (omega (arith, low))
 each_fits ms (x ∷ xs) z p l zero d low = let rest = positive_sum ms xs p in omega (arith, ints, rest, l)
 each_fits ms (x ∷ xs) z p l (suc k) d low = let here = p x in each_fits ms xs z p (omega (arith, ints, l, here)) k d (omega (arith, low))
 
-same_default : (xs : List ℕ) (k d : ℕ) → k < length xs → get_or xs k 0 ≡ get_or xs k d
-same_default [] k d low = absurd (omega (arith, low))
-same_default (x ∷ xs) zero d low = refl
-same_default (x ∷ xs) (suc k) d low = same_default xs k d (omega (arith, low))
-
 pub room_fits : (g : Graph) (u : Usable) (k : ℕ) (z : ℤ) → IsGoodGraph g → k < length g.rows → u k ≡ true → z ≡ (pos 1024 *ℤ (pos (cost_at g k) -ℤ least_cost g u (row_vehicle g k)))
     → (i d : ℕ) → i < length (riders_at g k) → (get_or (riders_at g k) i d < g.riders) × (multiplier_at (first_fit g u) (get_or (riders_at g k) i d) ≤ℤ z)
 room_fits g u k z good l may is i d low =
     let roomy = first_fit_leaves_room g u good in
     let room : pos 0 ≤ℤ room_at g u (first_fit g u) k = roomy.room k l may in
     let row = good.rows k l in (
-      subst (λ (r : ℕ). r < g.riders) (same_default (riders_at g k) i d low) (row.members.below i low),
+      subst (λ (r : ℕ). r < g.riders) (get_or_default (riders_at g k) i 0 d low) (row.members.below i low),
       each_fits (first_fit g u) (riders_at g k) z roomy.positive (omega (arith, ints, room, is)) i d low,
     )
 
@@ -76,10 +71,5 @@ ceiling_of_value g u costs rooms x y good least ceilings is_x is_y =
     let all : y ≡ int_sum_below g.riders (λ r. get_or rooms r (pos 0)) = is_y ∙ ap (λ (n : ℕ). int_sum_below n (λ r. get_or rooms r (pos 0))) ceilings.sized in
     let over : int_sum_below g.riders (multiplier_at (first_fit g u)) ≤ℤ int_sum_below g.riders (λ r. get_or rooms r (pos 0)) =
     int_sum_le g.riders (multiplier_at (first_fit g u)) (λ r. get_or rooms r (pos 0))
-    (λ r low. subst (λ (w : ℤ). multiplier_at (first_fit g u) r ≤ℤ w) (any_default rooms r (pos (1024 * g.penalty)) (omega (arith, low, ceilings.sized))) (ceilings.above r)) in
+    (λ r low. subst (λ (w : ℤ). multiplier_at (first_fit g u) r ≤ℤ w) (get_or_default rooms r (pos (1024 * g.penalty)) (pos 0) (omega (arith, low, ceilings.sized))) (ceilings.above r)) in
     omega (arith, ints, value, many, cheapest, all, over)
-  where
-    any_default : (xs : List ℤ) (k : ℕ) (d : ℤ) → k < length xs → get_or xs k d ≡ get_or xs k (pos 0)
-    any_default [] k d low = absurd (omega (arith, low))
-    any_default (x ∷ xs) zero d low = refl
-    any_default (x ∷ xs) (suc k) d low = any_default xs k d (omega (arith, low))

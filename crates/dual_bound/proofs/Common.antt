@@ -1,7 +1,8 @@
 -- The names that the proofs of this crate cite from elsewhere, passed on from one place. Declares nothing.
-pub use Rattle.std.proofs.lemmas.Bool.{and_from, and_parts, both_ways, cases_Bool, cases_eq, cases_lt, cond-false, cond-true, cond_both}
+pub use Rattle.std.proofs.lemmas.Bool.{and_from, and_parts, both_ways, cases_Bool, cases_eq, cases_lt, cond-false, cond-true}
 pub use Rattle.std.proofs.lemmas.Int.{int_min_is, ints}
 pub use Rattle.std.proofs.lemmas.List.{get_or_append_left, get_or_past, get_or_push, length_push}
+pub use Rattle.std.proofs.lemmas.Option.{none-some, same_Some}
 pub use Rattle.std.specs.Int.{int_min}
 pub use Rattle.dual_bound.specs.Cheapest.{AreCheapest, IsNoCheaper}
 pub use Rattle.dual_bound.specs.Index.{IsIndexOf, IsListed, list_end, list_start}

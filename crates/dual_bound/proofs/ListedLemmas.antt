@@ -1,22 +1,14 @@
 -- The first-fit pass over a list of the rider's rows.
-use Rattle.std.proofs.Common.{◌≡◌, ◌==◌, ◌⊎◌, ◌&&◌, ◌||◌, ℕ, suc, ◌+◌, ◌<◌, ◌≤◌, Bool, true, false, List, [], ◌∷◌, length, get_or, Option, Some, None, ℤ, ◌≤ℤ◌, refl, sym, ap, ◌∙◌, subst, ⊎_elim, inl, inr, arith, eqb-true, int_lt}
-use Rattle.dual_bound.proofs.Common.{int_min, ints, cases_eq, cases_Bool, cond_both, both_ways, and_parts, least_below, lesser, Graph, riders_at, has_rider, Usable, room_at, least_below_some, least_below_found, lesser-le_right, lesser-le_left, list_start, list_end, IsListed, IsIndexOf}
+use Rattle.std.proofs.Common.{◌≡◌, ◌==◌, ◌⊎◌, ◌&&◌, ◌||◌, ℕ, suc, ◌+◌, ◌<◌, ◌≤◌, Bool, true, false, List, [], ◌∷◌, length, get_or, Option, Some, None, ℤ, ◌≤ℤ◌, refl, sym, ap, ◌∙◌, subst, ⊎_elim, inl, inr, arith, eqb-true}
+use Rattle.dual_bound.proofs.Common.{same_Some, none-some, int_min, ints, cases_eq, cases_Bool, both_ways, and_parts, least_below, lesser, Graph, riders_at, has_rider, Usable, room_at, least_below_some, least_below_found, lesser-le_right, lesser-le_left, list_start, list_end, IsListed, IsIndexOf}
 use Rattle.std.specs.List.{list_any}
+use Rattle.plan_rules.proofs.lemmas.SumLemmas.{int_min_cases}
 use Rattle.dual_bound.specs.declared.rider_index.RiderIndex.{RiderIndex}
 
 -- the least of f at the numbers below n that pass and stand at these places of a list, where there is one
 pub record IsLeastListed (n : ℕ) (p : ℕ → Bool) (f : ℕ → ℤ) (listed : List ℕ) (from to : ℕ) (least : Option ℤ) : Type 0 where
   pub covers : (q : ℕ) → from ≤ q → q < to → q < length listed → get_or listed q 0 < n → p (get_or listed q 0) ≡ true → (z : ℤ) × (least ≡ Some z) × (z ≤ℤ f (get_or listed q 0))
   pub reached : (z : ℤ) → least ≡ Some z → (k : ℕ) × (k < n) × (p k ≡ true) × (z ≡ f k)
-
-not_some : (z : ℤ) → ◌≡◌ {A = Option ℤ} None (Some z) → ⊥
-not_some z e = cc
-
-inner : (x y : ℤ) → Some x ≡ Some y → x ≡ y
-inner x y e = cc
-
-int_min_cases : (x y : ℤ) → (int_min x y ≡ x) ⊎ (int_min x y ≡ y)
-int_min_cases x y = cond_both (int_lt y x) y x (λ (m : ℤ). (m ≡ x) ⊎ (m ≡ y)) (λ e. inr refl) (λ e. inl refl)
 
 lesser_cases : (o : Option ℤ) (x : ℤ) → (o ≡ Some (lesser o x)) ⊎ (lesser o x ≡ x)
 lesser_cases None x = inr refl
@@ -28,13 +20,13 @@ least_is n p f None covers reached None e = refl
 least_is n p f (Some y) covers reached None e =
     let w = reached y refl in
     let v = least_below_some n p f (w.0) (w.1) (w.2) in
-    absurd (not_some (v.0) (sym e ∙ v.1))
+    absurd (none-some (v.0) (sym e ∙ v.1))
 least_is n p f o covers reached (Some z) e =
     let w = least_below_found n p f z e in
     let c = covers (w.0) (w.1) (w.2) in
     let v = reached (c.0) (c.1) in
     let x = least_below_some n p f (v.0) (v.1) (v.2) in
-    let same : x.0 ≡ z = inner (x.0) z (sym (x.1) ∙ e) in
+    let same : x.0 ≡ z = same_Some (x.0) z (sym (x.1) ∙ e) in
     let low : c.0 ≤ℤ f (w.0) = c.2 in
     let is : z ≡ f (w.0) = w.3 in
     let high : x.0 ≤ℤ f (v.0) = x.2 in
@@ -58,7 +50,7 @@ listed_take n p f listed from to k o new x before here low passes value is = rec
       (lesser o x, is, all))
       (cases_eq q to);
   reached = λ z e.
-      let found : lesser o x ≡ z = inner (lesser o x) z (sym is ∙ e) in
+      let found : lesser o x ≡ z = same_Some (lesser o x) z (sym is ∙ e) in
       ⊎_elim
       (λ (old : o ≡ Some (lesser o x)). before.reached z (old ∙ ap Some found))
       (λ (mine : lesser o x ≡ x). (k, low, passes, sym found ∙ mine ∙ value))

@@ -1,46 +1,23 @@
 -- A fleet, row by row.
-use Rattle.std.proofs.Common.{◌≡◌, ◌↔◌, ℕ, ◌+◌, ◌<◌, ◌≤◌, Bool, true, false, ◌||◌, cond, eqb, List, [], ◌∷◌, ◌++◌, length, get_or, take, drop, Contains, Ok, Err, refl, sym, ap, subst, ◌∙◌, ◌⊎◌, inl, inr, arith}
+use Rattle.std.proofs.Common.{◌≡◌, ◌↔◌, ℕ, ◌+◌, ◌<◌, ◌≤◌, Bool, true, false, ◌||◌, cond, eqb, List, [], ◌∷◌, ◌++◌, length, get_or, take, Contains, Ok, Err, sym, ap, subst, ◌∙◌, inl, inr, arith}
 use Rattle.fleet_state.proofs.Common.{list_any, take_more, Contains-append_left, Contains-append_right, Contains-append_cases, Contains-push, Contains-push_cases, list_any-append, ◌>>=◌, refused_where, all_or_first, number_at, all_or_first-err, Vehicle, TooManyVehicles, Duplicate, vehicle_in, vehicle_of_row, vehicles_of, is_repeated, has_vehicle}
 use Rattle.std.specs.List.{insert}
 use Rattle.std.proofs.lemmas.Bool.{le-ltb}
-use Rattle.std.proofs.lemmas.List.{take-append-drop}
+use Rattle.std.proofs.lemmas.List.Sorted.{IsPermutation-insert, IsPermutation-sym, Contains-permutation}
 use Rattle.fleet_state.specs.declared.fault.FleetFault.{FleetFault}
 use Rattle.fleet_state.proofs.PlaceLemmas.{list_any-insert}
-
--- a list with one more element has that element and its own
-members-insert : {X : Type 0} (xs : List X) (i : ℕ) (x v : X) → Contains (insert xs i x) v → Contains xs v ⊎ (x ≡ v)
-members-insert xs i x v has =
-    let whole : take i xs ++ drop i xs ≡ xs = take-append-drop i xs in
-    elim (Contains-append_cases (take i xs) (x ∷ drop i xs) v has) [
-      | inl front ↦ inl (subst (λ ys. Contains ys v) whole (Contains-append_left (take i xs) (drop i xs) v front))
-      | inr rest ↦
-          elim (Contains-append_cases (x ∷ []) (drop i xs) v rest) [
-            | inl one ↦ elim (Contains-push_cases [] x v one) [ inl none ↦ absurd (omega (arith, none.1)) | inr same ↦ inr same ]
-            | inr back ↦ inl (subst (λ ys. Contains ys v) whole (Contains-append_right (take i xs) (drop i xs) v back))
-          ]
-    ]
-
-insert-members : {X : Type 0} (xs : List X) (i : ℕ) (x v : X) → Contains xs v ⊎ (x ≡ v) → Contains (insert xs i x) v
-insert-members xs i x v (inl has) =
-    let whole : xs ≡ take i xs ++ drop i xs = sym (take-append-drop i xs) in
-    elim (Contains-append_cases (take i xs) (drop i xs) v (subst (λ ys. Contains ys v) whole has)) [
-      | inl front ↦ Contains-append_left (take i xs) (x ∷ drop i xs) v front
-      | inr back ↦ Contains-append_right (take i xs) (x ∷ drop i xs) v (Contains-append_right (x ∷ []) (drop i xs) v back)
-    ]
-insert-members xs i x v (inr same) =
-    subst (λ y. Contains (insert xs i x) y) same (Contains-append_right (take i xs) (x ∷ drop i xs) x (Contains-append_left (x ∷ []) (drop i xs) x (Contains-push [] x)))
 
 -- one more element, put in at any place of one list and at the end of another, has both lists the same elements still
 pub same_members-insert : {X : Type 0} (xs ys : List X) (i : ℕ) (x : X) → ((v : X) → Contains ys v ↔ Contains xs v) → (v : X) → Contains (insert ys i x) v ↔ Contains (xs ++ x ∷ []) v
 same_members-insert xs ys i x same v = (
-  (λ has. elim (members-insert ys i x v has) [
-    | inl there ↦ Contains-append_left xs (x ∷ []) v ((same v).0 there)
-    | inr new ↦ subst (λ y. Contains (xs ++ x ∷ []) y) new (Contains-push xs x)
+  (λ has. elim (Contains-append_cases (x ∷ []) ys v (Contains-permutation (insert ys i x) (x ∷ ys) v (IsPermutation-sym (x ∷ ys) (insert ys i x) (IsPermutation-insert ys i x)) has)) [
+    | inl one ↦ elim (Contains-push_cases [] x v one) [ inl none ↦ absurd (omega (arith, none.1)) | inr new ↦ subst (λ y. Contains (xs ++ x ∷ []) y) new (Contains-push xs x) ]
+    | inr there ↦ Contains-append_left xs (x ∷ []) v ((same v).0 there)
   ]),
-  (λ has. elim (Contains-push_cases xs x v has) [
-    | inl there ↦ insert-members ys i x v (inl ((same v).1 there))
-    | inr new ↦ insert-members ys i x v (inr new)
-  ]),
+  (λ has. Contains-permutation (x ∷ ys) (insert ys i x) v (IsPermutation-insert ys i x) (elim (Contains-push_cases xs x v has) [
+    | inl there ↦ Contains-append_right (x ∷ []) ys v ((same v).1 there)
+    | inr new ↦ subst (λ y. Contains (x ∷ ys) y) new (Contains-append_left (x ∷ []) ys x (Contains-push [] x))
+  ])),
 )
 
 -- whether the first so many rows have a vehicle of an id
@@ -59,10 +36,7 @@ known_more records row sorted place vehicle within named known id =
     ∙ sym (ap (list_any test) (take_more records row [] within) ∙ list_any-append test (take row records) (get_or records row [] ∷ []))
   where
     turned : (a b : Bool) → (a || b) ≡ (b || (a || false))
-    turned true true = refl
-    turned true false = refl
-    turned false true = refl
-    turned false false = refl
+    turned a b = grind arith
 
 -- a row that has an earlier row's vehicle, and one that hasn't
 repeated : (records : List (List (List ℕ))) (row : ℕ) (sorted : List Vehicle) (vehicle : Vehicle) → vehicle.id ≡ number_at (get_or records row []) 0 → ((id : ℕ) → has_vehicle sorted id ≡ is_known records row id) → is_repeated records row ≡ has_vehicle sorted vehicle.id

@@ -39,6 +39,10 @@ const MOST_PASSES: u32 = 1000;
 /// How many columns for each condition the dual simplex takes in at most for a solution.
 const MOST_DUAL_PIVOTS: u64 = 20;
 
+/// After going through so many numbers of factors, or an eighth as many rows, it takes no more columns in: then any
+/// solution must do. One beside another rests after a quarter of that.
+const MOST_WORK: u64 = 8_000_000_000;
+
 /// A basis with its factors and prices, to come back to.
 #[derive(Drop)]
 pub struct Saved {
@@ -82,6 +86,9 @@ pub struct Relaxation {
     candidates: Vec<(i64, u32)>,
     turns: u32,
     pivots: u64,
+    /// How many rows passes looked at so far, and after how much work it rests.
+    looked: u64,
+    most_work: u64,
     /// The best multipliers of the last solution and their value, in 1/1024 second.
     multipliers: Vec<i64>,
     value: i64,
@@ -113,6 +120,8 @@ impl Relaxation {
             candidates: Vec::new(alloc),
             turns: 0,
             pivots: 0,
+            looked: 0,
+            most_work: MOST_WORK,
             multipliers: Vec::new(alloc),
             value: i64::MIN,
             tried: Vec::new(alloc),
@@ -135,6 +144,7 @@ impl Relaxation {
         start: &[Option<u32>],
     ) -> Result<Self, OutOfMemory> {
         let mut relaxation = Relaxation::new(alloc, table, start)?;
+        relaxation.most_work = MOST_WORK / 4;
         for column in self.pool.columns() {
             relaxation.add(table, *column as usize)?;
         }
@@ -196,7 +206,7 @@ impl Relaxation {
             self.reprice();
             self.find_multipliers(table);
             let added = self.pass(table, most_rows)?;
-            if self.value >= most_value || added == 0 {
+            if self.value >= most_value || added == 0 || self.is_tired() {
                 return Ok(());
             }
             if (pass % 2 == 1 || added < 20) && self.is_near() {
@@ -236,14 +246,6 @@ impl Relaxation {
         Ok(())
     }
 
-    /// Puts all rows into the pool.
-    pub fn fill_pool_whole(&mut self, table: &RowTable) -> Result<(), OutOfMemory> {
-        for row in 0..table.row_count() {
-            self.add(table, row)?;
-        }
-        Ok(())
-    }
-
     fn add(&mut self, table: &RowTable, column: usize) -> Result<(), OutOfMemory> {
         let cost = at(&self.costs, column);
         self.pool.add(table, column, cost)
@@ -270,12 +272,6 @@ impl Relaxation {
         self.pool.press(table)
     }
 
-    /// Has these count as the best multipliers, with this value.
-    pub fn set_best(&mut self, multipliers: &[i64], value: i64) {
-        copy(multipliers, &mut self.multipliers);
-        self.value = value;
-    }
-
     /// The best multipliers of the last solution for so many riders, in 1/1024 second; 0 for one whom it
     /// doesn't know.
     pub fn multipliers(&self, alloc: Global, riders: usize) -> Result<Vec<i64>, OutOfMemory>
@@ -289,6 +285,12 @@ impl Relaxation {
     /// Their value over the rows that aren't forbidden, in 1/1024 second.
     pub fn value(&self) -> i64 {
         self.value
+    }
+
+    /// Whether it takes no more columns in.
+    pub fn is_tired(&self) -> bool {
+        let work = self.looked.saturating_mul(8);
+        work.saturating_add(self.basis.factors.work) > self.most_work
     }
 
     /// How many columns came in so far.
@@ -328,6 +330,7 @@ impl Relaxation {
         for column in columns {
             self.add(table, *column as usize)?;
         }
+        self.list_places()?;
         self.basis.go_to(columns)
     }
 

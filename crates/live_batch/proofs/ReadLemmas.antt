@@ -8,7 +8,7 @@ use Rattle.live_batch.specs.Phase.{desk_after}
 use Rattle.std.specs.Result.{is_err}
 use Rattle.std.proofs.lemmas.Bool.{false≢true}
 use Rattle.std.proofs.lemmas.List.{map-append}
-use Rattle.std.proofs.lemmas.List.Elements.{All-nil, All-push}
+use Rattle.std.proofs.lemmas.List.Elements.{All-push}
 use Rattle.live_desk.specs.declared.desk.LaneCommand.{LaneCommand}
 use Rattle.shared_book.specs.declared.locked.LockedReply.{LockedReply}
 use Rattle.seat_lock.specs.Values.{PassValue}
@@ -17,7 +17,7 @@ use Rattle.script_rows.specs.declared.line.Line.{Line}
 use Rattle.live_batch.specs.declared.read_on.Halt.{Halt}
 use Rattle.live_batch.specs.declared.read_on.Halt.TheVariants as stop
 use Rattle.live_rows.specs.Rows.{NoRows, TakesRows}
-use Rattle.live_batch.proofs.lemmas.RowLemmas.{takes-all, takes-more, takes-none, takes-start}
+use Rattle.live_batch.proofs.lemmas.RowLemmas.{takes-all, takes-more, takes-start}
 use Rattle.live_batch.specs.Phase.{commands_in, row_command, GoesOn, RanRows, TakesRun}
 
 -- rows were run so far
@@ -27,10 +27,6 @@ HasRun round old now p = RanRows round (commands_in p) (TakesRows old now)
 -- and these are all, but for one that is held back
 abbrev HasReadOn : {B : Type 0} → ℕ → Option (List Line) → Option (List Line) → PassValue B LaneCommand LockedReply → Halt → Type 0
 HasReadOn round old new p end = RanRows round (commands_in p) (TakesRun end old new)
-
--- nothing yet
-pub run-none : (round : ℕ) (old : Option (List Line)) {B : Type 0} (p : PassValue B LaneCommand LockedReply) → p.calls ≡ [] → HasRun round old old p
-run-none round old p none = record { run = []; going = All-nil (GoesOn round); called = ap (λ (cs : List (ℕ × LoggedCall LaneCommand LockedReply)). map (λ c. c.1.call) cs) none; taken = takes-none old }
 
 -- one more row
 pub run-more : (round : ℕ) (old now next : Option (List Line)) {B : Type 0} (p q : PassValue B LaneCommand LockedReply) (line : Line) (call : ℕ × LoggedCall LaneCommand LockedReply)
@@ -44,16 +40,6 @@ run-more round old now next p q line call so_far taken may calls is = record {
       ∙ ap (λ (l : List LaneCommand). l ++ call.1.call ∷ []) so_far.called
       ∙ ap (λ (c : LaneCommand). map row_command so_far.run ++ c ∷ []) is
       ∙ sym (map-append row_command so_far.run (line ∷ []));
-  taken = takes-more old now next so_far.run (line ∷ []) so_far.taken taken;
-}
-
--- the reading stops at a row that waits
-pub run-held : (round : ℕ) (old now next : Option (List Line)) {B : Type 0} (p : PassValue B LaneCommand LockedReply) (line : Line) → HasRun round old now p → TakesRows now next (line ∷ [])
-    → HasReadOn round old next p (stop.Held line)
-run-held round old now next p line so_far taken = record {
-  run = so_far.run;
-  going = so_far.going;
-  called = so_far.called;
   taken = takes-more old now next so_far.run (line ∷ []) so_far.taken taken;
 }
 

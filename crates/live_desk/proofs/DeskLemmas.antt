@@ -3,7 +3,7 @@ use Rattle.std.proofs.Common.{◌≡◌, ℕ, ◌<◌, ◌≤◌, ◌^◌, Bool,
 use Rattle.std.proofs.KnownBytes.{Appends-nil, Appends-trans}
 use Rattle.std.specs.Io.KnownBytes.{Appends}
 use Rattle.std.proofs.lemmas.Bool.{false≢true}
-use Rattle.std.specs.Prelude.{is_some, true, false, cond, OnOk}
+use Rattle.std.specs.Prelude.{is_some, false, cond, OnOk}
 use Rattle.std.proofs.lemmas.List.{length-map}
 use Rattle.shared_book.specs.Locked.{log_of}
 use Rattle.shared_book.proofs.lemmas.LockedLemmas.{calls-length}
@@ -12,11 +12,11 @@ use Rattle.pool_io.specs.Faults.{Rose}
 use Rattle.pool_io.specs.Sink.{AppendsPart}
 use Rattle.request_book.specs.Book.{BookView, next_position, IsApplied, IsBook}
 use Rattle.request_book.specs.Replay.{state_after}
-use Rattle.request_book.specs.declared.command.Command.TheVariants.{Submit, Cancel, Report, Pickup, Dropoff, Seal, Close}
+use Rattle.request_book.specs.declared.command.Command.TheVariants.{Close}
 use Rattle.request_book.specs.declared.command.Command.{Command}
 use Rattle.request_book.specs.declared.journal.Entry.{Entry}
 use Rattle.request_book.specs.declared.reply.Reply.{Reply}
-use Rattle.request_book.specs.declared.reply.Reply.TheVariants.{Accepted, Cancelled, Placed, Picked, Dropped, Sealed, Closed, Refused}
+use Rattle.request_book.specs.declared.reply.Reply.TheVariants.{Closed}
 use Rattle.request_book.specs.declared.state.State.{State}
 use Rattle.rider_notices.specs.Notices.{entry_notices, notices_from}
 use Rattle.rider_notices.specs.Told.{HaveHeard, NotifierView}
@@ -33,26 +33,11 @@ use Rattle.live_desk.proofs.lemmas.EntryLemmas.{entries-append, notices-append, 
 use Rattle.live_desk.specs.Desk.{HasEntered, entries_text, text_of, notices_in, DeskView, IsDesk, IsPassedOn, Outputs}
 use Rattle.live_desk.specs.work.Telling.{TellsClose, WroteLast, is_closed}
 
-no-notices : (b : Bool) (none : List Notice) → none ≡ [] → cond b none [] ≡ none
-no-notices true none is = refl
-no-notices false none is = sym is
-
 -- a command that wasn't answered `closed` has no notices, and no other command than a close has any
 close-notices : (s : State) (c : Command) (r : Reply) → cond (is_closed r) (entry_notices s c Closed) [] ≡ entry_notices s c r
 close-notices s c Closed = refl
-close-notices s (Close batch outcome) Accepted = refl
-close-notices s (Close batch outcome) Cancelled = refl
-close-notices s (Close batch outcome) Placed = refl
-close-notices s (Close batch outcome) Picked = refl
-close-notices s (Close batch outcome) Dropped = refl
-close-notices s (Close batch outcome) (Sealed n) = refl
-close-notices s (Close batch outcome) (Refused why) = refl
-close-notices s (Submit rider origin destination time party) r = no-notices (is_closed r) [] refl
-close-notices s (Cancel rider) r = no-notices (is_closed r) [] refl
-close-notices s (Report vehicle node time) r = no-notices (is_closed r) [] refl
-close-notices s (Pickup vehicle rider time) r = no-notices (is_closed r) [] refl
-close-notices s (Dropoff vehicle rider time) r = no-notices (is_closed r) [] refl
-close-notices s (Seal now) r = no-notices (is_closed r) [] refl
+close-notices s (Close batch outcome) r = refl
+close-notices s _ r = refl
 
 -- where the reply isn't `closed`, nobody is told anything
 pub untold : (notices : List Notice) (reply : Reply) (ns : List NotifierView) → is_closed reply ≡ false → TellsClose notices reply ns ns
@@ -171,6 +156,3 @@ log-length d = length-map (log_of d.book) desk_call ∙ calls-length d.book.node
 pub log-short : {A E : Type 0} (r : Result A E) (d : DeskView) → OnOk r (length d.book.entries < 2 ^ 63) → OnOk r (length (desk_log d) < 2 ^ 63)
 log-short (Ok x) d h = omega (arith, h, log-length d)
 log-short (Err e) d h = h
-
-pub next-small : (n first : ℕ) (es : List Entry) → n ≡ next_position first es → n < 2 ^ 64
-next-small n first es e = omega (arith, e)

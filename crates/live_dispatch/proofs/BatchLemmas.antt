@@ -1,7 +1,9 @@
 -- The entries that a row gave, or a batch from its seal to its close.
 use Rattle.std.proofs.Common.{◌≡◌, ◌≢◌, ℕ, Bool, true, false, cond, eqb, List, [], ◌∷◌, ◌++◌, map, Option, None, Some, refl, sym, ap, subst, ◌∙◌, append-nil, All, filter, option_map}
-use Rattle.live_dispatch.proofs.Common.{eqb-false, All-head, All-tail, Batch, of_lane, IsCloseOf, IsLaneRunFrom, IsLaneRun, IsLaneBeginning, IsGoodClose, IsGoodFor, LaneClosesAreGood, ClosesAreGood, plain-quiet, closes-join, ends-closed, stands-plain, GoesOn, commands_of_pass, entry_command, row_command, pass_of, LaneCommand, state_after, RepliesAreSteps, step, Command, Submit, Cancel, Report, Pickup, Dropoff, Seal, Close, Entry, Reply, State, Settings, entry_notices, Roads, MayStand, Line, calls_from, sealed_by, snapshot_after, in_lane}
+use Rattle.live_dispatch.proofs.Common.{IsInZero, filter-mapped, eqb-false, All-head, All-tail, Batch, of_lane, IsCloseOf, IsLaneRunFrom, IsLaneRun, IsLaneBeginning, IsGoodClose, IsGoodFor, LaneClosesAreGood, ClosesAreGood, plain-quiet, closes-join, ends-closed, stands-plain, GoesOn, commands_of_pass, entry_command, row_command, pass_of, LaneCommand, state_after, RepliesAreSteps, step, Command, Close, Entry, Reply, State, Settings, entry_notices, Roads, MayStand, Line, calls_from, sealed_by, snapshot_after, in_lane}
 use Rattle.std.proofs.lemmas.Bool.{eq-eqb, ne_eqb, eqb-true}
+use Rattle.std.proofs.lemmas.List.Elements.{filter_agree}
+use Rattle.std.specs.List.{AllByRecursion}
 use Rattle.batch_solver.specs.Outcome.{IsGoodOutcome}
 use Rattle.dispatch_engine.specs.lemmas.Lanes.{IsPlain}
 use Rattle.request_book.specs.declared.outcome.Answer.TheVariants.{Overflow}
@@ -13,36 +15,13 @@ use Rattle.live_dispatch.proofs.RowLemmas.{AreOf}
 
 -- a row's command is no close
 pub stands-good : (settings : Settings) (roads : Roads) (lane : ℕ) (s : State) (command : Command) (reply : Reply) → MayStand lane command → IsGoodClose settings roads s command reply
-stands-good settings roads lane s (Submit rider origin destination time party) reply stands = tt
-stands-good settings roads lane s (Cancel rider) reply stands = tt
-stands-good settings roads lane s (Report vehicle node time) reply stands = tt
-stands-good settings roads lane s (Pickup vehicle rider time) reply stands = tt
-stands-good settings roads lane s (Dropoff vehicle rider time) reply stands = tt
-stands-good settings roads lane s (Seal now) reply stands = tt
 stands-good settings roads lane s (Close batch outcome) reply stands = absurd stands
+stands-good settings roads lane s _ reply stands = tt
 
 -- and has no notices
 pub stands-silent : (lane : ℕ) (s : State) (command : Command) (reply : Reply) → MayStand lane command → entry_notices s command reply ≡ []
-stands-silent lane s (Submit rider origin destination time party) reply stands = refl
-stands-silent lane s (Cancel rider) reply stands = refl
-stands-silent lane s (Report vehicle node time) reply stands = refl
-stands-silent lane s (Pickup vehicle rider time) reply stands = refl
-stands-silent lane s (Dropoff vehicle rider time) reply stands = refl
-stands-silent lane s (Seal now) reply stands = refl
 stands-silent lane s (Close batch outcome) reply stands = absurd stands
-
--- each command is plain
-abbrev ArePlain : List Command → Type 0
-ArePlain [] = Unit {0}
-ArePlain (c ∷ cs) = IsPlain c × ArePlain cs
-
--- each entry outside lane 0 is plain
-abbrev IsInZero : Entry → Type 0
-IsInZero e = e.lane ≢ 0 → IsPlain e.command
-
-abbrev EachInZero : List Entry → Type 0
-EachInZero [] = Unit {0}
-EachInZero (e ∷ es) = IsInZero e × EachInZero es
+stands-silent lane s _ reply stands = refl
 
 -- the command of a lane's command
 abbrev pub told : LaneCommand → Command
@@ -58,13 +37,11 @@ rows-told (r ∷ rs) = ap (λ l. r.command ∷ l) (rows-told rs)
 
 -- the first pass plays lane 0
 zero-pass : (es : List Entry) → filter (λ e. eqb (pass_of e.lane) 0) es ≡ of_lane 0 es
-zero-pass [] = refl
-zero-pass (e ∷ es) = by (eqb e.lane 0) (zero-pass es)
+zero-pass es = filter_agree (λ (e : Entry). eqb (pass_of e.lane) 0) (λ (e : Entry). eqb e.lane 0) (λ e. by (eqb e.lane 0)) es
   where
-    by : (b : Bool) → filter (λ e. eqb (pass_of e.lane) 0) es ≡ of_lane 0 es
-        → cond (eqb (cond b 0 1) 0) (e ∷ filter (λ e. eqb (pass_of e.lane) 0) es) (filter (λ e. eqb (pass_of e.lane) 0) es) ≡ cond b (e ∷ of_lane 0 es) (of_lane 0 es)
-    by true same = ap (λ l. e ∷ l) same
-    by false same = same
+    by : (b : Bool) → eqb (cond b 0 1) 0 ≡ b
+    by true = refl
+    by false = refl
 
 pub zero-commands : (es : List Entry) → map (λ e. e.command) (of_lane 0 es) ≡ map told (commands_of_pass 0 es)
 zero-commands es = sym (entries-told (of_lane 0 es)) ∙ ap (λ l. map told (map entry_command l)) (sym (zero-pass es))
@@ -86,13 +63,7 @@ other-pass lane (e ∷ es) other = by (eqb e.lane 0) refl (other-pass lane es ot
     by false h same = kept (eqb e.lane lane) same
 
 rows-lane : (lane : ℕ) (rows : List Line) → filter (λ c. eqb c.lane lane) (map row_command rows) ≡ map row_command (filter (λ l. eqb l.lane lane) rows)
-rows-lane lane [] = refl
-rows-lane lane (r ∷ rs) = by (eqb r.lane lane) (rows-lane lane rs)
-  where
-    by : (b : Bool) → filter (λ c. eqb c.lane lane) (map row_command rs) ≡ map row_command (filter (λ l. eqb l.lane lane) rs)
-        → cond b (row_command r ∷ filter (λ c. eqb c.lane lane) (map row_command rs)) (filter (λ c. eqb c.lane lane) (map row_command rs)) ≡ map row_command (cond b (r ∷ filter (λ l. eqb l.lane lane) rs) (filter (λ l. eqb l.lane lane) rs))
-    by true same = ap (λ l. row_command r ∷ l) same
-    by false same = same
+rows-lane lane rows = filter-mapped row_command (λ (c : LaneCommand). eqb c.lane lane) rows
 
 -- the entries of another lane have the commands of its rows
 other-commands : (lane : ℕ) (es : List Entry) (rows : List Line) → lane ≢ 0 → commands_of_pass 1 es ≡ map row_command rows → map (λ e. e.command) (of_lane lane es) ≡ in_lane rows lane
@@ -102,19 +73,19 @@ other-commands lane es rows other are =
     ∙ rows-told (filter (λ (l : Line). eqb l.lane lane) rows)
 
 -- rows that went on are plain, and outside lane 0
-rows-plain : (round : ℕ) (rows : List Line) → All (GoesOn round) rows → ArePlain (map (λ l. l.command) rows)
+rows-plain : (round : ℕ) (rows : List Line) → All (GoesOn round) rows → AllByRecursion IsPlain (map (λ l. l.command) rows)
 rows-plain round [] going = tt
 rows-plain round (r ∷ rs) going =
     let here : GoesOn round r = All-head (GoesOn round) r rs going in
     (stands-plain r.lane r.command here.1.0 here.0.stands, rows-plain round rs (All-tail (GoesOn round) r rs going))
 
-lane-plain : (round lane : ℕ) (rows : List Line) → All (GoesOn round) rows → ArePlain (in_lane rows lane)
+lane-plain : (round lane : ℕ) (rows : List Line) → All (GoesOn round) rows → AllByRecursion IsPlain (in_lane rows lane)
 lane-plain round lane [] going = tt
 lane-plain round lane (r ∷ rs) going =
     let here : GoesOn round r = All-head (GoesOn round) r rs going in
     by (eqb r.lane lane) (stands-plain r.lane r.command here.1.0 here.0.stands) (lane-plain round lane rs (All-tail (GoesOn round) r rs going))
   where
-    by : (b : Bool) → IsPlain r.command → ArePlain (in_lane rs lane) → ArePlain (map (λ l. l.command) (cond b (r ∷ filter (λ l. eqb l.lane lane) rs) (filter (λ l. eqb l.lane lane) rs)))
+    by : (b : Bool) → IsPlain r.command → AllByRecursion IsPlain (in_lane rs lane) → AllByRecursion IsPlain (map (λ l. l.command) (cond b (r ∷ filter (λ l. eqb l.lane lane) rs) (filter (λ l. eqb l.lane lane) rs)))
     by true plain more = (plain, more)
     by false plain more = more
 
@@ -132,12 +103,12 @@ zero-rows round (r ∷ rs) going =
     ∙ zero-rows round rs (All-tail (GoesOn round) r rs going)
 
 -- so each entry outside lane 0 is plain
-in-zero : (es : List Entry) → ArePlain (map told (commands_of_pass 1 es)) → EachInZero es
+in-zero : (es : List Entry) → AllByRecursion IsPlain (map told (commands_of_pass 1 es)) → AllByRecursion IsInZero es
 in-zero [] plain = tt
 in-zero (e ∷ es) plain = by (eqb e.lane 0) refl (in-zero es) plain
   where
-    by : (b : Bool) → eqb e.lane 0 ≡ b → (ArePlain (map told (commands_of_pass 1 es)) → EachInZero es)
-        → ArePlain (map told (map entry_command (cond (eqb (cond b 0 1) 1) (e ∷ filter (λ e. eqb (pass_of e.lane) 1) es) (filter (λ e. eqb (pass_of e.lane) 1) es)))) → IsInZero e × EachInZero es
+    by : (b : Bool) → eqb e.lane 0 ≡ b → (AllByRecursion IsPlain (map told (commands_of_pass 1 es)) → AllByRecursion IsInZero es)
+        → AllByRecursion IsPlain (map told (map entry_command (cond (eqb (cond b 0 1) 1) (e ∷ filter (λ e. eqb (pass_of e.lane) 1) es) (filter (λ e. eqb (pass_of e.lane) 1) es)))) → IsInZero e × AllByRecursion IsInZero es
     by true h more plain = (λ other. absurd (other (eqb-true e.lane 0 h)), more plain)
     by false h more plain = (λ other. plain.0, more plain.1)
 
@@ -157,14 +128,14 @@ some_close batch = record { lane = 0; command = Close batch (record { expired = 
 
 module _ (nodes : List ℕ) (wait : ℕ) where
   -- entries of plain commands are a run of them
-  plain-lane : (lane : ℕ) (s : State) (es : List Entry) → RepliesAreSteps nodes wait s es → ArePlain (map (λ e. e.command) (of_lane lane es)) → IsLaneRun (map (λ e. e.command) (of_lane lane es)) (of_lane lane es)
+  plain-lane : (lane : ℕ) (s : State) (es : List Entry) → RepliesAreSteps nodes wait s es → AllByRecursion IsPlain (map (λ e. e.command) (of_lane lane es)) → IsLaneRun (map (λ e. e.command) (of_lane lane es)) (of_lane lane es)
   unfolding RepliesAreSteps
   plain-lane lane s [] replies plain = tt
   plain-lane lane s (e ∷ es) replies plain =
       by (eqb e.lane lane) (λ p. ap sealed_by replies.0 ∙ (plain-quiet nodes wait s e.command p).told) (plain-lane lane (step nodes wait s e.command).0 es replies.1) plain
     where
-      by : (b : Bool) → (IsPlain e.command → sealed_by e.reply ≡ None) → (ArePlain (map (λ e. e.command) (of_lane lane es)) → IsLaneRun (map (λ e. e.command) (of_lane lane es)) (of_lane lane es))
-          → ArePlain (map (λ e. e.command) (cond b (e ∷ of_lane lane es) (of_lane lane es))) → IsLaneRun (map (λ e. e.command) (cond b (e ∷ of_lane lane es) (of_lane lane es))) (cond b (e ∷ of_lane lane es) (of_lane lane es))
+      by : (b : Bool) → (IsPlain e.command → sealed_by e.reply ≡ None) → (AllByRecursion IsPlain (map (λ e. e.command) (of_lane lane es)) → IsLaneRun (map (λ e. e.command) (of_lane lane es)) (of_lane lane es))
+          → AllByRecursion IsPlain (map (λ e. e.command) (cond b (e ∷ of_lane lane es) (of_lane lane es))) → IsLaneRun (map (λ e. e.command) (cond b (e ∷ of_lane lane es) (of_lane lane es))) (cond b (e ∷ of_lane lane es) (of_lane lane es))
       by true quiet more plain = (refl, subst (λ (p : Option ℕ). IsLaneRunFrom p (map (λ e. e.command) (of_lane lane es)) (of_lane lane es)) (sym (quiet plain.0)) (more plain.1))
       by false quiet more plain = more plain
 
@@ -192,8 +163,8 @@ module _ (settings : Settings) (roads : Roads) where
   -- what entries beside an open batch are
   module _ (b : Batch) (s : State) (es : List Entry) (round : ℕ) (run : List Line) (sealed : s.sealed ≡ Some b) (replies : RepliesAreSteps roads.nodes settings.wait s es)
       (going : All (GoesOn round) run) (called : commands_of_pass 1 es ≡ map row_command run) where
-    zeroth : EachInZero es
-    zeroth = in-zero es (subst ArePlain (sym (rows-told run) ∙ ap (map told) (sym called)) (rows-plain round run going))
+    zeroth : AllByRecursion IsInZero es
+    zeroth = in-zero es (subst (AllByRecursion IsPlain) (sym (rows-told run) ∙ ap (map told) (sym called)) (rows-plain round run going))
 
     last : (c : Batch) → s.sealed ≡ Some c → Some b ≡ Some c
     last c is = sym sealed ∙ is
@@ -202,7 +173,7 @@ module _ (settings : Settings) (roads : Roads) where
     batch-others lane other =
         let are : map (λ e. e.command) (of_lane lane es) ≡ in_lane run lane = other-commands lane es run other called in
         subst (λ cs. IsLaneRun cs (of_lane lane es)) are
-        (plain-lane roads.nodes settings.wait lane s es replies (subst ArePlain (sym are) (lane-plain round lane run going)))
+        (plain-lane roads.nodes settings.wait lane s es replies (subst (AllByRecursion IsPlain) (sym are) (lane-plain round lane run going)))
 
     pub batch-closes : (outcome : Outcome) → IsGoodOutcome settings roads b outcome → map (λ e. e.command) (of_lane 0 es) ≡ Close b.number outcome ∷ [] → ClosesAreGood settings roads s es
     batch-closes outcome good are =

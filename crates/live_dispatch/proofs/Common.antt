@@ -6,8 +6,8 @@ pub use Rattle.std.proofs.lemmas.List.{get_or_past, map-append}
 pub use Rattle.std.proofs.lemmas.List.Elements.{All-head, All-nil, All-push, All-same, All-tail, All-weaker, filter-append}
 pub use Rattle.std.specs.Io.KnownBytes.{Appends}
 pub use Rattle.batch_snapshot.specs.Batch.{Batch}
-pub use Rattle.dispatch_engine.proofs.lemmas.LaneLemmas.{closes-join, ends-closed, plain-quiet}
-pub use Rattle.dispatch_engine.proofs.lemmas.RunLemmas.{position-more, run-more, state-more}
+pub use Rattle.dispatch_engine.proofs.lemmas.LaneLemmas.{IsInZero, closes-join, ends-closed, plain-quiet}
+pub use Rattle.dispatch_engine.proofs.lemmas.RunLemmas.{begun-next, filter-mapped, position-more, run-append, run-more, snapshot-known, state-more}
 pub use Rattle.dispatch_engine.proofs.lemmas.StandLemmas.{stands-plain}
 unfoldable pub use Rattle.dispatch_engine.specs.Lane.{ClosesAreGood}
 pub use Rattle.dispatch_engine.specs.Lane.{IsCloseOf, IsGoodClose, IsGoodFor, IsLaneBeginning, IsLaneRun, IsLaneRunFrom, LaneClosesAreGood, of_lane}
@@ -35,7 +35,7 @@ pub use Rattle.request_book.specs.Book.{BookView, IsBook, next_position}
 unfoldable pub use Rattle.request_book.specs.Replay.{RepliesAreSteps, state_after}
 pub use Rattle.request_book.specs.Step.{step}
 pub use Rattle.request_book.specs.declared.command.Command.{Command}
-pub use Rattle.request_book.specs.declared.command.Command.TheVariants.{Cancel, Close, Dropoff, Pickup, Report, Seal, Submit}
+pub use Rattle.request_book.specs.declared.command.Command.TheVariants.{Close, Seal}
 pub use Rattle.request_book.specs.declared.journal.Entry.{Entry}
 pub use Rattle.request_book.specs.declared.journal.Journal.{Journal}
 pub use Rattle.request_book.specs.declared.reply.Reply.{Reply}

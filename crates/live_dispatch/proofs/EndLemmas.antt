@@ -1,5 +1,5 @@
 -- How a run ends.
-use Rattle.std.proofs.Common.{◌≡◌, ℕ, ◌≤◌, Bool, List, ◌∷◌, ◌++◌, Option, Some, Result, Ok, Err, IfOk, IfErr, refl, sym, ap, subst, arith}
+use Rattle.std.proofs.Common.{◌≡◌, ℕ, ◌≤◌, Bool, List, ◌∷◌, ◌++◌, Option, Some, Result, Ok, Err, refl, sym, ap, subst, arith}
 use Rattle.live_dispatch.proofs.Common.{Appends-trans, Batch, position_after_run, end_text, SinkView, WritesText, ReportFault, AreRows, BeginWithRows, FaultsFrom, TakesRun, all-begin, Halt, IsPassedOn, Outputs, Rose, BookView, next_position, Settings, Roads, Line, rounds_of, BeginsRows, journals_text, LiveFault, HasCut, HasEnded, HasRunOn, HaveCome, Moment, Opens, Stands, ended_by, of_report, outputs_of, row_text}
 use Rattle.live_dispatch.proofs.StandLemmas.{begins-here, begins-last}
 use Rattle.live_dispatch.proofs.StepLemmas.{batch-begins, batch-stands, lines-behind, row-begins}
@@ -7,14 +7,6 @@ use Rattle.live_dispatch.proofs.WriteLemmas.{whole-some}
 use Rattle.dispatch_report.specs.declared.fault.ReportFault.TheVariants as report
 use Rattle.live_batch.specs.declared.read_on.Halt.TheVariants as stop
 use Rattle.live_dispatch.specs.declared.fault.LiveFault.TheVariants as live
-
-pub if-ok : {T E : Type 0} (P Q : T → Type 0) (r : Result T E) → ((x : T) → P x → Q x) → IfOk r P → IfOk r Q
-if-ok P Q (Ok x) more p = more x p
-if-ok P Q (Err e) more p = p
-
-pub if-err : {T E : Type 0} (P Q : E → Type 0) (r : Result T E) → ((x : E) → P x → Q x) → IfErr r P → IfErr r Q
-if-err P Q (Ok x) more p = p
-if-err P Q (Err e) more p = more e p
 
 faults-kept : (end : Halt) (row : Line) (before now : ℕ) → end ≡ stop.Held row → FaultsFrom end before now → before ≤ now
 faults-kept end row before now is from = subst (λ e. FaultsFrom e before now) is from

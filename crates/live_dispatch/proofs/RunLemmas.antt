@@ -1,21 +1,10 @@
 -- A run of the rounds of rows, with some more rows of one round and the entries that they gave.
-use Rattle.std.proofs.Common.{◌≡◌, ℕ, ◌<◌, ◌^◌, Bool, List, [], ◌∷◌, ◌++◌, map, Option, None, Some, codes, refl, sym, ap, subst, ◌∙◌, append_assoc, append-nil}
-use Rattle.live_dispatch.proofs.Common.{map-append, filter-append, of_lane, IsLaneRunFrom, IsLaneRun, IsLaneBeginning, ClosesAreGood, IsRoundRun, IsRun, position_after_run, state_after_run, position-more, state-more, lines_text, entries_lines, round_line, round_text, numbered, next_position, state_after, RepliesAreSteps, step, Command, Entry, Journal, State, Settings, notices_from, Notice, Roads, NumberedLanes, lane_at, round_of, Line, rounds_of, sealed_by, ButLast, IsBegunRun, IsRoundBeginning, journals_notices, journals_text, EndsIn, in_lane, start_text, entries-append, lines-append, next-append, next-low, notices-append, state-append}
+use Rattle.std.proofs.Common.{◌≡◌, ℕ, ◌<◌, ◌^◌, Bool, List, [], ◌∷◌, ◌++◌, map, Option, None, codes, refl, sym, ap, subst, ◌∙◌, append_assoc, append-nil}
+use Rattle.live_dispatch.proofs.Common.{begun-next, run-append, map-append, filter-append, of_lane, IsLaneRun, IsLaneBeginning, ClosesAreGood, IsRoundRun, IsRun, position_after_run, state_after_run, position-more, state-more, lines_text, entries_lines, round_line, round_text, numbered, next_position, state_after, RepliesAreSteps, step, Entry, Journal, State, Settings, notices_from, Notice, Roads, NumberedLanes, lane_at, round_of, Line, rounds_of, ButLast, IsBegunRun, IsRoundBeginning, journals_notices, journals_text, EndsIn, in_lane, start_text, entries-append, lines-append, next-append, next-low, notices-append, state-append}
 use Rattle.std.proofs.lemmas.Grind.{flat_map-append}
 use Rattle.live_dispatch.proofs.RowLemmas.{AreOf, RoundsGrow, lane-grows}
 
--- a lane's run, and one more
-pub lane-append : (pending : Option ℕ) (cs ds : List Command) (es fs : List Entry) → IsLaneRunFrom pending cs es → IsLaneRun ds fs → IsLaneRunFrom pending (cs ++ ds) (es ++ fs)
-lane-append None [] ds [] fs p q = q
-lane-append None [] ds (e ∷ es) fs p q = absurd p
-lane-append None (c ∷ cs) ds [] fs p q = absurd p
-lane-append None (c ∷ cs) ds (e ∷ es) fs p q = (p.0, lane-append (sealed_by e.reply) cs ds es fs p.1 q)
-lane-append (Some batch) cs ds [] fs p q = absurd p
-lane-append (Some batch) cs ds (e ∷ es) fs p q = (p.0, lane-append None cs ds es fs p.1 q)
-
-lane-begins : (cs ds : List Command) (es fs : List Entry) → IsLaneRun cs es → IsLaneBeginning ds fs → IsLaneBeginning (cs ++ ds) (es ++ fs)
-lane-begins cs ds es fs p q = (q.0, subst (IsLaneRun (cs ++ ds)) (sym (append_assoc es fs q.0)) (lane-append None cs ds es (fs ++ q.0) p q.1))
-
+-- a lane's entries
 lane-entries : (lane : ℕ) (xs ys : List Entry) → of_lane lane (xs ++ ys) ≡ of_lane lane xs ++ of_lane lane ys
 lane-entries lane xs ys = filter-append _ xs ys
 
@@ -61,19 +50,17 @@ module _ (settings : Settings) (roads : Roads) where
   text-push : (s : State) (p : ℕ) (rs : List NumberedLanes) (js : List Journal) (r : NumberedLanes) (j : Journal) → IsRun settings roads s p rs js
       → journals_text settings.proof (rs ++ r ∷ []) (js ++ j ∷ []) ≡ journals_text settings.proof rs js ++ round_text r.number settings.proof j
   text-push s p [] [] r j run = append-nil (round_text r.number settings.proof j)
-  text-push s p [] (k ∷ js) r j run = absurd run
-  text-push s p (q ∷ rs) [] r j run = absurd run
   text-push s p (q ∷ rs) (k ∷ js) r j run =
       ap (λ t. round_text q.number settings.proof k ++ t) (text-push (state_after roads.nodes settings.wait s k.entries) (next_position p k.entries) rs js r j run.3)
       ∙ sym (append_assoc (round_text q.number settings.proof k) (journals_text settings.proof rs js) (round_text r.number settings.proof j))
+  text-push s p _ _ r j run = absurd run
 
   -- a round without a journal has no text
   text-short : (s : State) (p : ℕ) (rs : List NumberedLanes) (js : List Journal) (r : NumberedLanes) → IsRun settings roads s p rs js → journals_text settings.proof (rs ++ r ∷ []) js ≡ journals_text settings.proof rs js
   text-short s p [] [] r run = refl
-  text-short s p [] (k ∷ js) r run = absurd run
-  text-short s p (q ∷ rs) [] r run = absurd run
   text-short s p (q ∷ rs) (k ∷ js) r run =
       ap (λ t. round_text q.number settings.proof k ++ t) (text-short (state_after roads.nodes settings.wait s k.entries) (next_position p k.entries) rs js r run.3)
+  text-short s p _ _ r run = absurd run
 
   -- the notices of a journal from its base
   abbrev own_notices : Journal → List Notice
@@ -167,7 +154,7 @@ module _ (settings : Settings) (roads : Roads) where
             lanes = λ lane.
                 subst (λ cs. IsLaneRun cs (of_lane lane (j.entries ++ es))) (sym (lane-grows lines rows number lane are))
                 (subst (IsLaneRun (lane_at own lane ++ in_lane rows lane)) (sym (lane-entries lane j.entries es))
-                (lane-append None (lane_at own lane) (in_lane rows lane) (of_lane lane j.entries) (of_lane lane es) (is.lanes lane) (lanes lane)));
+                (run-append None (lane_at own lane) (in_lane rows lane) (of_lane lane j.entries) (of_lane lane es) (is.lanes lane) (lanes lane)));
           };
           begun = λ lanes. record {
             replies = all_replies;
@@ -175,7 +162,7 @@ module _ (settings : Settings) (roads : Roads) where
             lanes = λ lane.
                 subst (λ cs. IsLaneBeginning cs (of_lane lane (j.entries ++ es))) (sym (lane-grows lines rows number lane are))
                 (subst (IsLaneBeginning (lane_at own lane ++ in_lane rows lane)) (sym (lane-entries lane j.entries es))
-                (lane-begins (lane_at own lane) (in_lane rows lane) (of_lane lane j.entries) (of_lane lane es) (is.lanes lane) (lanes lane)));
+                (begun-next (lane_at own lane) (in_lane rows lane) (of_lane lane j.entries) (of_lane lane es) (is.lanes lane) (lanes lane)));
           };
           text = λ fs.
               let more : List ℕ = lines_text (entries_lines settings.proof (next_position j.first j.entries) fs) in

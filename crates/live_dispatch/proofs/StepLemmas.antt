@@ -1,15 +1,10 @@
 -- What stands after a row, and after an open batch.
-use Rattle.std.proofs.Common.{◌≡◌, ◌≢◌, ℕ, ◌<◌, ◌≤◌, Bool, true, false, cond, eqb, List, [], ◌∷◌, ◌++◌, get_or, length, map, take, Option, None, Some, refl, sym, ap, subst, ◌∙◌, append_assoc, append-nil, arith, All, Contains, option_map}
-use Rattle.live_dispatch.proofs.Common.{Appends, Appends-trans, Batch, of_lane, IsLaneRunFrom, IsLaneRun, IsLaneBeginning, ClosesAreGood, IsReady, ends-closed, stands-plain, lines_text, entries_lines, entry_text, ReportFault, BeginWithRows, ClosesBatch, TakesRun, commands_of_pass, desk_after, runs-begin, runs-more, takes-start, Halt, IsPassedOn, Outputs, desk_of, desk_root, entries_text, notices_in, text_of, LaneCommand, TakesRows, BookView, next_position, state_after, RepliesAreSteps, step, Command, Submit, Cancel, Report, Pickup, Dropoff, Seal, Close, Entry, Reply, State, Settings, notices_from, HaveHeard, Notice, all-heard-nothing, Roads, IsBehind, MayStand, Line, is_light, sealed_by, step-seals, BeginsRows, in_lane, last_of, start_text, AppendsSome, HasRunOn, HasTaken, HaveCome, Moment, Stands, entry_for, outputs_of, row_text, entries-append, next-append, next-low, one-text}
-use Rattle.std.proofs.lemmas.Bool.{eqb-true}
-use Rattle.std.proofs.lemmas.Map.Views.{Contains-from_any}
-use Rattle.batch_snapshot.specs.Points.{named_nodes}
+use Rattle.std.proofs.Common.{◌≡◌, ◌≢◌, ℕ, ◌<◌, ◌≤◌, Bool, true, false, cond, eqb, List, [], ◌∷◌, ◌++◌, length, map, take, Option, None, Some, refl, sym, ap, subst, ◌∙◌, append_assoc, append-nil, arith, option_map}
+use Rattle.live_dispatch.proofs.Common.{Appends, Appends-trans, Batch, of_lane, IsLaneRunFrom, IsLaneRun, IsLaneBeginning, ClosesAreGood, IsReady, ends-closed, stands-plain, lines_text, entries_lines, entry_text, ReportFault, BeginWithRows, ClosesBatch, TakesRun, commands_of_pass, desk_after, runs-begin, runs-more, takes-start, Halt, IsPassedOn, Outputs, desk_of, desk_root, entries_text, notices_in, text_of, LaneCommand, TakesRows, BookView, next_position, state_after, RepliesAreSteps, step, Command, Seal, Close, Entry, Reply, State, Settings, notices_from, HaveHeard, Notice, all-heard-nothing, Roads, IsBehind, MayStand, Line, is_light, sealed_by, step-seals, BeginsRows, in_lane, last_of, start_text, AppendsSome, HasRunOn, HasTaken, HaveCome, Moment, Stands, entry_for, outputs_of, row_text, entries-append, next-append, next-low, one-text}
 use Rattle.live_desk.specs.declared.desk.DeskRoot.{DeskRoot}
-use Rattle.request_book.specs.Consistent.{IsNode}
 use Rattle.live_dispatch.proofs.BatchLemmas.{batch-begun, batch-closes, batch-ended, batch-lanes, batch-others, batch-unclosed, close-run, none-left, row-lanes, rows-of, some_close, stands-good, stands-silent, told, zero-commands}
 use Rattle.live_dispatch.proofs.StandLemmas.{Gives, begins-broken, begins-one, begins-whole, stands-after}
 use Rattle.live_dispatch.proofs.WriteLemmas.{some-part, some-whole}
-use Rattle.live_batch.specs.declared.read_on.Halt.TheVariants as stop
 
 -- a row's entry begins its lane's run, or is one with a close
 row-begun : (row : Line) (reply : Reply) (lane : ℕ) → IsLaneBeginning (in_lane (row ∷ []) lane) (of_lane lane ((record { lane = row.lane; command = row.command; reply = reply }) ∷ []))
@@ -23,18 +18,7 @@ row-begun row reply lane = by (eqb row.lane lane) (sealed_by reply) refl
     by true (Some batch) is = (some_close batch ∷ [], (refl, subst (λ (p : Option ℕ). IsLaneRunFrom p [] (some_close batch ∷ [])) (sym is) (refl, tt)))
     by false o is = ([], tt)
 
-none-number : (o : Option Batch) (p : Option ℕ) → option_map (λ (b : Batch). b.number) o ≡ p → o ≡ None → p ≡ None
-none-number o p is none = sym is ∙ ap (option_map (λ (b : Batch). b.number)) none
-
 module _ (settings : Settings) (roads : Roads) where
-  -- the nodes of a batch that is sealed are on the roads
-  pub sealed-known : (old new : BookView) (lane : ℕ) (command : Command) (b : Batch) → HasTaken old lane command (Some b) new → old.nodes ≡ roads.nodes → All (λ node. Contains roads.nodes node) (named_nodes b)
-  sealed-known old new lane command b taken is = λ k d within.
-      found (get_or (named_nodes b) k d) (subst (λ (ns : List ℕ). IsNode ns (get_or (named_nodes b) k d)) is (taken.fits.named b refl k d within))
-    where
-      found : (node : ℕ) → IsNode roads.nodes node → Contains roads.nodes node
-      found node is = Contains-from_any {eq = λ q n. eqb n q} (λ x y same. sym (eqb-true y x same)) node roads.nodes is
-
   -- the step of a book that is over these roads
   step-is : (b : BookView) (command : Command) → IsReady settings roads b → step b.nodes b.wait b.state command ≡ step roads.nodes settings.wait b.state command
   step-is b command ready = (λ i. step (ready.nodes i) (ready.wait i) b.state command)
@@ -250,11 +234,7 @@ module _ (settings : Settings) (roads : Roads) where
         in_zero : (command : Command) → MayStand row.lane command → is_light command ≡ false → row.lane ≡ 0
         in_zero (Seal now) stands light = stands
         in_zero (Close batch outcome) stands light = absurd stands
-        in_zero (Submit rider origin destination time party) stands light = absurd cc
-        in_zero (Cancel rider) stands light = absurd cc
-        in_zero (Report vehicle node time) stands light = absurd cc
-        in_zero (Pickup vehicle rider time) stands light = absurd cc
-        in_zero (Dropoff vehicle rider time) stands light = absurd cc
+        in_zero _ stands light = absurd cc
 
     others : (lane : ℕ) → lane ≢ 0 → IsLaneRun (in_lane run lane) (of_lane lane es)
     others = batch-others settings roads b opened es round run stands-sealed replies on.ran.rows.going on.ran.rows.called

@@ -1,5 +1,5 @@
 //! A batch from its seal to its close.
-ghost use Rattle.std.specs.Prelude.{◌≡◌, ℕ, All, Contains, IfOk, IfErr};
+ghost use Rattle.std.specs.Prelude.{◌≡◌, ℕ, All, Contains, IfOk, MatchResult};
 ghost use Rattle.batch_snapshot.specs.Batch.{Batch};
 ghost use Rattle.batch_snapshot.specs.Points.{named_nodes};
 ghost use Rattle.live_batch.specs.Phase.{FaultsFrom, IsHeldBack};
@@ -47,14 +47,11 @@ pub(crate) fn run_batch<
     requires proof { run.proof ≡ setup.now.settings.now.proof }
     requires last { L.last run.rows ≡ round }
     requires nodes { All (λ node. Contains setup.now.network.now.nodes node) (named_nodes snapshot.now) }
-    ensures goes_on { let sealed = moment run.book run.round (L.to_come run.rows) (L.faults run.rows) (outputs_seen K.written K.faults N.told N.faults N.steady run.sink run.notifiers.items) in
-        IfOk result (λ r. (start : Moment) (row : Line) → row.round ≡ round → Opens setup.now.settings.now setup.now.network.now start row snapshot.entry.now sealed
-        → let now = moment r.0.book r.0.round (L.to_come r.0.rows) (L.faults r.0.rows) (outputs_seen K.written K.faults N.told N.faults N.steady r.0.sink r.0.notifiers.items) in
-        Stands setup.now.settings.now setup.now.network.now start now (HaveCome start now r.1)) }
     ensures awaits { IfOk result (λ r. Awaits (last_of r.0.round) (L.last r.0.rows) r.1 × (r.0.proof ≡ setup.now.settings.now.proof)) }
-    ensures ended { let sealed = moment run.book run.round (L.to_come run.rows) (L.faults run.rows) (outputs_seen K.written K.faults N.told N.faults N.steady run.sink run.notifiers.items) in
-        IfErr result (λ d. (start : Moment) (row : Line) → row.round ≡ round → Opens setup.now.settings.now setup.now.network.now start row snapshot.entry.now sealed
-        → HasEnded setup.now.settings.now setup.now.network.now start (L.faults d.rows) (outputs_seen K.written K.faults N.told N.faults N.steady d.sink d.notifiers.items) d.ended) }
+    ensures went { let sealed = moment run.book run.round (L.to_come run.rows) (L.faults run.rows) (outputs_seen K.written K.faults N.told N.faults N.steady run.sink run.notifiers.items) in
+        (start : Moment) (row : Line) → row.round ≡ round → Opens setup.now.settings.now setup.now.network.now start row snapshot.entry.now sealed → MatchResult result
+        (λ r. let now = moment r.0.book r.0.round (L.to_come r.0.rows) (L.faults r.0.rows) (outputs_seen K.written K.faults N.told N.faults N.steady r.0.sink r.0.notifiers.items) in Stands setup.now.settings.now setup.now.network.now start now (HaveCome start now r.1))
+        (λ d. HasEnded setup.now.settings.now setup.now.network.now start (L.faults d.rows) (outputs_seen K.written K.faults N.told N.faults N.steady d.sink d.notifiers.items) d.ended) }
 {
     let LiveRun {
         book,
@@ -110,16 +107,12 @@ fn after_batch<K: Sink, N: Notifier, L: RowSource, W: Ways, D: Drafter, G: Gate>
     setup: &Setup<'_, W, D, G>,
 ) -> Result<(LiveRun<K, N, L>, Option<Line>), Dispatched<K, N, L>>
     requires held { IsHeldBack round (L.last opened.lines) opened.stop }
-    ensures goes_on { let outputs = outputs_seen K.written K.faults N.told N.faults N.steady opened.sink opened.notifiers.items in
-        IfOk result (λ r. (start : Moment) (b : Batch) (reads : ℕ) → FaultsFrom opened.stop reads (L.faults opened.lines)
-        → HasRunOn setup.now.settings.now setup.now.network.now start b round opened.book (L.to_come opened.lines) outputs opened.closed opened.stop opened.fault reads
-        → let now = moment r.0.book r.0.round (L.to_come r.0.rows) (L.faults r.0.rows) (outputs_seen K.written K.faults N.told N.faults N.steady r.0.sink r.0.notifiers.items) in
-        Stands setup.now.settings.now setup.now.network.now start now (HaveCome start now r.1)) }
     ensures awaits { IfOk result (λ r. Awaits (last_of r.0.round) (L.last r.0.rows) r.1 × (r.0.proof ≡ setup.now.settings.now.proof)) }
-    ensures ended { let outputs = outputs_seen K.written K.faults N.told N.faults N.steady opened.sink opened.notifiers.items in
-        IfErr result (λ d. (start : Moment) (b : Batch) (reads : ℕ) → FaultsFrom opened.stop reads (L.faults opened.lines)
-        → HasRunOn setup.now.settings.now setup.now.network.now start b round opened.book (L.to_come opened.lines) outputs opened.closed opened.stop opened.fault reads
-        → HasEnded setup.now.settings.now setup.now.network.now start (L.faults d.rows) (outputs_seen K.written K.faults N.told N.faults N.steady d.sink d.notifiers.items) d.ended) }
+    ensures went { let outputs = outputs_seen K.written K.faults N.told N.faults N.steady opened.sink opened.notifiers.items in
+        (start : Moment) (b : Batch) (reads : ℕ) → FaultsFrom opened.stop reads (L.faults opened.lines)
+        → HasRunOn setup.now.settings.now setup.now.network.now start b round opened.book (L.to_come opened.lines) outputs opened.closed opened.stop opened.fault reads → MatchResult result
+        (λ r. let now = moment r.0.book r.0.round (L.to_come r.0.rows) (L.faults r.0.rows) (outputs_seen K.written K.faults N.told N.faults N.steady r.0.sink r.0.notifiers.items) in Stands setup.now.settings.now setup.now.network.now start now (HaveCome start now r.1))
+        (λ d. HasEnded setup.now.settings.now setup.now.network.now start (L.faults d.rows) (outputs_seen K.written K.faults N.told N.faults N.steady d.sink d.notifiers.items) d.ended) }
 {
     let Opened {
         book,

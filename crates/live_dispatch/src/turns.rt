@@ -1,5 +1,5 @@
 //! Rows, one by one, with the batches that they seal.
-ghost use Rattle.std.specs.Prelude.{◌≡◌, ℕ, List, ◌<◌, ◌≤◌, ◌^◌, [], MatchResult, IfOk, IfErr, Some};
+ghost use Rattle.std.specs.Prelude.{◌≡◌, ℕ, List, ◌<◌, ◌≤◌, ◌^◌, [], MatchResult, IfOk, Some};
 ghost use Rattle.std.specs.Result.{IsErrOf};
 ghost use Rattle.pool_io.specs.Faults.{Rose};
 ghost use Rattle.dispatch_engine.specs.Run.{IsReady};
@@ -107,14 +107,11 @@ fn run_next<
 ) -> Result<(LiveRun<K, N, L>, Option<Line>), Dispatched<K, N, L>>
     requires ready { IsReady setup.now.settings.now setup.now.network.now run.book }
     requires awaits { Awaits (last_of run.round) (L.last run.rows) held × (run.proof ≡ setup.now.settings.now.proof) }
-    ensures goes_on { let was = moment run.book run.round (L.to_come run.rows) (L.faults run.rows) (outputs_seen K.written K.faults N.told N.faults N.steady run.sink run.notifiers.items) in
-        IfOk result (λ r. (start : Moment) → Stands setup.now.settings.now setup.now.network.now start was (HaveCome start was held)
-        → let now = moment r.0.book r.0.round (L.to_come r.0.rows) (L.faults r.0.rows) (outputs_seen K.written K.faults N.told N.faults N.steady r.0.sink r.0.notifiers.items) in
-        Stands setup.now.settings.now setup.now.network.now start now (HaveCome start now r.1)) }
     ensures awaits { IfOk result (λ r. Awaits (last_of r.0.round) (L.last r.0.rows) r.1 × (r.0.proof ≡ setup.now.settings.now.proof)) }
-    ensures ended { let was = moment run.book run.round (L.to_come run.rows) (L.faults run.rows) (outputs_seen K.written K.faults N.told N.faults N.steady run.sink run.notifiers.items) in
-        IfErr result (λ d. (start : Moment) → Stands setup.now.settings.now setup.now.network.now start was (HaveCome start was held)
-        → HasEnded setup.now.settings.now setup.now.network.now start (L.faults d.rows) (outputs_seen K.written K.faults N.told N.faults N.steady d.sink d.notifiers.items) d.ended) }
+    ensures went { let was = moment run.book run.round (L.to_come run.rows) (L.faults run.rows) (outputs_seen K.written K.faults N.told N.faults N.steady run.sink run.notifiers.items) in
+        (start : Moment) → Stands setup.now.settings.now setup.now.network.now start was (HaveCome start was held) → MatchResult result
+        (λ r. let now = moment r.0.book r.0.round (L.to_come r.0.rows) (L.faults r.0.rows) (outputs_seen K.written K.faults N.told N.faults N.steady r.0.sink r.0.notifiers.items) in Stands setup.now.settings.now setup.now.network.now start now (HaveCome start now r.1))
+        (λ d. HasEnded setup.now.settings.now setup.now.network.now start (L.faults d.rows) (outputs_seen K.written K.faults N.told N.faults N.steady d.sink d.notifiers.items) d.ended) }
 {
     let mut run = run;
     match next_row(&mut run.rows, held) {
@@ -154,14 +151,11 @@ fn run_one<
 ) -> Result<(LiveRun<K, N, L>, Option<Line>), Dispatched<K, N, L>>
     requires ready { IsReady setup.now.settings.now setup.now.network.now run.book }
     requires behind { IsBehind (last_of run.round) row × (L.last run.rows ≡ row.round) × (run.proof ≡ setup.now.settings.now.proof) }
-    ensures goes_on { let was = moment run.book run.round (L.to_come run.rows) (L.faults run.rows) (outputs_seen K.written K.faults N.told N.faults N.steady run.sink run.notifiers.items) in
-        IfOk result (λ r. (start : Moment) → Stands setup.now.settings.now setup.now.network.now start was (HaveCome start was (Some row))
-        → let now = moment r.0.book r.0.round (L.to_come r.0.rows) (L.faults r.0.rows) (outputs_seen K.written K.faults N.told N.faults N.steady r.0.sink r.0.notifiers.items) in
-        Stands setup.now.settings.now setup.now.network.now start now (HaveCome start now r.1)) }
     ensures awaits { IfOk result (λ r. Awaits (last_of r.0.round) (L.last r.0.rows) r.1 × (r.0.proof ≡ setup.now.settings.now.proof)) }
-    ensures ended { let was = moment run.book run.round (L.to_come run.rows) (L.faults run.rows) (outputs_seen K.written K.faults N.told N.faults N.steady run.sink run.notifiers.items) in
-        IfErr result (λ d. (start : Moment) → Stands setup.now.settings.now setup.now.network.now start was (HaveCome start was (Some row))
-        → HasEnded setup.now.settings.now setup.now.network.now start (L.faults d.rows) (outputs_seen K.written K.faults N.told N.faults N.steady d.sink d.notifiers.items) d.ended) }
+    ensures went { let was = moment run.book run.round (L.to_come run.rows) (L.faults run.rows) (outputs_seen K.written K.faults N.told N.faults N.steady run.sink run.notifiers.items) in
+        (start : Moment) → Stands setup.now.settings.now setup.now.network.now start was (HaveCome start was (Some row)) → MatchResult result
+        (λ r. let now = moment r.0.book r.0.round (L.to_come r.0.rows) (L.faults r.0.rows) (outputs_seen K.written K.faults N.told N.faults N.steady r.0.sink r.0.notifiers.items) in Stands setup.now.settings.now setup.now.network.now start now (HaveCome start now r.1))
+        (λ d. HasEnded setup.now.settings.now setup.now.network.now start (L.faults d.rows) (outputs_seen K.written K.faults N.told N.faults N.steady d.sink d.notifiers.items) d.ended) }
 {
     let mut run = run;
     let round = row.round;

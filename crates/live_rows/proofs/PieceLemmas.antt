@@ -1,12 +1,12 @@
 -- A line that is read piece by piece.
-use Rattle.std.proofs.Common.{◌≡◌, ℕ, ◌+◌, ◌-◌, ◌<◌, ◌≤◌, true, false, List, [], ◌∷◌, ◌++◌, Option, None, Some, length, get_or, take, drop, map, refl, sym, ap, subst, ◌∙◌, append_assoc, append-nil, arith, inl, inr, length-take, length-drop, nat_lt, min}
+use Rattle.std.proofs.Common.{◌≡◌, ℕ, ◌+◌, ◌-◌, ◌<◌, ◌≤◌, true, false, List, [], ◌∷◌, ◌++◌, Option, None, Some, length, get_or, take, drop, map, sym, ap, subst, ◌∙◌, append_assoc, append-nil, arith, inl, inr, length-take, length-drop, nat_lt, min}
 use Rattle.std.specs.Io.KnownBytes.{prepend_known, Consumes, IsAtEnd, Keeps}
 use Rattle.std.proofs.KnownBytes.{Consumes-kept, Consumes-trans}
 use Rattle.std.proofs.lemmas.Bool.{cases_Bool}
 use Rattle.std.proofs.lemmas.Bool.Decides.{nat_tests}
 use Rattle.std.proofs.lemmas.List.{drop-drop, drop-take, drop_more, take-append-drop, take-append-le, take-take, take_all, take_min}
 use Rattle.std.proofs.Math.Seq.{take-append-add}
-use Rattle.std.proofs.lemmas.List.Elements.{All-append, All-nil}
+use Rattle.std.proofs.lemmas.List.Elements.{All-append}
 use Rattle.std.proofs.lemmas.List.Splits.{slice_split_at, slice_split_none}
 use Rattle.live_rows.specs.Lines.{bytes_to_come, ends_line, front_of, lines_in, TakesLine}
 use Rattle.live_rows.specs.work.Pieces.{EndsNoLine, HasTaken, TakesPiece}
@@ -65,11 +65,6 @@ piece-inner left buffer at filled end before after whole within none front =
     let rest : drop end ahead ≡ take (filled - (at + end)) (drop (at + end) buffer) = at-hand buffer at filled end (omega (arith, whole)) in
     let split : ahead ≡ take end ahead ++ take (filled - (at + end)) (drop (at + end) buffer) = sym (take-append-drop end ahead) ∙ ap (λ l. take end ahead ++ l) rest in
     TakesPiece.inner (take end ahead) none front (consumes-front left ahead _ _ split)
-
--- nothing yet
-pub taken-none : (now : Option (List ℕ)) (line : List ℕ) → line ≡ [] → HasTaken now now line
-taken-none None line none = record { gone = []; inside = All-nil (λ b. ends_line b ≡ false); front = none; took = tt }
-taken-none (Some xs) line none = record { gone = []; inside = All-nil (λ b. ends_line b ≡ false); front = none; took = refl }
 
 -- the same bytes to come
 pub taken-kept : (old now next : Option (List ℕ)) (line : List ℕ) → HasTaken old now line → Keeps now next → HasTaken old next line

@@ -1,15 +1,11 @@
-use Rattle.std.proofs.Common.{◌≡◌, ℕ, ◌+◌, List, [], ◌∷◌, ◌++◌, refl, sym, ap, subst, ◌∙◌}
-use Rattle.load_maker.proofs.Common.{Stream, Field, csv_line, csv_lines, nothing, Part, plain, both, each, Writes}
+use Rattle.std.proofs.Common.{◌≡◌, ℕ, ◌+◌, List, [], ◌∷◌, ◌++◌, refl, sym, ap, ◌∙◌}
+use Rattle.load_maker.proofs.Common.{Stream, Field, csv_line, csv_lines, Part, plain, both, Writes}
 use Rattle.std.proofs.lemmas.List.{append-nil, append_assoc}
 use Rattle.std.proofs.lemmas.List.Concat.{flat_map-append}
 
 -- the text of one row
 pub one_row : (row : List Field) → csv_line row ≡ csv_lines (row ∷ [])
 one_row row = sym (append-nil (csv_line row))
-
--- no part was written
-pub Writes-nothing : (text : List ℕ) (s : Stream) → Writes nothing text text s s
-Writes-nothing text s = record { text = sym (append-nil text); left = refl }
 
 -- a row was written without a draw
 pub Writes-plain : (row : List Field) (old new : List ℕ) (s : Stream) → new ≡ old ++ csv_line row → Writes (plain (row ∷ [])) old new s s
@@ -24,11 +20,3 @@ Writes-both first second old mid new s t u here rest = record {
       ∙ ap (λ (x : List ℕ). old ++ x) (sym (flat_map-append csv_line (first s).0 (second (first s).1).0));
   left = rest.left ∙ ap (λ (v : Stream). (second v).1) here.left;
 }
-
--- a part that was written, under another name
-pub Writes-same : (part other : Part) (old new : List ℕ) (s t : Stream) → part ≡ other → Writes part old new s t → Writes other old new s t
-Writes-same part other old new s t is writes = subst (λ p. Writes p old new s t) is writes
-
--- as many parts were written as there are
-pub Writes-each_all : (parts : ℕ → Part) (n count : ℕ) (old new : List ℕ) (s t : Stream) → n ≡ count → Writes (each parts n) old new s t → Writes (each parts count) old new s t
-Writes-each_all parts n count old new s t is writes = subst (λ k. Writes (each parts k) old new s t) is writes

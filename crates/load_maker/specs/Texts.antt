@@ -23,13 +23,6 @@ arcs_between a b s =
     let time = draw 41 s in
     ((Number a ∷ Number b ∷ Number (20 + time.0) ∷ []) ∷ (Number b ∷ Number a ∷ Number (20 + time.0) ∷ []) ∷ [], time.1)
 
--- the arcs between a node and the next of its row, and the next of its column
-abbrev pub arcs_of_node : ℕ → ℕ → ℕ → Part
-arcs_of_node side i j =
-    both
-    (if nat_lt (j + 1) side then arcs_between (node_id side i j) (node_id side i (j + 1)) else plain [])
-    (if nat_lt (i + 1) side then arcs_between (node_id side i j) (node_id side (i + 1) j) else plain [])
-
 -- a vehicle of four seats at a drawn node
 unfoldable pub vehicle_row : LoadShape → ℕ → Part
 vehicle_row shape v s =
@@ -66,10 +59,13 @@ pub record Texts : Type 0 where
   pub script : List ℕ
 
 -- the texts of a made workload, by the draws of a SplitMix64 generator with its seed, in this order: the arcs of the
--- square, row by row; the vehicles, from 1; the batches
+-- square, row by row, from each node to the next of its row and to the next of its column; the vehicles, from 1; the batches
 unfoldable pub texts_of : LoadShape → Texts
 texts_of shape =
-    let network = each (λ i. each (arcs_of_node shape.side i) shape.side) shape.side (stream_of splitmix_steps shape.seed) in
+    let side = shape.side in
+    let right : ℕ → ℕ → Part = λ i j. if nat_lt (j + 1) side then arcs_between (node_id side i j) (node_id side i (j + 1)) else plain [] in
+    let down : ℕ → ℕ → Part = λ i j. if nat_lt (i + 1) side then arcs_between (node_id side i j) (node_id side (i + 1) j) else plain [] in
+    let network = each (λ i. each (λ j. both (right i j) (down i j)) side) side (stream_of splitmix_steps shape.seed) in
     let fleet = each (λ n. vehicle_row shape (n + 1)) shape.vehicles network.1 in
     let script = each (batch_rows shape) shape.rounds fleet.1 in
     record { network = text_under network_header network.0; fleet = text_under fleet_header fleet.0; script = text_under script_header script.0 }

@@ -9,6 +9,7 @@ use pool_base::OutOfMemory;
 use rand_xoshiro::SplitMix64;
 use rider_limits::LoadShape;
 
+#[tactic(auto, unfolding(crate::specs::Texts::vehicle_row))]
 fn put_vehicle(
     text: &mut Vec<u8>,
     rng: &mut SplitMix64,
@@ -26,10 +27,12 @@ fn put_vehicle(
             Field::Number(node),
             Field::Number(0),
         ],
-    )
+    )?;
+    Ok(())
 }
 
 /// The vehicles.
+#[tactic(auto, unfolding(crate::specs::lemmas::Parts::fleet_part))]
 pub(crate) fn put_fleet(
     text: &mut Vec<u8>,
     rng: &mut SplitMix64,

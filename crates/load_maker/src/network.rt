@@ -20,6 +20,7 @@ fn node_id(side: u64, i: u64, j: u64) -> u64
 }
 
 /// Two arcs of one drawn time, there and back.
+#[tactic(auto, unfolding(crate::specs::Texts::arcs_between))]
 fn put_arcs(text: &mut Vec<u8>, rng: &mut SplitMix64, a: u64, b: u64) -> Result<(), OutOfMemory>
     ensures { OnOk result (Writes (arcs_between a b) text.old.items text.new.items (draws_of rng.old) (draws_of rng.new)) }
 {
@@ -31,9 +32,11 @@ fn put_arcs(text: &mut Vec<u8>, rng: &mut SplitMix64, a: u64, b: u64) -> Result<
     put_row(
         text,
         &[Field::Number(b), Field::Number(a), Field::Number(seconds)],
-    )
+    )?;
+    Ok(())
 }
 
+#[tactic(auto, unfolding(crate::specs::lemmas::Parts::arcs_right))]
 fn put_right(
     text: &mut Vec<u8>,
     rng: &mut SplitMix64,
@@ -47,11 +50,13 @@ fn put_right(
     ensures { OnOk result (Writes (arcs_right side i j) text.old.items text.new.items (draws_of rng.old) (draws_of rng.new)) }
 {
     if j + 1 < side {
-        return put_arcs(text, rng, node_id(side, i, j), node_id(side, i, j + 1));
+        put_arcs(text, rng, node_id(side, i, j), node_id(side, i, j + 1))?;
+        return Ok(());
     }
     Ok(())
 }
 
+#[tactic(auto, unfolding(crate::specs::lemmas::Parts::arcs_down))]
 fn put_down(
     text: &mut Vec<u8>,
     rng: &mut SplitMix64,
@@ -65,11 +70,13 @@ fn put_down(
     ensures { OnOk result (Writes (arcs_down side i j) text.old.items text.new.items (draws_of rng.old) (draws_of rng.new)) }
 {
     if i + 1 < side {
-        return put_arcs(text, rng, node_id(side, i, j), node_id(side, i + 1, j));
+        put_arcs(text, rng, node_id(side, i, j), node_id(side, i + 1, j))?;
+        return Ok(());
     }
     Ok(())
 }
 
+#[tactic(auto, unfolding(crate::specs::lemmas::Parts::arcs_of_row))]
 fn put_row_arcs(
     text: &mut Vec<u8>,
     rng: &mut SplitMix64,
@@ -88,6 +95,7 @@ fn put_row_arcs(
 }
 
 /// The arcs of the square.
+#[tactic(auto, unfolding(crate::specs::lemmas::Parts::network_part))]
 pub(crate) fn put_network(
     text: &mut Vec<u8>,
     rng: &mut SplitMix64,

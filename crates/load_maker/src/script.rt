@@ -10,6 +10,7 @@ use pool_base::OutOfMemory;
 use rand_xoshiro::SplitMix64;
 use rider_limits::LoadShape;
 
+#[tactic(auto, unfolding(crate::specs::Texts::report_row))]
 fn put_report(
     text: &mut Vec<u8>,
     rng: &mut SplitMix64,
@@ -32,9 +33,11 @@ fn put_report(
             Field::Number(60 * k),
             Field::Empty,
         ],
-    )
+    )?;
+    Ok(())
 }
 
+#[tactic(auto, unfolding(crate::specs::lemmas::Parts::all_reports))]
 fn put_all_reports(
     text: &mut Vec<u8>,
     rng: &mut SplitMix64,
@@ -50,6 +53,7 @@ fn put_all_reports(
     Ok(())
 }
 
+#[tactic(auto, unfolding(crate::specs::lemmas::Parts::reports))]
 fn put_reports(
     text: &mut Vec<u8>,
     rng: &mut SplitMix64,
@@ -60,7 +64,8 @@ fn put_reports(
     ensures { OnOk result (Writes (reports shape.now k) text.old.items text.new.items (draws_of rng.old) (draws_of rng.new)) }
 {
     if k > 0 {
-        return put_all_reports(text, rng, shape, k);
+        put_all_reports(text, rng, shape, k)?;
+        return Ok(());
     }
     Ok(())
 }
@@ -73,6 +78,7 @@ fn other_than(origin: u64, n: u64) -> u64
     if n < origin { n } else { n + 1 }
 }
 
+#[tactic(auto, unfolding(crate::specs::Texts::submit_row))]
 fn put_submit(
     text: &mut Vec<u8>,
     rng: &mut SplitMix64,
@@ -100,9 +106,11 @@ fn put_submit(
             Field::Number(destination),
             Field::Number(60 * k + second),
         ],
-    )
+    )?;
+    Ok(())
 }
 
+#[tactic(auto, unfolding(crate::specs::lemmas::Parts::submits))]
 fn put_submits(
     text: &mut Vec<u8>,
     rng: &mut SplitMix64,
@@ -151,6 +159,7 @@ fn put_batch(
 }
 
 /// The batches.
+#[tactic(auto, unfolding(crate::specs::lemmas::Parts::script_part))]
 pub(crate) fn put_script(
     text: &mut Vec<u8>,
     rng: &mut SplitMix64,

@@ -1,7 +1,7 @@
 -- The names that the proofs of this crate cite from elsewhere, passed on from one place. Declares nothing.
 pub use Rattle.std.proofs.lemmas.Bool.{both_ways, cases_eq, cases_lt}
 pub use Rattle.std.proofs.lemmas.List.{get_or-append_right, get_or-map, get_or_append_left, get_or_default, get_or_push, length-map, length_push, map_push, nil_from_length, take_more}
-pub use Rattle.std.proofs.lemmas.List.Elements.{All-contains, All-filter, All-from_get_or, All-map, All-push, filter_passes}
+pub use Rattle.std.proofs.lemmas.List.Elements.{All-contains, All-map, All-push, filter_passes}
 pub use Rattle.std.proofs.lemmas.List.FromFn.{get_or-range_with_len, length-range_with_len}
 pub use Rattle.std.proofs.lemmas.Result.{IfOk-weaker}
 pub use Rattle.std.proofs.lemmas.Slice.Eq.{slice_eq-Decides}
@@ -9,10 +9,12 @@ pub use Rattle.std.specs.List.{AllByRecursion, AllZip, range_with_len}
 pub use Rattle.std.specs.List.Sorted.{IsStrictlyIncreasing}
 pub use Rattle.assignment_search.specs.Found.{IsBestNear, IsClose, IsFair, ShowsBound}
 pub use Rattle.batch_laws.proofs.lemmas.GraphLemmas.{graph_in_order, graph_or_overflow, one_place, one_trip_graph}
-pub use Rattle.batch_laws.proofs.lemmas.SortedLemmas.{has_head, has_later, head_or_tail, in_order, nat_strict, neighbours_from, same_rising}
+pub use Rattle.batch_laws.proofs.lemmas.SortedLemmas.{has_head, has_later, head_or_tail, rising_once, same_rising}
 pub use Rattle.batch_snapshot.specs.Batch.{Batch}
 pub use Rattle.batch_snapshot.specs.Kept.{IsKept, IsOnce, riders_aboard}
+pub use Rattle.batch_solver.proofs.lemmas.LeftLemmas.{kept_below, kept_few}
 pub use Rattle.batch_solver.proofs.lemmas.MoveLemmas.{has_places, no_moves, none_matched}
+pub use Rattle.batch_solver.proofs.lemmas.TripLemmas.{valid_task, vehicle_read}
 pub use Rattle.batch_solver.specs.Moves.{AreMoves, idle_vehicles, is_idle, move_line}
 pub use Rattle.batch_solver.specs.Outcome.{AnswersWith, HasGraphsWith, IsGoodOutcome, IsGoodPlan, IsOutcomeWith}
 pub use Rattle.batch_solver.specs.Points.{GivesPlanWith, Holds, Posed, TellsPlan}
@@ -28,6 +30,7 @@ pub use Rattle.outcome_check.specs.work.Trips.{GiveRows, GivesTrips, HasNoRowFor
 pub use Rattle.pair_graph.specs.RrGraph.{IsRrGraph}
 pub use Rattle.pair_graph.specs.RvGraph.{IsRvGraph}
 pub use Rattle.pair_graph.specs.declared.rv_edge.RvEdge.{RvEdge}
+pub use Rattle.plan_rules.proofs.lemmas.GraphLemmas.{row_read}
 pub use Rattle.plan_rules.specs.Graph.{Graph, HasNoRow, IsRowOf, choice_at, cost_at, no_row, riders_at}
 pub use Rattle.plan_rules.specs.declared.row.TripRow.{TripRow}
 pub use Rattle.pool_base.specs.Times.{point_count, travel_time}
@@ -45,7 +48,7 @@ pub use Rattle.road_network.specs.Roads.{Roads, index_in}
 pub use Rattle.stop_orders.specs.Order.{IsKnown, is_of_rider}
 pub use Rattle.stop_orders.specs.Settled.{IsTrip, no_rider, no_vehicle, rider_at, trip_task, vehicle_at}
 pub use Rattle.stop_orders.specs.Sound.{IsSound}
-pub use Rattle.stop_orders.specs.Task.{IsOrderOf, IsTask, ReachesAll, Serves, order_delay, seconds_of, visit_at, visits_of}
+pub use Rattle.stop_orders.specs.Task.{IsOrderOf, ReachesAll, Serves, order_delay, seconds_of, visit_at, visits_of}
 pub use Rattle.stop_orders.specs.declared.settled.Settled.{Settled}
 pub use Rattle.stop_orders.specs.declared.settled_rider.SettledRider.{SettledRider}
 pub use Rattle.stop_orders.specs.declared.settled_vehicle.SettledVehicle.{SettledVehicle}

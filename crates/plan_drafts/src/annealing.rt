@@ -8,13 +8,16 @@ use crate::beside::Beside;
 use crate::present::Present;
 use crate::regrets::Regrets;
 use pool_base::OutOfMemory;
+use row_tables::Draws;
 use row_tables::fixed_point::item;
 use row_tables::lists::short;
-use row_tables::{Draws, RowTable};
 use std::alloc::Global;
 
-/// How many moves there are, at most and at most for each row of the table, and how many have the same temperature.
+/// How many moves there are, at most, at most by the number of vehicles, since a move looks at many of them, and at most
+/// for each row of the table; and how many have the same temperature.
 const MOVES: u64 = 1_200_000;
+
+const MOVES_BY_VEHICLES: u64 = 120_000_000;
 
 const MOVES_A_ROW: u64 = 150;
 
@@ -78,7 +81,9 @@ impl Annealing<'_> {
     /// Makes all moves while it cools.
     fn run(&mut self) -> Result<(), OutOfMemory> {
         let most = (self.regrets.table.row_count() as u64).saturating_mul(MOVES_A_ROW);
-        let moves = MOVES.min(most);
+        let vehicles = self.regrets.table.vehicle_count() as u64;
+        let dear = MOVES_BY_VEHICLES.checked_div(vehicles).unwrap_or(MOVES);
+        let moves = MOVES.min(most).min(dear);
         let stages = moves / MOVES_EACH;
         for stage in 0..stages {
             let part = (stage << 20).checked_div(stages).unwrap_or(0).min(1 << 20) as i64;
@@ -214,7 +219,7 @@ impl Annealing<'_> {
         for vehicle in self.beside.vehicles_with(rider) {
             if let Some(row) = self.present.row(*vehicle as usize) {
                 if let Some(wider) = self.beside.with(row, rider) {
-                    let cost = self.cost_of_adding(row, wider, rider);
+                    let cost = self.beside.change(row, wider);
                     if cost < least {
                         least = cost;
                         best = Some(wider);
@@ -247,7 +252,7 @@ impl Annealing<'_> {
         let wider = self.beside.wider(row);
         for (rider, wider) in self.beside.added(row).iter().zip(wider) {
             if self.present.server(*rider).is_none() {
-                let cost = self.cost_of_adding(row, *wider, *rider);
+                let cost = self.beside.change(row, *wider);
                 if cost < least {
                     least = cost;
                     best = Some(*wider);
@@ -257,21 +262,11 @@ impl Annealing<'_> {
         best
     }
 
-    /// What it costs to go on from a row to one with this rider too, less what it costs to leave her out.
-    fn cost_of_adding(&self, row: u32, wider: u32, rider: u32) -> i64 {
-        let cost = self.regrets.table.cost(wider as usize);
-        cost.saturating_sub(self.regrets.table.cost(row as usize))
-            .saturating_sub(self.regrets.table.cost_left(rider as usize))
-    }
-
     /// Gives the row to its vehicle, which has one.
     fn set_row(&mut self, row: u32) -> Result<(), OutOfMemory> {
         if let Some(old) = self.replace(row) {
             self.log.push(old)?;
-            self.change = self
-                .change
-                .saturating_add(worth(self.regrets.table, row))
-                .saturating_sub(worth(self.regrets.table, old));
+            self.change = self.change.saturating_add(self.beside.change(old, row));
         }
         Ok(())
     }
@@ -309,13 +304,4 @@ impl Annealing<'_> {
             }
         }
     }
-}
-
-/// What the row costs, less what it costs to leave out its riders.
-fn worth(table: &RowTable, row: u32) -> i64 {
-    let mut worth = table.cost(row as usize);
-    for rider in table.riders_of(row as usize) {
-        worth = worth.saturating_sub(table.cost_left(*rider as usize));
-    }
-    worth
 }

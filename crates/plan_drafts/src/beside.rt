@@ -2,7 +2,7 @@
 
 use pool_base::OutOfMemory;
 use row_tables::RowTable;
-use row_tables::fixed_point::{item, part};
+use row_tables::fixed_point::{at, item, part};
 use row_tables::lists::Lists;
 use std::alloc::Global;
 
@@ -16,6 +16,8 @@ pub struct Beside {
     wider: Lists,
     /// For each rider the vehicles with a row that has her.
     vehicles: Lists,
+    /// What each row costs, less what it costs to leave out its riders.
+    worths: Vec<i64>,
 }
 
 impl Beside {
@@ -25,9 +27,13 @@ impl Beside {
             added: Lists::new(alloc),
             wider: Lists::new(alloc),
             vehicles: vehicles_with(alloc, table)?,
+            worths: Vec::new(alloc),
         };
         beside.wider.transpose(&beside.without, table.row_count())?;
         beside.list_added(table)?;
+        for row in 0..table.row_count() {
+            beside.worths.push(worth(table, row))?;
+        }
         Ok(beside)
     }
 
@@ -57,6 +63,11 @@ impl Beside {
             }
         }
         None
+    }
+
+    /// What the next row costs more than this one, each less what it costs to leave out its riders.
+    pub fn change(&self, row: u32, next: u32) -> i64 {
+        at(&self.worths, next as usize).saturating_sub(at(&self.worths, row as usize))
     }
 
     /// The vehicles with a row that has this rider.
@@ -149,4 +160,13 @@ fn vehicles_with(alloc: Global, table: &RowTable) -> Result<Lists, OutOfMemory> 
         vehicles.end()?;
     }
     Ok(vehicles)
+}
+
+/// What the row costs, less what it costs to leave out its riders.
+fn worth(table: &RowTable, row: usize) -> i64 {
+    let mut worth = table.cost(row);
+    for rider in table.riders_of(row) {
+        worth = worth.saturating_sub(table.cost_left(*rider as usize));
+    }
+    worth
 }

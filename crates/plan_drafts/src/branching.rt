@@ -50,7 +50,7 @@ const LIGHT_EFFORT: Effort = Effort {
 
 /// The effort for this table.
 fn effort_for(table: &RowTable) -> Effort {
-    let conditions = condition_count(table);
+    let conditions = table.condition_count();
     if conditions <= FEW_CONDITIONS {
         STRONG_EFFORT
     } else if conditions > MANY_CONDITIONS {
@@ -58,11 +58,6 @@ fn effort_for(table: &RowTable) -> Effort {
     } else {
         EFFORT
     }
-}
-
-/// How many vehicles and riders there are.
-pub fn condition_count(table: &RowTable) -> usize {
-    table.vehicle_count().saturating_add(table.rider_count())
 }
 
 /// The work space of a choice.

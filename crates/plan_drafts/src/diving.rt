@@ -56,7 +56,7 @@ fn descend(
         let relaxation = &mut decided.relaxation;
         relaxation.solve(table, i64::MAX, MOST_ROWS, MOST_PASSES)?;
         relaxation.find_shares(table, &mut shares)?;
-        if !rank_open(table, decided, &shares, &mut ranks)? {
+        if decided.relaxation.is_tired() || !rank_open(table, decided, &shares, &mut ranks)? {
             return Ok(None);
         }
         if is_whole(&shares) {

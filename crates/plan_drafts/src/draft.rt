@@ -1,9 +1,8 @@
 //! A draft: the relaxation of all rows, plans made from it, and a tree where they leave a gap.
 use crate::beside::Beside;
-use crate::branching::condition_count;
 use crate::decided::Decided;
 use crate::diving::dive;
-use crate::merge::Merge;
+use crate::merge::{Merge, renumbered};
 use crate::plans::Plans;
 use crate::regrets::Regrets;
 use crate::scout::{Scout, Start};
@@ -146,12 +145,8 @@ impl<'a> Drafting<'a> {
         }
         let table = self.regrets.table;
         let value = self.tree.standing(0).map_or(0, |standing| standing.value);
-        let gap = self
-            .tree
-            .draft
-            .cost
-            .saturating_mul(1024)
-            .saturating_sub(value);
+        let cost = self.tree.draft.cost.saturating_mul(1024);
+        let gap = cost.saturating_sub(value);
         let relaxation = &mut self.decided.relaxation;
         relaxation.shrink_pool(table, self.tree.multipliers(0), gap)?;
         let relaxation = &self.decided.relaxation;
@@ -200,7 +195,7 @@ impl<'a> Drafting<'a> {
     /// Takes the best plan of the rows that the best one and those of scouts choose, as a small draft finds it.
     fn merge<R: Threads + Sync>(&mut self, rt: &R, scouts: &[Scout]) -> Result<(), OutOfMemory> {
         let merge = Merge::new(self.alloc, &self.regrets, &self.tree.draft.plan, scouts)?;
-        let plan = merge.in_part(self.alloc, &self.tree.draft.plan)?;
+        let plan = renumbered(self.alloc, &self.tree.draft.plan, &merge.parts)?;
         let mut drafting = Drafting::new(self.alloc, &merge.part, &plan, self.workers)?;
         drafting
             .tree
@@ -208,7 +203,7 @@ impl<'a> Drafting<'a> {
         drafting.make_plans()?;
         drafting.grow(rt, MERGE_NODES)?;
         let draft = &drafting.tree.draft;
-        let plan = merge.in_whole(self.alloc, &draft.plan)?;
+        let plan = renumbered(self.alloc, &draft.plan, &merge.wholes)?;
         self.tree.offer(self.alloc, &plan, draft.cost)
     }
 }
@@ -237,19 +232,22 @@ fn send_scouts<R: Threads + Sync>(
     Ok(scouts)
 }
 
-/// Solves the relaxation, at first with little to pay for a rider who is left out.
+/// Solves the relaxation, at first with little to pay for a rider who is left out. If it tires before it is solved, the
+/// first multipliers are taken where they are better.
 fn solve(alloc: Global, table: &RowTable, relaxation: &mut Relaxation) -> Result<(), OutOfMemory> {
     let rows = table.row_count();
-    let is_dear = rows > condition_count(table).saturating_mul(MANY_A_CONDITION);
-    let turns = if rows > MANY_ROWS && !is_dear {
-        MORE_TURNS
-    } else {
-        TURNS
-    };
+    let is_dear = rows > table.condition_count().saturating_mul(MANY_A_CONDITION);
+    let is_long = rows > MANY_ROWS && !is_dear;
+    let turns = if is_long { MORE_TURNS } else { TURNS };
     let first = first_multipliers(alloc, table, turns)?;
     relaxation.fill_pool(table, &first, MOST_ROWS)?;
     relaxation.set_boxed_costs(table, &first, BOX);
     relaxation.pivot_on(table)?;
     relaxation.set_true_costs(table);
-    relaxation.solve(table, i64::MAX, MOST_ROWS, u32::MAX)
+    relaxation.solve(table, i64::MAX, MOST_ROWS, u32::MAX)?;
+    if relaxation.is_tired() {
+        relaxation.fill_pool(table, &first, 0)?;
+        relaxation.pass(table, 0)?;
+    }
+    Ok(())
 }

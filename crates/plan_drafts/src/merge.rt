@@ -11,8 +11,9 @@ use std::alloc::Global;
 #[derive(Drop)]
 pub struct Merge {
     pub part: RowTable,
-    /// For each row of the part its number in the whole table, rising.
-    rows: Vec<u32>,
+    /// For each row of the part its number in the whole table, and for each row of that its number in the part.
+    pub wholes: Vec<Option<u32>>,
+    pub parts: Vec<Option<u32>>,
 }
 
 impl Merge {
@@ -35,7 +36,8 @@ impl Merge {
         }
         let mut merge = Merge {
             part: RowTable::new(alloc, table.penalty(), must),
-            rows: Vec::new(alloc),
+            wholes: Vec::new(alloc),
+            parts: vec![in alloc; None; table.row_count()]?,
         };
         for vehicle in 0..table.vehicle_count() {
             merge.put_vehicle(regrets, vehicle, &is_chosen)?;
@@ -53,44 +55,30 @@ impl Merge {
         let table = regrets.table;
         for row in table.rows_of(vehicle) {
             if item(is_chosen, row, false) || regrets.above(short(row)) <= 0 {
+                let number = short(self.wholes.len());
                 self.part.push_row(table.cost(row), table.riders_of(row))?;
-                self.rows.push(short(row))?;
+                self.wholes.push(Some(short(row)))?;
+                set_at(&mut self.parts, row, Some(number));
             }
         }
         self.part.end_vehicle()
     }
+}
 
-    /// The part's numbers of this plan's rows.
-    pub fn in_part(
-        &self,
-        alloc: Global,
-        plan: &[Option<u32>],
-    ) -> Result<Vec<Option<u32>>, OutOfMemory> {
-        let mut rows = Vec::new(alloc);
-        for row in plan {
-            rows.push(match row {
-                None => None,
-                Some(row) => self.rows.binary_search(row).ok().map(short),
-            })?;
-        }
-        Ok(rows)
+/// A plan with these numbers in place of its rows.
+pub fn renumbered(
+    alloc: Global,
+    plan: &[Option<u32>],
+    numbers: &[Option<u32>],
+) -> Result<Vec<Option<u32>>, OutOfMemory> {
+    let mut rows = Vec::new(alloc);
+    for row in plan {
+        rows.push(match row {
+            None => None,
+            Some(row) => item(numbers, *row as usize, None),
+        })?;
     }
-
-    /// The whole table's numbers of this plan's rows.
-    pub fn in_whole(
-        &self,
-        alloc: Global,
-        plan: &[Option<u32>],
-    ) -> Result<Vec<Option<u32>>, OutOfMemory> {
-        let mut rows = Vec::new(alloc);
-        for row in plan {
-            rows.push(match row {
-                None => None,
-                Some(row) => self.rows.get(*row as usize).copied(),
-            })?;
-        }
-        Ok(rows)
-    }
+    Ok(rows)
 }
 
 /// Marks a plan's rows.

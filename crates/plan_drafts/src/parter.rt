@@ -1,5 +1,5 @@
 //! The parting of a node: it is branched on a row, and its two ends are solved.
-use crate::branching::{Branching, condition_count, decision};
+use crate::branching::{Branching, decision};
 use crate::decided::Decided;
 use crate::diving::whole_plan;
 use crate::tree::{DraftTree, Standing, standing_of};
@@ -29,7 +29,7 @@ pub struct End {
 /// Who parts nodes, with a relaxation of its own.
 #[derive(Drop)]
 pub struct Parter {
-    decided: Decided,
+    pub decided: Decided,
     branching: Branching,
     /// The node at hand, if there is one.
     pub node: Option<usize>,
@@ -85,7 +85,7 @@ impl Parter {
         relaxation.pivot_on(table)?;
         let work = relaxation
             .pivots()
-            .saturating_mul(condition_count(table) as u64);
+            .saturating_mul(table.condition_count() as u64);
         let tries = work < MOST_WORK as u64;
         let (decided, cost) = (&mut self.decided, tree.draft.cost);
         let branching = &mut self.branching;

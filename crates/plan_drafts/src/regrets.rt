@@ -125,7 +125,10 @@ impl<'a> Regrets<'a> {
     ) -> Result<(), OutOfMemory> {
         for rider in 0..self.table.rider_count() {
             self.rank_rider(rider, is_listed, ranks)?;
-            self.put_with(ranks)?;
+            for rank in ranks.iter() {
+                self.with.push(rank.1 as usize)?;
+            }
+            self.with.end()?;
         }
         Ok(())
     }
@@ -145,13 +148,6 @@ impl<'a> Regrets<'a> {
         }
         ranks.as_mut_slice().sort_unstable();
         Ok(())
-    }
-
-    fn put_with(&mut self, ranks: &[Rank]) -> Result<(), OutOfMemory> {
-        for rank in ranks {
-            self.with.push(rank.1 as usize)?;
-        }
-        self.with.end()
     }
 
     /// The regret of this row.

@@ -154,13 +154,14 @@ impl DraftTree {
     }
 
     /// Gives the open nodes of least value to these, one each. Whether there was one: not where the bound meets the
-    /// cost, or there is no room.
+    /// cost, or there is no room, and none for who is tired.
     fn hand_out(&mut self, team: &mut [Parter], budget: usize) -> bool {
         self.raise_bound();
         let mut room = budget.saturating_sub(self.standings.len()) / 2;
         let mut is_any = false;
         for parter in team.iter_mut() {
-            parter.node = if room > 0 { self.take_near() } else { None };
+            let is_free = room > 0 && !parter.decided.relaxation.is_tired();
+            parter.node = if is_free { self.take_near() } else { None };
             is_any = is_any || parter.node.is_some();
             room = room.saturating_sub(1);
         }

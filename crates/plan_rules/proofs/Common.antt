@@ -2,9 +2,10 @@
 pub use Rattle.std.proofs.lemmas.Bool.{and_from, and_left, and_parts, and_right, both_ways, cases_Bool, cases_eq, cases_lt, cond-false, cond-true, cond_both, false_from_ne_true, false≢true, or_cases, or_left, or_right}
 pub use Rattle.std.proofs.lemmas.Bool.Decides.{nat_tests}
 pub use Rattle.std.proofs.lemmas.Int.{int_min_is, ints}
-pub use Rattle.std.proofs.lemmas.List.{at_drop_all, at_drop_more, get_or-replicate, get_or_append_left, get_or_default, get_or_past, get_or_push, get_or_read, length-replicate, length_push, map-append, set_at, take_more}
-pub use Rattle.std.proofs.lemmas.List.Folds.{list_any_at, list_any_more}
+pub use Rattle.std.proofs.lemmas.List.{at_drop_more, get_or-replicate, get_or_append_left, get_or_default, get_or_past, get_or_push, get_or_read, length-replicate, length_push, map-append, set_at, take_more}
+pub use Rattle.std.proofs.lemmas.List.Folds.{list_any_at}
 pub use Rattle.std.proofs.lemmas.List.Sums.{fold_more, fold_push, sum_by-cons}
+pub use Rattle.std.proofs.lemmas.Option.{none-some, same_Some}
 pub use Rattle.std.specs.Int.{int_min}
 pub use Rattle.std.specs.List.{list_any}
 pub use Rattle.std.specs.List.Sorted.{IsStrictlyIncreasing}
@@ -28,12 +29,12 @@ pub use Rattle.plan_rules.specs.declared.node.Node.{Node}
 pub use Rattle.plan_rules.specs.declared.node.Node.TheVariants.{Branch, Dead, Leaf}
 pub use Rattle.plan_rules.specs.declared.path.Decision.{Decision}
 pub use Rattle.plan_rules.specs.declared.row.TripRow.{TripRow}
-pub use Rattle.plan_rules.specs.lemmas.Plan.{left_out, times_chosen}
+pub use Rattle.plan_rules.specs.lemmas.Plan.{MarksServed, choice_size, left_out, times_chosen}
 unfoldable pub use Rattle.plan_rules.specs.lemmas.Rank.{rank_value}
 pub use Rattle.plan_rules.specs.lemmas.Rank.{rank_of}
 pub use Rattle.plan_rules.specs.lemmas.Tree.{IsWholeTree, places, places_read, preorder, value_read}
-pub use Rattle.plan_rules.specs.work.DeadEnd.{IsOnlyOf, MarksSole, MarksSomeUsable, StandsInNone, StandsInUsable}
-pub use Rattle.plan_rules.specs.work.Graph.{MarksHeld}
-pub use Rattle.plan_rules.specs.work.Plan.{IsServedOnce, MarksServed, choice_size}
+pub use Rattle.plan_rules.specs.lemmas.DeadEnd.{IsOnlyOf, StandsInNone, StandsInSome}
+pub use Rattle.plan_rules.specs.work.DeadEnd.{MarksSole, MarksSomeUsable}
+pub use Rattle.plan_rules.specs.work.Plan.{IsServedOnce}
 pub use Rattle.plan_rules.specs.work.Rank.{AreRanks, IsInTheWay, IsSelection, parts_of, row_of}
 pub use mir.Syntax.{w128}

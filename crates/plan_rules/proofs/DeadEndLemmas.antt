@@ -1,59 +1,37 @@
 -- Marks on riders of usable and of sole rows.
-use Rattle.std.proofs.Common.{◌≡◌, ◌⊎◌, ◌||◌, ℕ, ◌+◌, ◌<◌, ◌≤◌, Bool, true, false, List, length, get_or, refl, sym, ◌∙◌, subst, ⊎_elim, arith}
-use Rattle.plan_rules.proofs.Common.{list_any, cases_eq, cases_lt, or_cases, or_left, or_right, both_ways, get_or_past, Graph, row_at, riders_at, row_vehicle, has_rider, choice_at, must_be_served, times_served, IsGraphRow, IsRowOf, IsGoodGraph, Usable, IsSoleRow, IsClash, IsStranded, StandsInUsable, MarksSole}
-use Rattle.plan_rules.proofs.lemmas.GraphLemmas.{rider_below, in_choice, times_served_found}
-use Rattle.plan_rules.proofs.lemmas.PlanLemmas.{own_row, held_own}
-use Rattle.plan_rules.proofs.lemmas.MarkLemmas.{any_marked, marked_one}
-use Rattle.std.proofs.lemmas.Bool.{ltb-true}
+use Rattle.std.proofs.Common.{◌≡◌, ◌⊎◌, ℕ, ◌+◌, ◌<◌, ◌≤◌, Bool, true, false, List, length, get_or, refl, sym, ◌∙◌, subst, ⊎_elim, arith}
+use Rattle.plan_rules.proofs.Common.{list_any, cases_eq, cases_lt, or_cases, or_left, or_right, both_ways, get_or_past, Graph, row_at, riders_at, row_vehicle, has_rider, must_be_served, IsGraphRow, IsRowOf, IsGoodGraph, Usable, IsSoleRow, IsClash, IsStranded, StandsInSome, MarksSole}
+use Rattle.plan_rules.proofs.lemmas.GraphLemmas.{rider_below}
+use Rattle.plan_rules.proofs.lemmas.PlanLemmas.{must_below}
+use Rattle.plan_rules.proofs.lemmas.MarkLemmas.{IsMarking, any_marked, marked_one}
 
--- the marks with those of a row's riders added
-pub record AddsRow (g : Graph) (k : ℕ) (old new : List Bool) : Type 0 where
-  pub sized : length new ≡ length old
-  pub marked : (r : ℕ) → r < length old → get_or new r false ≡ (get_or old r false || has_rider g k r)
-
-pub marks_from : (g : Graph) (k : ℕ) (old new : List Bool) (r : ℕ) → AddsRow g k old new → get_or new r false ≡ true → (get_or old r false ≡ true) ⊎ (has_rider g k r ≡ true)
+pub marks_from : (g : Graph) (k : ℕ) (old new : List Bool) (r : ℕ) → IsMarking old new (riders_at g k) → get_or new r false ≡ true → (get_or old r false ≡ true) ⊎ (has_rider g k r ≡ true)
 marks_from g k old new r adds e =
     ⊎_elim
     (λ (low : r < length old). or_cases (get_or old r false) (has_rider g k r) (sym (adds.marked r low) ∙ e))
     (λ (high : length old ≤ r). absurd (both_ways false refl (sym (get_or_past new r false (omega (arith, adds.sized, high))) ∙ e)))
     (cases_lt r (length old))
 
-pub marks_old : (g : Graph) (k : ℕ) (old new : List Bool) (r : ℕ) → AddsRow g k old new → get_or old r false ≡ true → get_or new r false ≡ true
+pub marks_old : (g : Graph) (k : ℕ) (old new : List Bool) (r : ℕ) → IsMarking old new (riders_at g k) → get_or old r false ≡ true → get_or new r false ≡ true
 marks_old g k old new r adds e =
     ⊎_elim
     (λ (low : r < length old). adds.marked r low ∙ or_left (get_or old r false) (has_rider g k r) e)
     (λ (high : length old ≤ r). absurd (both_ways false refl (sym (get_or_past old r false high) ∙ e)))
     (cases_lt r (length old))
 
-pub marks_new : (g : Graph) (k : ℕ) (old new : List Bool) (r : ℕ) → AddsRow g k old new → length old ≡ g.riders → IsGraphRow g.vehicles g.riders (row_at g k) → has_rider g k r ≡ true → get_or new r false ≡ true
+pub marks_new : (g : Graph) (k : ℕ) (old new : List Bool) (r : ℕ) → IsMarking old new (riders_at g k) → length old ≡ g.riders → IsGraphRow g.vehicles g.riders (row_at g k) → has_rider g k r ≡ true → get_or new r false ≡ true
 marks_new g k old new r adds sized row e =
     let low : r < g.riders = rider_below g k r row e in
     adds.marked r (omega (arith, low, sized)) ∙ or_right (get_or old r false) (has_rider g k r) e
 
 -- ---- usable rows
 
--- a rider who must be served is one of the graph's
-pub must_below : (g : Graph) (r : ℕ) → IsGoodGraph g → must_be_served g r ≡ true → r < g.riders
-must_below g r good must =
-    let some : 0 < times_served g g.held g.vehicles r = ltb-true 0 (times_served g g.held g.vehicles r) must in
-    let v = times_served_found g g.held g.vehicles r some in
-    let k = in_choice g (choice_at g.held (v.0)) r (v.2) in
-    let own = own_row g (v.0) (k.0) (choice_at g.held (v.0)) (held_own g (v.0) (choice_at g.held (v.0)) (good.holds (v.0) (v.1))) (k.1) in
-    rider_below g (k.0) r (good.rows (k.0) own.within) (k.2)
-
-pub not_stranded : (g : Graph) (usable : Usable) → IsGoodGraph g → ((r : ℕ) → r < g.riders → must_be_served g r ≡ true → StandsInUsable g usable r) → IsStranded g usable → ⊥
+pub not_stranded : (g : Graph) (usable : Usable) → IsGoodGraph g → ((r : ℕ) → r < g.riders → must_be_served g r ≡ true → StandsInSome g usable (length g.rows) r) → IsStranded g usable → ⊥
 not_stranded g usable good all s =
     let w = all s.rider (must_below g s.rider good s.must) s.must in
     both_ways _ (s.nowhere (w.0) (w.1) (w.2)) (w.3)
 
 -- ---- sole rows
-
-pub sole_none : (g : Graph) (usable : Usable) (marks : List Bool) → ((r : ℕ) → get_or marks r false ≡ false) → MarksSole g usable 0 marks
-sole_none g usable marks clear = record {
-  from_sole = λ r e. absurd (both_ways _ (clear r) e);
-  of_sole = λ v k r l sole e. absurd (omega (arith, l));
-  apart = λ v w j k r l m differ a b d e. absurd (omega (arith, l));
-}
 
 pub sole_kept : (g : Graph) (usable : Usable) (n : ℕ) (marks : List Bool) → ((k : ℕ) → IsSoleRow g usable n k → ⊥) → MarksSole g usable n marks → MarksSole g usable (n + 1) marks
 sole_kept g usable n marks none before = record {
@@ -74,7 +52,7 @@ sole_kept g usable n marks none before = record {
       (cases_eq v n);
 }
 
-pub sole_more : (g : Graph) (usable : Usable) (n k : ℕ) (old new : List Bool) → AddsRow g k old new → length old ≡ g.riders → IsGraphRow g.vehicles g.riders (row_at g k) → IsSoleRow g usable n k → (list_any (λ q. get_or old q false) (riders_at g k) ≡ false) → MarksSole g usable n old → MarksSole g usable (n + 1) new
+pub sole_more : (g : Graph) (usable : Usable) (n k : ℕ) (old new : List Bool) → IsMarking old new (riders_at g k) → length old ≡ g.riders → IsGraphRow g.vehicles g.riders (row_at g k) → IsSoleRow g usable n k → (list_any (λ q. get_or old q false) (riders_at g k) ≡ false) → MarksSole g usable n old → MarksSole g usable (n + 1) new
 sole_more g usable n k old new adds sized row here unmarked before = record {
   from_sole = λ r e.
       ⊎_elim

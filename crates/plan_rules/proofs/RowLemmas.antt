@@ -10,36 +10,6 @@ pub record IsRisingSoFar (riders least i : ℕ) (xs : List ℕ) : Type 0 where
   pub below : (k : ℕ) → k < i → get_or xs k 0 < riders
   pub rising : (k : ℕ) → k + 1 < i → get_or xs k 0 < get_or xs (k + 1) 0
 
-pub rising_start : (riders : ℕ) (xs : List ℕ) → IsRisingSoFar riders 0 0 xs
-rising_start riders xs = record {
-  start = λ _. refl;
-  last = λ k e. absurd (omega (arith, e));
-  below = λ k l. absurd (omega (arith, l));
-  rising = λ k l. absurd (omega (arith, l));
-}
-
-pub rising_more : (riders least i : ℕ) (xs : List ℕ) → IsRisingSoFar riders least i xs → least ≤ get_or xs i 0 → get_or xs i 0 < riders → IsRisingSoFar riders (get_or xs i 0 + 1) (i + 1) xs
-rising_more riders least i xs h low high = record {
-  start = λ e. absurd (omega (arith, e));
-  last = λ k e.
-      let same : k ≡ i = omega (arith, e) in
-      ap (λ (j : ℕ). get_or xs j 0 + 1) (sym same);
-  below = λ k l. ⊎_elim
-      (λ (here : k ≡ i). subst (λ (j : ℕ). get_or xs j 0 < riders) (sym here) high)
-      (λ (other : k ≡ i → ⊥). h.below k (omega (arith, l)))
-      (cases_eq k i);
-  rising = λ k l. ⊎_elim
-      (λ (here : k + 1 ≡ i).
-      let last : least ≡ get_or xs k 0 + 1 = h.last k here in
-      let up : get_or xs k 0 < get_or xs i 0 = omega arith in
-      subst (λ (j : ℕ). get_or xs k 0 < get_or xs j 0) (sym here) up)
-      (λ (other : k + 1 ≡ i → ⊥). h.rising k (omega (arith, l)))
-      (cases_eq (k + 1) i);
-}
-
-pub rising_all : (riders least : ℕ) (xs : List ℕ) → IsRisingSoFar riders least (length xs) xs → AreRisingBelow riders xs
-rising_all riders least xs h = record { below = h.below; rising = h.rising }
-
 -- a number that is too low or too high breaks the order
 pub not_rising : (riders least i : ℕ) (xs : List ℕ) → IsRisingSoFar riders least i xs → i < length xs → (get_or xs i 0 < least) ⊎ (riders ≤ get_or xs i 0) → AreRisingBelow riders xs → ⊥
 not_rising riders least i xs h l (inr high) all =
@@ -74,9 +44,6 @@ vehicles_rise g order j (suc n) l =
     let same : suc (j + n) ≡ j + suc n = omega arith in
     let e : row_vehicle g (suc (j + n)) ≡ row_vehicle g (j + suc n) = ap (row_vehicle g) same in
     omega arith
-
-pub start_first : (g : Graph) → IsStartOf g 0 0
-start_first g = record { within = omega arith; below = λ k l. absurd (omega (arith, l)); above = λ k a b. omega arith }
 
 -- where the rows of vehicle v end, those of the next one start
 pub start_next : (g : Graph) (v row end : ℕ) → HasRowsInOrder g → IsStartOf g v row → row ≤ end → end ≤ length g.rows → ((k : ℕ) → row ≤ k → k < end → row_vehicle g k ≡ v) → (end < length g.rows → row_vehicle g end ≡ v → ⊥) → IsStartOf g (v + 1) end

@@ -1,4 +1,5 @@
 pub mod Plan
+pub mod DeadEnd
 pub mod Tree
 pub mod Rank
 pub mod Graph

@@ -2,7 +2,8 @@
 ghost use Rattle.std.specs.Prelude.{◌≡◌, ◌+◌, ◌<◌, ◌≤◌, ◌↔◌, ℕ, IsTrue, IfSome, IfNone, MatchBool, length, slice_index_or, false, true};
 ghost use Rattle.plan_rules.specs.Multipliers.{usable_of};
 ghost use Rattle.plan_rules.specs.Tree.{IsSoleRow, IsClash, IsStranded, IsDeadEnd};
-ghost use Rattle.plan_rules.specs.work.DeadEnd.{MarksSomeUsable, StandsInUsable, StandsInNone, MarksSole};
+ghost use Rattle.plan_rules.specs.lemmas.DeadEnd.{StandsInSome, StandsInNone};
+ghost use Rattle.plan_rules.specs.work.DeadEnd.{MarksSomeUsable};
 
 use crate::graph::TripGraph;
 use crate::marks::{is_any_marked, mark_riders};
@@ -116,7 +117,7 @@ fn has_stranded(graph: &TripGraph, allowed: &[bool], marks: &[bool]) -> bool
 /// Whether the rider stands in an allowed row.
 fn stands(graph: &TripGraph, allowed: &[bool], rider: usize) -> bool
     requires { length allowed.now ≡ length graph.now.rows }
-    ensures { MatchBool result (StandsInUsable graph.now (usable_of allowed.now) rider) (StandsInNone graph.now (usable_of allowed.now) (length graph.now.rows) rider) }
+    ensures { MatchBool result (StandsInSome graph.now (usable_of allowed.now) (length graph.now.rows) rider) (StandsInNone graph.now (usable_of allowed.now) (length graph.now.rows) rider) }
 {
     let rows = graph.rows();
     for row in 0..rows.len() {

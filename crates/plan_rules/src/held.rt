@@ -1,6 +1,7 @@
 //! Judges which row each vehicle holds, and marks the riders who must be served.
 ghost use Rattle.std.specs.Prelude.{◌≡◌, ◌+◌, ◌<◌, ◌≤◌, ◌↔◌, ℕ, IsTrue, IfOk, IfErr, OnOk, length, slice_index, slice_index_or, false, nat_lt, Option};
-ghost use Rattle.plan_rules.specs.work.Graph.{IsRowIndex, MarksMust, MarksHeld};
+ghost use Rattle.plan_rules.specs.work.Graph.{IsRowIndex};
+ghost use Rattle.plan_rules.specs.lemmas.Plan.{MarksServed};
 ghost use Rattle.plan_rules.specs.Graph.{HoldsRightly, IsWithinLimits};
 ghost use Rattle.plan_rules.specs.GraphFault.{HasGoodRows, HasRowsInOrder, IsGraphFault};
 ghost use Rattle.plan_rules.specs.lemmas.GraphFault.{HasHeldRows};
@@ -18,9 +19,9 @@ fn mark_held_by(parts: &Parts, starts: &[u32], vehicle: usize, marks: &mut [bool
     requires starts { IsRowIndex (graph_of parts.now) starts.now }
     requires vehicle { vehicle < parts.now.vehicles }
     requires held { vehicle < length parts.now.held.items }
-    requires marked { MarksHeld (graph_of parts.now) vehicle marks.old }
+    requires marked { MarksServed (graph_of parts.now) parts.now.held.items vehicle marks.old }
     ensures variant { IsTrue result ↔ HoldsRightly (graph_of parts.now) vehicle }
-    ensures marked { IsTrue result → MarksHeld (graph_of parts.now) (vehicle + 1) marks.new }
+    ensures marked { IsTrue result → MarksServed (graph_of parts.now) parts.now.held.items (vehicle + 1) marks.new }
 {
     let first = starts[vehicle];
     let end = starts[vehicle + 1];
@@ -46,7 +47,7 @@ pub fn mark_held(alloc: Global, parts: &Parts, starts: &[u32]) -> Result<Vec<boo
     requires rows { HasGoodRows (graph_of parts.now) }
     requires order { HasRowsInOrder (graph_of parts.now) }
     requires starts { IsRowIndex (graph_of parts.now) starts.now }
-    ensures marks { IfOk result (λ marks. MarksMust (graph_of parts.now) marks.items) }
+    ensures marks { IfOk result (λ marks. MarksServed (graph_of parts.now) parts.now.held.items parts.now.vehicles marks.items) }
     ensures held { OnOk result (HasHeldRows (graph_of parts.now)) }
     ensures fault { IfErr result (IsGraphFault (graph_of parts.now)) }
 {

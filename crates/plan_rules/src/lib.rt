@@ -50,6 +50,7 @@ pub use laws::{
     dead_ends_hold_no_lawful_plan, ends_part_the_plans, leaf_value_is_below_every_cost,
     tree_value_is_a_bound,
 };
+pub use marks::mark_riders;
 pub use multipliers::Multipliers;
 pub use node::Node;
 pub use path::{Decision, Path};

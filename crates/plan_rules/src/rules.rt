@@ -3,8 +3,8 @@ ghost use Rattle.std.specs.Prelude.{◌≡◌, ◌==◌, ◌+◌, ◌*◌, ◌<�
 ghost use Rattle.plan_rules.specs.Graph.{IsRowOf, HasNoRow, times_served, is_in, choice_at};
 ghost use Rattle.plan_rules.specs.lemmas.Graph.{ChoosesRows};
 ghost use Rattle.plan_rules.specs.Plan.{IsPlan, IsLawful, cost_of, choice_cost};
-ghost use Rattle.plan_rules.specs.lemmas.Plan.{left_out};
-ghost use Rattle.plan_rules.specs.work.Plan.{IsServedOnce, MarksServed};
+ghost use Rattle.plan_rules.specs.lemmas.Plan.{left_out, MarksServed};
+ghost use Rattle.plan_rules.specs.work.Plan.{IsServedOnce};
 ghost use Rattle.plan_rules.specs.Sums.{sum_below};
 
 use crate::graph::TripGraph;

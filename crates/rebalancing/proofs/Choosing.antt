@@ -90,10 +90,10 @@ module _ (tau : ℕ → ℕ → ℕ) (idle wanted : List ℕ) (s : Matching) (pa
 
   -- the negated price of a place
   from_at : (i : ℕ) → i < length idle → potential (map negated s.vehicle_price.items) i ≡ negated (slice_index s.vehicle_price.items i)
-  from_at i h = get_or-map negated s.vehicle_price.items i 0 (pos 0) (rw (priced.a_length, vehicles) h)
+  from_at i h = get_or-map negated s.vehicle_price.items i 0 (pos 0) (rw (priced.prices.a_length, vehicles) h)
 
   to_at : (j : ℕ) → j < length wanted → potential (map negated s.rider_price.items) j ≡ negated (slice_index s.rider_price.items j)
-  to_at j h = get_or-map negated s.rider_price.items j 0 (pos 0) (rw (priced.b_length, riders) h)
+  to_at j h = get_or-map negated s.rider_price.items j 0 (pos 0) (rw (priced.prices.b_length, riders) h)
 
   -- a vehicle of no chosen pair has price 0
   from_free : (i : ℕ) → i < length idle → (Any (λ (p : ℕ × ℕ). p.0 ≡ i) pairs → ⊥) → slice_index s.vehicle_price.items i ≡ 0
@@ -117,7 +117,7 @@ module _ (tau : ℕ → ℕ → ℕ) (idle wanted : List ℕ) (s : Matching) (pa
       let hj : j < s.riders = rw riders h in
       ⊎_elim
       (λ (matched : slice_index s.vehicle_of.items j < s.vehicles).
-      let back : slice_index s.rider_of.items (slice_index s.vehicle_of.items j) ≡ j = priced.back j hj matched in
+      let back : slice_index s.rider_of.items (slice_index s.vehicle_of.items j) ≡ j = priced.back j hj (λ e. omega arith) matched in
       ⊎_elim
       (λ (weighs : 0 < weight_in s (slice_index s.vehicle_of.items j) (slice_index s.rider_of.items (slice_index s.vehicle_of.items j))).
       let c = chosen.complete (slice_index s.vehicle_of.items j) matched (rw back hj) weighs in
@@ -127,17 +127,17 @@ module _ (tau : ℕ → ℕ → ℕ) (idle wanted : List ℕ) (s : Matching) (pa
       let there : slice_index s.rider_price.items (slice_index s.rider_of.items (slice_index s.vehicle_of.items j)) ≡ 0 = omega arith in
       rw back at there)
       (cases_lt 0 (weight_in s (slice_index s.vehicle_of.items j) (slice_index s.rider_of.items (slice_index s.vehicle_of.items j)))))
-      (λ (free : s.vehicles ≤ slice_index s.vehicle_of.items j). priced.free_rider j hj free)
+      (λ (free : s.vehicles ≤ slice_index s.vehicle_of.items j). priced.free_rider j hj (λ e. omega arith) free)
       (cases_lt (slice_index s.vehicle_of.items j) s.vehicles)
 
   pub ArePotentials-chosen : ArePotentials tau idle wanted pairs (map negated s.vehicle_price.items) (map negated s.rider_price.items)
   ArePotentials-chosen = record {
-    from_length = length-map s.vehicle_price.items negated ∙ priced.a_length ∙ vehicles;
-    to_length = length-map s.rider_price.items negated ∙ priced.b_length ∙ riders;
+    from_length = length-map s.vehicle_price.items negated ∙ priced.prices.a_length ∙ vehicles;
+    to_length = length-map s.rider_price.items negated ∙ priced.prices.b_length ∙ riders;
     from_at_most_0 = λ i h. rw (from_at i h) (negated-most _);
     to_at_most_0 = λ j h. rw (to_at j h) (negated-most _);
     at_most = λ i j hi hj reach.
-        let cover : weight_in s i j ≤ slice_index s.vehicle_price.items i + slice_index s.rider_price.items j = priced.covers i j (rw vehicles hi) (rw riders hj) in
+        let cover : weight_in s i j ≤ slice_index s.vehicle_price.items i + slice_index s.rider_price.items j = priced.prices.covers i j (rw vehicles hi) (rw riders hj) in
         let is : weight_in s i j ≡ weight_of (pair_seconds tau idle wanted (i, j)) = weights i j hi hj in
         let worth : weight_of (pair_seconds tau idle wanted (i, j)) + pair_seconds tau idle wanted (i, j) ≡ pair_worth = weight_of-is _ reach in
         rw (from_at i hi, to_at j hj) (negated-at_most (slice_index s.vehicle_price.items i) (slice_index s.rider_price.items j) (pair_seconds tau idle wanted (i, j)) pair_worth (omega arith));

@@ -12,5 +12,5 @@ pub use Rattle.rebalancing.specs.declared.matching.Matching.{Matching}
 pub use Rattle.rebalancing.specs.work.Chosen.{IsChosen, seconds_in}
 pub use Rattle.rebalancing.specs.work.Prices.{IsPriced, IsPricedMatching, IsSameProblem, IsSized, weight_in}
 pub use Rattle.rebalancing.specs.work.Relaxation.{Falls, Improves, IsCheaper, Relaxes, Rises}
-pub use Rattle.rebalancing.specs.work.SearchTree.{HasRoom, IsCheapest, IsGrown, IsNearest, IsOpen, IsOpenMatching, IsReached, IsSearchTree, root_of}
+pub use Rattle.rebalancing.specs.work.SearchTree.{HasRoom, IsCheapest, IsGrown, IsNearest, IsOpen, IsOpenMatching, IsReached, IsRooted, IsSearchTree, root_of}
 pub use Rattle.rebalancing.specs.work.Weights.{weight_at, weight_of}

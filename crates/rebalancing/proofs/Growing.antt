@@ -3,33 +3,35 @@ use Rattle.rebalancing.proofs.Common.{cases_eq, cases_lt, get_or_append_left, ge
 use Rattle.std.proofs.lemmas.List.{length-set, get_or-set_same, get_or-set_other}
 
 -- no rider's price is above a pair's worth
-pub b_most : {n m : ℕ} {w : ℕ → ℕ → ℕ} {done next : ℕ} {a b q p : List ℕ} → IsPriced n m w done next a b q p → (j : ℕ) → j < m → slice_index b j ≤ pair_worth
+pub b_most : {n m : ℕ} {w : ℕ → ℕ → ℕ} {done next : ℕ} {a b q p : List ℕ} → IsPriced n m w done next m a b q p → (j : ℕ) → j < m → slice_index b j ≤ pair_worth
 b_most {n} {m} {w} {done} {next} {a} {b} {q} {p} priced j hj =
     ⊎_elim
     (λ (matched : slice_index p j < n).
-    let back : slice_index q (slice_index p j) ≡ j = priced.back j hj matched in
+    let back : slice_index q (slice_index p j) ≡ j = priced.back j hj (λ e. omega arith) matched in
     let tight : slice_index a (slice_index p j) + slice_index b j ≡ w (slice_index p j) j = rw back at (priced.tight (slice_index p j) matched (rw back hj)) in
-    let light : w (slice_index p j) j ≤ pair_worth = priced.light (slice_index p j) j matched hj in
+    let light : w (slice_index p j) j ≤ pair_worth = priced.prices.light (slice_index p j) j matched hj in
     omega arith)
-    (λ (free : n ≤ slice_index p j). let is : slice_index b j ≡ 0 = priced.free_rider j hj free in omega arith)
+    (λ (free : n ≤ slice_index p j). let is : slice_index b j ≡ 0 = priced.free_rider j hj (λ e. omega arith) free in omega arith)
     (cases_lt (slice_index p j) n)
 
-module _ {n m : ℕ} {w : ℕ → ℕ → ℕ} {k : ℕ} {a b q p : List ℕ} (priced : IsPriced n m w k k a b q p) (hk : k < n) where
+module _ {n m : ℕ} {w : ℕ → ℕ → ℕ} {k : ℕ} {a b q p : List ℕ} (priced : IsPriced n m w k k m a b q p) (hk : k < n) where
   -- a tree of the root alone
   pub IsGrown-root : IsGrown n m w k a b q (k ∷ []) (m ∷ []) (0 ∷ []) (replicate m 0)
   IsGrown-root = record {
+    tree = record {
+      root = refl;
+      root_free = priced.waiting k hk (omega arith);
+      c_length = refl;
+      parent_length = refl;
+      vehicle = λ t ht. let z : t ≡ 0 = omega arith in rw z hk;
+      rider = λ t pt ht. absurd (omega arith);
+      partner = λ t pt ht. absurd (omega arith);
+      earlier = λ t pt ht. absurd (omega arith);
+      edge = λ t pt ht. absurd (omega arith);
+      placed = λ t pt ht. absurd (omega arith);
+    };
     rooted = omega arith;
-    root = refl;
-    root_free = priced.waiting k hk (omega arith);
-    c_length = refl;
-    parent_length = refl;
     place_length = length-replicate {A = ℕ} m 0;
-    vehicle = λ t ht. let z : t ≡ 0 = omega arith in rw z hk;
-    rider = λ t pt ht. absurd (omega arith);
-    partner = λ t pt ht. absurd (omega arith);
-    earlier = λ t pt ht. absurd (omega arith);
-    edge = λ t pt ht. absurd (omega arith);
-    placed = λ t pt ht. absurd (omega arith);
     place_most = λ j hj. rw (get_or-replicate {A = ℕ} m j 0 0 hj) (omega arith);
     found = λ j hj pp. let is : slice_index (replicate m 0) j ≡ 0 = get_or-replicate {A = ℕ} m j 0 0 hj in absurd (omega arith);
   }
@@ -47,7 +49,7 @@ module _ {n m : ℕ} {w : ℕ → ℕ → ℕ} {k : ℕ} {a b q p : List ℕ} (p
       let is : slice_index ta' j ≡ slice_index ta j = old.0 in
       let at : slice_index ta j ≡ huge = far j hj in
       let price : slice_index b j ≤ pair_worth = b_most priced j hj in
-      let root_price : slice_index a k ≤ pair_worth = priced.a_most k hk in
+      let root_price : slice_index a k ≤ pair_worth = priced.prices.a_most k hk in
       absurd (omega arith))
       (relaxes.from j (rw row_length hj) out)
       in
@@ -64,11 +66,11 @@ module _ {n m : ℕ} {w : ℕ → ℕ → ℕ} {k : ℕ} {a b q p : List ℕ} (p
   IsCheapest-root = record {
     within = omega arith;
     least = λ t ht. let z : t ≡ 0 = omega arith in rw z (omega arith);
-    fallen = let e : slice_index a k ≡ pair_worth = priced.waiting_price k hk (omega arith) in omega arith;
+    fallen = let e : slice_index a k ≡ pair_worth = priced.prices.waiting_price k hk (omega arith) in omega arith;
   }
 
 module _ {n m : ℕ} {w : ℕ → ℕ → ℕ} {k : ℕ} {a b q p r c parent place ta po : List ℕ} {lowered cheapest j v : ℕ}
-    (priced : IsPriced n m w k (k + 1) a b q p) (grown : IsGrown n m w k a b q r c parent place) (reached : IsReached m w a b r place ta po lowered) (cheap : IsCheapest k a r cheapest lowered)
+    (priced : IsPriced n m w k (k + 1) m a b q p) (grown : IsGrown n m w k a b q r c parent place) (reached : IsReached m w a b r place ta po lowered) (cheap : IsCheapest k a r cheapest lowered)
     (hj : j < m) (out : slice_index place j ≡ 0) (tight : slice_index ta j ≡ lowered) (matched : slice_index p j < n) (ev : slice_index p j ≡ v) where
   v_within : v < n
   v_within = rw (← ev) matched
@@ -80,16 +82,16 @@ module _ {n m : ℕ} {w : ℕ → ℕ → ℕ} {k : ℕ} {a b q p r c parent pla
   r_new = get_or_push r v 0 (length r) refl
 
   c_old : (t : ℕ) → t < length r → slice_index (c ++ j ∷ []) t ≡ slice_index c t
-  c_old t h = get_or_append_left c (j ∷ []) 0 t (rw grown.c_length h)
+  c_old t h = get_or_append_left c (j ∷ []) 0 t (rw grown.tree.c_length h)
 
   c_new : slice_index (c ++ j ∷ []) (length r) ≡ j
-  c_new = get_or_push c j 0 (length r) grown.c_length
+  c_new = get_or_push c j 0 (length r) grown.tree.c_length
 
   parent_old : (t : ℕ) → t < length r → slice_index (parent ++ slice_index po j ∷ []) t ≡ slice_index parent t
-  parent_old t h = get_or_append_left parent (slice_index po j ∷ []) 0 t (rw grown.parent_length h)
+  parent_old t h = get_or_append_left parent (slice_index po j ∷ []) 0 t (rw grown.tree.parent_length h)
 
   parent_new : slice_index (parent ++ slice_index po j ∷ []) (length r) ≡ slice_index po j
-  parent_new = get_or_push parent (slice_index po j) 0 (length r) grown.parent_length
+  parent_new = get_or_push parent (slice_index po j) 0 (length r) grown.tree.parent_length
 
   -- the positions of the larger tree are the old ones and one more
   positions : (t : ℕ) → t < length (r ++ v ∷ []) → (t < length r) ⊎ (t ≡ length r)
@@ -107,32 +109,34 @@ module _ {n m : ℕ} {w : ℕ → ℕ → ℕ} {k : ℕ} {a b q p r c parent pla
 
   pub IsGrown-more : IsGrown n m w k a b q (r ++ v ∷ []) (c ++ j ∷ []) (parent ++ slice_index po j ∷ []) (set place j (length r))
   IsGrown-more = record {
+    tree = record {
+      root = r_old 0 grown.rooted ∙ grown.tree.root;
+      root_free = grown.tree.root_free;
+      c_length = let e : length c ≡ length r = grown.tree.c_length in omega (arith, length_push r v, length_push c j);
+      parent_length = let e : length parent ≡ length r = grown.tree.parent_length in omega (arith, length_push r v, length_push parent (slice_index po j));
+      vehicle = λ t ht. ⊎_elim (λ (lt : t < length r). rw (r_old t lt) (grown.tree.vehicle t lt)) (λ (e : t ≡ length r). rw (e, r_new) v_within) (positions t ht);
+      rider = λ t pt ht. ⊎_elim (λ (lt : t < length r). rw (c_old t lt) (grown.tree.rider t pt lt)) (λ (e : t ≡ length r). rw (e, c_new) hj) (positions t ht);
+      partner = λ t pt ht. ⊎_elim (λ (lt : t < length r). rw (r_old t lt, c_old t lt) (grown.tree.partner t pt lt)) (λ (e : t ≡ length r). rw (e, r_new, c_new) (rw ev at (priced.back j hj (λ e. omega arith) matched))) (positions t ht);
+      earlier = λ t pt ht. ⊎_elim (λ (lt : t < length r). rw (parent_old t lt) (grown.tree.earlier t pt lt)) (λ (e : t ≡ length r). rw (e, parent_new) (reached.of_within j hj out)) (positions t ht);
+      edge = λ t pt ht. ⊎_elim
+          (λ (lt : t < length r).
+          let before : slice_index parent t < length r = let h : slice_index parent t < t = grown.tree.earlier t pt lt in omega arith in
+          rw (parent_old t lt, r_old (slice_index parent t) before, c_old t lt) (grown.tree.edge t pt lt))
+          (λ (e : t ≡ length r).
+          let before : slice_index po j < length r = reached.of_within j hj out in
+          let exactly : w (slice_index r (slice_index po j)) j + slice_index ta j ≡ slice_index a (slice_index r (slice_index po j)) + slice_index b j + lowered = reached.exactly j hj out in
+          rw (e, parent_new, r_old (slice_index po j) before, c_new) (omega arith))
+          (positions t ht);
+      placed = λ t pt ht. ⊎_elim
+          (λ (lt : t < length r).
+          let at : slice_index place (slice_index c t) ≡ t = grown.tree.placed t pt lt in
+          let other : slice_index c t ≢ j = λ e. let same : slice_index place (slice_index c t) ≡ slice_index place j = ap (slice_index place) e in omega arith in
+          rw (c_old t lt) (place_other (slice_index c t) other ∙ at))
+          (λ (e : t ≡ length r). rw (e, c_new) place_new)
+          (positions t ht);
+    };
     rooted = omega (arith, length_push r v);
-    root = r_old 0 grown.rooted ∙ grown.root;
-    root_free = grown.root_free;
-    c_length = let e : length c ≡ length r = grown.c_length in omega (arith, length_push r v, length_push c j);
-    parent_length = let e : length parent ≡ length r = grown.parent_length in omega (arith, length_push r v, length_push parent (slice_index po j));
     place_length = length-set place j (length r) ∙ grown.place_length;
-    vehicle = λ t ht. ⊎_elim (λ (lt : t < length r). rw (r_old t lt) (grown.vehicle t lt)) (λ (e : t ≡ length r). rw (e, r_new) v_within) (positions t ht);
-    rider = λ t pt ht. ⊎_elim (λ (lt : t < length r). rw (c_old t lt) (grown.rider t pt lt)) (λ (e : t ≡ length r). rw (e, c_new) hj) (positions t ht);
-    partner = λ t pt ht. ⊎_elim (λ (lt : t < length r). rw (r_old t lt, c_old t lt) (grown.partner t pt lt)) (λ (e : t ≡ length r). rw (e, r_new, c_new) (rw ev at (priced.back j hj matched))) (positions t ht);
-    earlier = λ t pt ht. ⊎_elim (λ (lt : t < length r). rw (parent_old t lt) (grown.earlier t pt lt)) (λ (e : t ≡ length r). rw (e, parent_new) (reached.of_within j hj out)) (positions t ht);
-    edge = λ t pt ht. ⊎_elim
-        (λ (lt : t < length r).
-        let before : slice_index parent t < length r = let h : slice_index parent t < t = grown.earlier t pt lt in omega arith in
-        rw (parent_old t lt, r_old (slice_index parent t) before, c_old t lt) (grown.edge t pt lt))
-        (λ (e : t ≡ length r).
-        let before : slice_index po j < length r = reached.of_within j hj out in
-        let exactly : w (slice_index r (slice_index po j)) j + slice_index ta j ≡ slice_index a (slice_index r (slice_index po j)) + slice_index b j + lowered = reached.exactly j hj out in
-        rw (e, parent_new, r_old (slice_index po j) before, c_new) (omega arith))
-        (positions t ht);
-    placed = λ t pt ht. ⊎_elim
-        (λ (lt : t < length r).
-        let at : slice_index place (slice_index c t) ≡ t = grown.placed t pt lt in
-        let other : slice_index c t ≢ j = λ e. let same : slice_index place (slice_index c t) ≡ slice_index place j = ap (slice_index place) e in omega arith in
-        rw (c_old t lt) (place_other (slice_index c t) other ∙ at))
-        (λ (e : t ≡ length r). rw (e, c_new) place_new)
-        (positions t ht);
     place_most = λ i hi. ⊎_elim
         (λ (e : i ≡ j). rw (e, place_new) (omega (arith, length_push r v)))
         (λ (ne : i ≢ j). let is : slice_index (set place j (length r)) i ≡ slice_index place i = place_other i ne in let h : slice_index place i < length r = grown.place_most i hi in omega (arith, length_push r v))
@@ -156,7 +160,7 @@ module _ {n m : ℕ} {w : ℕ → ℕ → ℕ} {k : ℕ} {a b q p r c parent pla
         not_past = λ i hi away. ⊎_elim
             (λ (new : (slice_index row i + slice_index ta' i ≡ slice_index a v + lowered + slice_index b i) × (slice_index po' i ≡ length r)).
             let weight : slice_index row i ≡ w v i = weights i hi in
-            let cover : w v i ≤ slice_index a v + slice_index b i = priced.covers v i v_within hi in
+            let cover : w v i ≤ slice_index a v + slice_index b i = priced.prices.covers v i v_within hi in
             let is : slice_index row i + slice_index ta' i ≡ slice_index a v + lowered + slice_index b i = new.0 in
             omega arith)
             (λ old. rw old.0 (reached.not_past i hi (outside i away)))
@@ -207,7 +211,7 @@ module _ {n m : ℕ} {w : ℕ → ℕ → ℕ} {k : ℕ} {a b q p r c parent pla
   -- the prices and the fall fit
   pub offset_fits : (i : ℕ) → i < m → slice_index a v + lowered + slice_index b i < 2000000000000
   offset_fits i hi =
-      let first : slice_index a v ≤ pair_worth = priced.a_most v v_within in
+      let first : slice_index a v ≤ pair_worth = priced.prices.a_most v v_within in
       let second : slice_index b i ≤ pair_worth = b_most priced i hi in
       let fallen : slice_index a k + lowered ≡ pair_worth = cheap.fallen in
       omega arith

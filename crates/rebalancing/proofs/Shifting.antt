@@ -1,36 +1,77 @@
 use Rattle.std.proofs.Common.{◌≡◌, ◌≢◌, ℕ, ◌+◌, ◌<◌, ◌≤◌, ◌⊎◌, List, length, slice_index, sym, ap, ◌∙◌, inl, inr, ⊎_elim, arith}
-use Rattle.rebalancing.proofs.Common.{cases_eq, cases_lt, pair_worth, IsPriced, Falls, Rises, IsGrown, IsReached, IsCheapest}
+use Rattle.rebalancing.proofs.Common.{cases_eq, cases_lt, pair_worth, IsPriced, IsRooted, Falls, Rises, IsGrown, IsReached, IsCheapest}
 
-module _ {n m : ℕ} {w : ℕ → ℕ → ℕ} {k : ℕ} {a b q p r c parent place : List ℕ} (priced : IsPriced n m w k (k + 1) a b q p) (grown : IsGrown n m w k a b q r c parent place) where
+module _ {n m : ℕ} {w : ℕ → ℕ → ℕ} {k : ℕ} {a b q r c parent place : List ℕ} {count : ℕ} (tree : IsRooted n m w k a b q r c parent place count) where
+  root_apart : (t : ℕ) → 0 < t → t < count → slice_index r 0 ≡ slice_index r t → ⊥
+  root_apart t pt ht e =
+      let same : slice_index q k ≡ slice_index c t = ap (slice_index q) (sym tree.root ∙ e) ∙ tree.partner t pt ht in
+      let free : m ≤ slice_index q k = tree.root_free in
+      let within : slice_index c t < m = tree.rider t pt ht in
+      omega arith
+
+  -- no vehicle is at two positions
+  pub vehicles_differ : (s t : ℕ) → s < count → t < count → slice_index r s ≡ slice_index r t → s ≡ t
+  vehicles_differ s t hs ht e =
+      ⊎_elim
+      (λ (ps : 0 < s). ⊎_elim
+      (λ (pt : 0 < t).
+      let same : slice_index c s ≡ slice_index c t = sym (tree.partner s ps hs) ∙ ap (slice_index q) e ∙ tree.partner t pt ht in
+      sym (tree.placed s ps hs) ∙ ap (slice_index place) same ∙ tree.placed t pt ht)
+      (λ (zt : t ≤ 0). let z : t ≡ 0 = omega arith in absurd (root_apart s ps hs (sym (ap (slice_index r) z) ∙ sym e)))
+      (cases_lt 0 t))
+      (λ (zs : s ≤ 0). ⊎_elim
+      (λ (pt : 0 < t). let z : s ≡ 0 = omega arith in absurd (root_apart t pt ht (sym (ap (slice_index r) z) ∙ e)))
+      (λ (zt : t ≤ 0). omega arith)
+      (cases_lt 0 t))
+      (cases_lt 0 s)
+
+  -- fewer positions are as they were where their vehicles have the riders that they had
+  pub IsRooted-kept : (others : List ℕ) (fewer : ℕ) → 0 < fewer → fewer ≤ count → ((t : ℕ) → t < fewer → slice_index others (slice_index r t) ≡ slice_index q (slice_index r t)) → IsRooted n m w k a b others r c parent place fewer
+  IsRooted-kept others fewer some le same =
+      let root : slice_index others k ≡ slice_index q k = rw tree.root at (same 0 some) in
+      record {
+        root = tree.root;
+        root_free = let free : m ≤ slice_index q k = tree.root_free in omega arith;
+        c_length = tree.c_length;
+        parent_length = tree.parent_length;
+        vehicle = λ t lt. tree.vehicle t (omega arith);
+        rider = λ t pt lt. tree.rider t pt (omega arith);
+        partner = λ t pt lt. same t lt ∙ tree.partner t pt (omega arith);
+        earlier = λ t pt lt. tree.earlier t pt (omega arith);
+        edge = λ t pt lt. tree.edge t pt (omega arith);
+        placed = λ t pt lt. tree.placed t pt (omega arith);
+      }
+
+module _ {n m : ℕ} {w : ℕ → ℕ → ℕ} {k : ℕ} {a b q p r c parent place : List ℕ} (priced : IsPriced n m w k (k + 1) m a b q p) (grown : IsGrown n m w k a b q r c parent place) where
   -- a vehicle that is neither the root nor has a rider of the tree isn't in the tree
   out_of_tree : (i : ℕ) → i ≢ k → (slice_index q i < m → slice_index place (slice_index q i) ≡ 0) → (t : ℕ) → t < length r → slice_index r t ≢ i
   out_of_tree i other out t ht e =
       ⊎_elim
       (λ (pt : 0 < t).
-      let rider : slice_index q i ≡ slice_index c t = ap (slice_index q) (sym e) ∙ grown.partner t pt ht in
-      let within : slice_index c t < m = grown.rider t pt ht in
+      let rider : slice_index q i ≡ slice_index c t = ap (slice_index q) (sym e) ∙ grown.tree.partner t pt ht in
+      let within : slice_index c t < m = grown.tree.rider t pt ht in
       let zero_at : slice_index place (slice_index q i) ≡ 0 = out (omega arith) in
-      let at : slice_index place (slice_index c t) ≡ t = grown.placed t pt ht in
+      let at : slice_index place (slice_index c t) ≡ t = grown.tree.placed t pt ht in
       let same : slice_index place (slice_index q i) ≡ slice_index place (slice_index c t) = ap (slice_index place) rider in
       absurd (omega arith))
       (λ (le : t ≤ 0).
       let first : t ≡ 0 = omega arith in
-      other (sym e ∙ ap (slice_index r) first ∙ grown.root))
+      other (sym e ∙ ap (slice_index r) first ∙ grown.tree.root))
       (cases_lt 0 t)
 
   -- a vehicle is at some position of the tree, or at none
   pub vehicle_cases : (i : ℕ) → i < n → ((t : ℕ) × (t < length r) × (slice_index r t ≡ i)) ⊎ ((t : ℕ) → t < length r → slice_index r t ≢ i)
   vehicle_cases i hi =
       ⊎_elim
-      (λ (e : i ≡ k). inl (0, grown.rooted, grown.root ∙ sym e))
+      (λ (e : i ≡ k). inl (0, grown.rooted, grown.tree.root ∙ sym e))
       (λ (other : i ≢ k). ⊎_elim
       (λ (matched : slice_index q i < m). ⊎_elim
       (λ (inside : 0 < slice_index place (slice_index q i)).
       let t = slice_index place (slice_index q i) in
       let ht : slice_index place (slice_index q i) < length r = grown.place_most (slice_index q i) matched in
       let rider : slice_index c (slice_index place (slice_index q i)) ≡ slice_index q i = grown.found (slice_index q i) matched inside in
-      let partner : slice_index q (slice_index r t) ≡ slice_index q i = grown.partner t inside ht ∙ rider in
-      let own : slice_index p (slice_index q (slice_index r t)) ≡ slice_index r t = priced.forth (slice_index r t) (grown.vehicle t ht) (rw partner matched) in
+      let partner : slice_index q (slice_index r t) ≡ slice_index q i = grown.tree.partner t inside ht ∙ rider in
+      let own : slice_index p (slice_index q (slice_index r t)) ≡ slice_index r t = priced.forth (slice_index r t) (grown.tree.vehicle t ht) (rw partner matched) in
       let its : slice_index p (slice_index q i) ≡ i = priced.forth i hi matched in
       inl (t, ht, sym own ∙ ap (slice_index p) partner ∙ its))
       (λ (outside : slice_index place (slice_index q i) ≤ 0). inr (out_of_tree i other (λ _. omega arith)))
@@ -42,7 +83,7 @@ module _ {n m : ℕ} {w : ℕ → ℕ → ℕ} {k : ℕ} {a b q p r c parent pla
   -- a rider outside the tree is at no position
   pub rider_outside : (j : ℕ) → slice_index place j ≡ 0 → (t : ℕ) → 0 < t → t < length r → slice_index c t ≢ j
   rider_outside j out t pt ht e =
-      let at : slice_index place (slice_index c t) ≡ t = grown.placed t pt ht in
+      let at : slice_index place (slice_index c t) ≡ t = grown.tree.placed t pt ht in
       let same : slice_index place (slice_index c t) ≡ slice_index place j = ap (slice_index place) e in
       absurd (omega arith)
 
@@ -53,48 +94,24 @@ module _ {n m : ℕ} {w : ℕ → ℕ → ℕ} {k : ℕ} {a b q p r c parent pla
       (λ (outside : slice_index place j ≤ 0). inr (rider_outside j (omega arith)))
       (cases_lt 0 (slice_index place j))
 
-  -- no rider and no vehicle is at two positions
-  pub riders_differ : (s t : ℕ) → 0 < s → 0 < t → s < length r → t < length r → slice_index c s ≡ slice_index c t → s ≡ t
-  riders_differ s t ps pt hs ht e = sym (grown.placed s ps hs) ∙ ap (slice_index place) e ∙ grown.placed t pt ht
-
-  root_apart : (t : ℕ) → 0 < t → t < length r → slice_index r 0 ≡ slice_index r t → ⊥
-  root_apart t pt ht e =
-      let same : slice_index q k ≡ slice_index c t = ap (slice_index q) (sym grown.root ∙ e) ∙ grown.partner t pt ht in
-      let free : m ≤ slice_index q k = grown.root_free in
-      let within : slice_index c t < m = grown.rider t pt ht in
-      omega arith
-
-  pub vehicles_differ : (s t : ℕ) → s < length r → t < length r → slice_index r s ≡ slice_index r t → s ≡ t
-  vehicles_differ s t hs ht e =
-      ⊎_elim
-      (λ (ps : 0 < s). ⊎_elim
-      (λ (pt : 0 < t). riders_differ s t ps pt hs ht (sym (grown.partner s ps hs) ∙ ap (slice_index q) e ∙ grown.partner t pt ht))
-      (λ (zt : t ≤ 0). let z : t ≡ 0 = omega arith in absurd (root_apart s ps hs (sym (ap (slice_index r) z) ∙ sym e)))
-      (cases_lt 0 t))
-      (λ (zs : s ≤ 0). ⊎_elim
-      (λ (pt : 0 < t). let z : s ≡ 0 = omega arith in absurd (root_apart t pt ht (sym (ap (slice_index r) z) ∙ e)))
-      (λ (zt : t ≤ 0). omega arith)
-      (cases_lt 0 t))
-      (cases_lt 0 s)
-
   module _ {ta po a' b' : List ℕ} {cheapest lowered by : ℕ} (reached : IsReached m w a b r place ta po lowered) (cheap : IsCheapest k a r cheapest lowered)
       (enough : by ≤ slice_index a (slice_index r cheapest)) (near : (j : ℕ) → j < m → slice_index place j ≡ 0 → lowered + by ≤ slice_index ta j)
       (fall : Falls r by a a') (rise : Rises c by b b') where
     -- the prices after the shift still cover every pair
     shifted_covers : (i j : ℕ) → i < n → j < m → w i j ≤ slice_index a' i + slice_index b' j
     shifted_covers i j hi hj =
-        let cover : w i j ≤ slice_index a i + slice_index b j = priced.covers i j hi hj in
+        let cover : w i j ≤ slice_index a i + slice_index b j = priced.prices.covers i j hi hj in
         ⊎_elim
         (λ (vehicle : (t : ℕ) × (t < length r) × (slice_index r t ≡ i)).
         let t = vehicle.0 in
         let fell : slice_index a' i + by ≡ slice_index a i = rw vehicle.2 at (fall.inside t vehicle.1) in
         ⊎_elim
         (λ (rider : (s : ℕ) × (0 < s) × (s < length r) × (slice_index c s ≡ j)).
-        let rose : slice_index b' j ≡ slice_index b j + by = rw rider.3 at (rise.inside rider.0 rider.1 (rw grown.c_length rider.2)) in
+        let rose : slice_index b' j ≡ slice_index b j + by = rw rider.3 at (rise.inside rider.0 rider.1 (rw grown.tree.c_length rider.2)) in
         omega arith)
         (λ (outside : slice_index place j ≤ 0).
         let out : slice_index place j ≡ 0 = omega arith in
-        let same : slice_index b' j ≡ slice_index b j = rise.outside j (λ s ps hs. rider_outside j out s ps (rw grown.c_length at hs)) in
+        let same : slice_index b' j ≡ slice_index b j = rise.outside j (λ s ps hs. rider_outside j out s ps (rw grown.tree.c_length at hs)) in
         let bound : w i j + slice_index ta j ≤ slice_index a i + slice_index b j + lowered = rw vehicle.2 at (reached.no_earlier j t hj out vehicle.1) in
         let later : lowered + by ≤ slice_index ta j = near j hj out in
         omega arith)
@@ -103,10 +120,10 @@ module _ {n m : ℕ} {w : ℕ → ℕ → ℕ} {k : ℕ} {a b q p r c parent pla
         let same_price : slice_index a' i ≡ slice_index a i = fall.outside i outside in
         ⊎_elim
         (λ (rider : (s : ℕ) × (0 < s) × (s < length r) × (slice_index c s ≡ j)).
-        let rose : slice_index b' j ≡ slice_index b j + by = rw rider.3 at (rise.inside rider.0 rider.1 (rw grown.c_length rider.2)) in
+        let rose : slice_index b' j ≡ slice_index b j + by = rw rider.3 at (rise.inside rider.0 rider.1 (rw grown.tree.c_length rider.2)) in
         omega arith)
         (λ (out : (s : ℕ) → 0 < s → s < length r → slice_index c s ≢ j).
-        let same : slice_index b' j ≡ slice_index b j = rise.outside j (λ s ps hs. out s ps (rw grown.c_length at hs)) in
+        let same : slice_index b' j ≡ slice_index b j = rise.outside j (λ s ps hs. out s ps (rw grown.tree.c_length at hs)) in
         omega arith)
         (rider_cases j hj))
         (vehicle_cases i hi)
@@ -122,22 +139,22 @@ module _ {n m : ℕ} {w : ℕ → ℕ → ℕ} {k : ℕ} {a b q p r c parent pla
         let fell : slice_index a' i + by ≡ slice_index a i = rw vehicle.2 at (fall.inside t vehicle.1) in
         ⊎_elim
         (λ (pt : 0 < vehicle.0).
-        let rider : slice_index q i ≡ slice_index c t = ap (slice_index q) (sym vehicle.2) ∙ grown.partner t pt ht in
-        let rose : slice_index b' (slice_index c t) ≡ slice_index b (slice_index c t) + by = rise.inside t pt (rw grown.c_length ht) in
+        let rider : slice_index q i ≡ slice_index c t = ap (slice_index q) (sym vehicle.2) ∙ grown.tree.partner t pt ht in
+        let rose : slice_index b' (slice_index c t) ≡ slice_index b (slice_index c t) + by = rise.inside t pt (rw grown.tree.c_length ht) in
         let rose_there : slice_index b' (slice_index q i) ≡ slice_index b (slice_index q i) + by = rw rider rose in
         omega arith)
         (λ (zt : vehicle.0 ≤ 0).
         let z : vehicle.0 ≡ 0 = omega arith in
-        let is : i ≡ k = sym vehicle.2 ∙ ap (slice_index r) z ∙ grown.root in
-        let free : m ≤ slice_index q i = rw is grown.root_free in
+        let is : i ≡ k = sym vehicle.2 ∙ ap (slice_index r) z ∙ grown.tree.root in
+        let free : m ≤ slice_index q i = rw is grown.tree.root_free in
         absurd (omega arith))
         (cases_lt 0 vehicle.0))
         (λ (outside : (t : ℕ) → t < length r → slice_index r t ≢ i).
         let same_price : slice_index a' i ≡ slice_index a i = fall.outside i outside in
         let rider_out : (s : ℕ) → 0 < s → s < length r → slice_index c s ≢ slice_index q i = λ s ps hs e.
-        let partner : slice_index q (slice_index r s) ≡ slice_index q i = grown.partner s ps hs ∙ e in
-        outside s hs (sym (priced.forth (slice_index r s) (grown.vehicle s hs) (rw partner matched)) ∙ ap (slice_index p) partner ∙ priced.forth i hi matched) in
-        let same : slice_index b' (slice_index q i) ≡ slice_index b (slice_index q i) = rise.outside (slice_index q i) (λ s ps hs. rider_out s ps (rw grown.c_length at hs)) in
+        let partner : slice_index q (slice_index r s) ≡ slice_index q i = grown.tree.partner s ps hs ∙ e in
+        outside s hs (sym (priced.forth (slice_index r s) (grown.tree.vehicle s hs) (rw partner matched)) ∙ ap (slice_index p) partner ∙ priced.forth i hi matched) in
+        let same : slice_index b' (slice_index q i) ≡ slice_index b (slice_index q i) = rise.outside (slice_index q i) (λ s ps hs. rider_out s ps (rw grown.tree.c_length at hs)) in
         omega arith)
         (vehicle_cases i hi)
 
@@ -145,57 +162,62 @@ module _ {n m : ℕ} {w : ℕ → ℕ → ℕ} {k : ℕ} {a b q p r c parent pla
     unmatched_outside : (i : ℕ) → i < n → i ≢ k → m ≤ slice_index q i → slice_index a' i ≡ slice_index a i
     unmatched_outside i hi other free = fall.outside i (out_of_tree i other (λ h. absurd (omega arith)))
 
-    pub IsPriced-shifted : IsPriced n m w k (k + 1) a' b' q p
+    pub IsPriced-shifted : IsPriced n m w k (k + 1) m a' b' q p
     IsPriced-shifted = record {
-      a_length = fall.same_length ∙ priced.a_length;
-      b_length = rise.same_length ∙ priced.b_length;
+      prices = record {
+        a_length = fall.same_length ∙ priced.prices.a_length;
+        b_length = rise.same_length ∙ priced.prices.b_length;
+        a_most = λ i hi.
+            let was : slice_index a i ≤ pair_worth = priced.prices.a_most i hi in
+            ⊎_elim
+            (λ (vehicle : (t : ℕ) × (t < length r) × (slice_index r t ≡ i)). let fell : slice_index a' i + by ≡ slice_index a i = rw vehicle.2 at (fall.inside vehicle.0 vehicle.1) in omega arith)
+            (λ outside. let same : slice_index a' i ≡ slice_index a i = fall.outside i outside in omega arith)
+            (vehicle_cases i hi);
+        light = priced.prices.light;
+        covers = shifted_covers;
+        waiting_price = λ i hi le. unmatched_outside i hi (λ e. absurd (omega arith)) (priced.waiting i hi le) ∙ priced.prices.waiting_price i hi le;
+      };
       q_length = priced.q_length;
       p_length = priced.p_length;
       q_most = priced.q_most;
       p_most = priced.p_most;
-      a_most = λ i hi.
-          let was : slice_index a i ≤ pair_worth = priced.a_most i hi in
-          ⊎_elim
-          (λ (vehicle : (t : ℕ) × (t < length r) × (slice_index r t ≡ i)). let fell : slice_index a' i + by ≡ slice_index a i = rw vehicle.2 at (fall.inside vehicle.0 vehicle.1) in omega arith)
-          (λ outside. let same : slice_index a' i ≡ slice_index a i = fall.outside i outside in omega arith)
-          (vehicle_cases i hi);
-      light = priced.light;
-      covers = shifted_covers;
       tight = shifted_tight;
       forth = priced.forth;
+      apart = priced.apart;
       back = priced.back;
-      free_rider = λ j hj free.
+      free_rider = λ j hj ne free.
           let out : (s : ℕ) → 0 < s → s < length c → slice_index c s ≢ j = λ s ps hs e.
-          let hr : s < length r = rw grown.c_length at hs in
-          let partner : slice_index q (slice_index r s) ≡ j = grown.partner s ps hr ∙ e in
-          let own : slice_index p j ≡ slice_index r s = ap (slice_index p) (sym partner) ∙ priced.forth (slice_index r s) (grown.vehicle s hr) (rw partner hj) in
-          let within : slice_index r s < n = grown.vehicle s hr in
+          let hr : s < length r = rw grown.tree.c_length at hs in
+          let partner : slice_index q (slice_index r s) ≡ j = grown.tree.partner s ps hr ∙ e in
+          let own : slice_index p j ≡ slice_index r s = ap (slice_index p) (sym partner) ∙ priced.forth (slice_index r s) (grown.tree.vehicle s hr) (rw partner hj) in
+          let within : slice_index r s < n = grown.tree.vehicle s hr in
           absurd (omega arith) in
-          rise.outside j out ∙ priced.free_rider j hj free;
+          rise.outside j out ∙ priced.free_rider j hj ne free;
       free_vehicle = λ i hi lt free. unmatched_outside i hi (λ e. absurd (omega arith)) free ∙ priced.free_vehicle i hi lt free;
       waiting = priced.waiting;
-      waiting_price = λ i hi le. unmatched_outside i hi (λ e. absurd (omega arith)) (priced.waiting i hi le) ∙ priced.waiting_price i hi le;
     }
 
     pub IsGrown-shifted : IsGrown n m w k a' b' q r c parent place
     IsGrown-shifted = record {
+      tree = record {
+        root = grown.tree.root;
+        root_free = grown.tree.root_free;
+        c_length = grown.tree.c_length;
+        parent_length = grown.tree.parent_length;
+        vehicle = grown.tree.vehicle;
+        rider = grown.tree.rider;
+        partner = grown.tree.partner;
+        earlier = grown.tree.earlier;
+        edge = λ t pt ht.
+            let before : slice_index parent t < t = grown.tree.earlier t pt ht in
+            let was : slice_index a (slice_index r (slice_index parent t)) + slice_index b (slice_index c t) ≡ w (slice_index r (slice_index parent t)) (slice_index c t) = grown.tree.edge t pt ht in
+            let fell : slice_index a' (slice_index r (slice_index parent t)) + by ≡ slice_index a (slice_index r (slice_index parent t)) = fall.inside (slice_index parent t) (omega arith) in
+            let rose : slice_index b' (slice_index c t) ≡ slice_index b (slice_index c t) + by = rise.inside t pt (rw grown.tree.c_length ht) in
+            omega arith;
+        placed = grown.tree.placed;
+      };
       rooted = grown.rooted;
-      root = grown.root;
-      root_free = grown.root_free;
-      c_length = grown.c_length;
-      parent_length = grown.parent_length;
       place_length = grown.place_length;
-      vehicle = grown.vehicle;
-      rider = grown.rider;
-      partner = grown.partner;
-      earlier = grown.earlier;
-      edge = λ t pt ht.
-          let before : slice_index parent t < t = grown.earlier t pt ht in
-          let was : slice_index a (slice_index r (slice_index parent t)) + slice_index b (slice_index c t) ≡ w (slice_index r (slice_index parent t)) (slice_index c t) = grown.edge t pt ht in
-          let fell : slice_index a' (slice_index r (slice_index parent t)) + by ≡ slice_index a (slice_index r (slice_index parent t)) = fall.inside (slice_index parent t) (omega arith) in
-          let rose : slice_index b' (slice_index c t) ≡ slice_index b (slice_index c t) + by = rise.inside t pt (rw grown.c_length ht) in
-          omega arith;
-      placed = grown.placed;
       place_most = grown.place_most;
       found = grown.found;
     }
@@ -209,13 +231,13 @@ module _ {n m : ℕ} {w : ℕ → ℕ → ℕ} {k : ℕ} {a b q p r c parent pla
       no_earlier = λ j t hj out ht.
           let was : w (slice_index r t) j + slice_index ta j ≤ slice_index a (slice_index r t) + slice_index b j + lowered = reached.no_earlier j t hj out ht in
           let fell : slice_index a' (slice_index r t) + by ≡ slice_index a (slice_index r t) = fall.inside t ht in
-          let same : slice_index b' j ≡ slice_index b j = rise.outside j (λ s ps hs. rider_outside j out s ps (rw grown.c_length at hs)) in
+          let same : slice_index b' j ≡ slice_index b j = rise.outside j (λ s ps hs. rider_outside j out s ps (rw grown.tree.c_length at hs)) in
           omega arith;
       exactly = λ j hj out.
           let ht : slice_index po j < length r = reached.of_within j hj out in
           let was : w (slice_index r (slice_index po j)) j + slice_index ta j ≡ slice_index a (slice_index r (slice_index po j)) + slice_index b j + lowered = reached.exactly j hj out in
           let fell : slice_index a' (slice_index r (slice_index po j)) + by ≡ slice_index a (slice_index r (slice_index po j)) = fall.inside (slice_index po j) ht in
-          let same : slice_index b' j ≡ slice_index b j = rise.outside j (λ s ps hs. rider_outside j out s ps (rw grown.c_length at hs)) in
+          let same : slice_index b' j ≡ slice_index b j = rise.outside j (λ s ps hs. rider_outside j out s ps (rw grown.tree.c_length at hs)) in
           omega arith;
     }
 
@@ -229,6 +251,6 @@ module _ {n m : ℕ} {w : ℕ → ℕ → ℕ} {k : ℕ} {a b q p r c parent pla
           omega arith;
       fallen =
           let was : slice_index a k + lowered ≡ pair_worth = cheap.fallen in
-          let fell : slice_index a' k + by ≡ slice_index a k = rw grown.root at (fall.inside 0 grown.rooted) in
+          let fell : slice_index a' k + by ≡ slice_index a k = rw grown.tree.root at (fall.inside 0 grown.rooted) in
           omega arith;
     }

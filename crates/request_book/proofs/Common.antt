@@ -1,5 +1,6 @@
 -- The names that the proofs of this crate cite from elsewhere, passed on from one place. Declares nothing.
-pub use Rattle.std.proofs.lemmas.Bool.{cases_eq, cases_lt, cases_order, cond-false, cond-true, eqb-false, false≢true}
+pub use Rattle.std.proofs.lemmas.Bool.{cases_eq, cases_lt, cond-false, cond-true, cond_both, eqb-false, false≢true}
+pub use Rattle.std.proofs.lemmas.Bool.Decides.{nat_tests}
 pub use Rattle.std.proofs.lemmas.List.{at_drop_more, drop_all, length-map, map-append, take_more}
 pub use Rattle.std.proofs.lemmas.List.Elements.{All-append, All-cons, All-get_or, All-head, All-map, All-nil, All-push, All-tail, All-weaker, filter_map-append}
 pub use Rattle.std.proofs.lemmas.List.Quantifiers.{position-Some}
@@ -7,7 +8,6 @@ pub use Rattle.std.proofs.lemmas.List.Sorted.{answers_always, searchable_from_so
 pub use Rattle.std.proofs.lemmas.List.Sums.{sum_by-cons, sum_by_push}
 pub use Rattle.std.specs.List.{cons_option, list_any}
 pub use Rattle.std.specs.List.Sorted.{IsBinarySearchResult, IsSearchInRange, IsStrictlyIncreasing}
-pub use Rattle.std.specs.Option.{option_map_or}
 pub use Rattle.batch_snapshot.specs.Batch.{Batch}
 pub use Rattle.batch_snapshot.specs.Kept.{IsFleet, IsKept, IsOnce, riders_aboard}
 pub use Rattle.batch_snapshot.specs.Vehicle.{HasSeats, persons_aboard}
@@ -27,7 +27,7 @@ unfoldable pub use Rattle.request_book.specs.Sealing.{batch_of, sealed_state}
 pub use Rattle.request_book.specs.Sealing.{after_seal, is_over}
 pub use Rattle.request_book.specs.State.{find_passenger, find_rider, find_vehicle, pool_count}
 unfoldable pub use Rattle.request_book.specs.Step.{cancel, close, dropoff, pickup, report, seal, step, submit}
-pub use Rattle.request_book.specs.Step.{answered, is_promised_by, rider_becomes, still_asks, vehicle_becomes}
+pub use Rattle.request_book.specs.Step.{answered, rider_becomes, vehicle_becomes}
 pub use Rattle.request_book.specs.declared.command.Command.{Command}
 pub use Rattle.request_book.specs.declared.command.Command.TheVariants.{Cancel, Close, Dropoff, Pickup, Report, Seal, Submit}
 pub use Rattle.request_book.specs.declared.journal.Entry.{Entry}
@@ -37,7 +37,7 @@ pub use Rattle.request_book.specs.declared.outcome.ChosenTrip.{ChosenTrip}
 pub use Rattle.request_book.specs.declared.outcome.PlannedStop.{PlannedStop}
 pub use Rattle.request_book.specs.declared.register.Register.{Register}
 pub use Rattle.request_book.specs.declared.reply.BookRefusal.{BookRefusal}
-pub use Rattle.request_book.specs.declared.reply.BookRefusal.TheVariants.{BatchOpen, BookFull, ClockBack, DuplicateRider, NotAboard, NotPromised, NotThisBatch, PoolFull, SamePlace, TimeBack, UnknownNode, UnknownRider, UnknownVehicle, VehicleFull}
+pub use Rattle.request_book.specs.declared.reply.BookRefusal.TheVariants.{BookFull, PoolFull, UnknownRider, UnknownVehicle}
 pub use Rattle.request_book.specs.declared.reply.Reply.{Reply}
 pub use Rattle.request_book.specs.declared.reply.Reply.TheVariants.{Accepted, Cancelled, Closed, Dropped, Picked, Placed, Refused, Sealed}
 pub use Rattle.request_book.specs.declared.rider.BookRider.{BookRider}
@@ -47,7 +47,7 @@ pub use Rattle.request_book.specs.declared.state.State.{State}
 unfoldable pub use Rattle.request_book.specs.lemmas.Closing.{closed_state}
 pub use Rattle.request_book.specs.lemmas.Named.{asking, in_batch, lets_out, planned_status, stands_at, takes_in}
 unfoldable pub use Rattle.request_book.specs.lemmas.Refusals.{first_of}
-pub use Rattle.request_book.specs.lemmas.Refusals.{aboard_refusal, batch_open, book_full, clock_back, duplicate_rider, ended_refusal, has_ended, is_aboard, not_aboard, not_promised, not_this_batch, pool_full, promise_refusal, same_place, seat_refusal, time_back, unknown_node, unknown_rider, unknown_vehicle, vehicle_full}
+pub use Rattle.request_book.specs.lemmas.Refusals.{aboard_refusal, book_full, duplicate_rider, ended_refusal, has_ended, is_aboard, not_aboard, not_promised, not_this_batch, pool_full, promise_refusal, same_place, seat_refusal, time_back, unknown_node, unknown_rider, unknown_vehicle, vehicle_full}
 unfoldable pub use Rattle.request_book.specs.lemmas.Table.{cancel_step, close_step, dropoff_step, pickup_step, report_step, seal_step, submit_step, table_step}
 pub use Rattle.request_book.specs.lemmas.Table.{answer, batch_unless, dropped_off, picked_up, seal_refusal, submit_refusal}
 unfoldable pub use Rattle.request_book.specs.work.Closing.{promised_in_turn}
@@ -55,4 +55,3 @@ pub use Rattle.request_book.specs.work.Closing.{is_waiting, takes_promise, waits
 unfoldable pub use Rattle.request_book.specs.work.Keyed.{changed_in_turn}
 pub use Rattle.request_book.specs.work.Named.{over_id}
 pub use Rattle.request_book.specs.work.Register.{HasRoom, IsIndexed, pool_id, state_of}
-pub use Rattle.road_network.specs.Roads.{has_node}

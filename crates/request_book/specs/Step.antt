@@ -39,11 +39,6 @@ still_asks (Promised p) = Ok tt
 still_asks (Aboard vehicle) = Err (IsAboard vehicle)
 still_asks status = Err (Ended status)
 
--- nothing, for a rider who is promised to this vehicle; else who holds the promise, if anybody does
-abbrev pub is_promised_by : ℕ → Status → Result (Unit {0}) BookRefusal
-is_promised_by vehicle (Promised p) = refused_where (not (p.vehicle == vehicle)) (NotPromised (Some p.vehicle))
-is_promised_by vehicle _ = Err (NotPromised None)
-
 -- a rider asks: added last, waiting
 unfoldable pub submit : List ℕ → State → BookRider → Result State BookRefusal
 submit nodes s r = do
@@ -76,7 +71,7 @@ pickup s vehicle rider time = do
   v ← ok_or (find_vehicle vehicle s.vehicles) UnknownVehicle
   r ← ok_or (find_rider rider s.riders) UnknownRider
   _ ← still_asks r.status
-  _ ← is_promised_by vehicle r.status
+  _ ← elim r.status [ Promised p ↦ refused_where (not (p.vehicle == vehicle)) (NotPromised (Some p.vehicle)) | _ ↦ Err (NotPromised None) ]
   _ ← refused_where (nat_lt time v.time) (TimeBack v.time)
   _ ← refused_where (not (nat_le (persons_aboard v + r.party) v.seats)) VehicleFull
   Ok (vehicle_becomes (rider_becomes s r.id (Aboard vehicle)) vehicle

@@ -1,6 +1,6 @@
 //! Closes: the riders of the sealed batch who still wait get what the plan gives them.
 
-ghost use Rattle.std.specs.Prelude.{◌≡◌, ◌&&◌, ℕ, map, vec_len, vec_capacity, if◌then◌else◌};
+ghost use Rattle.std.specs.Prelude.{◌≡◌, ◌+◌, ◌&&◌, ℕ, map, vec_len, vec_capacity, if◌then◌else◌};
 ghost use Rattle.request_book.specs.Keyed.{changed_at, KeysDiffer, KeysRise};
 ghost use Rattle.request_book.specs.work.Keyed.{changed_in_turn};
 ghost use Rattle.request_book.specs.work.Register.{state_of, IsIndexed, HasRoom};
@@ -25,7 +25,7 @@ impl Register {
         requires { IsIndexed self.old }
         ensures stepped { (state_of self.new, result) ≡ close_step (state_of self.old) batch answer.now }
         ensures indexed { IsIndexed self.new }
-        ensures room { (n : ℕ) → HasRoom n self.old → HasRoom n self.new }
+        ensures room { (n : ℕ) → HasRoom (n + 1) self.old → HasRoom n self.new }
     {
         if let Some(refusal) = not_this_batch(&self.sealed, batch) {
             return Reply::Refused(refusal);

@@ -62,24 +62,12 @@ impl Register {
         first_of(&refusals)
     }
 
-    /// Takes a rider out of the pool, into another status.
-    fn leave_pool(&mut self, rider: RiderId, status: Status)
-        requires indexed { IsIndexed self.old }
-        requires leaves { is_active status ≡ false }
-        ensures state { state_of self.new ≡ rider_becomes (state_of self.old) rider status }
-        ensures indexed { IsIndexed self.new }
-        ensures room { (n : ℕ) → HasRoom n self.old → HasRoom n self.new }
-    {
-        change_status(&mut self.riders, &self.ids, rider, status);
-        leave(&mut self.pool, rider);
-    }
-
     /// A rider who isn't aboard gives up.
     pub(crate) fn cancel(&mut self, rider: RiderId) -> Reply
         requires { IsIndexed self.old }
         ensures stepped { (state_of self.new, result) ≡ cancel_step (state_of self.old) rider }
         ensures indexed { IsIndexed self.new }
-        ensures room { (n : ℕ) → HasRoom n self.old → HasRoom n self.new }
+        ensures room { (n : ℕ) → HasRoom (n + 1) self.old → HasRoom n self.new }
     {
         let Some(found) = self.rider(rider) else {
             return Reply::Refused(BookRefusal::UnknownRider);
@@ -88,7 +76,8 @@ impl Register {
         match first_of(&refusals) {
             Some(refusal) => Reply::Refused(refusal),
             None => {
-                self.leave_pool(rider, Status::Cancelled);
+                change_status(&mut self.riders, &self.ids, rider, Status::Cancelled);
+                leave(&mut self.pool, rider);
                 Reply::Cancelled
             }
         }
@@ -105,7 +94,7 @@ impl Register {
         requires { IsIndexed self.old }
         ensures stepped { (state_of self.new, result) ≡ report_step nodes.now.keys (state_of self.old) vehicle node time }
         ensures indexed { IsIndexed self.new }
-        ensures room { (n : ℕ) → HasRoom n self.old → HasRoom n self.new }
+        ensures room { (n : ℕ) → HasRoom (n + 1) self.old → HasRoom n self.new }
     {
         let Some(at) = self.vehicle_at(vehicle) else {
             return Reply::Refused(BookRefusal::UnknownVehicle);
@@ -129,7 +118,7 @@ impl Register {
         requires seats { All HasSeats self.old.vehicles.items }
         ensures stepped { (state_of self.new, result) ≡ pickup_step (state_of self.old) vehicle rider time }
         ensures indexed { IsIndexed self.new }
-        ensures room { (n : ℕ) → HasRoom n self.old → HasRoom n self.new }
+        ensures room { (n : ℕ) → HasRoom (n + 1) self.old → HasRoom n self.new }
     {
         let Some(at) = self.vehicle_at(vehicle) else {
             return Reply::Refused(BookRefusal::UnknownVehicle);
@@ -163,7 +152,7 @@ impl Register {
         requires consistent { IsConsistent (state_of self.old) }
         ensures stepped { (state_of self.new, result) ≡ dropoff_step (state_of self.old) vehicle rider time }
         ensures indexed { IsIndexed self.new }
-        ensures room { (n : ℕ) → HasRoom n self.old → HasRoom n self.new }
+        ensures room { (n : ℕ) → HasRoom (n + 1) self.old → HasRoom n self.new }
     {
         let Some(at) = self.vehicle_at(vehicle) else {
             return Reply::Refused(BookRefusal::UnknownVehicle);
@@ -179,6 +168,7 @@ impl Register {
             Some(refusal) => Reply::Refused(refusal),
             None => {
                 change_status(&mut self.riders, &self.ids, found.id, Status::Delivered);
+                leave(&mut self.pool, found.id);
                 let_out(&mut self.vehicles[at], found, time);
                 Reply::Dropped
             }

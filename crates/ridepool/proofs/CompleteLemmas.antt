@@ -1,6 +1,6 @@
 -- Where nothing is wrong, a call is done or out of memory, or a day comes too late.
-use Rattle.std.proofs.Common.{◌≡◌, ℕ, ◌<◌, List, Option, Some, None, Result, Ok, Err, length, refl, subst, inl, inr, arith, ◌⊎◌, IfSome}
-use Rattle.ridepool.proofs.Common.{Which, Settings, Roads, day_fault, DayRound, EndsAudit, IsRightReport, EndsDrive, Inputs, AreReadFrom, TellInputs, CameTo, HasNoWriteFault, Reads, IsSourceTooLong, IsStop, Tells, most_bytes, network_in, vehicles_in, script_in, EndsText, Change, SourceView, Sources, Seen, source_at, RunStatus, Done, Words, Network, Fleet, Script, TooLong, ReadFault, WriteFault, OutOfMemory, Day, TooLate, Report, IsNoReport}
+use Rattle.std.proofs.Common.{◌≡◌, ℕ, ◌<◌, List, Option, Some, None, Result, Ok, Err, length, refl, subst, inl, inr, ⊎_elim, arith, ◌⊎◌, IfSome}
+use Rattle.ridepool.proofs.Common.{Which, Settings, Roads, day_fault, DayRound, EndsAudit, IsRightReport, EndsDrive, Inputs, AreReadFrom, TellInputs, CameTo, HasNoWriteFault, Reads, IsSourceTooLong, IsStop, Tells, most_bytes, network_in, vehicles_in, script_in, EndsText, Change, SourceView, Sources, Seen, source_at, RunStatus, Done, Network, Fleet, Script, TooLong, ReadFault, OutOfMemory, TooLate, Report, IsNoReport}
 use Rattle.pool_base.specs.declared.which.Which.TheVariants as file
 
 -- what holds of the bytes that a source tells
@@ -43,12 +43,7 @@ stops s i (Script fault) told why =
     absurd (ok_is_no_err (script_in told.script_text) i.rounds fault told.rounds (read_of s.script told.script_text (λ b. script_in b ≡ Err fault) told.script why.1))
 stops s i (TooLong w) told why = let t = tells_at s i told w why.0 in absurd (not_long w (source_at s w) t.0 t.1 why.1)
 stops s i (ReadFault w) told why = let t = tells_at s i told w why.0 in absurd (t.1.faultless why.2)
-stops s i Done told why = absurd why
-stops s i (Words fault) told why = absurd why
-stops s i WriteFault told why = absurd why
-stops s i (Day fault) told why = absurd why
-stops s i (TooLate round) told why = absurd why
-stops s i (Report fault) told why = absurd why
+stops s i _ told why = absurd why
 
 -- a call that writes a text is done or out of memory where no write fails
 module _ (settings : Settings) (roads : Roads) (added : DayRound → List ℕ) (head : List ℕ) (P : List DayRound → Type 0) (Q : List DayRound → List ℕ → Type 0) where
@@ -63,11 +58,7 @@ none_is_no_some o x none some = cc (none, some)
 -- so is a day, or it comes too late
 pub day_ends : (seen : Seen) (i j : Inputs) (e : RunStatus) → TellInputs seen.sources i → AreReadFrom seen.sources j → day_fault i.rounds ≡ None → HasNoWriteFault seen → EndsDrive j seen e
     → (e ≡ Done) ⊎ (e ≡ OutOfMemory) ⊎ ((round : ℕ) × (e ≡ TooLate round))
-day_ends seen i j _ told read day whole (EndsDrive.driven e is_day ends) = by (text_ends _ _ _ _ _ _ seen e whole ends)
-  where
-    by : (e ≡ Done) ⊎ (e ≡ OutOfMemory) → (e ≡ Done) ⊎ (e ≡ OutOfMemory) ⊎ ((round : ℕ) × (e ≡ TooLate round))
-    by (inl done) = inl done
-    by (inr lacks) = inr (inl lacks)
+day_ends seen i j _ told read day whole (EndsDrive.driven e is_day ends) = ⊎_elim (λ done. inl done) (λ lacks. inr (inl lacks)) (text_ends _ _ _ _ _ _ seen e whole ends)
 day_ends seen i j _ told read day whole (EndsDrive.no_day fault why silent) =
     let same : j.rounds ≡ i.rounds =
     same_value (script_in told.script_text) j.rounds i.rounds (read_of seen.sources.script told.script_text (λ b. script_in b ≡ Ok j.rounds) told.script read.script) told.rounds in

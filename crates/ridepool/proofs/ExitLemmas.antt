@@ -1,6 +1,9 @@
 -- How the parts of a call explain its end.
 use Rattle.std.proofs.Common.{◌≡◌, ℕ, List, Option, Some, Ok, Err, length, refl, sym, ap, subst, inl, inr, ⊎_elim, arith, ◌⊎◌, MatchOption}
-use Rattle.ridepool.proofs.Common.{texts_of, Which, AppendsPart, Audited, fault_of, LoadShape, Mode, Run, Load, Drive, Audit, Settings, DayFault, AnswersAudit, Confirms, EndsAudit, yes_text, AnswersDrive, EndsDrive, Inputs, AreGood, AreReadFrom, TellInputs, AreUntouched, CameTo, HasNoWriteFault, IsStop, IsWithin, Reads, StopsOrReads, AnswersLoad, AreTexts, EndsLoad, EndsText, AnswersRun, EndsRun, Change, SinkView, IsUntouched, SourceView, Sources, Seen, IsSilent, source_at, ReadInputs, RunStatus, Done, Words, Network, Fleet, Script, TooLong, ReadFault, WriteFault, OutOfMemory, Day, TooLate, Report, IsSameSink, RefusesBytes, WritesYes, IsAuditFault, IsLimited, IsRunReport, HidesNoMemory, AreInputs, IsUnread, IsNoInput, IsReadAsNoDay, GotInputs, AreAllWith, AreFirst, IsDayFor, IsReportFault, IsReportWhole, IsTextFault, IsWritingFault, added_by, added_text, first_text, head_of}
+use Rattle.ridepool.proofs.Common.{texts_of, Which, AppendsPart, Audited, fault_of, LoadShape, Mode, Run, Load, Drive, Audit, Settings, DayFault, AnswersAudit, Confirms, EndsAudit, yes_text, AnswersDrive, EndsDrive, Inputs, AreGood, AreReadFrom, AreUntouched, CameTo, IsStop, IsWithin, Reads, StopsOrReads, AnswersLoad, AreTexts, EndsText, AnswersRun, RunsScript, RunsSome, Change, SinkView, IsUntouched, SourceView, Sources, Seen, IsSilent, source_at, ReadInputs, RunStatus, Done, Words, Network, Fleet, Script, TooLong, ReadFault, WriteFault, OutOfMemory, Day, TooLate, Report, IsSameSink, RefusesBytes, WritesYes, IsAuditFault, IsLimited, IsRunReport, HidesNoMemory, AreInputs, IsUnread, IsNoInput, IsReadAsNoDay, GotInputs, inputs_got, AreAllWith, AreFirst, IsDayFor, IsReportFault, IsReportWhole, IsTextFault, IsWritingFault, added_by, added_text, first_text, head_of}
+use Rattle.dispatch_report.specs.Head.{head_text}
+use Rattle.dispatch_report.specs.Round.{round_text}
+use Rattle.dispatch_report.specs.Summary.{load_text, summary_text}
 use Rattle.rider_limits.specs.Settings.{AreGiven}
 use Rattle.rider_limits.specs.declared.word_fault.WordFault.{WordFault}
 use Rattle.ridepool.specs.Answers.{Answers, AnswersAs}
@@ -20,13 +23,11 @@ read_within s i read file.Script = inl (reads_within s.script _ read.script)
 read_within s i read file.Report = inr refl
 
 inputs_within : (m : Mode) (s : Sources) (i : Inputs) → AreInputs m s i → (w : Which) → IsWithin w (source_at s w) ⊎ (w ≡ file.Report)
-inputs_within Run s i read w = read_within s i read.0 w
-inputs_within Drive s i read w = read_within s i read.0 w
-inputs_within Audit s i read w = read_within s i read.0 w
 inputs_within (Load shape) s i made file.Network = inl (untouched_within file.Network s.network made.1.network)
 inputs_within (Load shape) s i made file.Fleet = inl (untouched_within file.Fleet s.fleet made.1.fleet)
 inputs_within (Load shape) s i made file.Script = inl (untouched_within file.Script s.script made.1.script)
 inputs_within (Load shape) s i made file.Report = inr refl
+inputs_within _ s i read w = read_within s i read.0 w
 
 -- and each source but the one that a run came to
 others_within : (s : Sources) (w v : Which) → CameTo s w → IsWithin v (source_at s v) ⊎ (v ≡ w)
@@ -59,12 +60,7 @@ stop_limited s (Script fault) why = λ v. at_stop s file.Script v _ (reads_withi
 stop_limited s (TooLong w) why = λ v. too_long s w v (others_within s w v why.0)
 stop_limited s (ReadFault w) why = λ v. at_stop s w v _ why.1 (others_within s w v why.0)
 stop_limited s OutOfMemory why = λ v. at_stop s why.0 v _ why.2 (others_within s why.0 v why.1)
-stop_limited s Done why = absurd why
-stop_limited s (Words fault) why = absurd why
-stop_limited s WriteFault why = absurd why
-stop_limited s (Day fault) why = absurd why
-stop_limited s (TooLate round) why = absurd why
-stop_limited s (Report fault) why = absurd why
+stop_limited s _ why = absurd why
 
 untouched_limited : (s : Sources) (e : RunStatus) → AreUntouched s → IsLimited s e
 untouched_limited s e untouched file.Network = inl (untouched_within file.Network s.network untouched.network)
@@ -87,12 +83,13 @@ untouched_report : (s : Sources) (e : RunStatus) → IsUntouched s.report → Is
 untouched_report s e report = inl (untouched_within file.Report s.report report)
 
 -- what a call answers, by its command
-run_answers : (settings : Settings) (seen : Seen) (e : RunStatus) → StopsOrReads settings seen e (λ i. IsUntouched seen.sources.report × EndsRun i seen e) → AnswersRun settings seen e
-run_answers settings seen e why = record { explained = why; complete = λ i told whole. by i told whole why }
-  where
-    by : (i : Inputs) → TellInputs seen.sources i → HasNoWriteFault seen → StopsOrReads settings seen e (λ j. IsUntouched seen.sources.report × EndsRun j seen e) → (e ≡ Done) ⊎ (e ≡ OutOfMemory)
-    by i told whole (inl stop) = inr (stops seen.sources i e told stop.0)
-    by i told whole (inr (j, is, read, (report, ends))) = text_ends _ _ _ _ _ _ seen e whole ends
+run_answers : (settings : Settings) (seen : Seen) (e : RunStatus) → StopsOrReads settings seen e (λ i. IsUntouched seen.sources.report × EndsText i.settings i.roads (λ r. round_text r.number i.settings.proof r.journal) (head_text i.settings i.roads (length i.vehicles)) (RunsSome i) (RunsScript i) seen e)
+    → AnswersRun settings seen e
+run_answers settings seen e why =
+    record {
+      explained = why;
+      complete = λ i told whole. ⊎_elim (λ stop. inr (stops seen.sources i e told stop.0)) (λ r. text_ends _ _ _ _ _ _ seen e whole r.3.1) why;
+    }
 
 drive_answers : (settings : Settings) (seen : Seen) (e : RunStatus) → StopsOrReads settings seen e (λ i. IsUntouched seen.sources.report × EndsDrive i seen e) → AnswersDrive settings seen e
 drive_answers settings seen e why =
@@ -111,12 +108,10 @@ audit_answers settings seen e why =
     }
 
 load_answers : (shape : LoadShape) (settings : Settings) (seen : Seen) (e : RunStatus) → AreUntouched seen.sources
-    → ((e ≡ OutOfMemory) × IsSilent seen) ⊎ ((i : Inputs) × (i.settings ≡ settings) × AreTexts (texts_of shape) i × EndsLoad shape i seen e) → AnswersLoad shape settings seen e
-load_answers shape settings seen e untouched why = record { untouched = untouched; explained = why; complete = λ whole. by whole why }
-  where
-    by : HasNoWriteFault seen → ((e ≡ OutOfMemory) × IsSilent seen) ⊎ ((i : Inputs) × (i.settings ≡ settings) × AreTexts (texts_of shape) i × EndsLoad shape i seen e) → (e ≡ Done) ⊎ (e ≡ OutOfMemory)
-    by whole (inl lacks) = inr lacks.0
-    by whole (inr (i, is, texts, ends)) = text_ends _ _ _ _ _ _ seen e whole ends
+    → ((e ≡ OutOfMemory) × IsSilent seen) ⊎ ((i : Inputs) × (i.settings ≡ settings) × AreTexts (texts_of shape) i
+    × EndsText i.settings i.roads (λ r. summary_text r.journal) (load_text shape) (RunsSome i) (RunsScript i) seen e) → AnswersLoad shape settings seen e
+load_answers shape settings seen e untouched why =
+    record { untouched = untouched; explained = why; complete = λ whole. ⊎_elim (λ lacks. inr lacks.0) (λ r. text_ends _ _ _ _ _ _ seen e whole r.3) why }
 
 -- what a call's answer says, by its words
 abbrev AnswersWords : Seen → RunStatus → Option WordFault → Type 0
@@ -147,10 +142,6 @@ pub words_answer : (seen : Seen) (fault : WordFault) → fault_of seen.words ≡
 words_answer seen fault why sources out =
     answer seen (Words fault) (subst (AnswersWords seen (Words fault)) (sym why) (refl, sources, out)) tt (untouched_limited seen.sources (Words fault) sources)
 
--- the inputs of a call
-abbrev pub inputs_got : Settings → ReadInputs → Inputs
-inputs_got settings got = record { settings = settings; roads = got.network; vehicles = got.fleet; rounds = got.script }
-
 -- inputs that aren't there
 no_day : (seen : Seen) (settings : Settings) (fault : DayFault) → IsReadAsNoDay seen.sources fault → IsUntouched seen.sources.report → IsSilent seen → AnswersDrive settings seen (Day fault)
 no_day seen settings fault (i, read, refused) report out =
@@ -165,11 +156,10 @@ no_input seen settings e Drive (inr (fault, is, why)) report out = subst (Answer
 no_input seen settings e (Load shape) (untouched, is) report out = load_answers shape settings seen e untouched (inl (is, out))
 
 no_input_limited : (s : Sources) (e : RunStatus) (m : Mode) → IsNoInput m s e → IsUntouched s.report → IsLimited s e
-no_input_limited s e Run why report = stop_limited s e why
-no_input_limited s e Audit why report = stop_limited s e why
 no_input_limited s e Drive (inl why) report = stop_limited s e why
 no_input_limited s e Drive (inr (fault, is, (i, read, refused))) report = λ w. with_report s e (untouched_report s e report) w (read_within s i read w)
 no_input_limited s e (Load shape) (untouched, is) report = untouched_limited s e untouched
+no_input_limited s e _ why report = stop_limited s e why
 
 pub input_answer : (seen : Seen) (settings : Settings) (e : RunStatus) → AreGood seen.words settings → GotInputs settings seen.sources (Err e) → IsUntouched seen.sources.report → IsSilent seen → Answers seen e
 input_answer seen settings e good got report out =
@@ -219,10 +209,8 @@ without_report s = record { network = s.network; fleet = s.fleet; script = s.scr
 
 -- the sources of an audit's inputs, of which its report is no part
 read_without : (m : Mode) (s : Sources) (i : Inputs) → m ≡ Audit → AreInputs m (without_report s) i → AreReadFrom s i
-read_without Audit s i is inputs = record { network = inputs.0.network; fleet = inputs.0.fleet; script = inputs.0.script }
-read_without Run s i is inputs = record { network = inputs.0.network; fleet = inputs.0.fleet; script = inputs.0.script }
-read_without Drive s i is inputs = record { network = inputs.0.network; fleet = inputs.0.fleet; script = inputs.0.script }
 read_without (Load shape) s i is inputs = absurd (let e : Load shape ≡ Audit = is in cc)
+read_without _ s i is inputs = record { network = inputs.0.network; fleet = inputs.0.fleet; script = inputs.0.script }
 
 module _ (seen : Seen) (settings : Settings) (got : ReadInputs) (good : AreGood seen.words settings) (is : settings.mode ≡ Audit)
     (inputs : GotInputs settings (without_report seen.sources) (Ok got)) (told : IsUntouched seen.notifiers) where
@@ -251,16 +239,7 @@ module _ (seen : Seen) (settings : Settings) (got : ReadInputs) (good : AreGood 
   refused_answer (Report fault) bytes came why quiet =
       of_audit (Report fault) (EndsAudit.refused fault (reads_as seen.sources.report bytes _ came why.1) quiet) why.0 (inl (reads_within seen.sources.report _ came))
   refused_answer OutOfMemory bytes came why quiet = (let within = reads_within seen.sources.report _ came in of_audit OutOfMemory (EndsAudit.unjudged within quiet) tt (inl within))
-  refused_answer Done bytes came why quiet = absurd why
-  refused_answer (Words fault) bytes came why quiet = absurd why
-  refused_answer (Network fault) bytes came why quiet = absurd why
-  refused_answer (Fleet fault) bytes came why quiet = absurd why
-  refused_answer (Script fault) bytes came why quiet = absurd why
-  refused_answer (TooLong w) bytes came why quiet = absurd why
-  refused_answer (ReadFault w) bytes came why quiet = absurd why
-  refused_answer WriteFault bytes came why quiet = absurd why
-  refused_answer (Day fault) bytes came why quiet = absurd why
-  refused_answer (TooLate round) bytes came why quiet = absurd why
+  refused_answer _ bytes came why quiet = absurd why
 
   begins : (audited : Audited) → Reads file.Report seen.sources.report (λ bytes. IsRunReport (inputs_got settings got) bytes audited)
       → AppendsPart seen.out.before.written seen.out.after.written (yes_text audited) → Confirms (inputs_got settings got) seen (AppendsPart seen.out.before.written seen.out.after.written)
@@ -278,10 +257,8 @@ module _ (seen : Seen) (settings : Settings) (got : ReadInputs) (good : AreGood 
 
 -- accepted inputs are a day where vehicles are driven
 day_of_inputs : (m : Mode) (s : Sources) (i : Inputs) → AreInputs m s i → IsDayFor m i.rounds
-day_of_inputs Run s i inputs = tt
-day_of_inputs Audit s i inputs = tt
-day_of_inputs (Load shape) s i inputs = tt
 day_of_inputs Drive s i inputs = inputs.1
+day_of_inputs _ s i inputs = tt
 
 pub got_is_day : (settings : Settings) (s : Sources) (got : ReadInputs) → GotInputs settings s (Ok got) → IsDayFor settings.mode got.script
 got_is_day settings s got inputs = day_of_inputs settings.mode s _ inputs.inputs

@@ -1,16 +1,10 @@
 -- Rounds of a day that are held.
-use Rattle.std.proofs.Common.{◌≡◌, ℕ, zero, suc, ◌<◌, Bool, true, false, List, [], ◌∷◌, ◌++◌, length, get_or, map, refl, sym, ap, subst, arith}
+use Rattle.std.proofs.Common.{◌≡◌, ℕ, zero, suc, ◌<◌, Bool, true, false, List, [], ◌∷◌, ◌++◌, length, get_or, refl, sym, subst, arith}
 use Rattle.ridepool.proofs.Common.{AllZip, NotifierView, HaveHeard}
 use Rattle.rider_notices.specs.declared.notice.Notice.{Notice}
 
 module _ {X Y : Type 0} (R : X → Y → Type 0) where
-  -- two lists that go together are as long, and go together at each place
-  pub zip-size : (xs : List X) (ys : List Y) → AllZip R xs ys → length xs ≡ length ys
-  zip-size [] [] all = refl
-  zip-size [] (y ∷ ys) all = absurd all
-  zip-size (x ∷ xs) [] all = absurd all
-  zip-size (x ∷ xs) (y ∷ ys) all = ap suc (zip-size xs ys all.1)
-
+  -- two lists that go together do so at each place
   pub zip-at : (xs : List X) (ys : List Y) (i : ℕ) (y : Y) → i < length ys → y ≡ get_or ys i y → AllZip R xs ys → (x : X) × (i < length xs) × (x ≡ get_or xs i x) × R x y
   zip-at [] [] i y within is all = absurd (omega (arith, within))
   zip-at [] (z ∷ ys) i y within is all = absurd all
@@ -20,9 +14,8 @@ module _ {X Y : Type 0} (R : X → Y → Type 0) where
 
   pub zip-push : (xs : List X) (ys : List Y) (x : X) (y : Y) → AllZip R xs ys → R x y → AllZip R (xs ++ x ∷ []) (ys ++ y ∷ [])
   zip-push [] [] x y all one = (one, tt)
-  zip-push [] (z ∷ ys) x y all one = absurd all
-  zip-push (z ∷ xs) [] x y all one = absurd all
   zip-push (z ∷ xs) (w ∷ ys) x y all one = (all.0, zip-push xs ys x y all.1 one)
+  zip-push _ _ x y all one = absurd all
 
 -- whoever is told what is held has heard the notices, or there is nobody
 nobody : (ms ns : List Notice) (n k : List NotifierView) → length n ≡ 0 → HaveHeard ms n k → HaveHeard ns n k

@@ -1,6 +1,6 @@
 -- What is said of the inputs of a call, from what the readers say of sources and of made texts.
 use Rattle.std.proofs.Common.{◌≡◌, ℕ, List, Some, None, Result, Ok, Err, refl, sym, ap, subst, ◌∙◌, inl, inr, IfOk, IfErr}
-use Rattle.ridepool.proofs.Common.{Vehicle, texts_of, Which, Input, LoadShape, Run, Load, Drive, Audit, Settings, Roads, day_fault, DayFault, NumberedLanes, HidesNoMemory, Inputs, AreUntouched, CameTo, IsStop, AreTexts, own_fault, in_rows, first_version, network_in, vehicles_in, IsFleetIn, script_in, Change, SourceView, Sources, source_at, ReadInputs, RunStatus, Network, Fleet, Script, OutOfMemory, Day, AreInputs, IsUnread, StopsAt, ReadSources, IsNoInput, GotInputs}
+use Rattle.ridepool.proofs.Common.{Vehicle, texts_of, Which, Input, LoadShape, Run, Load, Drive, Audit, Settings, Roads, day_fault, DayFault, NumberedLanes, HidesNoMemory, AreUntouched, CameTo, IsStop, AreTexts, own_fault, in_rows, first_version, network_in, vehicles_in, IsFleetIn, script_in, Change, SourceView, Sources, source_at, ReadInputs, RunStatus, Network, Fleet, Script, OutOfMemory, Day, AreInputs, IsUnread, StopsAt, ReadSources, IsNoInput, GotInputs, inputs_got}
 use Rattle.fleet_state.specs.Fleet.{vehicles_of}
 use Rattle.made_inputs.specs.Accepted.{IsNetworkText, IsFleetText, IsScriptText, AreRead as TextsAreRead}
 use Rattle.road_network.specs.Reading.{network_of}
@@ -41,33 +41,27 @@ script_stop s _ came (StopsAt.unread e why) = unread_stops s file.Script e came 
 script_stop s _ came (StopsAt.refused fault reads hides) = (came, reads)
 
 -- no stop at a source hides want of memory
-unread_hides : (s : Change SourceView) (w : Which) (e : RunStatus) → IsUnread s w e → HidesNoMemory e
-unread_hides s w _ (IsUnread.long why) = tt
-unread_hides s w _ (IsUnread.failed within rose) = tt
-unread_hides s w _ (IsUnread.memory within) = tt
-
 pub stop_hides : {A F : Type 0} (s : Change SourceView) (w : Which) (refusal : Input F → RunStatus) (read : List ℕ → Result A (Input F)) (e : RunStatus)
     → StopsAt s w refusal read e → HidesNoMemory e
-stop_hides s w refusal read _ (StopsAt.unread e why) = unread_hides s w e why
+stop_hides s w refusal read _ (StopsAt.unread _ (IsUnread.long why)) = tt
+stop_hides s w refusal read _ (StopsAt.unread _ (IsUnread.failed within rose)) = tt
+stop_hides s w refusal read _ (StopsAt.unread _ (IsUnread.memory within)) = tt
 stop_hides s w refusal read _ (StopsAt.refused fault reads hides) = hides
 
 -- what came of the inputs of a run, of an audit, and of a day
 pub got_run : (settings : Settings) (s : Sources) (r : Result ReadInputs RunStatus) → settings.mode ≡ Run → ReadSources s r → GotInputs settings s r
 got_run settings s (Ok got) is read =
-    let i : Inputs = record { settings = settings; roads = got.network; vehicles = got.fleet; rounds = got.script } in
-    record { inputs = subst (λ m. AreInputs m s i) (sym is) (read.inputs settings, tt); refused = tt }
+    record { inputs = subst (λ m. AreInputs m s (inputs_got settings got)) (sym is) (read.inputs settings, tt); refused = tt }
 got_run settings s (Err e) is read = record { inputs = subst (λ m. IsNoInput m s e) (sym is) read.inputs; refused = read.refused }
 
 pub got_audit : (settings : Settings) (s : Sources) (r : Result ReadInputs RunStatus) → settings.mode ≡ Audit → ReadSources s r → GotInputs settings s r
 got_audit settings s (Ok got) is read =
-    let i : Inputs = record { settings = settings; roads = got.network; vehicles = got.fleet; rounds = got.script } in
-    record { inputs = subst (λ m. AreInputs m s i) (sym is) (read.inputs settings, tt); refused = tt }
+    record { inputs = subst (λ m. AreInputs m s (inputs_got settings got)) (sym is) (read.inputs settings, tt); refused = tt }
 got_audit settings s (Err e) is read = record { inputs = subst (λ m. IsNoInput m s e) (sym is) read.inputs; refused = read.refused }
 
 pub got_day : (settings : Settings) (s : Sources) (got : ReadInputs) → settings.mode ≡ Drive → ReadSources s (Ok got) → day_fault got.script ≡ None → GotInputs settings s (Ok got)
 got_day settings s got is read day =
-    let i : Inputs = record { settings = settings; roads = got.network; vehicles = got.fleet; rounds = got.script } in
-    record { inputs = subst (λ m. AreInputs m s i) (sym is) (read.inputs settings, day); refused = tt }
+    record { inputs = subst (λ m. AreInputs m s (inputs_got settings got)) (sym is) (read.inputs settings, day); refused = tt }
 
 pub got_no_day : (settings : Settings) (s : Sources) (got : ReadInputs) (fault : DayFault) → settings.mode ≡ Drive → ReadSources s (Ok got) → day_fault got.script ≡ Some fault
     → GotInputs settings s (Err (Day fault))
@@ -81,12 +75,11 @@ got_stop settings s e is read = record { inputs = subst (λ m. IsNoInput m s e) 
 pub got_made : (settings : Settings) (s : Sources) (shape : LoadShape) (r : Result ReadInputs RunStatus) → settings.mode ≡ Load shape → AreUntouched s
     → IfOk r (λ got. TextsAreRead (texts_of shape) got.network got.fleet got.script) → IfErr r (λ e. e ≡ OutOfMemory) → GotInputs settings s r
 got_made settings s shape (Ok got) is untouched read none =
-    let i : Inputs = record { settings = settings; roads = got.network; vehicles = got.fleet; rounds = got.script } in
-    let texts : AreTexts (texts_of shape) i = record {
+    let texts : AreTexts (texts_of shape) (inputs_got settings got) = record {
       network = network_made (texts_of shape).network got.network read.network;
       fleet = fleet_made got.network.nodes (texts_of shape).fleet got.fleet read.fleet;
       script = script_made (texts_of shape).script got.script read.script;
     } in
-    record { inputs = subst (λ m. AreInputs m s i) (sym is) (texts, untouched); refused = tt }
+    record { inputs = subst (λ m. AreInputs m s (inputs_got settings got)) (sym is) (texts, untouched); refused = tt }
 got_made settings s shape (Err e) is untouched read none =
     record { inputs = subst (λ m. IsNoInput m s e) (sym is) (untouched, none); refused = subst HidesNoMemory (sym none) tt }

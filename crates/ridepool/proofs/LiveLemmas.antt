@@ -1,6 +1,6 @@
 -- A call of `live`, from its steps.
 use Rattle.std.proofs.Common.{◌≡◌, ℕ, ◌≤◌, List, Option, Some, None, Result, Ok, Err, MatchResult, refl, sym, ap, subst, inl, inr, arith, ◌⊎◌}
-use Rattle.ridepool.proofs.Common.{Appends, IsReady, Change, SinkView, WritesText, ReportFault, lines_in, Which, Rose, Input, BookView, fault_of, Settings, NotifierView, Roads, AreGood, IsWithin, Reads, AnswersLive, AreLimited, AreRowsOf, BeginsLive, EndsLive, ExplainsLive, HasHead, IsFaultlessLive, IsLiveStop, IsSilentCall, LiveCall, LiveInputs, LiveSeen, live_head, opened_book, words_of_run, network_in, vehicles_in, IsUntouched, SourceView, RunStatus, Done, Words, Network, Fleet, Script, TooLong, ReadFault, WriteFault, OutOfMemory, Day, TooLate, Report, HidesNoMemory, IsUnread, StopsAt, status_of}
+use Rattle.ridepool.proofs.Common.{Appends, IsReady, Change, SinkView, WritesText, ReportFault, lines_in, Which, Rose, Input, BookView, fault_of, Settings, NotifierView, Roads, AreGood, IsWithin, Reads, AnswersLive, AreLimited, AreRowsOf, BeginsLive, EndsLive, ExplainsLive, HasHead, IsFaultlessLive, IsLiveStop, IsSilentCall, LiveCall, LiveInputs, LiveSeen, live_head, opened_book, words_of_run, network_in, vehicles_in, IsUntouched, SourceView, RunStatus, Done, Words, Network, Fleet, Script, TooLong, ReadFault, WriteFault, OutOfMemory, Report, HidesNoMemory, IsUnread, StopsAt, status_of}
 use Rattle.std.specs.Result.{IsErrOf}
 use Rattle.live_dispatch.specs.Live.{BeginsRows, RunsRows}
 use Rattle.live_dispatch.specs.declared.fault.LiveFault.{LiveFault}
@@ -11,7 +11,7 @@ use Rattle.script_rows.specs.declared.line.Line.{Line}
 use Rattle.script_rows.specs.declared.version.ScriptVersion.{ScriptVersion}
 use Rattle.ridepool.proofs.ReadingLemmas.{reads_within}
 use Rattle.ridepool.proofs.CompleteLemmas.{none_is_no_some, not_long, ok_is_no_err, read_of, same_value}
-use Rattle.ridepool.specs.work.Live.{RefusesWords, status_of_end, status_of_start}
+use Rattle.ridepool.specs.work.Live.{live_seen, RefusesWords, status_of_end, status_of_start}
 use Rattle.dispatch_report.specs.declared.fault.ReportFault.TheVariants as report
 use Rattle.live_dispatch.specs.declared.fault.LiveFault.TheVariants as live
 use Rattle.live_rows.specs.declared.start.StartFault.TheVariants as start
@@ -76,36 +76,20 @@ module _ (call : LiveCall) (silent : IsSilentCall call.rest) where
   pub words-stop : (status : RunStatus) → IsUntouched call.network → IsUntouched call.fleet → RefusesWords (words_of_run call.words) status → ExplainsLive call status
   words-stop (Words fault) network fleet why = ExplainsLive.refused fault why network fleet silent
   words-stop OutOfMemory network fleet why = ExplainsLive.unstored silent
-  words-stop Done network fleet why = absurd why
-  words-stop (Network fault) network fleet why = absurd why
-  words-stop (Fleet fault) network fleet why = absurd why
-  words-stop (Script fault) network fleet why = absurd why
-  words-stop (TooLong w) network fleet why = absurd why
-  words-stop (ReadFault w) network fleet why = absurd why
-  words-stop WriteFault network fleet why = absurd why
-  words-stop (Day fault) network fleet why = absurd why
-  words-stop (TooLate round) network fleet why = absurd why
-  words-stop (Report fault) network fleet why = absurd why
-
-  network-unread : (settings : Settings) (status : RunStatus) → AreGood (words_of_run call.words) settings → IsUntouched call.fleet → IsUnread call.network file.Network status → ExplainsLive call status
-  network-unread settings _ good fleet (IsUnread.long why) = ExplainsLive.stopped _ (good.faultless, IsLiveStop.network_long why fleet, silent)
-  network-unread settings _ good fleet (IsUnread.failed within rose) = ExplainsLive.stopped _ (good.faultless, IsLiveStop.network_unread within rose fleet, silent)
-  network-unread settings _ good fleet (IsUnread.memory within) = ExplainsLive.unstored silent
+  words-stop _ network fleet why = absurd why
 
   pub network-stops : (settings : Settings) (status : RunStatus) → AreGood (words_of_run call.words) settings → IsUntouched call.fleet
       → StopsAt call.network file.Network Network network_in status → ExplainsLive call status
-  network-stops settings _ good fleet (StopsAt.unread status why) = network-unread settings status good fleet why
+  network-stops settings _ good fleet (StopsAt.unread _ (IsUnread.long why)) = ExplainsLive.stopped _ (good.faultless, IsLiveStop.network_long why fleet, silent)
+  network-stops settings _ good fleet (StopsAt.unread _ (IsUnread.failed within rose)) = ExplainsLive.stopped _ (good.faultless, IsLiveStop.network_unread within rose fleet, silent)
+  network-stops settings _ good fleet (StopsAt.unread _ (IsUnread.memory within)) = ExplainsLive.unstored silent
   network-stops settings _ good fleet (StopsAt.refused fault reads hides) = ExplainsLive.stopped _ (good.faultless, IsLiveStop.network_refused fault reads fleet, silent)
-
-  fleet-unread : (settings : Settings) (roads : Roads) (status : RunStatus) → AreGood (words_of_run call.words) settings → Reads file.Network call.network (λ bytes. network_in bytes ≡ Ok roads)
-      → IsUnread call.fleet file.Fleet status → ExplainsLive call status
-  fleet-unread settings roads _ good network (IsUnread.long why) = ExplainsLive.stopped _ (good.faultless, IsLiveStop.fleet_long (roads, network, why), silent)
-  fleet-unread settings roads _ good network (IsUnread.failed within rose) = ExplainsLive.stopped _ (good.faultless, IsLiveStop.fleet_unread (roads, network, (within, rose)), silent)
-  fleet-unread settings roads _ good network (IsUnread.memory within) = ExplainsLive.unstored silent
 
   pub fleet-stops : (settings : Settings) (roads : Roads) (status : RunStatus) → AreGood (words_of_run call.words) settings → Reads file.Network call.network (λ bytes. network_in bytes ≡ Ok roads)
       → StopsAt call.fleet file.Fleet Fleet (vehicles_in roads.nodes) status → ExplainsLive call status
-  fleet-stops settings roads _ good network (StopsAt.unread status why) = fleet-unread settings roads status good network why
+  fleet-stops settings roads _ good network (StopsAt.unread _ (IsUnread.long why)) = ExplainsLive.stopped _ (good.faultless, IsLiveStop.fleet_long (roads, network, why), silent)
+  fleet-stops settings roads _ good network (StopsAt.unread _ (IsUnread.failed within rose)) = ExplainsLive.stopped _ (good.faultless, IsLiveStop.fleet_unread (roads, network, (within, rose)), silent)
+  fleet-stops settings roads _ good network (StopsAt.unread _ (IsUnread.memory within)) = ExplainsLive.unstored silent
   fleet-stops settings roads _ good network (StopsAt.refused fault reads hides) = ExplainsLive.stopped _ (good.faultless, IsLiveStop.fleet_refused fault (roads, network, reads), silent)
 
 -- where nothing is wrong, a call is done or out of memory
@@ -159,26 +143,16 @@ answers-live call status why limited hides =
 
 -- the end of a call behind its inputs hides no want of memory
 pub ends-hide : (i : LiveInputs) (seen : LiveSeen) (status : RunStatus) → EndsLive i seen status → HidesNoMemory status
-ends-hide i seen _ (EndsLive.done runs) = tt
 ends-hide i seen _ (EndsLive.headless fields other silent) = λ is. absurd cc
-ends-hide i seen _ (EndsLive.unread begun rose) = tt
-ends-hide i seen _ (EndsLive.failed begun rose) = tt
-ends-hide i seen _ (EndsLive.unstored begun) = tt
+ends-hide i seen _ _ = tt
 
 -- words that are refused hide none
 pub words-hide : (words : List (List ℕ)) (status : RunStatus) → RefusesWords words status → HidesNoMemory status
-words-hide words (Words fault) why = tt
-words-hide words OutOfMemory why = tt
-words-hide words Done why = tt
 words-hide words (Network fault) why = absurd why
 words-hide words (Fleet fault) why = absurd why
 words-hide words (Script fault) why = absurd why
-words-hide words (TooLong w) why = tt
-words-hide words (ReadFault w) why = tt
-words-hide words WriteFault why = tt
-words-hide words (Day fault) why = tt
-words-hide words (TooLate round) why = tt
 words-hide words (Report fault) why = absurd why
+words-hide words _ why = tt
 
 -- why a source stopped a call, and that no more than may be was taken from it
 pub stop-limited : {A E : Type 0} (s : Change SourceView) (w : Which) (refusal : Input E → RunStatus) (read : List ℕ → Result A (Input E)) (status : RunStatus) → StopsAt s w refusal read status
@@ -195,19 +169,18 @@ pub rows-ended : (i : LiveInputs) (script left next came : Option (List ℕ)) (v
     → MatchResult ended (λ _. RunsRows i.settings i.roads book (rows_to_come known last came) (record { before = behind; after = after }) (record { before = n; after = m }))
     (λ _. BeginsRows i.settings i.roads book (rows_to_come known last came) (record { before = behind; after = after }) (record { before = n; after = m }))
     → (IsErrOf ended live.WriteFault → Rose behind.faults after.faults) → (IsErrOf ended live.ReadFault → Rose r2 r3) → r2 ≡ r1
-    → EndsLive i (record { script = script; reads = record { before = r0; after = r3 }; out = record { before = before; after = after }; notifiers = record { before = n; after = m } }) status
+    → EndsLive i (live_seen script r0 r3 (record { before = before; after = after }) n m) status
 rows-ended i script left next came version known last book before behind after r0 r1 r2 r3 n m ended status named is started told came_is known_is last_is wrote falls reads_fall runs write_fault read_fault same =
-    let seen : LiveSeen = record { script = script; reads = record { before = r0; after = r3 }; out = record { before = before; after = after }; notifiers = record { before = n; after = m } } in
+    let seen : LiveSeen = live_seen script r0 r3 (record { before = before; after = after }) n m in
     let rows : rows_to_come known last came ≡ rows_to_come version 0 next = (λ k. rows_to_come (known_is k) (last_is k) (came_is k)) in
     let P : Option (List Line) → Type 0 = λ r. MatchResult ended (λ _. RunsRows i.settings i.roads book r (record { before = behind; after = after }) (record { before = n; after = m }))
     (λ _. BeginsRows i.settings i.roads book r (record { before = behind; after = after }) (record { before = n; after = m })) in
     rows-end i seen version next book behind r2 ended status named is (subst (λ (o : Option (List ℕ)). HasStarted o next version) told started) wrote falls (omega (arith, reads_fall, same)) (subst P rows runs) write_fault read_fault
 
 pub stopped-as : (i : LiveInputs) (left script : Option (List ℕ)) (a b r0 r1 : ℕ) (out : Change SinkView) (n : List NotifierView) (status : RunStatus) → left ≡ script → a ≡ r0 → b ≡ r1
-    → EndsLive i (record { script = left; reads = record { before = a; after = b }; out = out; notifiers = record { before = n; after = n } }) status
-    → EndsLive i (record { script = script; reads = record { before = r0; after = r1 }; out = out; notifiers = record { before = n; after = n } }) status
+    → EndsLive i (live_seen left a b out n n) status
+    → EndsLive i (live_seen script r0 r1 out n n) status
 stopped-as i left script a b r0 r1 out n status p q r ends =
     let P : LiveSeen → Type 0 = λ seen. EndsLive i seen status in
-    let same : (record { script = left; reads = record { before = a; after = b }; out = out; notifiers = record { before = n; after = n } }) ≡ (record { script = script; reads = record { before = r0; after = r1 }; out = out; notifiers = record { before = n; after = n } }) =
-    (λ k. record { script = p k; reads = record { before = q k; after = r k }; out = out; notifiers = record { before = n; after = n } }) in
+    let same : live_seen left a b out n n ≡ live_seen script r0 r1 out n n = (λ k. live_seen (p k) (q k) (r k) out n n) in
     subst P same ends

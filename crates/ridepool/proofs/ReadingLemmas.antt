@@ -1,6 +1,6 @@
 -- Why a source stopped a run, from why it wasn't read to its end and from why its bytes are refused.
 use Rattle.std.proofs.Common.{◌≡◌, ℕ, ◌+◌, ◌≤◌, List, Option, Some, None, Result, Ok, Err, IfSome, IfOk, IfErr, MatchResult, length, sym, ap, subst, ◌∙◌, arith, length-append, ◌<◌, ◌↔◌}
-use Rattle.ridepool.proofs.Common.{Vehicle, Which, Rose, Input, Roads, NumberedLanes, HidesNoMemory, IsWithin, Reads, most_bytes, network_in, vehicles_in, IsFleetIn, script_in, Change, SourceView, RunStatus, Done, Words, Network, Fleet, Script, TooLong, ReadFault, WriteFault, OutOfMemory, Day, TooLate, Report, IsUnread, StopsAt, RefusesNetwork, RefusesFleet, RefusesRounds}
+use Rattle.ridepool.proofs.Common.{Vehicle, Which, Rose, Input, Roads, NumberedLanes, HidesNoMemory, IsWithin, Reads, most_bytes, network_in, vehicles_in, IsFleetIn, script_in, Change, SourceView, RunStatus, Network, Fleet, Script, TooLong, ReadFault, OutOfMemory, IsUnread, StopsAt, RefusesNetwork, RefusesFleet, RefusesRounds}
 use Rattle.pool_io.specs.Source.{Loses}
 use Rattle.pool_io.specs.declared.reading.ReadAll.{ReadAll}
 use Rattle.pool_base.specs.declared.which.Which.TheVariants as file
@@ -52,46 +52,19 @@ module _ (s : Change SourceView) where
       → StopsAt s file.Network Network network_in status
   network_stops bytes (Network fault) whole why hides = StopsAt.refused fault (reads_as s bytes (λ b. network_in b ≡ Err fault) whole why) hides
   network_stops bytes OutOfMemory whole why hides = stops_for_memory file.Network Network network_in bytes whole
-  network_stops bytes Done whole why hides = absurd why
-  network_stops bytes (Words fault) whole why hides = absurd why
-  network_stops bytes (Fleet fault) whole why hides = absurd why
-  network_stops bytes (Script fault) whole why hides = absurd why
-  network_stops bytes (TooLong w) whole why hides = absurd why
-  network_stops bytes (ReadFault w) whole why hides = absurd why
-  network_stops bytes WriteFault whole why hides = absurd why
-  network_stops bytes (Day fault) whole why hides = absurd why
-  network_stops bytes (TooLate round) whole why hides = absurd why
-  network_stops bytes (Report fault) whole why hides = absurd why
+  network_stops bytes _ whole why hides = absurd why
 
   pub fleet_stops : (nodes bytes : List ℕ) (status : RunStatus) → Reads file.Fleet s (λ came. came ≡ bytes) → RefusesFleet nodes bytes status → HidesNoMemory status
       → StopsAt s file.Fleet Fleet (vehicles_in nodes) status
   fleet_stops nodes bytes (Fleet fault) whole why hides = StopsAt.refused fault (reads_as s bytes (λ b. vehicles_in nodes b ≡ Err fault) whole why) hides
   fleet_stops nodes bytes OutOfMemory whole why hides = stops_for_memory file.Fleet Fleet (vehicles_in nodes) bytes whole
-  fleet_stops nodes bytes Done whole why hides = absurd why
-  fleet_stops nodes bytes (Words fault) whole why hides = absurd why
-  fleet_stops nodes bytes (Network fault) whole why hides = absurd why
-  fleet_stops nodes bytes (Script fault) whole why hides = absurd why
-  fleet_stops nodes bytes (TooLong w) whole why hides = absurd why
-  fleet_stops nodes bytes (ReadFault w) whole why hides = absurd why
-  fleet_stops nodes bytes WriteFault whole why hides = absurd why
-  fleet_stops nodes bytes (Day fault) whole why hides = absurd why
-  fleet_stops nodes bytes (TooLate round) whole why hides = absurd why
-  fleet_stops nodes bytes (Report fault) whole why hides = absurd why
+  fleet_stops nodes bytes _ whole why hides = absurd why
 
   pub script_stops : (bytes : List ℕ) (status : RunStatus) → Reads file.Script s (λ came. came ≡ bytes) → RefusesRounds (script_in bytes) status → HidesNoMemory status
       → StopsAt s file.Script Script script_in status
   script_stops bytes (Script fault) whole why hides = StopsAt.refused fault (reads_as s bytes (λ b. script_in b ≡ Err fault) whole why) hides
   script_stops bytes OutOfMemory whole why hides = stops_for_memory file.Script Script script_in bytes whole
-  script_stops bytes Done whole why hides = absurd why
-  script_stops bytes (Words fault) whole why hides = absurd why
-  script_stops bytes (Network fault) whole why hides = absurd why
-  script_stops bytes (Fleet fault) whole why hides = absurd why
-  script_stops bytes (TooLong w) whole why hides = absurd why
-  script_stops bytes (ReadFault w) whole why hides = absurd why
-  script_stops bytes WriteFault whole why hides = absurd why
-  script_stops bytes (Day fault) whole why hides = absurd why
-  script_stops bytes (TooLate round) whole why hides = absurd why
-  script_stops bytes (Report fault) whole why hides = absurd why
+  script_stops bytes _ whole why hides = absurd why
 
 -- what came of an input, from what came of its bytes
 pub network_read : (s : Change SourceView) (items bytes : List ℕ) (r : Result Roads RunStatus) → Reads file.Network s (λ came. came ≡ items) → bytes ≡ items

@@ -1,13 +1,13 @@
 -- Texts of rounds, one after the other, and what stands where the last isn't whole.
-use Rattle.std.proofs.Common.{◌≡◌, ℕ, ◌+◌, ◌-◌, ◌^◌, ◌<◌, ◌≤◌, List, [], ◌∷◌, ◌++◌, length, take, drop, get_or, Option, Result, Ok, Err, MatchResult, refl, sym, subst, ap, ◌∙◌, append_assoc, append-nil, add-one, arith, Bool, true, false, not, ◌==◌}
-use Rattle.ridepool.proofs.Common.{Appends, Appends-nil, Appends-trans, Appends-kept, map-append, AppendsPart, IsReady, IsRoundRun, IsRun, IsSameRun, journal_of, position_after_run, state_after_run, Audited, yes_text, ReportFault, Rose, BookView, IsBook, next_position, opening, Mode, Run, Load, Drive, Audit, Settings, Roads, DayRound, NumberedLanes, Inputs, notices, NotifierView, HaveHeard, DrivesDay, AppendsWithPart, IsCutShort, IsPart, IsWhole, Runs, journals_of, rounds_notices, RunsScript, RunsSome, AreAllWith, AreFirst, IsReportWhole, added_by, first_text, head_of, BeginsRounds, EndsRounds, NextJournal, HasPut, PutsRound, IsUnput, StopsIn, RunsAll, RunsFirst, RunsFrom, WritesRound, IsReportFault, IsTextFault, IsRoundFault, IsWritingFault, day_ending, late_status, made_of, status_of, rounds_text, RunStatus, WriteFault, OutOfMemory}
+use Rattle.std.proofs.Common.{◌≡◌, ℕ, ◌+◌, ◌-◌, ◌^◌, ◌<◌, ◌≤◌, List, [], ◌∷◌, ◌++◌, length, take, drop, get_or, Option, Result, Ok, Err, MatchResult, refl, sym, subst, ap, ◌∙◌, append_assoc, append-nil, arith, Bool, true, false, not, ◌==◌}
+use Rattle.ridepool.proofs.Common.{Appends, Appends-nil, Appends-trans, Appends-kept, map-append, AppendsPart, IsReady, IsRoundRun, IsRun, IsSameRun, journal_of, position_after_run, state_after_run, Audited, yes_text, ReportFault, Rose, BookView, IsBook, next_position, opening, Mode, Load, Drive, Settings, Roads, DayRound, NumberedLanes, Inputs, notices, NotifierView, HaveHeard, DrivesDay, AppendsWithPart, IsCutShort, IsPart, IsWhole, Runs, journals_of, rounds_notices, RunsScript, RunsSome, AreAllWith, AreFirst, IsReportWhole, added_by, first_text, head_of, BeginsRounds, EndsRounds, NextJournal, HasPut, PutsRound, IsUnput, StopsIn, RunsAll, RunsFirst, RunsFrom, WritesRound, IsReportFault, IsTextFault, IsRoundFault, IsWritingFault, day_ending, late_status, made_of, status_of, rounds_text, RunStatus, WriteFault, OutOfMemory}
 use Rattle.std.specs.List.{flat_map}
 use Rattle.std.proofs.lemmas.Bool.{eqb-true, false≢true}
 use Rattle.std.proofs.lemmas.Grind.{flat_map-append}
 use Rattle.std.proofs.lemmas.List.{take-append-drop, length-append}
-use Rattle.std.proofs.Math.Seq.{take-suc, take-length}
+use Rattle.std.proofs.Math.Seq.{take-length}
 use Rattle.batch_snapshot.specs.Kept.{IsFleet}
-use Rattle.dispatch_engine.proofs.lemmas.RunLemmas.{position-more, run-more, state-more}
+use Rattle.dispatch_engine.proofs.lemmas.RunLemmas.{position-more, run-more, state-more, take_next}
 use Rattle.dispatch_report.specs.Head.{head_text}
 use Rattle.dispatch_report.specs.Lines.{lines_text}
 use Rattle.dispatch_report.specs.Round.{end_text}
@@ -26,10 +26,6 @@ use Rattle.route_drive.specs.declared.day_run.DriveFault.TheVariants as drive
 pub position_after_run-most : (position : ℕ) (js : List Journal) → position ≤ 2 ^ 64 - 1 → position_after_run position js ≤ 2 ^ 64 - 1
 position_after_run-most position [] most = most
 position_after_run-most position (k ∷ js) most = position_after_run-most (next_position position k.entries) js (omega arith)
-
--- a list up to the next item
-take_next : {X : Type 0} (xs : List X) (i : ℕ) (x : X) → i < length xs → x ≡ get_or xs i x → take i xs ++ x ∷ [] ≡ take (i + 1) xs
-take_next xs i x within is = ap (λ y. take i xs ++ y ∷ []) is ∙ sym (rw add-one (take-suc xs i x within))
 
 -- journals, numbers, texts and notices of rounds, and of one more
 journals_more : (made : List DayRound) (r : DayRound) → journals_of (made ++ r ∷ []) ≡ journals_of made ++ r.journal ∷ []
@@ -274,15 +270,6 @@ module _ (settings : Settings) (roads : Roads) where
         base = ap (λ k. k.base) is ∙ same.base;
       }
 
-  -- the same of a round whose number is another's
-  pub puts_numbered : (p q : ℕ) (j : Journal) (a b : Option (List ℕ)) (n m : List NotifierView) → p ≡ q
-      → PutsRound settings roads (record { number = p; journal = j }) a b n m → PutsRound settings roads (record { number = q; journal = j }) a b n m
-  puts_numbered p q j a b n m same w = subst (λ k. PutsRound settings roads (record { number = k; journal = j }) a b n m) same w
-
-  pub unput_numbered : (p q : ℕ) (j : Journal) (a b : Option (List ℕ)) (n m : List NotifierView) (low high : ℕ) (s : RunStatus) → p ≡ q
-      → IsUnput settings roads (record { number = p; journal = j }) a b n m low high s → IsUnput settings roads (record { number = q; journal = j }) a b n m low high s
-  unput_numbered p q j a b n m low high s same why = subst (λ k. IsUnput settings roads (record { number = k; journal = j }) a b n m low high s) same why
-
   -- a round, run and written
   pub wrote_round : (book after next : BookView) (r : NumberedLanes) (a b : Option (List ℕ)) (n m : List NotifierView) (j : Journal)
       → IsRoundRun settings roads r (journal_of after) → IsSameRun book after → IsBook after → IsReady settings roads after → j ≡ journal_of after
@@ -314,13 +301,6 @@ pub text_unwritten : (text : List ℕ) (a b : Option (List ℕ)) (low high : ℕ
 text_unwritten text a b low high report.WriteFault s is part rose = subst (IsTextFault text a b low high) (sym is) (IsTextFault.failed (rose refl) part)
 text_unwritten text a b low high report.OutOfMemory s is part rose = subst (IsTextFault text a b low high) (sym is) (IsTextFault.unstored part)
 
--- the same of equal bytes
-pub part_as : (text bytes : List ℕ) (a b : Option (List ℕ)) → bytes ≡ text → AppendsPart a b bytes → AppendsPart a b text
-part_as text bytes a b is part = subst (AppendsPart a b) is part
-
-pub appends_of : (text bytes : List ℕ) (a b : Option (List ℕ)) → bytes ≡ text → Appends a b bytes → Appends a b text
-appends_of text bytes a b is whole = subst (Appends a b) is whole
-
 -- lines have bytes
 some_bytes : (x : List ℕ) (xs : List (List ℕ)) → 0 < length (lines_text (x ∷ xs))
 unfolding lines_text
@@ -329,9 +309,7 @@ some_bytes x xs = omega (arith, length-append (x ++ 10 ∷ []) (flat_map (λ lin
 some_head : (m : Mode) (s : Settings) (roads : Roads) (count : ℕ) → 0 < length (first_text m s roads count)
 unfolding head_text load_text
 some_head (Load shape) s roads count = some_bytes _ []
-some_head Run s roads count = some_bytes _ _
-some_head Drive s roads count = some_bytes _ _
-some_head Audit s roads count = some_bytes _ _
+some_head _ s roads count = some_bytes _ _
 
 pub some_yes : (audited : Audited) → 0 < length (yes_text audited)
 unfolding yes_text
@@ -390,16 +368,12 @@ runs_of i book rounds made is runs =
     record { numbers = runs.numbers; run = subst (λ b. IsRun i.settings i.roads b.base b.first rounds (journals_of made)) is runs.run }
 
 first_run : (m : Mode) (i : Inputs) (made : List DayRound) → (m ≡ Drive → ⊥) → RunsSome i made → AreFirst m i made
-first_run Run i made undriven first = first
-first_run (Load shape) i made undriven first = first
-first_run Audit i made undriven first = first
 first_run Drive i made undriven first = absurd (undriven refl)
+first_run _ i made undriven first = first
 
 all_run : (m : Mode) (i : Inputs) (made : List DayRound) (end : List ℕ) → (m ≡ Drive → ⊥) → RunsScript i made end → AreAllWith m i made end
-all_run Run i made end undriven all = all
-all_run (Load shape) i made end undriven all = all
-all_run Audit i made end undriven all = all
 all_run Drive i made end undriven all = absurd (undriven refl)
+all_run _ i made end undriven all = all
 
 pub run_serves : (i : Inputs) (book : BookView) (rounds : List NumberedLanes) → (i.settings.mode ≡ Drive → ⊥) → book ≡ opened i → rounds ≡ i.rounds
     → Serves i (RunsFirst i.settings i.roads book rounds) (RunsAll i.settings i.roads book rounds)

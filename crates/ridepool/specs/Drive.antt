@@ -18,11 +18,7 @@ use Rattle.ridepool.specs.Seen.{IsSilent, IsUntouched, Seen}
 use Rattle.ridepool.specs.declared.status.RunStatus.{RunStatus}
 use Rattle.ridepool.specs.declared.status.RunStatus.TheVariants.{Done, OutOfMemory, Day, TooLate}
 
--- some first rounds of a driven day that keeps its promises
-abbrev pub DrivesSome : Inputs → List DayRound → Type 0
-DrivesSome i made = (rest : List DayRound) × IsKeptDay i.settings i.roads (opening i.vehicles) i.rounds (made ++ rest)
-
--- all rounds of such a day, and its last lines: its counts, and then how many entries there were
+-- all rounds of a driven day that keeps its promises, and its last lines: its counts, and then how many entries there were
 pub record DrivesDay (i : Inputs) (made : List DayRound) (text : List ℕ) : Type 0 where
   pub counts : DayCounts
   pub day : IsRunOfDay i.settings i.roads (opening i.vehicles) i.rounds made counts
@@ -32,7 +28,8 @@ pub record DrivesDay (i : Inputs) (made : List DayRound) (text : List ℕ) : Typ
 -- round, and these are the rounds before it
 pub data EndsDrive (i : Inputs) (seen : Seen) : RunStatus → Type 0 where
   driven : (status : RunStatus) → day_fault i.rounds ≡ None
-      → EndsText i.settings i.roads (λ r. round_text r.number i.settings.proof r.journal) (head_text i.settings i.roads (length i.vehicles)) (DrivesSome i) (DrivesDay i) seen status
+      → EndsText i.settings i.roads (λ r. round_text r.number i.settings.proof r.journal) (head_text i.settings i.roads (length i.vehicles))
+      (λ made. (rest : List DayRound) × IsKeptDay i.settings i.roads (opening i.vehicles) i.rounds (made ++ rest)) (DrivesDay i) seen status
       → EndsDrive i seen status
   no_day : (fault : DayFault) → day_fault i.rounds ≡ Some fault → IsSilent seen → EndsDrive i seen (Day fault)
   too_late : (round : ℕ) (made : List DayRound) → day_fault i.rounds ≡ None → IsTooLateDay i.settings i.roads (opening i.vehicles) i.rounds round made

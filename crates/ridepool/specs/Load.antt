@@ -18,14 +18,12 @@ pub record AreTexts (t : Texts) (i : Inputs) : Type 0 where
   pub fleet : IsFleetIn i.roads.nodes t.fleet i.vehicles
   pub script : script_in t.script ≡ Ok i.rounds
 
--- the summary of a run of the made script is written, or a beginning of it: the shape, a line for each batch, and the last line
-abbrev pub EndsLoad : LoadShape → Inputs → Seen → RunStatus → Type 0
-EndsLoad shape i = EndsText i.settings i.roads (λ r. summary_text r.journal) (load_text shape) (RunsSome i) (RunsScript i)
-
 -- what a call of `load` answers
 pub record AnswersLoad (shape : LoadShape) (settings : Settings) (seen : Seen) (status : RunStatus) : Type 0 where
   pub untouched : AreUntouched seen.sources
-  -- there was no memory for its inputs; or they are what the texts of the shape give, and it ended so
-  pub explained : ((status ≡ OutOfMemory) × IsSilent seen) ⊎ ((i : Inputs) × (i.settings ≡ settings) × AreTexts (texts_of shape) i × EndsLoad shape i seen status)
+  -- there was no memory for its inputs; or they are what the texts of the shape give, and the summary of a run of the made script is
+  -- written, or a beginning of it: the shape, a line for each batch, and the last line
+  pub explained : ((status ≡ OutOfMemory) × IsSilent seen) ⊎ ((i : Inputs) × (i.settings ≡ settings) × AreTexts (texts_of shape) i
+      × EndsText i.settings i.roads (λ r. summary_text r.journal) (load_text shape) (RunsSome i) (RunsScript i) seen status)
   -- where no write fails, all is done or there is no memory
   pub complete : HasNoWriteFault seen → (status ≡ Done) ⊎ (status ≡ OutOfMemory)

@@ -19,15 +19,10 @@ RunsSome i made = (count : ℕ) × Runs i (take count i.rounds) made
 abbrev pub RunsScript : Inputs → List DayRound → List ℕ → Type 0
 RunsScript i made end = Runs i i.rounds made × (end ≡ end_text (position_after_run 0 (journals_of made)))
 
--- the report of a run of the script is written, or a beginning of it
-abbrev pub EndsRun : Inputs → Seen → RunStatus → Type 0
-EndsRun i =
-    EndsText i.settings i.roads (λ r. round_text r.number i.settings.proof r.journal) (head_text i.settings i.roads (length i.vehicles))
-    (RunsSome i) (RunsScript i)
-
 -- what a call of `run` answers
 pub record AnswersRun (settings : Settings) (seen : Seen) (status : RunStatus) : Type 0 where
   -- it stopped at its sources; or they were read, and the report of a run of the script is written, or a beginning of it
-  pub explained : StopsOrReads settings seen status (λ i. IsUntouched seen.sources.report × EndsRun i seen status)
+  pub explained : StopsOrReads settings seen status (λ i. IsUntouched seen.sources.report
+      × EndsText i.settings i.roads (λ r. round_text r.number i.settings.proof r.journal) (head_text i.settings i.roads (length i.vehicles)) (RunsSome i) (RunsScript i) seen status)
   -- where the sources tell inputs, and no read and no write fails, all is done or there is no memory
   pub complete : (i : Inputs) → TellInputs seen.sources i → HasNoWriteFault seen → (status ≡ Done) ⊎ (status ≡ OutOfMemory)

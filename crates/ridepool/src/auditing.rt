@@ -4,9 +4,9 @@ ghost use Rattle.dispatch_report.specs.Words.{numbered};
 ghost use Rattle.request_book.specs.Consistent.{IsNode};
 ghost use Rattle.ridepool.specs.Audit.{yes_text};
 ghost use Rattle.ridepool.specs.work.Ended.{IsRunReport};
-ghost use Rattle.ridepool.specs.Inputs.{Inputs};
 ghost use Rattle.ridepool.specs.Seen.{source_seen};
 ghost use Rattle.ridepool.specs.work.Auditing.{IsAuditFault, RefusesBytes, WritesYes};
+ghost use Rattle.ridepool.specs.work.Reading.{inputs_got};
 ghost use Rattle.ridepool.specs.work.Writing.{IsTextFault};
 
 use crate::inputs::ReadInputs;
@@ -27,12 +27,12 @@ pub(crate) fn write_audit<A: Source, K: Sink, G: Gate>(
     alloc: Global,
     out: &mut K,
     settings: &Settings,
-    inputs: ReadInputs,
+    inputs: &ReadInputs,
     report: &mut A,
     gate: &G,
 ) -> Result<(), RunStatus>
-    requires { All (λ vehicle. IsNode inputs.network.nodes vehicle.node) inputs.fleet }
-    ensures audited { let i : Inputs = record { settings = settings.now; roads = inputs.network; vehicles = inputs.fleet; rounds = inputs.script } in
+    requires { All (λ vehicle. IsNode inputs.now.network.nodes vehicle.node) inputs.now.fleet }
+    ensures audited { let i = inputs_got settings.now inputs.now in
         let seen = source_seen A.left A.taken A.faults report.old report.new in
         MatchResult result
         (λ _. WritesYes i seen (K.written out.old) (K.written out.new))
@@ -41,10 +41,7 @@ pub(crate) fn write_audit<A: Source, K: Sink, G: Gate>(
 {
     let bytes = match read_input(alloc, report, Which::Report) {
         Ok(bytes) => bytes,
-        Err(status) => {
-            drop(inputs);
-            return Err(status);
-        }
+        Err(status) => return Err(status),
     };
     match judge_report(rt, alloc, settings, inputs, &bytes, gate) {
         Ok(audited) => write_yes(alloc, out, &audited),
@@ -57,34 +54,24 @@ fn judge_report<G: Gate>(
     rt: &(impl Threads + Sync),
     alloc: Global,
     settings: &Settings,
-    inputs: ReadInputs,
+    inputs: &ReadInputs,
     bytes: &[u8],
     gate: &G,
 ) -> Result<Audited, RunStatus>
-    requires { All (λ vehicle. IsNode inputs.network.nodes vehicle.node) inputs.fleet }
-    ensures yes { let i : Inputs = record { settings = settings.now; roads = inputs.network; vehicles = inputs.fleet; rounds = inputs.script } in
-        IfOk result (IsRunReport i bytes.now) }
-    ensures no { let i : Inputs = record { settings = settings.now; roads = inputs.network; vehicles = inputs.fleet; rounds = inputs.script } in
-        IfErr result (RefusesBytes i bytes.now) }
+    requires { All (λ vehicle. IsNode inputs.now.network.nodes vehicle.node) inputs.now.fleet }
+    ensures yes { IfOk result (IsRunReport (inputs_got settings.now inputs.now) bytes.now) }
+    ensures no { IfErr result (RefusesBytes (inputs_got settings.now inputs.now) bytes.now) }
 {
-    let ReadInputs {
-        network,
-        fleet,
-        script,
-    } = inputs;
     let audited = audit(
         rt,
         alloc,
         bytes,
-        &network,
-        &fleet,
-        &script,
+        &inputs.network,
+        &inputs.fleet,
+        &inputs.script,
         settings.workers,
         gate,
     );
-    drop(network);
-    drop(fleet);
-    drop(script);
     match audited {
         Ok(audited) => Ok(audited),
         Err(AuditFault::OutOfMemory) => Err(RunStatus::OutOfMemory),

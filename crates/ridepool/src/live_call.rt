@@ -12,7 +12,7 @@ ghost use Rattle.ridepool.specs.Inputs.{IsWithin};
 ghost use Rattle.ridepool.specs.Live.{AnswersLive, AreLimited, AreLiveInputs, EndsLive, ExplainsLive, IsSilentCall, LiveCall, LiveInputs, LiveSeen, live_head, opened_book};
 ghost use Rattle.ridepool.specs.Seen.{source_seen};
 ghost use Rattle.ridepool.specs.work.Ended.{HidesNoMemory};
-ghost use Rattle.ridepool.specs.work.Live.{status_of_end, status_of_start};
+ghost use Rattle.ridepool.specs.work.Live.{live_seen, status_of_end, status_of_start};
 
 use crate::reading::{fleet_from, network_from};
 use crate::status::RunStatus;
@@ -173,15 +173,9 @@ fn live_in<
     listener: L,
 ) -> LiveEnd<S, K, N>
     requires named { All (λ vehicle. IsNode network.now.nodes vehicle.node) fleet }
-    ensures { EndsLive (record { settings = settings.now; roads = network.now; vehicles = fleet }) (record {
-      script = S.left script;
-      reads = record { before = S.faults script; after = S.faults result.script };
-      out = sink_seen K.written K.faults out result.out;
-      notifiers = record {
-        before = notifiers_seen N.told N.faults N.steady notifiers.items;
-        after = notifiers_seen N.told N.faults N.steady result.notifiers.items;
-      };
-    }) result.status }
+    ensures { EndsLive (record { settings = settings.now; roads = network.now; vehicles = fleet })
+        (live_seen (S.left script) (S.faults script) (S.faults result.script) (sink_seen K.written K.faults out result.out)
+        (notifiers_seen N.told N.faults N.steady notifiers.items) (notifiers_seen N.told N.faults N.steady result.notifiers.items)) result.status }
 {
     let Ok(ways) = ways_by(alloc, network, settings, gate) else {
         drop(fleet);
@@ -223,15 +217,9 @@ fn live_by<
     listener: L,
 ) -> LiveEnd<S, K, N>
     requires named { All (λ vehicle. IsNode setup.now.network.now.nodes vehicle.node) fleet }
-    ensures { EndsLive (record { settings = setup.now.settings.now; roads = setup.now.network.now; vehicles = fleet }) (record {
-      script = S.left script;
-      reads = record { before = S.faults script; after = S.faults result.script };
-      out = sink_seen K.written K.faults out result.out;
-      notifiers = record {
-        before = notifiers_seen N.told N.faults N.steady notifiers.items;
-        after = notifiers_seen N.told N.faults N.steady result.notifiers.items;
-      };
-    }) result.status }
+    ensures { EndsLive (record { settings = setup.now.settings.now; roads = setup.now.network.now; vehicles = fleet })
+        (live_seen (S.left script) (S.faults script) (S.faults result.script) (sink_seen K.written K.faults out result.out)
+        (notifiers_seen N.told N.faults N.steady notifiers.items) (notifiers_seen N.told N.faults N.steady result.notifiers.items)) result.status }
 {
     let mut out = out;
     let mut lines = LineStream::over(script);
@@ -276,12 +264,7 @@ fn start_live<S: Source, K: Sink, W: Ways, D: Drafter, G: Gate>(
         IfOk result (λ r. (r.0 ≡ opened_book i) × HasStarted lines.old.to_come lines.new.to_come r.1
         × Appends (K.written out.old) (K.written out.new) (live_head i)) }
     ensures stopped { let i : LiveInputs = record { settings = setup.now.settings.now; roads = setup.now.network.now; vehicles = fleet.now } in
-        (told : List NotifierView) → IfErr result (EndsLive i (record {
-          script = lines.old.to_come;
-          reads = record { before = lines.old.faults; after = lines.new.faults };
-          out = sink_seen K.written K.faults out.old out.new;
-          notifiers = record { before = told; after = told };
-        })) }
+        (told : List NotifierView) → IfErr result (EndsLive i (live_seen lines.old.to_come lines.old.faults lines.new.faults (sink_seen K.written K.faults out.old out.new) told told)) }
     ensures never_falls { (K.faults out.old ≤ K.faults out.new) × (lines.old.faults ≤ lines.new.faults) }
 {
     let version = match read_start(alloc, lines) {

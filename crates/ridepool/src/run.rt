@@ -87,13 +87,21 @@ pub fn ridepool<N: Source, F: Source, S: Source, A: Source, K: Sink, G: Gate>(
         Err(status) => return status,
     };
     match settings.mode {
-        Mode::Audit => match write_audit(rt, alloc, out, &settings, inputs, report, gate) {
-            Ok(()) => RunStatus::Done, // its line stands
-            Err(status) => status,
-        },
-        _ => match write_report(rt, alloc, out, &settings, inputs, notifiers, gate) {
-            Ok(()) => RunStatus::Done, // the whole text stands
-            Err(status) => status,
-        },
+        Mode::Audit => {
+            let audited = write_audit(rt, alloc, out, &settings, &inputs, report, gate);
+            drop(inputs);
+            match audited {
+                Ok(()) => RunStatus::Done, // its line stands
+                Err(status) => status,
+            }
+        }
+        _ => {
+            let written = write_report(rt, alloc, out, &settings, &inputs, notifiers, gate);
+            drop(inputs);
+            match written {
+                Ok(()) => RunStatus::Done, // the whole text stands
+                Err(status) => status,
+            }
+        }
     }
 }

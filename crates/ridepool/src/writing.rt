@@ -7,6 +7,7 @@ ghost use Rattle.dispatch_report.specs.Written.{sink_seen, WritesText};
 ghost use Rattle.ridepool.specs.Inputs.{Inputs};
 ghost use Rattle.ridepool.specs.Report.{IsWhole};
 ghost use Rattle.ridepool.specs.work.Held.{HoldsRounds};
+ghost use Rattle.ridepool.specs.work.Reading.{inputs_got};
 ghost use Rattle.route_drive.specs.declared.day_run.DayRound.{DayRound as RoundValue};
 ghost use Rattle.ridepool.specs.work.Writing.{BeginsRounds, EndsRounds, IsWritingFault, IsReportFault, IsRoundFault, IsUnput, PutsRound, RunsAll, RunsFirst, WritesRound, IsDayFor, IsReportWhole, added_by, added_text, first_text, day_ending, late_status, status_of};
 
@@ -46,13 +47,13 @@ pub(crate) fn write_report<K: Sink, G: Gate>(
     alloc: Global,
     out: &mut K,
     settings: &Settings,
-    inputs: ReadInputs,
+    inputs: &ReadInputs,
     notifiers: &mut Vec<Box<dyn Notifier>>,
     gate: &G,
 ) -> Result<(), RunStatus>
-    requires named { All (λ vehicle. IsNode inputs.network.nodes vehicle.node) inputs.fleet }
-    requires day { IsDayFor settings.now.mode inputs.script }
-    ensures report { let i : Inputs = record { settings = settings.now; roads = inputs.network; vehicles = inputs.fleet; rounds = inputs.script } in
+    requires named { All (λ vehicle. IsNode inputs.now.network.nodes vehicle.node) inputs.now.fleet }
+    requires day { IsDayFor settings.now.mode inputs.now.script }
+    ensures report { let i = inputs_got settings.now inputs.now in
         let all = map (λ n. notifier_seen (⟦<dyn Notifier as Notifier>⟧ n.vtable) n.value) notifiers.old.items in
         let left = map (λ n. notifier_seen (⟦<dyn Notifier as Notifier>⟧ n.vtable) n.value) notifiers.new.items in
         MatchResult result
@@ -60,53 +61,25 @@ pub(crate) fn write_report<K: Sink, G: Gate>(
         (IsWritingFault i (K.written out.old) (K.written out.new) all left (K.faults out.old) (K.faults out.new)) }
     ensures never_falls { K.faults out.old ≤ K.faults out.new }
 {
-    let ReadInputs {
-        network,
-        fleet,
-        script,
-    } = inputs;
-    let written = write_in(
-        rt, alloc, out, settings, &network, &fleet, &script, notifiers, gate,
-    );
-    drop(network);
-    drop(fleet);
-    drop(script);
-    written
-}
-
-/// The same, over inputs that outlive the call.
-fn write_in<K: Sink, G: Gate>(
-    rt: &(impl Threads + Wait + Sync),
-    alloc: Global,
-    out: &mut K,
-    settings: &Settings,
-    network: &Network,
-    fleet: &Fleet,
-    script: &Script,
-    notifiers: &mut Vec<Box<dyn Notifier>>,
-    gate: &G,
-) -> Result<(), RunStatus>
-    requires named { All (λ vehicle. IsNode network.now.nodes vehicle.node) fleet.now }
-    requires day { IsDayFor settings.now.mode script.now }
-    ensures report { let i : Inputs = record { settings = settings.now; roads = network.now; vehicles = fleet.now; rounds = script.now } in
-        let all = map (λ n. notifier_seen (⟦<dyn Notifier as Notifier>⟧ n.vtable) n.value) notifiers.old.items in
-        let left = map (λ n. notifier_seen (⟦<dyn Notifier as Notifier>⟧ n.vtable) n.value) notifiers.new.items in
-        MatchResult result
-        (λ _. IsReportWhole i (K.written out.old) (K.written out.new) all left)
-        (IsWritingFault i (K.written out.old) (K.written out.new) all left (K.faults out.old) (K.faults out.new)) }
-    ensures never_falls { K.faults out.old ≤ K.faults out.new }
-{
-    let Ok(ways) = ways_by(alloc, network, settings, gate) else {
+    let Ok(ways) = ways_by(alloc, &inputs.network, settings, gate) else {
         return Err(RunStatus::OutOfMemory);
     };
     let setup = Setup {
-        network,
+        network: &inputs.network,
         ways: &ways,
         drafter: &RelaxationDrafter,
         settings,
         gate,
     };
-    write_by(rt, alloc, out, fleet, script, &setup, notifiers)
+    write_by(
+        rt,
+        alloc,
+        out,
+        &inputs.fleet,
+        &inputs.script,
+        &setup,
+        notifiers,
+    )
 }
 
 /// The same, with what its rounds share together.

@@ -3,7 +3,7 @@ use Rattle.std.specs.List.{list_all, prefix_len, position_or_len, before_first, 
 use Rattle.std.specs.Option.{option_map, option_map_or, option_or}
 use Rattle.std.proofs.lemmas.List.{append_assoc, length-append, take_at, drop_at, length_push}
 use Rattle.std.proofs.lemmas.Bool.{and_parts, cases_Bool, lt-ltb, leb-true}
-use Rattle.pool_base.specs.declared.which.Which.TheVariants.{Network, Fleet, Script, Report}
+use Rattle.pool_base.specs.declared.which.Which.TheVariants.{Network}
 use Rattle.pool_base.specs.Number.{value_of}
 use Rattle.pool_base.specs.Numeral.{is_numeral, number_up_to}
 use Rattle.pool_base.proofs.lemmas.InOrderLemmas.{first_fault-each}
@@ -11,7 +11,7 @@ use Rattle.pool_base.proofs.lemmas.NumeralLemmas.{number_up_to-some}
 use Rattle.rider_limits.specs.declared.subcommand.Subcommand.{Subcommand}
 use Rattle.rider_limits.specs.declared.subcommand.Subcommand.TheVariants.{Run, Load, Drive, Audit}
 use Rattle.rider_limits.specs.declared.key.Key.{Key}
-use Rattle.rider_limits.specs.declared.key.Key.TheVariants.{Input, Notices, Wait, Delay, Trip, Penalty, Budget, Pairs, Workers, Proof, Dwell, Times, Seed, Side, Vehicles, Riders, Rounds}
+use Rattle.rider_limits.specs.declared.key.Key.TheVariants.{Input, Notices, Times}
 use Rattle.rider_limits.specs.declared.key.Takes.TheVariants.{Number}
 use Rattle.rider_limits.specs.declared.word_fault.WordFault.TheVariants.{UnknownKey, Repeated, BadValue}
 use Rattle.rider_limits.specs.Key.{about, key_of, accepts}
@@ -31,109 +31,18 @@ prefix_len-front p (x ∷ xs) y ys pass fails =
 -- no key's name has `=` in it
 name_lacks_equals : (key : Key) → list_all (λ c. not (nat_eq c 61)) (about key).name ≡ true
 name_lacks_equals (Input Network) = refl
-name_lacks_equals (Input Fleet) = refl
-name_lacks_equals (Input Script) = refl
-name_lacks_equals (Input Report) = refl
+name_lacks_equals (Input _) = refl
 name_lacks_equals Notices = refl
-name_lacks_equals Wait = refl
-name_lacks_equals Delay = refl
-name_lacks_equals Trip = refl
-name_lacks_equals Penalty = refl
-name_lacks_equals Budget = refl
-name_lacks_equals Pairs = refl
-name_lacks_equals Workers = refl
-name_lacks_equals Proof = refl
-name_lacks_equals Dwell = refl
-name_lacks_equals Times = refl
-name_lacks_equals Seed = refl
-name_lacks_equals Side = refl
-name_lacks_equals Vehicles = refl
-name_lacks_equals Riders = refl
-name_lacks_equals Rounds = refl
+name_lacks_equals _ = refl
 
 -- a key is found by its name, where the command has it
 key_of-name : (command : Subcommand) (key : Key) → key_of command (about key).name ≡ cond ((about key).has command) (Some key) None
 unfolding key_of
 key_of-name Run (Input Network) = refl
-key_of-name Run (Input Fleet) = refl
-key_of-name Run (Input Script) = refl
-key_of-name Run (Input Report) = refl
-key_of-name Run Notices = refl
-key_of-name Run Wait = refl
-key_of-name Run Delay = refl
-key_of-name Run Trip = refl
-key_of-name Run Penalty = refl
-key_of-name Run Budget = refl
-key_of-name Run Pairs = refl
-key_of-name Run Workers = refl
-key_of-name Run Proof = refl
-key_of-name Run Dwell = refl
-key_of-name Run Times = refl
-key_of-name Run Seed = refl
-key_of-name Run Side = refl
-key_of-name Run Vehicles = refl
-key_of-name Run Riders = refl
-key_of-name Run Rounds = refl
 key_of-name Load (Input Network) = refl
-key_of-name Load (Input Fleet) = refl
-key_of-name Load (Input Script) = refl
-key_of-name Load (Input Report) = refl
-key_of-name Load Notices = refl
-key_of-name Load Wait = refl
-key_of-name Load Delay = refl
-key_of-name Load Trip = refl
-key_of-name Load Penalty = refl
-key_of-name Load Budget = refl
-key_of-name Load Pairs = refl
-key_of-name Load Workers = refl
-key_of-name Load Proof = refl
-key_of-name Load Dwell = refl
-key_of-name Load Times = refl
-key_of-name Load Seed = refl
-key_of-name Load Side = refl
-key_of-name Load Vehicles = refl
-key_of-name Load Riders = refl
-key_of-name Load Rounds = refl
 key_of-name Drive (Input Network) = refl
-key_of-name Drive (Input Fleet) = refl
-key_of-name Drive (Input Script) = refl
-key_of-name Drive (Input Report) = refl
-key_of-name Drive Notices = refl
-key_of-name Drive Wait = refl
-key_of-name Drive Delay = refl
-key_of-name Drive Trip = refl
-key_of-name Drive Penalty = refl
-key_of-name Drive Budget = refl
-key_of-name Drive Pairs = refl
-key_of-name Drive Workers = refl
-key_of-name Drive Proof = refl
-key_of-name Drive Dwell = refl
-key_of-name Drive Times = refl
-key_of-name Drive Seed = refl
-key_of-name Drive Side = refl
-key_of-name Drive Vehicles = refl
-key_of-name Drive Riders = refl
-key_of-name Drive Rounds = refl
 key_of-name Audit (Input Network) = refl
-key_of-name Audit (Input Fleet) = refl
-key_of-name Audit (Input Script) = refl
-key_of-name Audit (Input Report) = refl
-key_of-name Audit Notices = refl
-key_of-name Audit Wait = refl
-key_of-name Audit Delay = refl
-key_of-name Audit Trip = refl
-key_of-name Audit Penalty = refl
-key_of-name Audit Budget = refl
-key_of-name Audit Pairs = refl
-key_of-name Audit Workers = refl
-key_of-name Audit Proof = refl
-key_of-name Audit Dwell = refl
-key_of-name Audit Times = refl
-key_of-name Audit Seed = refl
-key_of-name Audit Side = refl
-key_of-name Audit Vehicles = refl
-key_of-name Audit Riders = refl
-key_of-name Audit Rounds = refl
+key_of-name _ _ = refl
 
 -- a word of a key's name, `=` and a text gives that key and text, where the command has the key
 option_of-named : (command : Subcommand) (key : Key) (word text : List ℕ) → word ≡ (about key).name ++ 61 ∷ text → option_of command word ≡ option_map (λ k. (k, text)) (cond ((about key).has command) (Some key) None)
@@ -231,21 +140,8 @@ number_taken key least greatest text is small good =
 pub accepted_is_taken : (key : Key) (text : List ℕ) → IsNumber (about key).takes → accepts (about key).takes text ≡ true → IsTakenText key text
 accepted_is_taken (Input which) text number good = absurd number
 accepted_is_taken Notices text number good = absurd number
-accepted_is_taken Wait text number good = number_taken Wait 0 7200 text refl (lit≤ tt) good
-accepted_is_taken Delay text number good = number_taken Delay 0 7200 text refl (lit≤ tt) good
-accepted_is_taken Trip text number good = number_taken Trip 1 6 text refl (lit≤ tt) good
-accepted_is_taken Penalty text number good = number_taken Penalty 0 1000000000 text refl (lit≤ tt) good
-accepted_is_taken Budget text number good = number_taken Budget 1 50000 text refl (lit≤ tt) good
-accepted_is_taken Pairs text number good = number_taken Pairs 1 2000000 text refl (lit≤ tt) good
-accepted_is_taken Workers text number good = number_taken Workers 1 64 text refl (lit≤ tt) good
-accepted_is_taken Proof text number good = number_taken Proof 0 1 text refl (lit≤ tt) good
-accepted_is_taken Dwell text number good = number_taken Dwell 0 600 text refl (lit≤ tt) good
 accepted_is_taken Times text number good = absurd number
-accepted_is_taken Seed text number good = number_taken Seed 0 1000000000 text refl (lit≤ tt) good
-accepted_is_taken Side text number good = number_taken Side 2 100 text refl (lit≤ tt) good
-accepted_is_taken Vehicles text number good = number_taken Vehicles 1 500 text refl (lit≤ tt) good
-accepted_is_taken Riders text number good = number_taken Riders 1 1000 text refl (lit≤ tt) good
-accepted_is_taken Rounds text number good = number_taken Rounds 1 100 text refl (lit≤ tt) good
+accepted_is_taken key text number good = number_taken key _ _ text refl (lit≤ tt) good
 
 -- words without a fault give a key of numbers a numeral that it takes
 pub given_is_taken : (command : Subcommand) (key : Key) (words : List (List ℕ)) (text : List ℕ) → words_fault command words ≡ None → IsNumber (about key).takes → text_given (about key).name words ≡ Some text → IsTakenText key text

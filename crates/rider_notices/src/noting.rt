@@ -1,7 +1,10 @@
-ghost use Rattle.std.specs.Prelude.{◌≡◌, ◌++◌, ◌∷◌, [], IfOk, OnOk, if◌then◌else◌};
+ghost use Rattle.std.specs.Prelude.{◌≡◌, ◌++◌, ◌∷◌, [], true, false, IfOk, OnOk, if◌then◌else◌};
+ghost use Rattle.std.specs.Option.{option_map_or};
 ghost use Rattle.request_book.specs.Consistent.{IsConsistent};
+ghost use Rattle.request_book.specs.Rider.{is_active};
+ghost use Rattle.request_book.specs.State.{find_rider};
 ghost use Rattle.request_book.specs.declared.reply.Reply.TheVariants.{Closed};
-ghost use Rattle.rider_notices.specs.Notices.{notices, notices_from, entry_notices, batch_notices, is_asking, notice_of, trip_notice, pickup_second, dropoff_second};
+ghost use Rattle.rider_notices.specs.Notices.{notices, notices_from, entry_notices, batch_notices, notice_of, trip_notice, stop_second};
 
 use crate::notice::Notice;
 use crate::statuses::Statuses;
@@ -122,7 +125,7 @@ fn note_rider<S: Statuses>(
     chosen: &[ChosenTrip],
     rider: RiderId,
 ) -> Result<(), OutOfMemory>
-    ensures { OnOk result (told.new.items ≡ told.old.items ++ (if is_asking (S.state before.now) rider then notice_of batch chosen.now rider ∷ [] else [])) }
+    ensures { OnOk result (told.new.items ≡ told.old.items ++ (if option_map_or (λ known. is_active known.status) (find_rider rider (S.state before.now).riders) false then notice_of batch chosen.now rider ∷ [] else [])) }
 {
     if is_asking(before, rider) {
         told.push(notice_of(batch, chosen, rider))?;
@@ -132,7 +135,7 @@ fn note_rider<S: Statuses>(
 
 /// Whether a rider waits or has a promise.
 fn is_asking<S: Statuses>(state: &S, rider: RiderId) -> bool
-    ensures { result ≡ is_asking (S.state state.now) rider }
+    ensures { result ≡ option_map_or (λ known. is_active known.status) (find_rider rider (S.state state.now).riders) false }
 {
     match state.status_of(rider) {
         Some(Status::Waiting | Status::Promised(_)) => true,
@@ -170,7 +173,7 @@ fn trip_notice(batch: u64, trip: &ChosenTrip, rider: RiderId) -> Option<Notice>
 
 /// The second of the first stop that picks the rider up.
 fn pickup_second(stops: &[PlannedStop], rider: RiderId) -> Option<u64>
-    ensures { result ≡ pickup_second rider stops.now }
+    ensures { result ≡ stop_second true rider stops.now }
 {
     stops
         .iter()
@@ -180,7 +183,7 @@ fn pickup_second(stops: &[PlannedStop], rider: RiderId) -> Option<u64>
 
 /// The second of the first stop that drops the rider.
 fn dropoff_second(stops: &[PlannedStop], rider: RiderId) -> Option<u64>
-    ensures { result ≡ dropoff_second rider stops.now }
+    ensures { result ≡ stop_second false rider stops.now }
 {
     stops
         .iter()

@@ -2,11 +2,11 @@
 pub use Rattle.std.proofs.Math.Seq.{get_or-append_seam}
 pub use Rattle.std.proofs.lemmas.Bool.{MatchBool-at_false, MatchBool-at_true, and_from, and_parts, cases_Bool, cases_eq, cases_lt, cond-false, cond-true, false≢true, lt-leb}
 pub use Rattle.std.proofs.lemmas.List.{get_or-map, get_or-replicate, get_or_append_left, get_or_default, get_or_read, length-map, length-replicate, map-append, reverse-append, take_more}
-pub use Rattle.std.proofs.lemmas.List.Elements.{All-append, All-cons, All-contains, All-drop, All-from_get_or, All-from_recursion, All-head, All-nil, All-push, All-tail, All-take, Contains-get_or, filter-append, filter_passes, recursion_from_All}
+pub use Rattle.std.proofs.lemmas.List.Elements.{All-append, All-cons, All-contains, All-from_get_or, All-from_recursion, All-head, All-nil, All-push, All-tail, Contains-get_or, filter-append, filter_passes, recursion_from_All}
 pub use Rattle.std.proofs.lemmas.List.Filters.{length-filter_both}
 pub use Rattle.std.proofs.lemmas.List.Folds.{Any-from_list_any, sum_by-replicate}
 pub use Rattle.std.proofs.lemmas.List.FromFn.{get_or-range_with_len, length-range_with_len}
-pub use Rattle.std.proofs.lemmas.List.Sums.{passes_at_first, sum_by-append, sum_by-cons, sum_by-remove, sum_by-set, sum_by_push}
+pub use Rattle.std.proofs.lemmas.List.Sums.{passes_at_first, sum_by-cons, sum_by-set, sum_by_push}
 pub use Rattle.std.proofs.lemmas.Option.{get_or_from_slice_get, slice_get-get_or, slice_get_cases, slice_get_within}
 unfoldable pub use Rattle.std.specs.List.{IsDistinct}
 pub use Rattle.std.specs.List.{AllByRecursion, AllZip, list_any, position_or_len, range_with_len}
@@ -38,7 +38,7 @@ pub use Rattle.promise_check.specs.Promised.{IsLive, is_promised_to, kept_legs, 
 pub use Rattle.promise_check.specs.Requests.{IsLegOf, ideal_second, request_at}
 pub use Rattle.promise_check.specs.Settling.{HasRightLimit, HoldsPromised, IsLiveRider, IsPlaced, IsSettled}
 pub use Rattle.promise_check.specs.lemmas.Named.{kept_leg, no_request}
-pub use Rattle.request_book.proofs.lemmas.BatchLemmas.{after_seal-id, increasing_from_rise}
+pub use Rattle.request_book.proofs.lemmas.BatchLemmas.{after_seal-id}
 pub use Rattle.request_book.proofs.lemmas.ConsistentLemmas.{step-consistent}
 pub use Rattle.request_book.proofs.lemmas.KeyedLemmas.{All-look_up, KeysDiffer-filter_map, KeysDiffer-from_rise, KeysDiffer-map, by_key-order, look_up-at, look_up-changed_here, look_up-changed_there, look_up-filter_map, look_up-here, look_up-key, look_up-map, look_up-nil, look_up-push_found, look_up-push_here, look_up-push_there, look_up-there, map-changed_at, without_key-absent}
 pub use Rattle.request_book.proofs.lemmas.LawLemmas.{reached-consistent, rounds-join}
@@ -47,6 +47,7 @@ pub use Rattle.request_book.proofs.lemmas.StepTable.{by-table}
 pub use Rattle.request_book.specs.Book.{BookView, IsBook, next_position, opening}
 unfoldable pub use Rattle.request_book.specs.Closing.{after_answer, picks, trip_picks}
 pub use Rattle.request_book.specs.Closing.{after_plan}
+pub use Rattle.request_book.specs.Command.{closed_outcome}
 pub use Rattle.request_book.specs.Consistent.{IsConsistent, IsNode, NamesNodes, seat_in}
 unfoldable pub use Rattle.request_book.specs.Keyed.{KeysDiffer, changed_at, look_up, without}
 pub use Rattle.request_book.specs.Keyed.{by_key}
@@ -56,7 +57,7 @@ unfoldable pub use Rattle.request_book.specs.Sealing.{batch_of, sealed_state}
 pub use Rattle.request_book.specs.Sealing.{after_seal, is_over}
 pub use Rattle.request_book.specs.State.{find_passenger, find_rider, find_vehicle}
 unfoldable pub use Rattle.request_book.specs.Step.{step}
-pub use Rattle.request_book.specs.Step.{answered, rider_becomes, submit, vehicle_becomes}
+pub use Rattle.request_book.specs.Step.{rider_becomes, vehicle_becomes}
 pub use Rattle.request_book.specs.declared.command.Command.{Command}
 pub use Rattle.request_book.specs.declared.command.Command.TheVariants.{Cancel, Close, Dropoff, Pickup, Report, Seal, Submit}
 pub use Rattle.request_book.specs.declared.journal.Entry.{Entry}
@@ -68,15 +69,15 @@ pub use Rattle.request_book.specs.declared.outcome.Planned.{Planned}
 pub use Rattle.request_book.specs.declared.outcome.PlannedStop.{PlannedStop}
 pub use Rattle.request_book.specs.declared.reply.BookRefusal.{BookRefusal}
 pub use Rattle.request_book.specs.declared.reply.Reply.{Reply}
-pub use Rattle.request_book.specs.declared.reply.Reply.TheVariants.{Accepted, Closed, Dropped, Picked, Placed, Refused, Sealed}
+pub use Rattle.request_book.specs.declared.reply.Reply.TheVariants.{Accepted, Closed, Dropped, Picked, Placed, Sealed}
 pub use Rattle.request_book.specs.declared.rider.BookRider.{BookRider}
 pub use Rattle.request_book.specs.declared.rider.Status.{Status}
-pub use Rattle.request_book.specs.declared.rider.Status.TheVariants.{Aboard, Cancelled, Delivered, Expired, Promised, Waiting}
+pub use Rattle.request_book.specs.declared.rider.Status.TheVariants.{Aboard, Delivered, Expired, Promised, Waiting}
 pub use Rattle.request_book.specs.declared.state.State.{State}
 unfoldable pub use Rattle.request_book.specs.lemmas.Closing.{closed_state}
 pub use Rattle.request_book.specs.lemmas.Named.{asking, in_batch, lets_out, planned_status, stands_at, takes_in}
 unfoldable pub use Rattle.request_book.specs.lemmas.Refusals.{first_of}
-pub use Rattle.request_book.specs.lemmas.Refusals.{batch_open, clock_back, duplicate_rider, has_ended, is_aboard, not_aboard, not_promised, not_this_batch, time_back, unknown_node, unknown_rider, unknown_vehicle, vehicle_full}
+pub use Rattle.request_book.specs.lemmas.Refusals.{batch_open, clock_back, duplicate_rider}
 unfoldable pub use Rattle.request_book.specs.lemmas.Table.{cancel_step, close_step, dropoff_step, pickup_step, report_step, seal_step, submit_step, table_step}
 pub use Rattle.request_book.specs.lemmas.Table.{answer, dropped_off, picked_up, submit_refusal}
 pub use Rattle.rider_limits.specs.declared.settings.Settings.{Settings}
@@ -84,11 +85,11 @@ pub use Rattle.road_network.specs.Roads.{IsArcAmong, IsNetwork, Roads, has_node,
 pub use Rattle.road_network.specs.Walk.{HasNoWalk, IsLeastTime, IsTimeBetween, IsWalk, walk_seconds}
 pub use Rattle.road_network.specs.declared.arc.Arc.{Arc}
 pub use Rattle.road_network.specs.declared.hop.Hop.{Hop}
-pub use Rattle.route_drive.specs.Counts.{AreCounts, IsDelayOf, count_of, dropped_among, entries_of, ideal_dropoff, is_dropped, is_picked, picked_among, rider_of, wait_of}
-pub use Rattle.route_drive.specs.Day.{back_fault, day_fault, first_seal, is_of_day, is_seal_command, lane_fault, latest_seal, round_fault, seal_of, seals_fault}
-pub use Rattle.route_drive.specs.Driven.{AreDriven, HasDrivenToTheEnd, IsDrivenDay, IsDrivenRound, IsLateAnswer, IsNewBook, IsPrecededBy, IsTooLateDay, courses_after, courses_from, courses_left, first_courses, left_course, left_state, number_after, plan_in, plan_of, planned_course, planned_in}
-pub use Rattle.route_drive.specs.Entering.{AreEntered, EntersTooLate, IsEntered, IsInTime, IsReported, IsTooLate, arrived, due, goal_of, is_cut_off, left_commands, second_of, standing_after, stop_command, to_come, walk_end, walks}
-pub use Rattle.route_drive.specs.Promises.{DaysKeep, EntriesKeep, EntryKeeps, IsClosedInTime, IsDroppedInTime, IsKeptDay, IsPickedBy, IsRunOfDay, StateKeeps, TellsNothingLate}
+pub use Rattle.route_drive.specs.Counts.{AreCounts, IsDelayOf, dropped_among, entries_of, ideal_dropoff, is_dropped, is_picked, picked_among, wait_of}
+pub use Rattle.route_drive.specs.Day.{day_fault, first_seal, is_of_day, is_seal_command, lane_fault, latest_seal, round_fault, seal_of, seals_fault}
+pub use Rattle.route_drive.specs.Driven.{AreDriven, HasDrivenToTheEnd, IsDrivenDay, IsDrivenRound, IsLateAnswer, IsNewBook, IsPrecededBy, IsTooLateDay, courses_after, courses_from, courses_left, first_courses, left_course, number_after, plan_in, planned_course, planned_in}
+pub use Rattle.route_drive.specs.Entering.{AreEntered, EntersTooLate, IsEntered, IsReported, arrived, due, goal_of, is_cut_off, left_commands, second_of, standing_after, stop_command, to_come, walk_end, walks}
+pub use Rattle.route_drive.specs.Promises.{DaysKeep, EntriesKeep, EntryKeeps, IsClosedInTime, IsDroppedInTime, IsKeptDay, IsPickedBy, IsRunOfDay, StateKeeps}
 pub use Rattle.route_drive.specs.Walk.{IsShortestWalk, steps_of}
 pub use Rattle.route_drive.specs.declared.counts.ServedRider.{ServedRider}
 pub use Rattle.route_drive.specs.declared.course.Course.{Course}
@@ -100,12 +101,11 @@ pub use Rattle.route_drive.specs.declared.day_run.DriveFault.TheVariants.{OutOfM
 pub use Rattle.route_drive.specs.declared.tree.Found.{Found}
 pub use Rattle.route_drive.specs.declared.walk.WalkStep.{WalkStep}
 pub use Rattle.route_drive.specs.work.Counting.{AddsServed, AreServed, IsDelayed, all_served_by, served_by, waited}
-pub use Rattle.route_drive.specs.work.Drive.{HasCome, HasEnded, IsCounted, IsEndLate, IsLastLate, IsLastOn, IsRoundLate, IsRoundOn, IsStoppedAt, IsTaken, IsUnderWay, Takes, at_rest, fault_at, reported_place, step_from}
-pub use Rattle.route_drive.specs.work.Kept.{AreReported, ClosesKeep, IsClosedOn, IsReadyForSeal, IsSealedOn, NoPromiseLapses, OpeningIsKept, ReportsAreServed, SealsKeep, StopsAreAnswered, closed, course_of, stops_after}
+pub use Rattle.route_drive.specs.work.Drive.{HasCome, HasEnded, IsCounted, IsInTime, IsLastOn, IsLateAt, IsRoundOn, IsStoppedAt, IsTaken, IsUnderWay, Takes, at_rest, fault_at, reported_place, step_from}
 pub use Rattle.route_drive.specs.work.Places.{ArePlaced, heading_of, headings_of, told_by, told_of}
 pub use Rattle.route_drive.specs.work.Rounds.{Adds}
-pub use Rattle.route_drive.specs.work.Serving.{AreReached, HasCalls, HasSeatsFor, IsBound, IsBoundBy, IsDayState, IsDone, IsKept, IsOfVehicle, IsPromiseKept, IsRightDropoff, IsRightPickup, IsRightStop, IsServing, KeepsBounds, LeavesAll, LeavesOthers, ShowsRiders, calls_of, chosen_stops, is_stop_of, party_at, seats_after}
-pub use Rattle.route_drive.specs.work.Tree.{AreHopsOpened, Grows, IsFullTree, IsGrowing, IsOpened, IsTight, IsTree, IsWalkBack, found_at, is_seen, no_found}
+pub use Rattle.route_drive.specs.work.Serving.{AreReached, AreReported, HasCalls, HasSeatsFor, IsBound, IsBoundBy, IsDayState, IsDone, IsKept, IsOfVehicle, IsPromiseKept, IsReadyForSeal, IsRightDropoff, IsRightPickup, IsRightStop, IsServing, KeepsBounds, LeavesAll, LeavesOthers, ShowsRiders, calls_of, chosen_stops, closed, course_of, is_stop_of, party_at, seats_after, stops_with}
+pub use Rattle.route_drive.specs.work.Tree.{AreHopsOpened, Grows, IsGrowing, IsOpened, IsTight, IsTree, IsWalkBack, found_at, is_seen, no_found}
 pub use Rattle.script_rows.specs.Round.{IsRound, MayStand, NumberedLanes, empty_round, lane_at}
 pub use Rattle.shared_book.specs.Locked.{sealed_by}
 pub use Rattle.stop_orders.proofs.lemmas.ClockLemmas.{AtLeastAsSoon, soon_over, soon_there}

@@ -1,23 +1,16 @@
 -- Days judged round by round.
-use Rattle.std.proofs.Common.{◌≡◌, ℕ, zero, suc, ◌+◌, ◌<◌, max, refl, List, [], ◌∷◌, ◌++◌, length, get_or, take, unwrap_or, sym, ap, ◌∙◌, arith}
+use Rattle.std.proofs.lemmas.List.{get_or_read}
+use Rattle.std.proofs.Common.{◌≡◌, ℕ, ◌+◌, ◌<◌, max, List, [], ◌∷◌, ◌++◌, length, get_or, take, unwrap_or, sym, ap, ◌∙◌, arith}
 use Rattle.route_drive.proofs.Common.{take_more, NumberedLanes, empty_round, seal_of, latest_seal, round_fault, fault_at}
 
-latest-push : (rounds : List NumberedLanes) (r : NumberedLanes) → latest_seal (rounds ++ r ∷ []) ≡ max (unwrap_or (seal_of r) 0) (latest_seal rounds)
+pub latest-push : (rounds : List NumberedLanes) (r : NumberedLanes) → latest_seal (rounds ++ r ∷ []) ≡ max (unwrap_or (seal_of r) 0) (latest_seal rounds)
 latest-push [] r = omega arith
 latest-push (x ∷ rounds) r =
     let e : latest_seal (rounds ++ r ∷ []) ≡ max (unwrap_or (seal_of r) 0) (latest_seal rounds) = latest-push rounds r in
     omega (arith, e)
 
-get_default : (rounds : List NumberedLanes) (i : ℕ) (d e : NumberedLanes) → i < length rounds → get_or rounds i d ≡ get_or rounds i e
-get_default [] i d e h = absurd (omega arith)
-get_default (x ∷ xs) zero d e h = refl
-get_default (x ∷ xs) (suc i) d e h = get_default xs i d e (omega arith)
-
-default : (rounds : List NumberedLanes) (i : ℕ) (r d : NumberedLanes) → i < length rounds → r ≡ get_or rounds i r → get_or rounds i d ≡ r
-default rounds i r d h is = get_default rounds i d r h ∙ sym is
-
 pub fault_here : (rounds : List NumberedLanes) (i latest : ℕ) (r : NumberedLanes) → i < length rounds → r ≡ get_or rounds i r → latest ≡ latest_seal (take i rounds) → fault_at rounds i ≡ round_fault latest r
-fault_here rounds i latest r h is are = ap (λ n. round_fault n (get_or rounds i (empty_round 0))) (sym are) ∙ ap (round_fault latest) (default rounds i r (empty_round 0) h is)
+fault_here rounds i latest r h is are = ap (λ n. round_fault n (get_or rounds i (empty_round 0))) (sym are) ∙ ap (round_fault latest) (sym (get_or_read rounds i r h is (empty_round 0)))
 
 pub latest-more : (rounds : List NumberedLanes) (i latest : ℕ) (r : NumberedLanes) → i < length rounds → r ≡ get_or rounds i r → latest ≡ latest_seal (take i rounds)
     → max (unwrap_or (seal_of r) 0) latest ≡ latest_seal (take (i + 1) rounds)

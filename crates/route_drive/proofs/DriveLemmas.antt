@@ -1,32 +1,28 @@
 -- A day under way, round by round.
-use Rattle.std.proofs.Common.{◌≡◌, ◌≢◌, ℕ, zero, suc, ◌+◌, ◌-◌, ◌<◌, ◌≤◌, List, [], ◌∷◌, ◌++◌, length, get_or, map, take, drop, replicate, Option, None, Some, Result, Ok, Err, inl, inr, refl, sym, ap, ◌∙◌, subst, arith, append-nil, All, IfOk, IfErr}
-use Rattle.route_drive.proofs.Common.{option_map_or, cases_lt, get_or-replicate, length-map, length-replicate, BookView, IsBook, next_position, state_after, Command, Entry, Journal, Planned, State, Settings, Roads, NumberedLanes, empty_round, lane_at, IsReady, IsRoundRun, IsRun, IsSameRun, journal_of, position_after_run, state_after_run, Course, DayRound, DayCounts, DriveFault, AreDriven, HasDrivenToTheEnd, IsDrivenRound, IsLateAnswer, IsTooLateDay, IsNewBook, courses_after, courses_from, courses_left, first_courses, left_course, left_state, number_after, plan_in, planned_course, AreCounts, entries_of, seal_of, EntersTooLate, IsInTime, IsTooLate, left_commands, AddsServed, AreServed, HasCome, HasEnded, IsCounted, IsEndLate, IsLastLate, IsLastOn, IsRoundLate, IsRoundOn, IsStoppedAt, IsTaken, IsUnderWay, Takes}
+use Rattle.std.proofs.lemmas.List.{get_or_past, map_push}
+use Rattle.std.proofs.Common.{◌≡◌, ◌≢◌, ℕ, zero, suc, ◌+◌, ◌-◌, ◌<◌, List, [], ◌∷◌, ◌++◌, length, get_or, map, take, drop, replicate, Option, None, Some, inl, inr, refl, sym, ap, ◌∙◌, subst, arith, append-nil, All}
+use Rattle.route_drive.proofs.Common.{option_map_or, cases_lt, get_or-replicate, length-map, length-replicate, BookView, IsBook, next_position, state_after, Command, Entry, Journal, Planned, State, Settings, Roads, NumberedLanes, empty_round, lane_at, IsReady, IsRoundRun, IsRun, IsSameRun, journal_of, position_after_run, state_after_run, Course, DayRound, DayCounts, DriveFault, AreDriven, HasDrivenToTheEnd, IsDrivenRound, IsLateAnswer, IsTooLateDay, IsNewBook, courses_after, courses_from, courses_left, first_courses, left_course, number_after, plan_in, planned_course, AreCounts, entries_of, seal_of, EntersTooLate, IsInTime, left_commands, AddsServed, AreServed, HasCome, HasEnded, IsCounted, IsLastOn, IsLateAt, IsRoundOn, IsStoppedAt, IsTaken, IsUnderWay, Takes, second_of, longest}
 use Rattle.std.specs.List.{Any}
 use Rattle.dispatch_engine.proofs.lemmas.RunLemmas.{position-more, run-more, state-more}
-use Rattle.route_drive.proofs.CountLemmas.{vehicles-count}
-use Rattle.route_drive.proofs.EntryLemmas.{map-push, served_more}
+use Rattle.route_drive.proofs.LeaveLemmas.{count_stays}
+use Rattle.route_drive.proofs.EntryLemmas.{served_more}
 use Rattle.route_drive.specs.declared.drive.Drive.{Drive}
 use Rattle.route_drive.specs.declared.entering.Stopped.{Stopped}
 use Rattle.route_drive.specs.declared.day_run.DriveFault.TheVariants as fault
 use Rattle.route_drive.specs.declared.entering.Stopped.TheVariants as stop
 
 -- as many courses as vehicles
-courses_each : (s : State) (round : NumberedLanes) (es : List Entry) (courses : List Course) → length courses ≡ length s.vehicles → length (courses_after s round es courses) ≡ length s.vehicles
+pub courses_each : (s : State) (round : NumberedLanes) (es : List Entry) (courses : List Course) → length courses ≡ length s.vehicles → length (courses_after s round es courses) ≡ length s.vehicles
 courses_each s round es courses same = elim (plan_in es) as (λ (o : Option Planned). length (option_map_or (λ planned. map (planned_course s.riders planned) s.vehicles) o (map (left_course (seal_of round)) courses)) ≡ length s.vehicles) [
   | None ↦ length-map courses (left_course (seal_of round)) ∙ same
   | Some planned ↦ length-map s.vehicles (planned_course s.riders planned)
 ]
 
-nothing_past : (lanes : List (List Command)) (k : ℕ) → length lanes ≤ k → get_or lanes k [] ≡ []
-nothing_past [] k h = refl
-nothing_past (l ∷ lanes) zero h = absurd (omega arith)
-nothing_past (l ∷ lanes) (suc k) h = nothing_past lanes k (omega arith)
-
 -- an empty round has no command
 pub nothing_at : (number lane : ℕ) → lane_at (empty_round number) lane ≡ []
 nothing_at number lane = elim (cases_lt lane 16) [
   | inl h ↦ get_or-replicate 16 lane [] [] h
-  | inr h ↦ nothing_past (replicate 16 []) lane (let e = length-replicate {A = List Command} 16 [] in omega (arith, e))
+  | inr h ↦ get_or_past (replicate 16 []) lane [] (let e = length-replicate {A = List Command} 16 [] in omega (arith, e))
 ]
 
 -- the number above the last round's
@@ -42,28 +38,25 @@ module _ (settings : Settings) (roads : Roads) where
       → AreDriven settings roads courses rs ds js → IsDrivenRound settings roads j.base (courses_left settings roads courses rs js) r d
       → AreDriven settings roads courses (rs ++ r ∷ []) (ds ++ d ∷ []) (js ++ j ∷ [])
   driven-more courses [] [] [] r d j driven is = (is, tt)
-  driven-more courses [] [] (k ∷ js) r d j driven is = absurd driven
-  driven-more courses [] (e ∷ ds) js r d j driven is = absurd driven
-  driven-more courses (q ∷ rs) [] js r d j driven is = absurd driven
-  driven-more courses (q ∷ rs) (e ∷ ds) [] r d j driven is = absurd driven
-  driven-more courses (q ∷ rs) (e ∷ ds) (k ∷ js) r d j driven is = (driven.0, driven-more (courses_after (left_state settings roads k) q k.entries courses) rs ds js r d j driven.1 is)
+  driven-more courses (q ∷ rs) (e ∷ ds) (k ∷ js) r d j driven is = (driven.0, driven-more (courses_after (state_after roads.nodes settings.wait k.base k.entries) q k.entries courses) rs ds js r d j driven.1 is)
+  driven-more courses rs ds js r d j driven is = absurd driven
 
   courses-more : (courses : List Course) (rs ds : List NumberedLanes) (js : List Journal) (r : NumberedLanes) (j : Journal)
       → AreDriven settings roads courses rs ds js
-      → courses_left settings roads courses (rs ++ r ∷ []) (js ++ j ∷ []) ≡ courses_after (left_state settings roads j) r j.entries (courses_left settings roads courses rs js)
+      → courses_left settings roads courses (rs ++ r ∷ []) (js ++ j ∷ []) ≡ courses_after (state_after roads.nodes settings.wait j.base j.entries) r j.entries (courses_left settings roads courses rs js)
   courses-more courses [] [] [] r j driven = refl
-  courses-more courses [] [] (k ∷ js) r j driven = absurd driven
-  courses-more courses [] (e ∷ ds) js r j driven = absurd driven
-  courses-more courses (q ∷ rs) [] js r j driven = absurd driven
-  courses-more courses (q ∷ rs) (e ∷ ds) [] r j driven = absurd driven
-  courses-more courses (q ∷ rs) (e ∷ ds) (k ∷ js) r j driven = courses-more (courses_after (left_state settings roads k) q k.entries courses) rs ds js r j driven.1
+  courses-more courses (q ∷ rs) (e ∷ ds) (k ∷ js) r j driven = courses-more (courses_after (state_after roads.nodes settings.wait k.base k.entries) q k.entries courses) rs ds js r j driven.1
+  courses-more courses rs ds js r j driven = absurd driven
 
   -- a day begins
   pub come_none : (Took : List DayRound → Type 0) (new : BookView) (drive : Drive) → Took [] → IsNewBook settings roads new → drive.book ≡ new
       → drive.courses.items ≡ first_courses settings roads new.state → AreServed [] drive.served → HasCome Took settings roads new.state [] drive
   come_none Took new drive took is same are nobody =
       let way : IsUnderWay settings roads new.state [] new drive.courses.items [] = record {
-        driven = record { script = []; driven = tt; numbers = refl; run = tt };
+        script = [];
+        driven = tt;
+        numbers = refl;
+        run = tt;
         ready = record { nodes = is.nodes; wait = is.wait; closed = ap (λ (s : State). s.sealed) is.state };
         entries = is.entries;
         base = is.base ∙ sym is.state;
@@ -81,40 +74,39 @@ module _ (settings : Settings) (roads : Roads) where
 
     -- the journals, the numbers and the run with one that is made
     made_more : (number : ℕ) (j : Journal) → map (λ (r : DayRound). r.journal) (made ++ (record { number = number; journal = j }) ∷ []) ≡ js ++ j ∷ []
-    made_more number j = map-push (λ (r : DayRound). r.journal) made (record { number = number; journal = j })
+    made_more number j = map_push (λ (r : DayRound). r.journal) made (record { number = number; journal = j })
 
     numbers_more : (number : ℕ) (j : Journal) → map (λ (r : DayRound). r.number) (made ++ (record { number = number; journal = j }) ∷ []) ≡ map (λ (r : NumberedLanes). r.number) rounds ++ number ∷ []
-    numbers_more number j = map-push (λ (r : DayRound). r.number) made (record { number = number; journal = j }) ∙ ap (λ (l : List ℕ). l ++ number ∷ []) way.driven.numbers
+    numbers_more number j = map_push (λ (r : DayRound). r.number) made (record { number = number; journal = j }) ∙ ap (λ (l : List ℕ). l ++ number ∷ []) way.numbers
 
-    run_on : (driven : NumberedLanes) (j : Journal) → IsRoundRun settings roads driven j → j.base ≡ drive.book.base → j.first ≡ drive.book.first → IsRun settings roads s 0 (way.driven.script ++ driven ∷ []) (js ++ j ∷ [])
-    run_on driven j run base first = run-more settings roads s 0 way.driven.script js driven j way.driven.run (base ∙ way.base ∙ way.state) (first ∙ way.first) run
+    run_on : (driven : NumberedLanes) (j : Journal) → IsRoundRun settings roads driven j → j.base ≡ drive.book.base → j.first ≡ drive.book.first → IsRun settings roads s 0 (way.script ++ driven ∷ []) (js ++ j ∷ [])
+    run_on driven j run base first = run-more settings roads s 0 way.script js driven j way.run (base ∙ way.base ∙ way.state) (first ∙ way.first) run
 
     way_more : (round : NumberedLanes) (Before After : List DayRound → Type 0) (drive' : Drive) (on : IsRoundOn settings roads round drive Before After drive')
         → IsUnderWay settings roads s (rounds ++ round ∷ []) drive'.book drive'.courses.items (made ++ (record { number = round.number; journal = on.journal }) ∷ [])
     way_more round Before After drive' on =
         let j : Journal = on.journal in
+        let taken = on.taken in
         let more = made_more round.number j in
-        let from : on.journal.base ≡ drive.book.state = on.base ∙ way.base in
+        let from : on.journal.base ≡ drive.book.state = taken.base ∙ way.base in
         let is : IsDrivenRound settings roads j.base (courses_from settings roads s rounds made) round on.driven =
         subst (λ (t : State). IsDrivenRound settings roads t (courses_from settings roads s rounds made) round on.driven) (sym from)
         (subst (λ (cs : List Course). IsDrivenRound settings roads drive.book.state cs round on.driven) way.courses_are on.is_driven) in
-        let left : drive'.book.state ≡ left_state settings roads j = on.state ∙ ap (λ (t : State). state_after roads.nodes settings.wait t j.entries) (sym on.base) in
+        let left : drive'.book.state ≡ state_after roads.nodes settings.wait j.base j.entries = taken.state ∙ ap (λ (t : State). state_after roads.nodes settings.wait t j.entries) (sym taken.base) in
         let count : length drive'.book.state.vehicles ≡ length drive.book.state.vehicles =
-        ap (λ (t : State). length t.vehicles) on.state ∙ vehicles-count roads.nodes settings.wait drive.book.base j.entries ∙ ap (λ (t : State). length t.vehicles) way.base in
+        ap (λ (t : State). length t.vehicles) taken.state ∙ count_stays roads.nodes settings.wait drive.book.base j.entries ∙ ap (λ (t : State). length t.vehicles) way.base in
         record {
-          driven = record {
-            script = way.driven.script ++ on.driven ∷ [];
-            driven = rw more (driven-more (first_courses settings roads s) rounds way.driven.script js round on.driven j way.driven.driven is);
-            numbers = numbers_more round.number j ∙ sym (map-push (λ (r : NumberedLanes). r.number) rounds round);
-            run = rw more (run_on on.driven j on.run on.base on.first);
-          };
-          ready = on.ready;
-          entries = on.entries;
-          base = on.base_is;
-          state = on.state ∙ ap (λ (t : State). state_after roads.nodes settings.wait t j.entries) (way.base ∙ way.state) ∙ sym (state-more settings roads s js j) ∙ sym (ap (state_after_run settings roads s) more);
-          first = on.next ∙ ap (λ (p : ℕ). next_position p j.entries) way.first ∙ sym (position-more 0 js j) ∙ sym (ap (position_after_run 0) more);
-          courses_are = on.courses_are ∙ ap (λ (t : State). courses_after t round j.entries drive.courses.items) left ∙ ap (courses_after (left_state settings roads j) round j.entries) way.courses_are
-              ∙ sym (courses-more (first_courses settings roads s) rounds way.driven.script js round j way.driven.driven) ∙ sym (ap (courses_left settings roads (first_courses settings roads s) (rounds ++ round ∷ [])) more);
+          script = way.script ++ on.driven ∷ [];
+          driven = rw more (driven-more (first_courses settings roads s) rounds way.script js round on.driven j way.driven is);
+          numbers = numbers_more round.number j ∙ sym (map_push (λ (r : NumberedLanes). r.number) rounds round);
+          run = rw more (run_on on.driven j taken.run taken.base taken.first);
+          ready = taken.ready;
+          entries = taken.entries;
+          base = taken.base_is;
+          state = taken.state ∙ ap (λ (t : State). state_after roads.nodes settings.wait t j.entries) (way.base ∙ way.state) ∙ sym (state-more settings roads s js j) ∙ sym (ap (state_after_run settings roads s) more);
+          first = taken.next ∙ ap (λ (p : ℕ). next_position p j.entries) way.first ∙ sym (position-more 0 js j) ∙ sym (ap (position_after_run 0) more);
+          courses_are = on.courses_are ∙ ap (λ (t : State). courses_after t round j.entries drive.courses.items) left ∙ ap (courses_after (state_after roads.nodes settings.wait j.base j.entries) round j.entries) way.courses_are
+              ∙ sym (courses-more (first_courses settings roads s) rounds way.script js round j way.driven) ∙ sym (ap (courses_left settings roads (first_courses settings roads s) (rounds ++ round ∷ [])) more);
           each = ap length on.courses_are ∙ courses_each drive'.book.state round j.entries drive.courses.items (way.each ∙ sym count);
         }
 
@@ -125,18 +117,18 @@ module _ (settings : Settings) (roads : Roads) where
         let j : Journal = on.journal in
         let number = number_after rounds in
         let end : NumberedLanes = record on.driven { number = number } in
-        let run : IsRoundRun settings roads end j = record { replies = on.run.replies; closes = on.run.closes; lanes = on.run.lanes } in
+        let run : IsRoundRun settings roads end j = record { replies = on.taken.run.replies; closes = on.taken.run.closes; lanes = on.taken.run.lanes } in
         let more = made_more number j in
-        let from : drive.book.state ≡ on.journal.base = sym way.base ∙ sym on.base in
+        let from : drive.book.state ≡ on.journal.base = sym way.base ∙ sym on.taken.base in
         let left : left_commands drive.book.state.vehicles drive.courses.items ≡ left_commands j.base.vehicles (courses_from settings roads s rounds made) =
         ap (λ (t : State). left_commands t.vehicles drive.courses.items) from ∙ ap (left_commands j.base.vehicles) way.courses_are in
         record {
           first = made;
           last = record { number = number; journal = j };
           parts = refl;
-          script = way.driven.script;
+          script = way.script;
           end = end;
-          driven = way.driven.driven;
+          driven = way.driven;
           left = record {
             number = refl;
             first = on.own ∙ left ∙ sym (ap (λ (l : List Command). left_commands j.base.vehicles (courses_from settings roads s rounds made) ++ l) (nothing_at number 0) ∙ append-nil _);
@@ -144,23 +136,26 @@ module _ (settings : Settings) (roads : Roads) where
           };
           in_time = subst (All IsInTime) left on.in_time;
           numbers = numbers_more number j;
-          run = rw more (run_on end j run on.base on.first);
+          run = rw more (run_on end j run on.taken.base on.taken.first);
         }
 
     -- the book is left in the state that the journals lead to
     state_done : (Before After : List DayRound → Type 0) (drive' : Drive) (on : IsLastOn settings roads (number_after rounds) drive Before After drive')
         → drive'.book.state ≡ state_after_run settings roads s (map (λ (r : DayRound). r.journal) (made ++ (record { number = number_after rounds; journal = on.journal }) ∷ []))
     state_done Before After drive' on =
-        on.state ∙ ap (λ (t : State). state_after roads.nodes settings.wait t on.journal.entries) (way.base ∙ way.state) ∙ sym (state-more settings roads s js on.journal)
+        on.taken.state ∙ ap (λ (t : State). state_after roads.nodes settings.wait t on.journal.entries) (way.base ∙ way.state) ∙ sym (state-more settings roads s js on.journal)
         ∙ sym (ap (state_after_run settings roads s) (made_more (number_after rounds) on.journal))
 
     -- the last round is too late
-    last_late : (n : ℕ) → n ≡ number_after rounds → Any IsTooLate (left_commands drive.book.state.vehicles drive.courses.items) → IsTooLateDay settings roads s rounds n made
+    last_late : (n : ℕ) → n ≡ number_after rounds → Any (λ (c : Command). longest < second_of c) (left_commands drive.book.state.vehicles drive.courses.items) → IsTooLateDay settings roads s rounds n made
     last_late n is late = record {
       before = rounds;
       rest = [];
       parts = sym (append-nil rounds);
+      script = way.script;
       driven = way.driven;
+      numbers = way.numbers;
+      run = way.run;
       late = rw (← way.state, ← way.courses_are) late;
       end = λ _. is;
     }
@@ -172,7 +167,10 @@ module _ (settings : Settings) (roads : Roads) where
       before = rounds;
       rest = round ∷ rest;
       parts = parts;
+      script = way.script;
       driven = way.driven;
+      numbers = way.numbers;
+      run = way.run;
       late = rw (← way.state, ← way.courses_are) (sym is, late);
       end = λ none. absurd (let e : suc (length rest) ≡ 0 = ap length none in omega (arith, e));
     }
@@ -188,11 +186,11 @@ module _ (settings : Settings) (roads : Roads) where
           way = way_more s rounds drive come.made come.way round Before After drive' on;
         }
 
-    pub end_late : (answer : DriveFault) → IsEndLate rounds drive Before After answer → IsLateAnswer settings roads After s rounds answer
+    pub end_late : (answer : DriveFault) → IsLateAt (number_after rounds) (Any (λ (c : Command). longest < second_of c) (left_commands drive.book.state.vehicles drive.courses.items)) Before After answer → IsLateAnswer settings roads After s rounds answer
     end_late (fault.TooLate n) late = (come.made, late.1 come.made come.taken, last_late s rounds drive come.made come.way n late.0 late.2)
     end_late fault.OutOfMemory late = tt
 
-    pub round_late : (all rest : List NumberedLanes) (round : NumberedLanes) (answer : DriveFault) → all ≡ rounds ++ round ∷ rest → IsRoundLate settings roads round drive Before After answer → IsLateAnswer settings roads After s all answer
+    pub round_late : (all rest : List NumberedLanes) (round : NumberedLanes) (answer : DriveFault) → all ≡ rounds ++ round ∷ rest → IsLateAt round.number ((now : ℕ) × (seal_of round ≡ Some now) × EntersTooLate roads settings.dwell now drive.book.state.vehicles drive.courses.items) Before After answer → IsLateAnswer settings roads After s all answer
     round_late all rest round (fault.TooLate n) parts late = (come.made, late.1 come.made come.taken, next_late s rounds drive come.made come.way all rest round n parts late.0 late.2)
     round_late all rest round fault.OutOfMemory parts late = tt
 
@@ -216,7 +214,7 @@ day_ends settings roads s [] Before After drive end run come ended counts =
     let same = sym ended.0 in record {
       made = come.made;
       taken = ended.1 come.made come.taken;
-      driven = no_map come.made come.way.driven.numbers;
+      driven = no_map come.made come.way.numbers;
       counts = subst (λ (t : State). AreCounts roads t.riders (entries_of come.made) run) (ap (λ (d : Drive). d.book.state) ended.0 ∙ come.way.state)
           (counts (entries_of come.made) (subst (λ (d : Drive). AreServed (entries_of come.made) d.served) same come.served));
     }
@@ -236,23 +234,12 @@ pub end_of : (settings : Settings) (roads : Roads) (rounds : List NumberedLanes)
 end_of settings roads [] number drive end Before After some is on = absurd (omega arith)
 end_of settings roads (r ∷ rounds) number drive end Before After some is on = subst (λ (n : ℕ). IsLastOn settings roads n drive Before After end) is on
 
--- what follows from two facts of what is given
-pub if_ok_both : {X E : Type 0} (r : Result X E) (A B C : X → Type 0) → IfOk r A → IfOk r B → ((x : X) → A x → B x → C x) → IfOk r C
-if_ok_both (Ok x) A B C a b c = c x a b
-if_ok_both (Err e) A B C a b c = tt
-
-pub if_ok_three : {X E : Type 0} (r : Result X E) (A B C D : X → Type 0) → IfOk r A → IfOk r B → IfOk r C → ((x : X) → A x → B x → C x → D x) → IfOk r D
-if_ok_three (Ok x) A B C D a b c d = d x a b c
-if_ok_three (Err e) A B C D a b c d = tt
-
-pub if_err_map : {X E : Type 0} (r : Result X E) (A B : E → Type 0) → IfErr r A → ((e : E) → A e → B e) → IfErr r B
-if_err_map (Ok x) A B a b = tt
-if_err_map (Err e) A B a b = b e a
-
 -- a round was run, and its journal taken
-taken_of : (settings : Settings) (roads : Roads) (driven : NumberedLanes) (book after : BookView) → IsRoundRun settings roads driven (journal_of after) → IsSameRun book after → IsBook after → IsReady settings roads after
-    → IsTaken settings roads driven book (record { nodes = after.nodes; wait = after.wait; first = next_position after.first after.entries; base = after.state; entries = []; state = after.state; spare = 0 }) (journal_of after)
-taken_of settings roads driven book after run same kept ready = record {
+pub taken_is : (settings : Settings) (roads : Roads) (driven : NumberedLanes) (book after next : BookView) (journal : Journal) → IsRoundRun settings roads driven (journal_of after) → IsSameRun book after → IsBook after → IsReady settings roads after
+    → journal ≡ record { first = after.first; base = after.base; entries = after.entries }
+    → next ≡ record { nodes = after.nodes; wait = after.wait; first = next_position after.first after.entries; base = after.state; entries = []; state = after.state; spare = 0 }
+    → IsTaken settings roads driven book next journal
+taken_is settings roads driven book after next journal run same kept ready is next_is = rw (is, next_is) (record {
   run = run;
   base = same.base;
   first = same.first;
@@ -262,20 +249,21 @@ taken_of settings roads driven book after run same kept ready = record {
   state = kept.state ∙ ap (λ (ns : List ℕ). state_after ns after.wait after.base after.entries) ready.nodes ∙ ap (λ (w : ℕ). state_after roads.nodes w after.base after.entries) ready.wait
       ∙ ap (λ (s : State). state_after roads.nodes settings.wait s after.entries) same.base;
   next = ap (λ (f : ℕ). next_position f after.entries) same.first;
-}
-
-pub taken_is : (settings : Settings) (roads : Roads) (driven : NumberedLanes) (book after next : BookView) (journal : Journal) → IsRoundRun settings roads driven (journal_of after) → IsSameRun book after → IsBook after → IsReady settings roads after
-    → journal ≡ record { first = after.first; base = after.base; entries = after.entries }
-    → next ≡ record { nodes = after.nodes; wait = after.wait; first = next_position after.first after.entries; base = after.state; entries = []; state = after.state; spare = 0 }
-    → IsTaken settings roads driven book next journal
-taken_is settings roads driven book after next journal run same kept ready is next_is =
-    subst (λ (b : BookView). IsTaken settings roads driven book b journal) (sym next_is)
-    (subst (λ (j : Journal). IsTaken settings roads driven book (record { nodes = after.nodes; wait = after.wait; first = next_position after.first after.entries; base = after.state; entries = []; state = after.state; spare = 0 }) j) (sym is)
-    (taken_of settings roads driven book after run same kept ready))
+})
 
 -- a round as it is driven, by another number
-renumbered : (settings : Settings) (roads : Roads) (driven : NumberedLanes) (number : ℕ) (journal : Journal) → IsRoundRun settings roads driven journal → IsRoundRun settings roads (record driven { number = number }) journal
-renumbered settings roads driven number journal run = record { replies = run.replies; closes = run.closes; lanes = run.lanes }
+renumbered : (settings : Settings) (roads : Roads) (driven : NumberedLanes) (number : ℕ) (book next : BookView) (journal : Journal) → IsTaken settings roads driven book next journal
+    → IsTaken settings roads (record driven { number = number }) book next journal
+renumbered settings roads driven number book next journal taken = record {
+  run = record { replies = taken.run.replies; closes = taken.run.closes; lanes = taken.run.lanes };
+  base = taken.base;
+  first = taken.first;
+  ready = taken.ready;
+  entries = taken.entries;
+  base_is = taken.base_is;
+  state = taken.state;
+  next = taken.next;
+}
 
 pub round_on : (settings : Settings) (roads : Roads) (round driven : NumberedLanes) (drive drive' : Drive) (next : BookView) (journal : Journal) (Before After : List DayRound → Type 0)
     → IsDrivenRound settings roads drive.book.state drive.courses.items round (record driven { number = round.number })
@@ -286,34 +274,16 @@ round_on settings roads round driven drive drive' next journal Before After is t
   driven = record driven { number = round.number };
   is_driven = is;
   journal = journal;
-  run = renumbered settings roads driven round.number journal taken.run;
-  base = taken.base;
-  first = taken.first;
+  taken = rw same (renumbered settings roads driven round.number drive.book next journal taken);
   kept = takes;
   served = adds;
-  ready = rw same taken.ready;
-  entries = ap (λ (b : BookView). b.entries) same ∙ taken.entries;
-  base_is = rw same taken.base_is;
-  state = ap (λ (b : BookView). b.state) same ∙ taken.state;
-  next = ap (λ (b : BookView). b.first) same ∙ taken.next;
   courses_are = are ∙ sym (ap (λ (b : BookView). courses_after b.state round journal.entries drive.courses.items) same);
 }
 
 -- why a round stopped
-pub stopped_late : (settings : Settings) (roads : Roads) (round : NumberedLanes) (drive : Drive) (Before : List DayRound → Type 0) (stopped : Stopped) (answer : DriveFault)
-    → IsStoppedAt stopped round.number answer → (stopped ≡ stop.TooLate → (now : ℕ) × (seal_of round ≡ Some now) × EntersTooLate roads settings.dwell now drive.book.state.vehicles drive.courses.items)
-    → IsRoundLate settings roads round drive Before Before answer
-stopped_late settings roads round drive Before stop.TooLate answer is late = subst (IsRoundLate settings roads round drive Before Before) (sym is) (refl, (λ made is. is), late refl)
-stopped_late settings roads round drive Before stop.OutOfMemory answer is late = subst (IsRoundLate settings roads round drive Before Before) (sym is) tt
-
-pub stopped_last : (number : ℕ) (drive : Drive) (Before : List DayRound → Type 0) (stopped : Stopped) (answer : DriveFault)
-    → IsStoppedAt stopped number answer → (stopped ≡ stop.TooLate → Any IsTooLate (left_commands drive.book.state.vehicles drive.courses.items)) → IsLastLate number drive Before Before answer
-stopped_last number drive Before stop.TooLate answer is late = subst (IsLastLate number drive Before Before) (sym is) (refl, (λ made is. is), late refl)
-stopped_last number drive Before stop.OutOfMemory answer is late = subst (IsLastLate number drive Before Before) (sym is) tt
-
-pub if_ok_map : {X E : Type 0} (r : Result X E) (A B : X → Type 0) → IfOk r A → ((x : X) → A x → B x) → IfOk r B
-if_ok_map (Ok x) A B a b = b x a
-if_ok_map (Err e) A B a b = tt
+pub stopped_late : (number : ℕ) (Late : Type 0) (Before : List DayRound → Type 0) (stopped : Stopped) (answer : DriveFault) → IsStoppedAt stopped number answer → (stopped ≡ stop.TooLate → Late) → IsLateAt number Late Before Before answer
+stopped_late number Late Before stop.TooLate answer is late = subst (IsLateAt number Late Before Before) (sym is) (refl, (λ made is. is), late refl)
+stopped_late number Late Before stop.OutOfMemory answer is late = subst (IsLateAt number Late Before Before) (sym is) tt
 
 -- the last round was run and taken
 pub last_on : (settings : Settings) (roads : Roads) (driven : NumberedLanes) (number : ℕ) (drive drive' : Drive) (next : BookView) (journal : Journal) (Before After : List DayRound → Type 0)
@@ -326,16 +296,8 @@ last_on settings roads driven number drive drive' next journal Before After own 
   others = others;
   in_time = in_time;
   journal = journal;
-  run = taken.run;
-  base = taken.base;
-  first = taken.first;
+  taken = rw same taken;
   kept = takes;
   served = adds;
   nodes = ap (λ (b : BookView). b.nodes) same ∙ taken.ready.nodes;
-  state = ap (λ (b : BookView). b.state) same ∙ taken.state;
 }
-
--- what follows from four facts of what is given
-pub if_ok_four : {X E : Type 0} (r : Result X E) (A B C D F : X → Type 0) → IfOk r A → IfOk r B → IfOk r C → IfOk r D → ((x : X) → A x → B x → C x → D x → F x) → IfOk r F
-if_ok_four (Ok x) A B C D F a b c d f = f x a b c d
-if_ok_four (Err e) A B C D F a b c d f = tt

@@ -1,40 +1,25 @@
 -- What is entered, stop by stop and vehicle by vehicle.
-use Rattle.std.proofs.Common.{◌≡◌, ℕ, zero, suc, ◌+◌, ◌<◌, ◌≤◌, Bool, true, false, leb, List, [], ◌∷◌, ◌++◌, length, get_or, map, filter, take, drop, Some, Result, Ok, Err, refl, sym, ap, ◌∙◌, inl, inr, subst, arith, append_assoc, append-nil, add-one, length-append, IsSome, All, Contains, IfOk, MatchResult, find}
-use Rattle.route_drive.proofs.Common.{AllZip, cases_Bool, cond-true, cond-false, take_more, get_or_append_left, filter-append, All-nil, All-cons, All-push, get_or-append_seam, Vehicle, Command, PlannedStop, Roads, NumberedLanes, lane_at, Course, NodeAt, Stay, WalkStep, longest, Pickup, Dropoff, Report, AreEntered, EntersTooLate, IsInTime, IsTooLate, due, left_commands, standing_after, stop_command, walk_end, step_from, ArePlaced, heading_of, headings_of, told_by, told_of, Adds}
+use Rattle.std.proofs.Common.{◌≡◌, ℕ, zero, suc, ◌+◌, ◌<◌, ◌≤◌, Bool, true, false, List, [], ◌∷◌, ◌++◌, length, get_or, map, filter, take, drop, Some, Result, Ok, Err, refl, sym, ap, ◌∙◌, inl, inr, subst, arith, append_assoc, append-nil, length-append, IsSome, All, Contains, IfOk, MatchResult, find, IfErr, min}
+use Rattle.route_drive.proofs.Common.{AllZip, cond-true, cond-false, take_more, get_or_append_left, All-nil, All-cons, All-push, Vehicle, Command, PlannedStop, Roads, NumberedLanes, lane_at, Course, NodeAt, Stay, WalkStep, longest, Pickup, Dropoff, Report, AreEntered, EntersTooLate, IsInTime, due, left_commands, standing_after, stop_command, walk_end, step_from, ArePlaced, heading_of, headings_of, told_by, told_of, Adds, second_of}
 use Rattle.std.specs.List.{Any}
-use Rattle.std.proofs.lemmas.Bool.{le-leb}
+use Rattle.std.specs.List.{flat_map, zip}
+use Rattle.std.proofs.lemmas.Bool.{cond_both, le-leb}
+use Rattle.std.proofs.lemmas.List.{drop_more, flat_map_more, length-take, map_push}
+use Rattle.std.proofs.lemmas.List.Elements.{filter_more}
+use Rattle.std.proofs.lemmas.List.Quantifiers.{Any-push}
+use Rattle.std.proofs.lemmas.Slice.Zip.{length-zip}
 use Rattle.std.proofs.lemmas.Bool.Decides.{leb_tells}
-use Rattle.std.proofs.Math.Seq.{drop-cons}
 
 module _ {X : Type 0} where
-  -- at the end nothing is left
-  pub drop_all : (xs : List X) (n : ℕ) → length xs ≤ n → drop n xs ≡ []
-  drop_all [] zero h = refl
-  drop_all [] (suc n) h = refl
-  drop_all (x ∷ xs) zero h = absurd (omega arith)
-  drop_all (x ∷ xs) (suc n) h = drop_all xs n (omega arith)
-
-  pub take_all : (xs : List X) (n : ℕ) → length xs ≤ n → take n xs ≡ xs
-  take_all [] zero h = refl
-  take_all [] (suc n) h = refl
-  take_all (x ∷ xs) zero h = absurd (omega arith)
-  take_all (x ∷ xs) (suc n) h = ap (λ ys. x ∷ ys) (take_all xs n (omega arith))
-
-  next : (xs : List X) (i : ℕ) (d : X) → i < length xs → drop i xs ≡ get_or xs i d ∷ drop (i + 1) xs
-  next xs i d h = rw add-one (drop-cons xs i d h)
-
   pub find_hit : (p : X → Bool) (xs : List X) (i : ℕ) (d : X) → i < length xs → p (get_or xs i d) ≡ true → find p (drop i xs) ≡ Some (get_or xs i d)
-  find_hit p xs i d h e = ap (find p) (next xs i d h) ∙ cond-true (p (get_or xs i d)) (Some (get_or xs i d)) (find p (drop (i + 1) xs)) e
+  find_hit p xs i d h e = ap (find p) (drop_more xs i d h) ∙ cond-true (p (get_or xs i d)) (Some (get_or xs i d)) (find p (drop (i + 1) xs)) e
 
   -- one more element that a filter keeps, or doesn't
-  pub filter_more : (p : X → Bool) (xs : List X) (i : ℕ) (d : X) → i < length xs → p (get_or xs i d) ≡ true → filter p (take (i + 1) xs) ≡ filter p (take i xs) ++ get_or xs i d ∷ []
-  filter_more p xs i d h e = ap (filter p) (take_more xs i d h) ∙ filter-append p (take i xs) (get_or xs i d ∷ []) ∙ ap (λ ys. filter p (take i xs) ++ ys) (cond-true (p (get_or xs i d)) (get_or xs i d ∷ []) [] e)
+  pub filter_takes : (p : X → Bool) (xs : List X) (i : ℕ) (d : X) → i < length xs → p (get_or xs i d) ≡ true → filter p (take (i + 1) xs) ≡ filter p (take i xs) ++ get_or xs i d ∷ []
+  filter_takes p xs i d h e = filter_more p xs i d h ∙ ap (λ ys. filter p (take i xs) ++ ys) (cond-true (p (get_or xs i d)) (get_or xs i d ∷ []) [] e)
 
-  pub filter_same : (p : X → Bool) (xs : List X) (i : ℕ) (d : X) → i < length xs → p (get_or xs i d) ≡ false → filter p (take (i + 1) xs) ≡ filter p (take i xs)
-  filter_same p xs i d h e = ap (filter p) (take_more xs i d h) ∙ filter-append p (take i xs) (get_or xs i d ∷ []) ∙ ap (λ ys. filter p (take i xs) ++ ys) (cond-false (p (get_or xs i d)) (get_or xs i d ∷ []) [] e) ∙ append-nil (filter p (take i xs))
-
-pub lt-leb : (a b : ℕ) → b < a → leb a b ≡ false
-lt-leb a b h = elim (leb_tells a b) [ inl t ↦ absurd (let u = t.1 in omega (arith, u, h)) | inr f ↦ f.0 ]
+  pub filter_skips : (p : X → Bool) (xs : List X) (i : ℕ) (d : X) → i < length xs → p (get_or xs i d) ≡ false → filter p (take (i + 1) xs) ≡ filter p (take i xs)
+  filter_skips p xs i d h e = filter_more p xs i d h ∙ ap (λ ys. filter p (take i xs) ++ ys) (cond-false (p (get_or xs i d)) (get_or xs i d ∷ []) [] e) ∙ append-nil (filter p (take i xs))
 
 -- the last step
 pub walk_end-push : (steps : List WalkStep) (s : WalkStep) → walk_end (steps ++ s ∷ []) ≡ s.seconds
@@ -63,54 +48,47 @@ Adds-trans lane a b c xs ys one two = record {
 }
 
 same_takes : {X Y : Type 0} (xs : List X) (ys : List Y) (k : ℕ) → length ys ≡ length xs → length (take k ys) ≡ length (take k xs)
-same_takes [] [] zero e = refl
-same_takes [] [] (suc k) e = refl
-same_takes [] (y ∷ ys) k e = absurd (omega (arith, e))
-same_takes (x ∷ xs) [] k e = absurd (omega (arith, e))
-same_takes (x ∷ xs) (y ∷ ys) zero e = refl
-same_takes (x ∷ xs) (y ∷ ys) (suc k) e = ap suc (same_takes xs ys k (omega (arith, e)))
+same_takes xs ys k e = length-take k ys ∙ ap (min k) e ∙ sym (length-take k xs)
 
--- the last one is among them
-pub any_last : (P : Command → Type 0) (xs : List Command) (x : Command) → P x → Any P (xs ++ x ∷ [])
-any_last P xs x p = (length xs, x, (let e = length-append xs (x ∷ []) in omega (arith, e)), get_or-append_seam xs x [] x, p)
+-- one more of two lists, side by side
+zip-push : {X Y : Type 0} (xs : List X) (ys : List Y) (x : X) (y : Y) → length ys ≡ length xs → zip (xs ++ x ∷ []) (ys ++ y ∷ []) ≡ zip xs ys ++ (x, y) ∷ []
+zip-push [] [] x y e = refl
+zip-push (a ∷ xs) (b ∷ ys) x y e = ap (λ l. (a, b) ∷ l) (zip-push xs ys x y (omega (arith, e)))
+zip-push xs ys x y e = absurd (omega (arith, e))
 
--- what is entered of one more vehicle
-module _ (now : ℕ) where
-  told-push : (vehicles : List Vehicle) (courses : List Course) (places : List NodeAt) (v : Vehicle) (c : Course) (there : NodeAt) → length courses ≡ length vehicles → length places ≡ length vehicles
-      → told_by now (vehicles ++ v ∷ []) (courses ++ c ∷ []) (places ++ there ∷ []) ≡ told_by now vehicles courses places ++ told_of now v.id c there
-  told-push [] [] [] v c there size each = append-nil (told_of now v.id c there)
-  told-push [] [] (z ∷ places) v c there size each = absurd (omega (arith, each))
-  told-push [] (y ∷ courses) places v c there size each = absurd (omega (arith, size))
-  told-push (x ∷ vehicles) [] places v c there size each = absurd (omega (arith, size))
-  told-push (x ∷ vehicles) (y ∷ courses) [] v c there size each = absurd (omega (arith, each))
-  told-push (x ∷ vehicles) (y ∷ courses) (z ∷ places) v c there size each =
-      ap (λ l. told_of now x.id y z ++ l) (told-push vehicles courses places v c there (omega (arith, size)) (omega (arith, each)))
-      ∙ sym (append_assoc (told_of now x.id y z) (told_by now vehicles courses places) (told_of now v.id c there))
+zip-more : {X Y : Type 0} (xs : List X) (ys : List Y) (k : ℕ) (x : X) (y : Y) → length ys ≡ length xs → k < length xs → x ≡ get_or xs k x → y ≡ get_or ys k y
+    → zip (take (k + 1) xs) (take (k + 1) ys) ≡ zip (take k xs) (take k ys) ++ (x, y) ∷ []
+zip-more xs ys k x y e h is_x is_y =
+    let a : take (k + 1) xs ≡ take k xs ++ x ∷ [] = take_more xs k x h ∙ ap (λ z. take k xs ++ z ∷ []) (sym is_x) in
+    let b : take (k + 1) ys ≡ take k ys ++ y ∷ [] = take_more ys k y (omega (arith, e, h)) ∙ ap (λ z. take k ys ++ z ∷ []) (sym is_y) in
+    rw (a, b) (zip-push (take k xs) (take k ys) x y (same_takes xs ys k e))
 
-  pub told-more : (vehicles : List Vehicle) (courses : List Course) (places : List NodeAt) (k : ℕ) (v : Vehicle) (c : Course) (there : NodeAt) → length courses ≡ length vehicles → length places ≡ length vehicles
-      → k < length vehicles → v ≡ get_or vehicles k v → c ≡ get_or courses k c → there ≡ get_or places k there
-      → told_by now (take (k + 1) vehicles) (take (k + 1) courses) (take (k + 1) places) ≡ told_by now (take k vehicles) (take k courses) (take k places) ++ told_of now v.id c there
-  told-more vehicles courses places k v c there size each h is_v is_c is_p =
-      let vs : take (k + 1) vehicles ≡ take k vehicles ++ v ∷ [] = take_more vehicles k v h ∙ ap (λ y. take k vehicles ++ y ∷ []) (sym is_v) in
-      let cs : take (k + 1) courses ≡ take k courses ++ c ∷ [] = take_more courses k c (omega (arith, size, h)) ∙ ap (λ y. take k courses ++ y ∷ []) (sym is_c) in
-      let ps : take (k + 1) places ≡ take k places ++ there ∷ [] = take_more places k there (omega (arith, each, h)) ∙ ap (λ y. take k places ++ y ∷ []) (sym is_p) in
-      rw (vs, cs, ps) (told-push (take k vehicles) (take k courses) (take k places) v c there (same_takes vehicles courses k size) (same_takes vehicles places k each))
+-- what is entered of one more vehicle, where it heads, and the stops left of it
+pub told-more : (now : ℕ) (vehicles : List Vehicle) (courses : List Course) (places : List NodeAt) (k : ℕ) (v : Vehicle) (c : Course) (there : NodeAt) → length courses ≡ length vehicles → length places ≡ length vehicles
+    → k < length vehicles → v ≡ get_or vehicles k v → c ≡ get_or courses k c → there ≡ get_or places k there
+    → told_by now (take (k + 1) vehicles) (take (k + 1) courses) (take (k + 1) places) ≡ told_by now (take k vehicles) (take k courses) (take k places) ++ told_of now v.id c there
+told-more now vehicles courses places k v c there size each h is_v is_c is_p =
+    let F = λ (p : (Vehicle × Course) × NodeAt). told_of now p.0.0.id p.0.1 p.1 in
+    let pairs : List (Vehicle × Course) = zip (take k vehicles) (take k courses) in
+    let more = zip-more vehicles courses k v c size h is_v is_c in
+    let ps : take (k + 1) places ≡ take k places ++ there ∷ [] = take_more places k there (omega (arith, each, h)) ∙ ap (λ y. take k places ++ y ∷ []) (sym is_p) in
+    let a = length-zip (take k vehicles) (take k courses) in
+    let b = same_takes vehicles courses k size in
+    let d = same_takes vehicles places k each in
+    rw (more, ps) (ap (flat_map F) (zip-push pairs (take k places) (v, c) there (omega (arith, a, b, d))) ∙ sym (flat_map_more F [] (zip pairs (take k places)) ((v, c), there)))
 
--- where one more vehicle heads
-module _ (dwell now : ℕ) where
-  headings-push : (vehicles : List Vehicle) (courses : List Course) (v : Vehicle) (c : Course) → length courses ≡ length vehicles
-      → headings_of dwell now (vehicles ++ v ∷ []) (courses ++ c ∷ []) ≡ headings_of dwell now vehicles courses ++ heading_of dwell now v c ∷ []
-  headings-push [] [] v c size = refl
-  headings-push [] (y ∷ courses) v c size = absurd (omega (arith, size))
-  headings-push (x ∷ vehicles) [] v c size = absurd (omega (arith, size))
-  headings-push (x ∷ vehicles) (y ∷ courses) v c size = ap (λ l. heading_of dwell now x y ∷ l) (headings-push vehicles courses v c (omega (arith, size)))
+pub headings-more : (dwell now : ℕ) (vehicles : List Vehicle) (courses : List Course) (k : ℕ) (v : Vehicle) (c : Course) → length courses ≡ length vehicles → k < length vehicles → v ≡ get_or vehicles k v → c ≡ get_or courses k c
+    → headings_of dwell now (take (k + 1) vehicles) (take (k + 1) courses) ≡ headings_of dwell now (take k vehicles) (take k courses) ++ heading_of dwell now v c ∷ []
+headings-more dwell now vehicles courses k v c size h is_v is_c =
+    let F = λ (p : Vehicle × Course). heading_of dwell now p.0 p.1 in
+    ap (map F) (zip-more vehicles courses k v c size h is_v is_c) ∙ map_push F (zip (take k vehicles) (take k courses)) (v, c)
 
-  pub headings-more : (vehicles : List Vehicle) (courses : List Course) (k : ℕ) (v : Vehicle) (c : Course) → length courses ≡ length vehicles → k < length vehicles → v ≡ get_or vehicles k v → c ≡ get_or courses k c
-      → headings_of dwell now (take (k + 1) vehicles) (take (k + 1) courses) ≡ headings_of dwell now (take k vehicles) (take k courses) ++ heading_of dwell now v c ∷ []
-  headings-more vehicles courses k v c size h is_v is_c =
-      let vs : take (k + 1) vehicles ≡ take k vehicles ++ v ∷ [] = take_more vehicles k v h ∙ ap (λ y. take k vehicles ++ y ∷ []) (sym is_v) in
-      let cs : take (k + 1) courses ≡ take k courses ++ c ∷ [] = take_more courses k c (omega (arith, size, h)) ∙ ap (λ y. take k courses ++ y ∷ []) (sym is_c) in
-      rw (vs, cs) (headings-push (take k vehicles) (take k courses) v c (same_takes vehicles courses k size))
+pub left-more : (vehicles : List Vehicle) (courses : List Course) (k : ℕ) (v : Vehicle) (c : Course) → length courses ≡ length vehicles → k < length vehicles
+    → v ≡ get_or vehicles k v → c ≡ get_or courses k c
+    → left_commands (take (k + 1) vehicles) (take (k + 1) courses) ≡ left_commands (take k vehicles) (take k courses) ++ map (stop_command v.id) c.stops.items
+left-more vehicles courses k v c size h is_v is_c =
+    let F = λ (p : Vehicle × Course). map (stop_command p.0.id) p.1.stops.items in
+    ap (flat_map F) (zip-more vehicles courses k v c size h is_v is_c) ∙ sym (flat_map_more F [] (zip (take k vehicles) (take k courses)) (v, c))
 
 -- who is placed is entered there
 module _ (roads : Roads) (dwell now : ℕ) where
@@ -143,28 +121,10 @@ module _ (roads : Roads) (dwell now : ℕ) where
   placed_late (x ∷ vehicles) (y ∷ courses) (z ∷ places) size placed (zero, there, within, is, late) = inl (
     told_of now x.id y z,
     record { there = z; reported = placed.0; told = refl },
-    any_last IsTooLate (map (stop_command x.id) (due now y.stops.items)) (Report x.id z.node z.second) (subst (λ (t : NodeAt). longest < t.second) (sym is) late),
+    Any-push (λ (c : Command). longest < second_of c) (map (stop_command x.id) (due now y.stops.items)) (Report x.id z.node z.second) (subst (λ (t : NodeAt). longest < t.second) (sym is) late),
   )
   placed_late (x ∷ vehicles) (y ∷ courses) (z ∷ places) size placed (suc k, there, within, is, late) =
       inr (placed_late vehicles courses places (omega (arith, size)) placed.1 (k, there, omega (arith, within), is, late))
-
--- the stops left of one more vehicle
-left-push : (vehicles : List Vehicle) (courses : List Course) (v : Vehicle) (c : Course) → length courses ≡ length vehicles
-    → left_commands (vehicles ++ v ∷ []) (courses ++ c ∷ []) ≡ left_commands vehicles courses ++ map (stop_command v.id) c.stops.items
-left-push [] [] v c size = append-nil (map (stop_command v.id) c.stops.items)
-left-push [] (x ∷ courses) v c size = absurd (omega (arith, size))
-left-push (x ∷ vehicles) [] v c size = absurd (omega (arith, size))
-left-push (x ∷ vehicles) (y ∷ courses) v c size =
-    ap (λ l. map (stop_command x.id) y.stops.items ++ l) (left-push vehicles courses v c (omega (arith, size)))
-    ∙ sym (append_assoc (map (stop_command x.id) y.stops.items) (left_commands vehicles courses) (map (stop_command v.id) c.stops.items))
-
-pub left-more : (vehicles : List Vehicle) (courses : List Course) (k : ℕ) (v : Vehicle) (c : Course) → length courses ≡ length vehicles → k < length vehicles
-    → v ≡ get_or vehicles k v → c ≡ get_or courses k c
-    → left_commands (take (k + 1) vehicles) (take (k + 1) courses) ≡ left_commands (take k vehicles) (take k courses) ++ map (stop_command v.id) c.stops.items
-left-more vehicles courses k v c size h is_v is_c =
-    let vs : take (k + 1) vehicles ≡ take k vehicles ++ v ∷ [] = take_more vehicles k v h ∙ ap (λ y. take k vehicles ++ y ∷ []) (sym is_v) in
-    let cs : take (k + 1) courses ≡ take k courses ++ c ∷ [] = take_more courses k c (omega (arith, size, h)) ∙ ap (λ y. take k courses ++ y ∷ []) (sym is_c) in
-    ap (λ l. left_commands l (take (k + 1) courses)) vs ∙ ap (left_commands (take k vehicles ++ v ∷ [])) cs ∙ left-push (take k vehicles) (take k courses) v c (same_takes vehicles courses k size)
 
 any_left : (P : Command → Type 0) (xs ys : List Command) → Any P xs → Any P (xs ++ ys)
 any_left P xs ys (k, x, h, is, p) = (k, x, (let e = length-append xs ys in omega (arith, e, h)), get_or_append_left xs ys x k h ∙ is, p)
@@ -190,18 +150,12 @@ any_mapped P f (x ∷ stops) zero s h is p = (0, f s, omega arith, ap f (sym is)
 any_mapped P f (x ∷ stops) (suc k) s h is p = let rest = any_mapped P f stops k s (omega arith) is p in (suc rest.0, rest.1, omega (arith, rest.2), rest.3, rest.4)
 
 -- a stop that is too late is entered too late
-pub late_stop : (vehicle : ℕ) (s : PlannedStop) → longest < s.second → IsTooLate (stop_command vehicle s)
-late_stop vehicle s late = elim (cases_Bool s.pick) [
-  | inl e ↦ subst IsTooLate (sym (cond-true s.pick (Pickup vehicle s.rider s.second) (Dropoff vehicle s.rider s.second) e)) late
-  | inr e ↦ subst IsTooLate (sym (cond-false s.pick (Pickup vehicle s.rider s.second) (Dropoff vehicle s.rider s.second) e)) late
-]
+pub late_stop : (vehicle : ℕ) (s : PlannedStop) → longest < s.second → longest < second_of (stop_command vehicle s)
+late_stop vehicle s late = cond_both s.pick (Pickup vehicle s.rider s.second) (Dropoff vehicle s.rider s.second) (λ (c : Command). longest < second_of c) (λ e. late) (λ e. late)
 
 -- a stop that comes in time is entered in time
 pub stop_in_time : (vehicle : ℕ) (s : PlannedStop) → s.second ≤ longest → IsInTime (stop_command vehicle s)
-stop_in_time vehicle s le = elim (cases_Bool s.pick) [
-  | inl e ↦ subst IsInTime (sym (cond-true s.pick (Pickup vehicle s.rider s.second) (Dropoff vehicle s.rider s.second) e)) le
-  | inr e ↦ subst IsInTime (sym (cond-false s.pick (Pickup vehicle s.rider s.second) (Dropoff vehicle s.rider s.second) e)) le
-]
+stop_in_time vehicle s le = cond_both s.pick (Pickup vehicle s.rider s.second) (Dropoff vehicle s.rider s.second) IsInTime (λ e. le) (λ e. le)
 
 -- what is due comes in time
 pub due_in_time : (vehicle now : ℕ) (stops : List PlannedStop) → now ≤ longest → All IsInTime (map (stop_command vehicle) (due now stops))
@@ -217,16 +171,24 @@ told_in_time vehicle now course there h in_time = All-push IsInTime (map (stop_c
 -- where all are answered, what holds of each answer holds of all
 ok-zip : {X Y : Type 0} (E : Type 0) (R : X → Y → Type 0) (xs : List X) (ys : List Y) → AllZip (λ x (y : Result Y E). IfOk y (R x)) xs (map Ok ys) → AllZip R xs ys
 ok-zip E R [] [] all = tt
-ok-zip E R [] (y ∷ ys) all = absurd all
-ok-zip E R (x ∷ xs) [] all = absurd all
 ok-zip E R (x ∷ xs) (y ∷ ys) all = (all.0, ok-zip E R xs ys all.1)
+ok-zip E R xs ys all = absurd all
 
 pub all-ok : {X Y V : Type 0} (E : Type 0) (items : V → List Y) (R : X → Y → Type 0) (xs : List X) (r : Result V E) (ys : List (Result Y E))
     → MatchResult r (λ v. (zs : List Y) × (ys ≡ map Ok zs) × (items v ≡ zs)) (λ e. Contains ys (Err e)) → AllZip (λ x y. IfOk y (R x)) xs ys → IfOk r (λ v. AllZip R xs (items v))
 all-ok E items R xs (Ok v) ys (zs, is, same) all = subst (AllZip R xs) (sym same) (ok-zip E R xs zs (subst (AllZip (λ x y. IfOk y (R x)) xs) is all))
 all-ok E items R xs (Err e) ys found all = tt
 
--- what follows from two facts of what went well
-pub on_ok_both : {U E : Type 0} (r : Result U E) (A B C : Type 0) → IfOk r (λ _. A) → IfOk r (λ _. B) → (A → B → C) → IfOk r (λ _. C)
-on_ok_both (Ok u) A B C a b c = c a b
-on_ok_both (Err e) A B C a b c = tt
+-- two facts of what went well
+pub if_ok_and : {X E : Type 0} (r : Result X E) (A B : X → Type 0) → IfOk r A → IfOk r B → IfOk r (λ x. A x × B x)
+if_ok_and (Ok x) A B a b = (a, b)
+if_ok_and (Err e) A B a b = tt
+
+-- what follows from what is given
+pub if_ok_map : {X E : Type 0} (r : Result X E) (A B : X → Type 0) → IfOk r A → ((x : X) → A x → B x) → IfOk r B
+if_ok_map (Ok x) A B a b = b x a
+if_ok_map (Err e) A B a b = tt
+
+pub if_err_map : {X E : Type 0} (r : Result X E) (A B : E → Type 0) → IfErr r A → ((e : E) → A e → B e) → IfErr r B
+if_err_map (Ok x) A B a b = tt
+if_err_map (Err e) A B a b = b e a

@@ -1,33 +1,23 @@
 -- Who is served by entries that follow one another, and the counts of them.
-use Rattle.std.proofs.Common.{◌≡◌, ℕ, ◌+◌, ◌-◌, ◌^◌, ◌<◌, min, max, Bool, true, false, List, [], ◌∷◌, ◌++◌, length, get_or, map, filter, take, Option, None, Some, refl, sym, ap, ◌∙◌, inl, inr, subst, arith, eqb, append_assoc, append-nil, ◌==◌, All, Contains, MatchOption, find}
-use Rattle.route_drive.proofs.Common.{AllZip, option_map_or, cases_Bool, cond-true, cond-false, take_more, get_or_default, length-map, map-append, Any-from_list_any, filter-append, All-head, All-tail, IsNode, look_up, find_rider, Entry, Reply, BookRider, Roads, index_in, IsTimeBetween, ServedRider, DayRound, greatest, AreCounts, IsDelayOf, count_of, dropped_among, entries_of, ideal_dropoff, is_dropped, is_picked, picked_among, wait_of, AddsServed, AreServed, IsDelayed, all_served_by, served_by, waited}
+use Rattle.std.proofs.Common.{◌≡◌, ℕ, ◌+◌, ◌^◌, ◌<◌, max, Bool, List, [], ◌∷◌, ◌++◌, length, get_or, map, filter, take, refl, sym, ap, ◌∙◌, subst, arith, eqb, append_assoc, append-nil, Contains, min, ◌-◌}
+use Rattle.route_drive.proofs.Common.{AllZip, take_more, get_or_default, length-map, map-append, Any-from_list_any, filter-append, IsNode, Entry, Reply, BookRider, Roads, ServedRider, DayRound, greatest, AreCounts, IsDelayOf, dropped_among, entries_of, is_dropped, is_picked, picked_among, wait_of, AddsServed, AreServed, IsDelayed, all_served_by, served_by, waited}
 use Rattle.std.proofs.lemmas.Bool.{eqb-true}
+use Rattle.std.proofs.lemmas.List.{flat_map_more, map_push}
 use Rattle.route_drive.specs.declared.counts.Served.{Served}
 
 pub greatest-push : (xs : List ℕ) (x : ℕ) → greatest (xs ++ x ∷ []) ≡ max (greatest xs) x
 greatest-push [] x = omega arith
 greatest-push (y ∷ xs) x = let rest = greatest-push xs x in omega (arith, rest)
 
-pub map-push : {X Y : Type 0} (f : X → Y) (xs : List X) (x : X) → map f (xs ++ x ∷ []) ≡ map f xs ++ f x ∷ []
-map-push f [] x = refl
-map-push f (y ∷ xs) x = ap (λ l. f y ∷ l) (map-push f xs x)
-
 pub greatest_more : {X : Type 0} (f : X → ℕ) (xs : List X) (k : ℕ) (x : X) (worst n : ℕ) → k < length xs → x ≡ get_or xs k x → worst ≡ greatest (map f (take k xs)) → n ≡ f x
     → max worst n ≡ greatest (map f (take (k + 1) xs))
 greatest_more f xs k x worst n within is so one =
     let parts : take (k + 1) xs ≡ take k xs ++ x ∷ [] = take_more xs k x within ∙ ap (λ y. take k xs ++ y ∷ []) (sym is) in
     let more = greatest-push (map f (take k xs)) (f x) ∙ ap (λ (w : ℕ). max w (f x)) (sym so) in
-    rw (parts, map-push f (take k xs) x, one) (sym more)
+    rw (parts, map_push f (take k xs) x, one) (sym more)
 
-pub zip-push : {X Y : Type 0} (R : X → Y → Type 0) (xs : List X) (ys : List Y) (x : X) (y : Y) → AllZip R xs ys → R x y → AllZip R (xs ++ x ∷ []) (ys ++ y ∷ [])
-zip-push R [] [] x y are is = (is, tt)
-zip-push R [] (b ∷ ys) x y are is = absurd are
-zip-push R (a ∷ xs) [] x y are is = absurd are
-zip-push R (a ∷ xs) (b ∷ ys) x y are is = (are.0, zip-push R xs ys x y are.1 is)
-
-entries_of-push : (made : List DayRound) (r : DayRound) → entries_of (made ++ r ∷ []) ≡ entries_of made ++ r.journal.entries
-entries_of-push [] r = append-nil r.journal.entries
-entries_of-push (x ∷ made) r = ap (λ l. x.journal.entries ++ l) (entries_of-push made r) ∙ sym (append_assoc x.journal.entries (entries_of made) r.journal.entries)
+pub entries_of-push : (made : List DayRound) (r : DayRound) → entries_of (made ++ r ∷ []) ≡ entries_of made ++ r.journal.entries
+entries_of-push made r = sym (flat_map_more (λ (x : DayRound). x.journal.entries) [] made r)
 
 -- whom earlier entries and later ones served
 served-append : (p : Reply → Bool) (es fs : List Entry) → all_served_by (filter (λ e. p e.reply) (es ++ fs)) ≡ all_served_by (filter (λ e. p e.reply) es) ++ all_served_by (filter (λ e. p e.reply) fs)
@@ -71,11 +61,10 @@ waits_of riders (e ∷ es) = ap (λ l. wait_of riders e ∷ l) (waits_of riders 
 
 delays_of : (roads : Roads) (riders : List BookRider) (es : List Entry) (ds : List ℕ) → AllZip (IsDelayed roads riders) (all_served_by es) ds → AllZip (IsDelayOf roads riders) es ds
 delays_of roads riders [] [] are = tt
-delays_of roads riders [] (d ∷ ds) are = absurd are
-delays_of roads riders (e ∷ es) [] are = absurd are
 delays_of roads riders (e ∷ es) (d ∷ ds) are = (are.0, delays_of roads riders es ds are.1)
+delays_of roads riders es ds are = absurd are
 
-count_is : (n : ℕ) (served : List ServedRider) (es : List Entry) → n ≡ length served → n < 2 ^ 64 → served ≡ all_served_by es → n ≡ count_of es
+count_is : (n : ℕ) (served : List ServedRider) (es : List Entry) → n ≡ length served → n < 2 ^ 64 → served ≡ all_served_by es → n ≡ min (length es) (2 ^ 64 - 1)
 count_is n served es is small are =
     let size : length served ≡ length es = ap length are ∙ length-map es (λ (e : Entry). served_by e.command) in
     omega (arith, is, small, size)
@@ -99,16 +88,3 @@ node_known nodes node found =
     let any = Any-from_list_any (λ n. eqb n node) nodes found in
     let same : any.1 ≡ node = eqb-true any.1 node any.4 in
     (any.0, any.2, get_or_default nodes any.0 node any.1 any.2 ∙ any.3 ∙ same)
-
--- what holds of all holds of what is found
-all_found : {X : Type 0} (P : X → Type 0) (p : X → Bool) (xs : List X) (x : X) → All P xs → find p xs ≡ Some x → P x
-all_found P p [] x all found = absurd cc
-all_found P p (y ∷ ys) x all found = elim (cases_Bool (p y)) [
-  | inl holds ↦ let is : Some y ≡ Some x = sym (cond-true (p y) (Some y) (find p ys) holds) ∙ found in let same : y ≡ x = cc in subst P same (All-head P y ys all)
-  | inr other ↦ all_found P p ys x (All-tail P y ys all) (sym (cond-false (p y) (Some y) (find p ys) other) ∙ found)
-]
-
--- what holds of all riders holds of one who is found
-pub found_rider : (P : BookRider → Type 0) (riders : List BookRider) (id : ℕ) (r : BookRider) → All P riders → find_rider id riders ≡ Some r → P r
-unfolding look_up
-found_rider P riders id r all found = all_found P (λ (x : BookRider). x.id == id) riders r all found

@@ -2,7 +2,7 @@ pub mod RestLemmas
 pub mod TreeLemmas
 pub mod DayLemmas
 pub mod EnterLemmas
-pub mod CountLemmas
+pub mod LeaveLemmas
 pub mod EntryLemmas
 pub mod DriveLemmas
 pub mod WorstLemmas

@@ -1,18 +1,14 @@
 -- The suffix law: what remains of a serving order serves.
-use Rattle.std.proofs.Common.{◌≡◌, ℕ, zero, suc, ◌+◌, ◌-◌, ◌<◌, ◌≤◌, Bool, true, false, cond, eqb, ltb, List, [], ◌∷◌, ◌++◌, length, map, filter, take, drop, refl, sym, ap, ◌∙◌, subst, arith, inl, inr, length-append, All, remove, slice_index_or}
-use Rattle.route_drive.proofs.Common.{AllByRecursion, cases_Bool, cases_lt, cases_eq, cond-true, cond-false, false≢true, get_or_append_left, get_or-append_seam, All-append, All-take, All-drop, All-cons, All-nil, sum_by-remove, sum_by_push, sum_by-cons, longest, Leg, Task, Stop, Pick, Drop, Alight, Visit, is_of_rider, is_of_passenger, IsKnown, place_of, boarding_of, room_after, ServesFrom, seconds_from, no_leg, leg_at, persons, IsLeg, IsTask, visit_at, visits_of, free_seats, IsOrderOf, Serves, seconds_of}
-use Rattle.std.proofs.lemmas.Bool.{eq-eqb, ne_eqb, eqb-true, lt-ltb, le-ltb}
-use Rattle.std.proofs.lemmas.List.Edits.{length-remove, get_or-remove_below, get_or-remove_above}
+use Rattle.std.proofs.Common.{◌≡◌, ℕ, suc, ◌+◌, ◌<◌, ◌≤◌, Bool, true, false, eqb, List, [], ◌∷◌, ◌++◌, length, map, filter, drop, refl, sym, ap, ◌∙◌, subst, arith, inl, inr, length-append, All, remove, slice_index_or, not}
+use Rattle.route_drive.proofs.Common.{AllByRecursion, cases_Bool, cases_lt, cond-true, cond-false, false≢true, get_or_append_left, get_or-append_seam, All-append, All-cons, All-nil, sum_by_push, sum_by-cons, longest, Leg, Task, Stop, Pick, Drop, Alight, Visit, is_of_rider, is_of_passenger, IsKnown, place_of, boarding_of, room_after, ServesFrom, seconds_from, no_leg, leg_at, persons, IsLeg, IsTask, visit_at, visits_of, free_seats, IsOrderOf, Serves, seconds_of}
+use Rattle.std.proofs.lemmas.Bool.{eq-eqb, ne_eqb, eqb-true, not_from_false, not_from_true}
+use Rattle.std.proofs.lemmas.List.Edits.{length-remove}
 use Rattle.stop_orders.specs.declared.visit.Visit.TheVariants.{Pickup, Dropoff}
 use Rattle.stop_orders.specs.Laws.{number_without, stop_without_passenger, without_passenger}
+use Rattle.std.proofs.lemmas.Simd.{map-map}
+use Rattle.stop_orders.proofs.lemmas.DeletionLemmas.{old_number, not_same, renumbered, renumbered_back, old_number-ne, old_number-lt, number_without-lt, leg_without, All-remove, order_without_passenger, persons_without, valid_without_passenger, visit_without_passenger, visits_renumbered}
+use Rattle.route_drive.proofs.kept.Lists.{all_mapped, both, filter_all, filter_filter, filter_renamed, map_agrees, skips, takes}
 use Rattle.route_drive.specs.Rest.{task_after, stop_after, rest_of, MeetsNext, RestServes}
-
--- what a filter does at the front of a list
-skips : {X : Type 0} (p : X → Bool) (x : X) (xs : List X) → p x ≡ false → filter p (x ∷ xs) ≡ filter p xs
-skips p x xs e = cond-false (p x) (x ∷ filter p xs) (filter p xs) e
-
-takes : {X : Type 0} (p : X → Bool) (x : X) (xs : List X) → p x ≡ true → filter p (x ∷ xs) ≡ x ∷ filter p xs
-takes p x xs e = cond-true (p x) (x ∷ filter p xs) (filter p xs) e
 
 -- what holds of all that a filter keeps, and of all that it doesn't, holds of all
 all_of_filter : (P : Stop → Type 0) (p : Stop → Bool) (xs : List Stop) → AllByRecursion P (filter p xs) → ((x : Stop) → p x ≡ false → P x) → AllByRecursion P xs
@@ -22,106 +18,9 @@ all_of_filter P p (x ∷ xs) kept others = elim (cases_Bool (p x)) [
   | inr e ↦ (others x e, all_of_filter P p xs (subst (λ ys. AllByRecursion P ys) (skips p x xs e) kept) others)
 ]
 
-both : (P Q : Stop → Type 0) (xs : List Stop) → AllByRecursion P xs → AllByRecursion Q xs → AllByRecursion (λ x. P x × Q x) xs
-both P Q [] p q = tt
-both P Q (x ∷ xs) p q = ((p.0, q.0), both P Q xs p.1 q.1)
-
--- the test of the renamed is a test of what was
-filter_renamed : (p q : Stop → Bool) (g : Stop → Stop) (P : Stop → Type 0) → ((s : Stop) → P s → p (g s) ≡ q s) → (xs : List Stop) → AllByRecursion P xs → filter p (map g xs) ≡ map g (filter q xs)
-filter_renamed p q g P same [] all = refl
-filter_renamed p q g P same (x ∷ xs) all = elim (cases_Bool (q x)) [
-  | inl k ↦ takes p (g x) (map g xs) (same x all.0 ∙ k) ∙ ap (λ ss. g x ∷ ss) (filter_renamed p q g P same xs all.1) ∙ ap (λ ss. map g ss) (sym (takes q x xs k))
-  | inr k ↦ skips p (g x) (map g xs) (same x all.0 ∙ k) ∙ filter_renamed p q g P same xs all.1 ∙ ap (λ ss. map g ss) (sym (skips q x xs k))
-]
-
 -- the renamed are seen as before
 map_renamed : (vis old : Stop → Visit) (g : Stop → Stop) (P : Stop → Type 0) → ((s : Stop) → P s → vis (g s) ≡ old s) → (xs : List Stop) → AllByRecursion P xs → map vis (map g xs) ≡ map old xs
-map_renamed vis old g P same [] all = refl
-map_renamed vis old g P same (x ∷ xs) all = ap (λ v. v ∷ map vis (map g xs)) (same x all.0) ∙ ap (λ vs. old x ∷ vs) (map_renamed vis old g P same xs all.1)
-
-known_renamed : (P Q : Stop → Type 0) (g : Stop → Stop) → ((s : Stop) → P s → Q (g s)) → (xs : List Stop) → AllByRecursion P xs → AllByRecursion Q (map g xs)
-known_renamed P Q g move [] all = tt
-known_renamed P Q g move (x ∷ xs) all = (move x all.0, known_renamed P Q g move xs all.1)
-
--- a filter by one test of what another keeps
-filter_filter : (p q : Stop → Bool) → ((s : Stop) → p s ≡ true → q s ≡ true) → (xs : List Stop) → filter p (filter q xs) ≡ filter p xs
-filter_filter p q le [] = refl
-filter_filter p q le (x ∷ xs) = elim (cases_Bool (q x)) [
-  | inl k ↦ ap (λ ss. filter p ss) (takes q x xs k) ∙ elim (cases_Bool (p x)) [
-    | inl h ↦ takes p x (filter q xs) h ∙ ap (λ ss. x ∷ ss) (filter_filter p q le xs) ∙ sym (takes p x xs h)
-    | inr h ↦ skips p x (filter q xs) h ∙ filter_filter p q le xs ∙ sym (skips p x xs h)
-  ]
-  | inr k ↦ ap (λ ss. filter p ss) (skips q x xs k) ∙ filter_filter p q le xs ∙ sym (skips p x xs (elim (cases_Bool (p x)) [ inl h ↦ absurd (false≢true (sym k ∙ le x h)) | inr h ↦ h ]))
-]
-
--- the number that has a new number
-old_number : ℕ → ℕ → ℕ
-old_number i k = cond (ltb k i) k (k + 1)
-
-not_same : (a b : ℕ) → eqb a b ≡ false → a ≡ b → ⊥
-not_same a b e h = false≢true (sym e ∙ eq-eqb a b h)
-
-number_above : (i k : ℕ) → i < k → number_without i k ≡ k - 1
-number_above i k h = rw (lt-ltb i k h) refl
-
-number_below : (i k : ℕ) → k ≤ i → number_without i k ≡ k
-number_below i k h = rw (le-ltb i k h) refl
-
--- a number other than the one left out has the new number j exactly where it is j's old one
-renumbered : (i j k : ℕ) → (k ≡ i → ⊥) → eqb (number_without i k) j ≡ eqb k (old_number i j)
-unfolding old_number
-renumbered i j k ne = elim (cases_lt i k) [
-  | inl above ↦ ap (λ n. eqb n j) (number_above i k above) ∙ elim (cases_lt j i) [
-    | inl low ↦ ne_eqb (k - 1) j (λ q. omega arith) ∙ sym (rw (lt-ltb j i low) (ne_eqb k j (λ q. omega arith)))
-    | inr high ↦ elim (cases_eq k (j + 1)) [
-      | inl e ↦ eq-eqb (k - 1) j (omega arith) ∙ sym (rw (le-ltb j i high) (eq-eqb k (j + 1) e))
-      | inr n ↦ ne_eqb (k - 1) j (λ q. n (omega arith)) ∙ sym (rw (le-ltb j i high) (ne_eqb k (j + 1) n))
-    ]
-  ]
-  | inr below ↦ ap (λ n. eqb n j) (number_below i k below) ∙ elim (cases_lt j i) [
-    | inl low ↦ sym (rw (lt-ltb j i low) refl)
-    | inr high ↦ ne_eqb k j (λ q. ne (omega arith)) ∙ sym (rw (le-ltb j i high) (ne_eqb k (j + 1) (λ q. omega arith)))
-  ]
-]
-
-renumbered_back : (i j : ℕ) → number_without i (old_number i j) ≡ j
-unfolding old_number
-renumbered_back i j = elim (cases_lt j i) [
-  | inl low ↦ rw (lt-ltb j i low) (number_below i j (omega arith))
-  | inr high ↦ rw (le-ltb j i high) (number_above i (j + 1) (omega arith) ∙ omega arith)
-]
-
-old_number-ne : (i j : ℕ) → eqb i (old_number i j) ≡ false
-unfolding old_number
-old_number-ne i j = elim (cases_lt j i) [
-  | inl low ↦ rw (lt-ltb j i low) (ne_eqb i j (λ q. omega arith))
-  | inr high ↦ rw (le-ltb j i high) (ne_eqb i (j + 1) (λ q. omega arith))
-]
-
-old_number-lt : (i j n m : ℕ) → i < n → m + 1 ≡ n → j < m → old_number i j < n
-unfolding old_number
-old_number-lt i j n m h e l = elim (cases_lt j i) [
-  | inl low ↦ rw (lt-ltb j i low) (omega arith)
-  | inr high ↦ rw (le-ltb j i high) (omega arith)
-]
-
-number_without-lt : (i k n m : ℕ) → i < n → m + 1 ≡ n → (k ≡ i → ⊥) → k < n → number_without i k < m
-number_without-lt i k n m h e ne l = elim (cases_lt i k) [
-  | inl above ↦ rw (lt-ltb i k above) (omega arith)
-  | inr below ↦ rw (le-ltb i k below) (omega arith)
-]
-
--- the leg of a new number is that of the old one
-leg_without : (legs : List Leg) (i k : ℕ) → i < length legs → (k ≡ i → ⊥) → leg_at (remove legs i) (number_without i k) ≡ leg_at legs k
-leg_without legs i k h ne = elim (cases_lt i k) [
-  | inl above ↦
-      let e : k - 1 + 1 ≡ k = omega arith in
-      ap (λ n. leg_at (remove legs i) n) (number_above i k above) ∙ get_or-remove_above legs i no_leg (k - 1) (omega arith) h ∙ ap (λ n. leg_at legs n) e
-  | inr below ↦ ap (λ n. leg_at (remove legs i) n) (number_below i k below) ∙ get_or-remove_below legs i no_leg k (omega arith) h
-]
-
-All-remove : {X : Type 0} (P : X → Type 0) (xs : List X) (i : ℕ) → All P xs → All P (remove xs i)
-All-remove P xs i all = All-append P (take i xs) (drop (suc i) xs) (All-take P i xs all) (All-drop P (suc i) xs all)
+map_renamed vis old g P same xs all = map-map vis g xs ∙ map_agrees (λ x. vis (g x)) old P same xs all
 
 -- what a task keeps after its first stop
 record Onward (points : ℕ) (task : Task) (stop : Stop) (stops : List Stop) : Type 0 where
@@ -131,78 +30,31 @@ record Onward (points : ℕ) (task : Task) (stop : Stop) (stops : List Stop) : T
   room : free_seats (task_after stop task) ≡ room_after (visit_at task stop) (free_seats task)
 
 -- a passenger gets out
-module _ (points : ℕ) (task : Task) (valid : IsTask points task) (j : ℕ) (stops : List Stop) (order : IsOrderOf task (Alight j ∷ stops)) where
-  within : j < length task.aboard.items
-  within = order.known.0
+got_out : (points : ℕ) (task : Task) (j : ℕ) (stops : List Stop) → IsTask points task → IsOrderOf task (Alight j ∷ stops) → Onward points task (Alight j) stops
+got_out points task j stops valid order =
+    let within : j < length task.aboard.items = order.known.0 in
+    let less = persons_without points task valid j within in
+    let seated = valid.seated in
+    record {
+      valid = valid_without_passenger points task valid j within;
+      order = subst (λ ss. IsOrderOf (without_passenger j task) (map (stop_without_passenger j) ss)) first_left (order_without_passenger points task valid j within (Alight j ∷ stops) order);
+      visits = subst (λ ss. map (visit_at (without_passenger j task)) (map (stop_without_passenger j) ss) ≡ map (visit_at task) ss) all_left
+          (visits_renumbered (visit_at (without_passenger j task)) (visit_at task) (stop_without_passenger j) (is_of_passenger j) (visit_without_passenger points task valid j within) stops);
+      room = omega (arith, less, seated);
+    }
+  where
+    -- nobody else is this passenger
+    nobody : filter (is_of_passenger j) stops ≡ []
+    nobody =
+        let e : Alight j ∷ filter (is_of_passenger j) stops ≡ Alight j ∷ [] = sym (takes (is_of_passenger j) (Alight j) stops (eq-eqb j j refl)) ∙ order.alights j order.known.0 in
+        ap (drop 1) e
 
-  fewer : length (remove task.aboard.items j) + 1 ≡ length task.aboard.items
-  fewer = length-remove task.aboard.items j within
+    all_left : filter (λ s. not (is_of_passenger j s)) stops ≡ stops
+    all_left = filter_all (λ s. not (is_of_passenger j s)) stops (all_of_filter (λ s. not (is_of_passenger j s) ≡ true) (is_of_passenger j) stops
+        (subst (AllByRecursion (λ s. not (is_of_passenger j s) ≡ true)) (sym nobody) tt) (λ x e. not_from_false (is_of_passenger j x) e))
 
-  persons_without : persons (remove task.aboard.items j) + (leg_at task.aboard.items j).party ≡ persons task.aboard.items
-  persons_without = sum_by-remove (λ leg. leg.party) task.aboard.items j no_leg within
-
-  -- a later stop
-  abbrev Later : Stop → Type 0
-  Later s = IsKnown (length task.riders.items) (length task.aboard.items) s × (is_of_passenger j s ≡ false)
-
-  nobody : filter (is_of_passenger j) stops ≡ []
-  nobody =
-      let own = order.alights j within in
-      let e : Alight j ∷ filter (is_of_passenger j) stops ≡ Alight j ∷ [] = sym (takes (is_of_passenger j) (Alight j) stops (eq-eqb j j refl)) ∙ own in
-      ap (drop 1) e
-
-  later : AllByRecursion Later stops
-  later = both (IsKnown (length task.riders.items) (length task.aboard.items)) (λ s. is_of_passenger j s ≡ false) stops order.known.1
-      (all_of_filter (λ s. is_of_passenger j s ≡ false) (is_of_passenger j) stops (subst (λ ss. AllByRecursion (λ s. is_of_passenger j s ≡ false) ss) (sym nobody) tt) (λ x e. e))
-
-  out_visit : (s : Stop) → Later s → visit_at (without_passenger j task) (stop_without_passenger j s) ≡ visit_at task s
-  out_visit (Pick k) h = refl
-  out_visit (Drop k) h = refl
-  out_visit (Alight k) h = ap (λ leg. Dropoff leg.destination leg.latest_dropoff leg.ideal leg.party) (leg_without task.aboard.items j k within (not_same k j h.1))
-
-  out_tests : (k : ℕ) (s : Stop) → Later s → is_of_passenger k (stop_without_passenger j s) ≡ is_of_passenger (old_number j k) s
-  out_tests k (Pick n) h = refl
-  out_tests k (Drop n) h = refl
-  out_tests k (Alight n) h = renumbered j k n (not_same n j h.1)
-
-  in_tests : (k : ℕ) (s : Stop) → Later s → is_of_rider k (stop_without_passenger j s) ≡ is_of_rider k s
-  in_tests k (Pick n) h = refl
-  in_tests k (Drop n) h = refl
-  in_tests k (Alight n) h = refl
-
-  out_known : (s : Stop) → Later s → IsKnown (length task.riders.items) (length (remove task.aboard.items j)) (stop_without_passenger j s)
-  out_known (Pick k) h = h.0
-  out_known (Drop k) h = h.0
-  out_known (Alight k) h = number_without-lt j k (length task.aboard.items) (length (remove task.aboard.items j)) within fewer (not_same k j h.1) h.0
-
-  -- the tests of others pass over the first stop
-  first_passed : (k : ℕ) → filter (is_of_passenger (old_number j k)) (Alight j ∷ stops) ≡ filter (is_of_passenger (old_number j k)) stops
-  first_passed k = skips (is_of_passenger (old_number j k)) (Alight j) stops (old_number-ne j k)
-
-  got_out : Onward points task (Alight j) stops
-  got_out = record {
-    valid = record {
-      start = valid.start;
-      ready = valid.ready;
-      dwell = valid.dwell;
-      seats = valid.seats;
-      seated = omega (arith, persons_without, valid.seated);
-      passenger_count = omega (arith, fewer, valid.passenger_count);
-      rider_count = valid.rider_count;
-      passengers = All-remove (IsLeg points) task.aboard.items j valid.passengers;
-      riders = valid.riders;
-    };
-    order = record {
-      rides = λ k h. filter_renamed (is_of_rider k) (is_of_rider k) (stop_without_passenger j) Later (in_tests k) stops later
-          ∙ ap (λ ss. map (stop_without_passenger j) ss) (order.rides k h);
-      alights = λ k h. filter_renamed (is_of_passenger k) (is_of_passenger (old_number j k)) (stop_without_passenger j) Later (out_tests k) stops later
-          ∙ ap (λ ss. map (stop_without_passenger j) ss) (sym (first_passed k) ∙ order.alights (old_number j k) (old_number-lt j k (length task.aboard.items) (length (remove task.aboard.items j)) within fewer h))
-          ∙ ap (λ n. Alight n ∷ []) (renumbered_back j k);
-      known = known_renamed Later (IsKnown (length task.riders.items) (length (remove task.aboard.items j))) (stop_without_passenger j) out_known stops later;
-    };
-    visits = map_renamed (visit_at (without_passenger j task)) (visit_at task) (stop_without_passenger j) Later out_visit stops later;
-    room = omega (arith, persons_without, valid.seated);
-  }
+    first_left : filter (λ s. not (is_of_passenger j s)) (Alight j ∷ stops) ≡ stops
+    first_left = skips (λ s. not (is_of_passenger j s)) (Alight j) stops (not_from_true (is_of_passenger j (Alight j)) (eq-eqb j j refl)) ∙ all_left
 
 -- whether the rider is picked up, or dropped, at a stop
 picks : ℕ → Stop → Bool
@@ -331,7 +183,6 @@ module _ (points : ℕ) (task : Task) (valid : IsTask points task) (i : ℕ) (st
 
   picked_rides : (k : ℕ) → k < length (remove task.riders.items i) → filter (is_of_rider k) (map g stops) ≡ Pick k ∷ Drop k ∷ []
   picked_rides k h =
-      let o : ℕ = old_number i k in
       let theirs : filter (is_of_rider (old_number i k)) stops ≡ Pick (old_number i k) ∷ Drop (old_number i k) ∷ [] =
       sym (skips (is_of_rider (old_number i k)) (Pick i) stops (old_number-ne i k)) ∙ order.rides (old_number i k) (old_number-lt i k (length task.riders.items) (length (remove task.riders.items i)) among less h) in
       filter_renamed (is_of_rider k) (is_of_rider (old_number i k)) g After (rider_tests k) stops after
@@ -378,7 +229,7 @@ module _ (points : ℕ) (task : Task) (valid : IsTask points task) (i : ℕ) (st
         order = record {
           rides = picked_rides;
           alights = picked_alights;
-          known = known_renamed After (IsKnown (length (remove task.riders.items i)) (length aboard')) g picked_known stops after;
+          known = all_mapped After (IsKnown (length (remove task.riders.items i)) (length aboard')) g picked_known stops after;
         };
         visits = map_renamed (visit_at (task_after (Pick i) task)) (visit_at task) g After picked_visit stops after;
         room = omega (arith, b);
@@ -390,7 +241,7 @@ onward points task (Pick i) stops valid order boards = got_in points task valid 
 onward points task (Drop i) stops valid order boards =
     let e : Drop i ∷ filter (is_of_rider i) stops ≡ Pick i ∷ Drop i ∷ [] = sym (takes (is_of_rider i) (Drop i) stops (eq-eqb i i refl)) ∙ order.rides i order.known.0 in
     cc
-onward points task (Alight j) stops valid order boards = got_out points task valid j stops order
+onward points task (Alight j) stops valid order boards = got_out points task j stops valid order
 
 -- what remains, from the place and the second of the last stop that is done
 record GoesOn (points : ℕ) (tau : ℕ → ℕ → ℕ) (dwell : ℕ) (visits : List Visit) (seconds : List ℕ) (rest : Task × List Stop) : Type 0 where
@@ -411,26 +262,6 @@ same_dwell (Alight i) task = refl
 goes_on : (points : ℕ) (tau : ℕ → ℕ → ℕ) (dwell : ℕ) (k : ℕ) (task : Task) (place free : ℕ) (stops : List Stop) → task.dwell ≡ dwell → IsTask points task → IsOrderOf task stops
     → ServesFrom tau dwell place free (free_seats task) (visits_of task stops)
     → GoesOn points tau dwell (drop k (visits_of task stops)) (drop k (seconds_from tau dwell place free (visits_of task stops))) (rest_of k task stops)
-goes_on points tau dwell zero task place free stops same valid order serves = record {
-  valid = valid;
-  order = order;
-  visits_are = refl;
-  dwell_is = same;
-  place = place;
-  free = free;
-  serves = serves;
-  seconds_are = refl;
-}
-goes_on points tau dwell (suc k) task place free [] same valid order serves = record {
-  valid = valid;
-  order = order;
-  visits_are = refl;
-  dwell_is = same;
-  place = place;
-  free = free;
-  serves = serves;
-  seconds_are = refl;
-}
 goes_on points tau dwell (suc k) task place free (stop ∷ stops) same valid order serves =
     let v : Visit = visit_at task stop in
     let next : ℕ = place_of v in
@@ -440,6 +271,16 @@ goes_on points tau dwell (suc k) task place free (stop ∷ stops) same valid ord
     let from : ServesFrom tau dwell next then (free_seats (task_after stop task)) (visits_of (task_after stop task) renamed) = rw (on.visits, on.room) serves.3 in
     subst (λ vs. GoesOn points tau dwell (drop k vs) (drop k (seconds_from tau dwell next then vs)) (rest_of k (task_after stop task) renamed)) on.visits
     (goes_on points tau dwell k (task_after stop task) next then renamed (same_dwell stop task ∙ same) on.valid on.order from)
+goes_on points tau dwell k task place free stops same valid order serves = record {
+  valid = valid;
+  order = order;
+  visits_are = refl;
+  dwell_is = same;
+  place = place;
+  free = free;
+  serves = serves;
+  seconds_are = refl;
+}
 
 -- the rest serves from wherever the next stop is met
 meets : (tau : ℕ → ℕ → ℕ) (dwell place free room x ready : ℕ) (visits : List Visit) (seconds : List ℕ) → ServesFrom tau dwell place free room visits → seconds_from tau dwell place free visits ≡ seconds

@@ -1,9 +1,9 @@
 -- Searches for shortest walks.
-use Rattle.std.proofs.Common.{IfNone, IfOk, IsSome, MatchOption, Result, Ok, Err, ◌≡◌, ℕ, zero, suc, Option, None, Some, rules, nat_lt, ◌+◌, ◌*◌, ◌<◌, ◌≤◌, ◌⊎◌, Bool, true, false, cond, not, List, [], ◌∷◌, ◌++◌, length, get_or, slice_index, set, replicate, map, reverse, count_by, All, refl, sym, ap, ◌∙◌, inl, inr, subst, arith, length-append}
-use Rattle.route_drive.proofs.Common.{position_or_len, cases_Bool, cases_eq, cases_lt, get_or_append_left, reverse-append, get_or-replicate, length-replicate, All-contains, sum_by-replicate, sum_by-set, sum_by-cons, get_or-append_seam, never, Arc, Hop, Roads, index_in, IsArcAmong, IsNetwork, hop_of, leaving, IsWalk, walk_seconds, HasNoWalk, Found, WalkStep, IsShortestWalk, no_found, found_at, is_seen, IsTight, IsTree, AreHopsOpened, IsOpened, Grows, IsGrowing, IsFullTree, IsWalkBack}
+use Rattle.std.proofs.Common.{IfNone, IfOk, IsSome, MatchOption, Result, Ok, Err, ◌≡◌, ℕ, Option, None, Some, rules, nat_lt, ◌+◌, ◌*◌, ◌<◌, ◌≤◌, ◌⊎◌, Bool, true, false, cond, not, List, [], ◌∷◌, ◌++◌, length, get_or, slice_index, set, replicate, map, reverse, count_by, All, refl, sym, ap, ◌∙◌, inl, inr, subst, arith, length-append}
+use Rattle.route_drive.proofs.Common.{position_or_len, cases_Bool, cases_eq, cases_lt, get_or_append_left, reverse-append, get_or-replicate, length-replicate, All-contains, sum_by-replicate, sum_by-set, sum_by-cons, get_or-append_seam, never, Arc, Hop, Roads, index_in, IsArcAmong, IsNetwork, hop_of, leaving, IsWalk, walk_seconds, HasNoWalk, Found, WalkStep, IsShortestWalk, no_found, found_at, is_seen, IsTight, IsTree, AreHopsOpened, IsOpened, Grows, IsGrowing, IsWalkBack}
 use Rattle.std.specs.List.{position}
 use Rattle.std.proofs.lemmas.Bool.{true≢false}
-use Rattle.std.proofs.lemmas.List.{length-set, get_or-set_same, get_or-set_other}
+use Rattle.std.proofs.lemmas.List.{length-set, get_or-set_same, get_or-set_other, get_or_past, get_or_default}
 use Rattle.travel_times.proofs.lemmas.WalkLemmas.{IsWalk-append, walk_seconds-append, short_walk}
 use Rattle.travel_times.proofs.lemmas.SearchLemmas.{arc_of_hop, hop_of_arc, hops_among}
 use Rattle.travel_times.specs.Near.{AreTimesUpTo}
@@ -67,11 +67,6 @@ module _ (arcs : List Arc) (times : List ℕ) (seen : List Bool) (found : List F
 pub Grows-none : (seen : List Bool) (found : List Found) → Grows seen seen found found
 Grows-none seen found = record { longer = omega arith; kept = λ j h. refl; still = λ node h. h }
 
-default : (hops : List Hop) (i : ℕ) (d e : Hop) → i < length hops → get_or hops i d ≡ get_or hops i e
-default [] i d e h = absurd (omega arith)
-default (x ∷ xs) zero d e h = refl
-default (x ∷ xs) (suc i) d e h = default xs i d e (omega arith)
-
 -- one more hop of a node is opened
 pub AreHopsOpened-more : (hops : List Hop) (i here : ℕ) (times : List ℕ) (most : ℕ) (seen seen' : List Bool) (e : Hop) → AreHopsOpened hops i here times most seen
     → ((node : ℕ) → is_seen seen node ≡ true → is_seen seen' node ≡ true) → i < length hops
@@ -79,7 +74,7 @@ pub AreHopsOpened-more : (hops : List Hop) (i here : ℕ) (times : List ℕ) (mo
     → AreHopsOpened hops (i + 1) here times most seen'
 AreHopsOpened-more hops i here times most seen seen' e before still within own k d lt h near tight = elim (cases_eq k i) [
   | inl is ↦
-      let at : get_or hops k d ≡ get_or hops i e = ap (λ j. get_or hops j d) is ∙ default hops i d e within in
+      let at : get_or hops k d ≡ get_or hops i e = ap (λ j. get_or hops j d) is ∙ get_or_default hops i d e within in
       rw at (own (rw at at near) (rw at at tight))
   | inr ne ↦ still (get_or hops k d).to (before k d (omega arith) h near tight)
 ]
@@ -102,7 +97,7 @@ IsTight-own : (arcs : List Arc) (times : List ℕ) (node k : ℕ) (d : Hop) → 
     → slice_index times node + (get_or (map hop_of (leaving node arcs)) k d).seconds ≡ slice_index times (get_or (map hop_of (leaving node arcs)) k d).to → IsTight arcs times node (get_or (map hop_of (leaving node arcs)) k d).to
 IsTight-own arcs times node k d within tight =
     let hops : List Hop = map hop_of (leaving node arcs) in
-    let same : get_or hops k (get_or hops k d) ≡ get_or hops k d = default hops k (get_or hops k d) d within in
+    let same : get_or hops k (get_or hops k d) ≡ get_or hops k d = get_or_default hops k (get_or hops k d) d within in
     let arc = arc_of_hop arcs node k (get_or hops k d) within same in
     record {
       arc = arc.0;
@@ -132,16 +127,11 @@ IsGrowing-more arcs times start most next seen seen' found found' inside growing
       ]);
 }
 
-past : (seen : List Bool) (node : ℕ) → length seen ≤ node → get_or seen node false ≡ false
-past [] node h = refl
-past (s ∷ seen) zero h = absurd (omega arith)
-past (s ∷ seen) (suc node) h = past seen node (omega arith)
-
 -- at the start nothing is marked
 nowhere : (n node : ℕ) → is_seen (replicate n false) node ≡ false
 nowhere n node = elim (cases_lt node n) [
   | inl h ↦ get_or-replicate n node false false h
-  | inr h ↦ past (replicate n false) node (let e = length-replicate n false in omega (arith, e))
+  | inr h ↦ get_or_past (replicate n false) node false (let e = length-replicate n false in omega (arith, e))
 ]
 
 -- the search begins
@@ -217,7 +207,7 @@ module _ (arcs : List Arc) (n start goal : ℕ) (times : List ℕ) (among : All 
     | inr none ↦ absurd (none.0 other walks)
   ]
 
-  module _ (seen : List Bool) (found : List Found) (full : IsFullTree arcs times start (slice_index times goal) seen found) where
+  module _ (seen : List Bool) (found : List Found) (full : IsGrowing arcs times start (slice_index times goal) (length found) seen found) where
     -- what a shortest walk to the goal comes to from a marked node is marked
     follow : (walk : List Arc) (node : ℕ) → node < n → slice_index times goal < never → IsWalk arcs node walk goal → slice_index times node + walk_seconds walk ≡ slice_index times goal
         → is_seen seen node ≡ true → is_seen seen goal ≡ true

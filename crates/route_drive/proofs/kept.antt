@@ -10,12 +10,9 @@ pub mod Tables
 pub mod Batches
 pub mod Served
 pub mod Reported
-pub mod Lapse
 pub mod Told
 pub mod Trips
-pub mod Chosen
 pub mod Made
-pub mod Closed
 pub mod Laws
 pub mod Keeping
 pub mod Pending
@@ -23,7 +20,5 @@ pub mod Sequence
 pub mod Mixed
 pub mod Rounds
 pub mod DayRounds
-pub mod Journals
 pub mod Days
-pub mod Left
 pub mod Promised

@@ -39,10 +39,6 @@ picked_among entries = filter (λ e. is_picked e.reply) entries
 abbrev pub dropped_among : List Entry → List Entry
 dropped_among entries = filter (λ e. is_dropped e.reply) entries
 
--- how many there are; a count stands still at the greatest u64
-abbrev pub count_of : List Entry → ℕ
-count_of entries = min (length entries) (2 ^ 64 - 1)
-
 -- the rider of a pickup or drop-off
 abbrev pub rider_of : Command → ℕ
 rider_of (Pickup vehicle rider time) = rider
@@ -66,8 +62,9 @@ IsDelayOf roads riders e delay =
 
 -- the counts of entries, where these are the riders whom they name
 pub record AreCounts (roads : Roads) (riders : List BookRider) (entries : List Entry) (counts : DayCounts) : Type 0 where
-  pub picked_is : counts.picked ≡ count_of (picked_among entries)
-  pub dropped_is : counts.dropped ≡ count_of (dropped_among entries)
+  -- a count stands still at the greatest u64
+  pub picked_is : counts.picked ≡ min (length (picked_among entries)) (2 ^ 64 - 1)
+  pub dropped_is : counts.dropped ≡ min (length (dropped_among entries)) (2 ^ 64 - 1)
   pub wait_is : counts.worst_wait ≡ greatest (map (wait_of riders) (picked_among entries))
   pub delays : List ℕ
   pub delays_are : AllZip (IsDelayOf roads riders) (dropped_among entries) delays

@@ -39,14 +39,12 @@ lane_fault round lane =
 abbrev pub seals_fault : NumberedLanes → Option DayFault
 seals_fault round = if list_any is_seal_command (drop 1 (lane_at round 0)) then Some (fault.Seals round.number) else None
 
--- the round's seal is earlier than the latest before it
-abbrev pub back_fault : ℕ → NumberedLanes → Option DayFault
-back_fault latest round =
-    option_and_then (λ now. if nat_lt now latest then Some (fault.SealBack round.number) else None) (seal_of round)
-
--- why a round is refused behind seals up to a second, if it is
+-- why a round is refused behind seals up to a second, if it is: by a lane, by a seal that isn't first, or by a seal that is
+-- earlier than the latest before it
 abbrev pub round_fault : ℕ → NumberedLanes → Option DayFault
-round_fault latest round = option_or (first_fault (lane_fault round) (length round.lanes)) (option_or (seals_fault round) (back_fault latest round))
+round_fault latest round =
+    option_or (first_fault (lane_fault round) (length round.lanes)) (option_or (seals_fault round)
+    (option_and_then (λ now. if nat_lt now latest then Some (fault.SealBack round.number) else None) (seal_of round)))
 
 -- the greatest second of the rounds' seals, 0 without a seal
 abbrev pub latest_seal : List NumberedLanes → ℕ

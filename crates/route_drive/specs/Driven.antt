@@ -1,7 +1,8 @@
 -- The driven script of a day: its rounds with what is entered before each seal, and a last round of the stops left.
-use Rattle.std.specs.Prelude.{◌≡◌, ◌≢◌, ℕ, ◌+◌, List, [], ◌∷◌, ◌++◌, Option, None, Some, MatchOption, All, map, option_map, option_and_then}
+use Rattle.std.specs.Prelude.{◌≡◌, ◌≢◌, ℕ, ◌+◌, ◌<◌, ◌≤◌, List, [], ◌∷◌, ◌++◌, Option, None, Some, MatchOption, All, map, option_map, option_and_then}
 use Rattle.std.specs.List.{Any}
 use Rattle.std.specs.Option.{option_or, option_map_or}
+use Rattle.pool_base.specs.TravelTime.{longest}
 use Rattle.batch_snapshot.specs.Kept.{IsFleet}
 use Rattle.batch_snapshot.specs.declared.vehicle.Vehicle.{Vehicle}
 use Rattle.request_book.specs.Command.{closed_outcome}
@@ -27,7 +28,7 @@ use Rattle.route_drive.specs.declared.day_run.DayRound.{DayRound}
 use Rattle.route_drive.specs.declared.day_run.DriveFault.{DriveFault}
 use Rattle.route_drive.specs.declared.day_run.DriveFault.TheVariants.{TooLate, OutOfMemory}
 use Rattle.route_drive.specs.Day.{seal_of}
-use Rattle.route_drive.specs.Entering.{AreEntered, EntersTooLate, IsInTime, IsTooLate, left_commands, to_come}
+use Rattle.route_drive.specs.Entering.{AreEntered, EntersTooLate, left_commands, second_of, to_come}
 
 -- a round with commands before those of its lane 0
 pub record IsPrecededBy (before : List Command) (round driven : NumberedLanes) : Type 0 where
@@ -40,14 +41,10 @@ abbrev pub planned_in : Answer → Option Planned
 planned_in answer.Overflow = None
 planned_in (answer.Planned planned) = Some planned
 
--- the plan with which a close ended its batch, if it did with one
-abbrev pub plan_of : Command → Reply → Option Planned
-plan_of command reply = option_and_then (λ closed. planned_in closed.1.answer) (closed_outcome command reply)
-
 -- the first plan among entries, if a batch was closed with one
 abbrev pub plan_in : List Entry → Option Planned
 plan_in [] = None
-plan_in (entry ∷ entries) = option_or (plan_of entry.command entry.reply) (plan_in entries)
+plan_in (entry ∷ entries) = option_or (option_and_then (λ closed. planned_in closed.1.answer) (closed_outcome entry.command entry.reply)) (plan_in entries)
 
 -- what a plan has for a vehicle: the stops of its chosen trip, and the origin of the rider whom its move names
 abbrev pub planned_course : List BookRider → Planned → Vehicle → Course
@@ -88,22 +85,18 @@ module _ (settings : Settings) (roads : Roads) where
   abbrev pub IsDrivenRound : State → List Course → NumberedLanes → NumberedLanes → Type 0
   IsDrivenRound s courses round driven =
       MatchOption (seal_of round) (IsPrecededBy [] round driven)
-      (λ now. (entered : List Command) × AreEntered roads settings.dwell now s.vehicles courses entered × All IsInTime entered × IsPrecededBy entered round driven)
-
-  -- the state after a journal
-  abbrev pub left_state : Journal → State
-  left_state j = state_after roads.nodes settings.wait j.base j.entries
+      (λ now. (entered : List Command) × AreEntered roads settings.dwell now s.vehicles courses entered × All (λ c. second_of c ≤ longest) entered × IsPrecededBy entered round driven)
 
   -- rounds as they are driven, one after the other, where these are the journals that they make
   abbrev pub AreDriven : List Course → List NumberedLanes → List NumberedLanes → List Journal → Type 0
   AreDriven courses [] [] [] = Unit {0}
   AreDriven courses (round ∷ rounds) (driven ∷ script) (j ∷ journals) =
-      IsDrivenRound j.base courses round driven × AreDriven (courses_after (left_state j) round j.entries courses) rounds script journals
+      IsDrivenRound j.base courses round driven × AreDriven (courses_after (state_after roads.nodes settings.wait j.base j.entries) round j.entries courses) rounds script journals
   AreDriven courses rounds script journals = ⊥
 
   -- what is on its way after rounds
   abbrev pub courses_left : List Course → List NumberedLanes → List Journal → List Course
-  courses_left courses (round ∷ rounds) (j ∷ journals) = courses_left (courses_after (left_state j) round j.entries courses) rounds journals
+  courses_left courses (round ∷ rounds) (j ∷ journals) = courses_left (courses_after (state_after roads.nodes settings.wait j.base j.entries) round j.entries courses) rounds journals
   courses_left courses rounds journals = courses
 
   -- at first nothing is on its way
@@ -114,14 +107,8 @@ module _ (settings : Settings) (roads : Roads) where
   abbrev pub courses_from : State → List NumberedLanes → List DayRound → List Course
   courses_from s rounds made = courses_left (first_courses s) rounds (map (λ r. r.journal) made)
 
-  -- journals that are a run of rounds as they are driven, from a state
-  pub record HasDriven (s : State) (rounds : List NumberedLanes) (made : List DayRound) : Type 0 where
-    pub script : List NumberedLanes
-    pub driven : AreDriven (first_courses s) rounds script (map (λ r. r.journal) made)
-    pub numbers : map (λ r. r.number) made ≡ map (λ r. r.number) rounds
-    pub run : IsRun settings roads s 0 script (map (λ r. r.journal) made)
-
-  -- the same with one more round, of the stops that are left, numbered one above the last
+  -- journals that are a run of rounds as they are driven, from a state, and of one more round: of the stops that are left,
+  -- numbered one above the last
   pub record HasDrivenToTheEnd (s : State) (rounds : List NumberedLanes) (made : List DayRound) : Type 0 where
     pub first : List DayRound
     pub last : DayRound
@@ -130,7 +117,7 @@ module _ (settings : Settings) (roads : Roads) where
     pub end : NumberedLanes
     pub driven : AreDriven (first_courses s) rounds script (map (λ r. r.journal) first)
     pub left : IsPrecededBy (left_commands last.journal.base.vehicles (courses_from s rounds first)) (empty_round (number_after rounds)) end
-    pub in_time : All IsInTime (left_commands last.journal.base.vehicles (courses_from s rounds first))
+    pub in_time : All (λ c. second_of c ≤ longest) (left_commands last.journal.base.vehicles (courses_from s rounds first))
     pub numbers : map (λ r. r.number) made ≡ map (λ r. r.number) rounds ++ number_after rounds ∷ []
     pub run : IsRun settings roads s 0 (script ++ end ∷ []) (map (λ r. r.journal) made)
 
@@ -141,16 +128,19 @@ module _ (settings : Settings) (roads : Roads) where
 
   -- a second above 1,000,000,000 is entered into the next round of a day: before its seal, or as a stop that is left
   abbrev pub ComesTooLate : List Vehicle → List Course → List NumberedLanes → ℕ → Type 0
-  ComesTooLate vehicles courses [] number = Any IsTooLate (left_commands vehicles courses)
+  ComesTooLate vehicles courses [] number = Any (λ c. longest < second_of c) (left_commands vehicles courses)
   ComesTooLate vehicles courses (round ∷ rounds) number =
       (round.number ≡ number) × ((now : ℕ) × (seal_of round ≡ Some now) × EntersTooLate roads settings.dwell now vehicles courses)
 
-  -- a day that is too late at a round: these are the journals of the rounds before it
+  -- a day that is too late at a round: these journals are a run of the rounds before it as they are driven, from a state
   pub record IsTooLateDay (s : State) (rounds : List NumberedLanes) (number : ℕ) (made : List DayRound) : Type 0 where
     pub before : List NumberedLanes
     pub rest : List NumberedLanes
     pub parts : rounds ≡ before ++ rest
-    pub driven : HasDriven s before made
+    pub script : List NumberedLanes
+    pub driven : AreDriven (first_courses s) before script (map (λ r. r.journal) made)
+    pub numbers : map (λ r. r.number) made ≡ map (λ r. r.number) before
+    pub run : IsRun settings roads s 0 script (map (λ r. r.journal) made)
     pub late : ComesTooLate (state_after_run settings roads s (map (λ r. r.journal) made)).vehicles (courses_from s before made) rest number
     pub end : rest ≡ [] → number ≡ number_after rounds
 

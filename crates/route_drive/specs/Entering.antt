@@ -1,6 +1,6 @@
 -- What is on its way for a vehicle, and what is entered of it before a seal.
 use Rattle.std.specs.Prelude.{◌≡◌, ◌⊎◌, ℕ, ◌+◌, ◌<◌, ◌≤◌, max, nat_lt, nat_le, if◌then◌else◌, List, [], ◌∷◌, ◌++◌, Option, None, Some, map, filter, find, Contains, fold}
-use Rattle.std.specs.List.{Any}
+use Rattle.std.specs.List.{Any, flat_map, zip}
 use Rattle.pool_base.specs.TravelTime.{longest}
 use Rattle.batch_snapshot.specs.declared.vehicle.Vehicle.{Vehicle}
 use Rattle.request_book.specs.declared.command.Command.{Command}
@@ -81,23 +81,13 @@ second_of (Pickup vehicle rider time) = time
 second_of (Dropoff vehicle rider time) = time
 second_of _ = 0
 
--- a command has a second of at most 1,000,000,000
-abbrev pub IsInTime : Command → Type 0
-IsInTime command = second_of command ≤ longest
-
--- a command has a second above 1,000,000,000
-abbrev pub IsTooLate : Command → Type 0
-IsTooLate command = longest < second_of command
-
--- something that is too late is entered of one of the vehicles
+-- something of a second above 1,000,000,000 is entered of one of the vehicles
 abbrev pub EntersTooLate : Roads → ℕ → ℕ → List Vehicle → List Course → Type 0
 EntersTooLate roads dwell now [] courses = ⊥
 EntersTooLate roads dwell now vehicles [] = ⊥
 EntersTooLate roads dwell now (v ∷ vehicles) (c ∷ courses) =
-    ((own : List Command) × IsEntered roads dwell now v c own × Any IsTooLate own) ⊎ EntersTooLate roads dwell now vehicles courses
+    ((own : List Command) × IsEntered roads dwell now v c own × Any (λ c. longest < second_of c) own) ⊎ EntersTooLate roads dwell now vehicles courses
 
 -- the stops that are left, by vehicle
 abbrev pub left_commands : List Vehicle → List Course → List Command
-left_commands [] courses = []
-left_commands vehicles [] = []
-left_commands (v ∷ vehicles) (c ∷ courses) = map (stop_command v.id) c.stops.items ++ left_commands vehicles courses
+left_commands vehicles courses = flat_map (λ p. map (stop_command p.0.id) p.1.stops.items) (zip vehicles courses)

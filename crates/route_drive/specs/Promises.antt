@@ -1,5 +1,5 @@
 -- What a driven day keeps, entry by entry: nobody is late, no promise lapses, and no vehicle is above its seats.
-use Rattle.std.specs.Prelude.{◌≡◌, ℕ, ◌+◌, ◌≤◌, false, List, [], ◌∷◌, Some, None, All, map}
+use Rattle.std.specs.Prelude.{◌≡◌, ℕ, ◌+◌, ◌≤◌, false, List, [], ◌∷◌, Some, None, IfSome, All, map}
 use Rattle.pool_base.specs.Times.{travel_time}
 use Rattle.pool_base.specs.declared.times.Times.{Times}
 use Rattle.batch_snapshot.specs.Batch.{Batch}
@@ -17,7 +17,6 @@ use Rattle.request_book.specs.declared.command.Command.{Command}
 use Rattle.request_book.specs.declared.command.Command.TheVariants.{Report, Pickup, Dropoff, Close}
 use Rattle.request_book.specs.declared.journal.Entry.{Entry}
 use Rattle.request_book.specs.declared.outcome.Answer.{Answer}
-use Rattle.request_book.specs.declared.outcome.Answer.TheVariants as answer
 use Rattle.request_book.specs.declared.reply.Reply.{Reply}
 use Rattle.request_book.specs.declared.reply.Reply.TheVariants.{Placed, Picked, Dropped, Closed}
 use Rattle.request_book.specs.declared.rider.BookRider.{BookRider}
@@ -33,30 +32,13 @@ use Rattle.route_drive.specs.declared.day_run.DayRound.{DayRound}
 use Rattle.dispatch_report.specs.declared.day.DayCounts.{DayCounts}
 use Rattle.route_drive.specs.Counts.{AreCounts, entries_of, ideal_dropoff}
 use Rattle.route_drive.specs.Day.{day_fault}
-use Rattle.route_drive.specs.Driven.{IsDrivenDay}
+use Rattle.route_drive.specs.Driven.{IsDrivenDay, planned_in}
 
 -- a drop-off at a second is at most so much later than the ideal one
 pub record IsDroppedInTime (roads : Roads) (delay : ℕ) (r : BookRider) (second : ℕ) : Type 0 where
   pub seconds : ℕ
   pub between : IsTimeBetween roads.arcs (index_in roads.nodes r.origin) (index_in roads.nodes r.destination) seconds
   pub in_time : second ≤ ideal_dropoff r.time seconds + delay
-
--- a rider is picked up at a second that is within the wait after the request
-pub record IsPickedInWait (wait : ℕ) (riders : List BookRider) (rider second : ℕ) : Type 0 where
-  pub of : BookRider
-  pub found : find_rider rider riders ≡ Some of
-  pub in_wait : second ≤ of.time + wait
-
--- a rider is dropped at a second that is within the delay after the ideal one
-pub record IsDroppedInDelay (roads : Roads) (delay : ℕ) (riders : List BookRider) (rider second : ℕ) : Type 0 where
-  pub of : BookRider
-  pub found : find_rider rider riders ≡ Some of
-  pub in_time : IsDroppedInTime roads delay of second
-
--- a plan tells no late vehicle and no lapsed promise
-abbrev pub TellsNothingLate : Answer → Type 0
-TellsNothingLate answer.Overflow = Unit {0}
-TellsNothingLate (answer.Planned planned) = (planned.late ≡ []) × (planned.lapsed ≡ [])
 
 -- a batch that is closed: by the travel times between its points and the limits that follow from them no vehicle is
 -- late and no promise has lapsed, whether it gets a plan or has too many rows; and its plan tells none
@@ -65,7 +47,7 @@ pub record IsClosedInTime (settings : Settings) (roads : Roads) (s : State) (ans
   pub sealed : s.sealed ≡ Some batch
   pub settles : (points : List ℕ) (times : Times) (settled : Settled) → AreTravelTimes roads.arcs (map (index_in roads.nodes) points) times → IsSettled settings points (travel_time times) batch settled
       → All (λ v. v.late ≡ false) settled.vehicles × All (λ r. r.lapsed ≡ false) settled.riders
-  pub tells : TellsNothingLate answer
+  pub tells : IfSome (planned_in answer) (λ planned. (planned.late ≡ []) × (planned.lapsed ≡ []))
 
 -- a command picks a rider up by a second, if it does
 abbrev pub IsPickedBy : ℕ → ℕ → Command → Type 0
@@ -85,8 +67,8 @@ module _ (settings : Settings) (roads : Roads) where
   -- answered `closed`, and no vehicle is late and no promise lapses in its batch
   abbrev pub EntryKeeps : State → Command → Reply → Type 0
   EntryKeeps s (Report vehicle node second) reply = reply ≡ Placed
-  EntryKeeps s (Pickup vehicle rider second) reply = (reply ≡ Picked) × IsPickedInWait settings.wait s.riders rider second
-  EntryKeeps s (Dropoff vehicle rider second) reply = (reply ≡ Dropped) × IsDroppedInDelay roads settings.delay s.riders rider second
+  EntryKeeps s (Pickup vehicle rider second) reply = (reply ≡ Picked) × (r : BookRider) × (find_rider rider s.riders ≡ Some r) × (second ≤ r.time + settings.wait)
+  EntryKeeps s (Dropoff vehicle rider second) reply = (reply ≡ Dropped) × (r : BookRider) × (find_rider rider s.riders ≡ Some r) × IsDroppedInTime roads settings.delay r second
   EntryKeeps s (Close batch outcome) reply = (reply ≡ Closed) × IsClosedInTime settings roads s outcome.answer
   EntryKeeps s command reply = Unit {0}
 

@@ -4,4 +4,3 @@ pub mod Rounds
 pub mod Drive
 pub mod Counting
 pub mod Serving
-pub mod Kept

@@ -1,5 +1,6 @@
-ghost use Rattle.std.specs.Prelude.{◌≡◌, ◌≢◌, [], ℕ, All, None, Some, Err, IfErr, IfOk, List, length, map};
+ghost use Rattle.std.specs.Prelude.{◌≡◌, ◌≢◌, ◌<◌, [], ℕ, All, None, Some, Err, IfErr, IfOk, List, length, map};
 ghost use Rattle.std.specs.List.{Any};
+ghost use Rattle.pool_base.specs.TravelTime.{longest};
 ghost use Rattle.request_book.specs.Book.{next_position};
 ghost use Rattle.request_book.specs.Consistent.{IsConsistent};
 ghost use Rattle.request_book.specs.declared.journal.Entry.{Entry as EntryValue};
@@ -8,11 +9,11 @@ ghost use Rattle.script_rows.specs.Round.{lane_at};
 ghost use Rattle.dispatch_engine.specs.Run.{IsReady};
 ghost use Rattle.route_drive.specs.Counts.{AreCounts};
 ghost use Rattle.route_drive.specs.Day.{day_fault, seal_of};
-ghost use Rattle.route_drive.specs.Entering.{EntersTooLate, IsInTime, IsTooLate, left_commands};
+ghost use Rattle.route_drive.specs.Entering.{EntersTooLate, left_commands, second_of};
 ghost use Rattle.route_drive.specs.declared.entering.Stopped.TheVariants.{TooLate as Late};
-ghost use Rattle.route_drive.specs.Driven.{IsDrivenRound, IsLateAnswer, IsNewBook, courses_after};
+ghost use Rattle.route_drive.specs.Driven.{IsDrivenRound, IsLateAnswer, IsNewBook, courses_after, number_after};
 ghost use Rattle.route_drive.specs.work.Counting.{AddsServed, AreServed};
-ghost use Rattle.route_drive.specs.work.Drive.{HasCome, HasEnded, IsCounted, IsEndLate, IsLastLate, IsLastOn, IsRoundLate, IsRoundOn, IsStoppedAt, IsTaken, Takes, at_rest};
+ghost use Rattle.route_drive.specs.work.Drive.{HasCome, HasEnded, IsCounted, IsInTime, IsLastOn, IsLateAt, IsRoundOn, IsStoppedAt, IsTaken, Takes, at_rest};
 
 use crate::counts::{Served, counts_of, note_entries};
 use crate::course::Course;
@@ -144,7 +145,7 @@ fn drive_round<W: Ways, D: Drafter, G: Gate, K: RoundKeeper>(
     requires base { drive.book.base ≡ drive.book.state }
     requires each { length drive.courses.items ≡ length drive.book.state.vehicles }
     ensures run { IfOk result (λ next. (first : K) → IsRoundOn setup.now.settings.now setup.now.network.now round.now drive (K.took first keeper.old) (K.took first keeper.new) next) }
-    ensures late { IfErr result (λ fault. (first : K) → IsRoundLate setup.now.settings.now setup.now.network.now round.now drive (K.took first keeper.old) (K.took first keeper.new) fault) }
+    ensures late { IfErr result (λ fault. (first : K) → IsLateAt round.now.number ((now : ℕ) × (seal_of round.now ≡ Some now) × EntersTooLate setup.now.network.now setup.now.settings.now.dwell now drive.book.state.vehicles drive.courses.items) (K.took first keeper.old) (K.took first keeper.new) fault) }
 {
     match driven_of(rt, alloc, setup, &drive, round) {
         Ok(driven) => run_driven(rt, alloc, drive, round, &driven, setup, keeper),
@@ -352,30 +353,12 @@ fn drive_end<W: Ways, D: Drafter, G: Gate, K: RoundKeeper>(
     requires entries { drive.book.entries ≡ [] }
     requires each { length drive.courses.items ≡ length drive.book.state.vehicles }
     ensures run { IfOk result (λ next. (first : K) → HasEnded setup.now.settings.now setup.now.network.now rounds.now drive (K.took first keeper.old) (K.took first keeper.new) next) }
-    ensures late { IfErr result (λ fault. (first : K) → IsEndLate rounds.now drive (K.took first keeper.old) (K.took first keeper.new) fault) }
+    ensures late { IfErr result (λ fault. (first : K) → IsLateAt (number_after rounds.now) (Any (λ c. longest < second_of c) (left_commands drive.book.state.vehicles drive.courses.items)) (K.took first keeper.old) (K.took first keeper.new) fault) }
 {
     if rounds.is_empty() {
         return Ok(drive);
     }
     let number = rounds[rounds.len() - 1].number() + 1;
-    drive_last(rt, alloc, drive, number, setup, keeper)
-}
-
-/// Drives the last round, of the stops that are left.
-fn drive_last<W: Ways, D: Drafter, G: Gate, K: RoundKeeper>(
-    rt: &(impl Threads + Wait + Sync),
-    alloc: Global,
-    drive: Drive,
-    number: u32,
-    setup: &Setup<'_, W, D, G>,
-    keeper: &mut K,
-) -> Result<Drive, DriveFault>
-    requires ready { IsReady setup.now.settings.now setup.now.network.now drive.book }
-    requires entries { drive.book.entries ≡ [] }
-    requires each { length drive.courses.items ≡ length drive.book.state.vehicles }
-    ensures run { IfOk result (λ next. (first : K) → IsLastOn setup.now.settings.now setup.now.network.now number drive (K.took first keeper.old) (K.took first keeper.new) next) }
-    ensures late { IfErr result (λ fault. (first : K) → IsLastLate number drive (K.took first keeper.old) (K.took first keeper.new) fault) }
-{
     match left_of(alloc, &drive) {
         Ok(left) => run_last(rt, alloc, drive, number, &left, setup, keeper),
         Err(stopped) => {
@@ -391,7 +374,7 @@ fn left_of(alloc: Global, drive: &Drive) -> Result<Round, Stopped>
     ensures first { IfOk result (λ round. lane_at round 0 ≡ left_commands drive.now.book.state.vehicles drive.now.courses.items) }
     ensures others { IfOk result (λ round. (lane : ℕ) → lane ≢ 0 → lane_at round lane ≡ []) }
     ensures in_time { IfOk result (λ round. All IsInTime (left_commands drive.now.book.state.vehicles drive.now.courses.items)) }
-    ensures late { result ≡ Err Late → Any IsTooLate (left_commands drive.now.book.state.vehicles drive.now.courses.items) }
+    ensures late { result ≡ Err Late → Any (λ c. longest < second_of c) (left_commands drive.now.book.state.vehicles drive.now.courses.items) }
 {
     match drive.book.state() {
         Ok(state) => last_round(alloc, state.vehicles.as_slice(), drive.courses.as_slice()),

@@ -3,8 +3,9 @@ ghost use Rattle.std.specs.Prelude.{◌≡◌, ◌<◌, ◌≤◌, ◌++◌, ◌
 ghost use Rattle.std.specs.List.{Any};
 ghost use Rattle.pool_base.specs.TravelTime.{longest};
 ghost use Rattle.request_book.specs.declared.command.Command.{Command};
-ghost use Rattle.route_drive.specs.Entering.{AreEntered, EntersTooLate, IsInTime, due, stop_command};
+ghost use Rattle.route_drive.specs.Entering.{AreEntered, EntersTooLate, due, stop_command};
 ghost use Rattle.route_drive.specs.declared.entering.Stopped.TheVariants.{TooLate as Late};
+ghost use Rattle.route_drive.specs.work.Drive.{IsInTime};
 ghost use Rattle.route_drive.specs.work.Places.{told_by, told_of};
 ghost use Rattle.route_drive.specs.work.Rounds.{Adds};
 ghost use Rattle.script_rows.specs.Round.{MayStand};

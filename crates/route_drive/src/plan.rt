@@ -1,7 +1,8 @@
 //! What is on its way after a round.
 ghost use Rattle.std.specs.Prelude.{◌≡◌, ◌==◌, [], None, Some, IfNone, IfOk, IfSome, find, map, option_and_then, option_map};
 ghost use Rattle.std.specs.Option.{option_map_or};
-ghost use Rattle.route_drive.specs.Driven.{courses_after, left_course, plan_in, plan_of, planned_course};
+ghost use Rattle.request_book.specs.Command.{closed_outcome};
+ghost use Rattle.route_drive.specs.Driven.{courses_after, left_course, plan_in, planned_course, planned_in};
 ghost use Rattle.route_drive.specs.work.Drive.{at_rest};
 ghost use Rattle.route_drive.specs.Entering.{to_come};
 
@@ -38,9 +39,10 @@ pub(crate) fn courses_after(
 ) -> Result<Vec<Course>, OutOfMemory>
     ensures { IfOk result (λ after. after.items ≡ courses_after state.now round.now entries.now courses.now) }
 {
+    let seal = first_seal(round.lane(0));
     match plan_in(entries) {
         Some(planned) => planned_courses(alloc, state, planned),
-        None => left_courses(alloc, first_seal(round.lane(0)), courses),
+        None => left_courses(alloc, &seal, courses),
     }
 }
 
@@ -60,8 +62,8 @@ fn plan_in(entries: &[Entry]) -> Option<&Planned>
 
 /// The plan with which an entry ended a batch.
 fn plan_of(entry: &Entry) -> Option<&Planned>
-    ensures some { IfSome result (λ planned. plan_of entry.now.command entry.now.reply ≡ Some planned.now) }
-    ensures none { IfNone result (plan_of entry.now.command entry.now.reply ≡ None) }
+    ensures some { IfSome result (λ planned. option_and_then (λ closed. planned_in closed.1.answer) (closed_outcome entry.now.command entry.now.reply) ≡ Some planned.now) }
+    ensures none { IfNone result (option_and_then (λ closed. planned_in closed.1.answer) (closed_outcome entry.now.command entry.now.reply) ≡ None) }
 {
     if entry.reply != Reply::Closed {
         return None;
@@ -143,59 +145,33 @@ fn copied_stops(stops: &ArrayVec<PlannedStop, 22>) -> ArrayVec<PlannedStop, 22>
     copy
 }
 
+/// What a seal leaves on its way, or what was on its way without one.
 fn left_courses(
     alloc: Global,
-    seal: Option<Second>,
+    seal: &Option<Second>,
     courses: &[Course],
 ) -> Result<Vec<Course>, OutOfMemory>
-    ensures { IfOk result (λ left. left.items ≡ map (left_course seal) courses.now) }
+    ensures { IfOk result (λ left. left.items ≡ map (left_course seal.now) courses.now) }
+{
+    let mut left = Vec::with_capacity(alloc, courses.len())?;
+    for course in courses {
+        left.push(left_course(seal, course))?;
+    }
+    Ok(left)
+}
+
+fn left_course(seal: &Option<Second>, course: &Course) -> Course
+    ensures { result ≡ left_course seal.now course.now }
 {
     match seal {
-        None => copied_courses(alloc, courses),
-        Some(now) => courses_to_come(alloc, now, courses),
-    }
-}
-
-fn copied_courses(alloc: Global, courses: &[Course]) -> Result<Vec<Course>, OutOfMemory>
-    ensures { IfOk result (λ left. left.items ≡ map (left_course None) courses.now) }
-{
-    let mut left = Vec::with_capacity(alloc, courses.len())?;
-    for course in courses {
-        left.push(copied_course(course))?;
-    }
-    Ok(left)
-}
-
-fn copied_course(course: &Course) -> Course
-    ensures { result ≡ course.now }
-{
-    Course {
-        stops: copied_stops(&course.stops),
-        target: course.target,
-    }
-}
-
-/// What a seal leaves on its way.
-fn courses_to_come(
-    alloc: Global,
-    now: Second,
-    courses: &[Course],
-) -> Result<Vec<Course>, OutOfMemory>
-    ensures { IfOk result (λ left. left.items ≡ map (left_course (Some now)) courses.now) }
-{
-    let mut left = Vec::with_capacity(alloc, courses.len())?;
-    for course in courses {
-        left.push(course_to_come(now, course))?;
-    }
-    Ok(left)
-}
-
-fn course_to_come(now: Second, course: &Course) -> Course
-    ensures { result ≡ left_course (Some now) course.now }
-{
-    Course {
-        stops: stops_to_come(now, &course.stops),
-        target: course.target,
+        None => Course {
+            stops: copied_stops(&course.stops),
+            target: course.target,
+        },
+        Some(now) => Course {
+            stops: stops_to_come(*now, &course.stops),
+            target: course.target,
+        },
     }
 }
 

@@ -1,10 +1,12 @@
 //! The rounds of the driven script, as they are run.
 ghost use Rattle.std.specs.Prelude.{◌≡◌, ◌≢◌, ◌<◌, ◌++◌, ℕ, [], Err, Some, All, IfOk, OnOk, length, map};
 ghost use Rattle.std.specs.List.{Any};
+ghost use Rattle.pool_base.specs.TravelTime.{longest};
 ghost use Rattle.route_drive.specs.Day.{seal_of};
 ghost use Rattle.route_drive.specs.Driven.{IsDrivenRound};
-ghost use Rattle.route_drive.specs.Entering.{EntersTooLate, IsInTime, IsTooLate, left_commands, stop_command};
+ghost use Rattle.route_drive.specs.Entering.{EntersTooLate, left_commands, second_of, stop_command};
 ghost use Rattle.route_drive.specs.declared.entering.Stopped.TheVariants.{TooLate as Late};
+ghost use Rattle.route_drive.specs.work.Drive.{IsInTime};
 ghost use Rattle.route_drive.specs.work.Rounds.{Adds};
 ghost use Rattle.script_rows.specs.Round.{MayStand, lane_at};
 
@@ -85,7 +87,7 @@ pub(crate) fn last_round(
     ensures first { IfOk result (λ round. lane_at round 0 ≡ left_commands vehicles.now courses.now) }
     ensures others { IfOk result (λ round. (lane : ℕ) → lane ≢ 0 → lane_at round lane ≡ []) }
     ensures in_time { IfOk result (λ round. All IsInTime (left_commands vehicles.now courses.now)) }
-    ensures late { result ≡ Err Late → Any IsTooLate (left_commands vehicles.now courses.now) }
+    ensures late { result ≡ Err Late → Any (λ c. longest < second_of c) (left_commands vehicles.now courses.now) }
 {
     let Ok(mut round) = Round::new(alloc, 0) else {
         return Err(Stopped::OutOfMemory);
@@ -106,7 +108,7 @@ fn enter_left(round: &mut Round, vehicle: VehicleId, stops: &[PlannedStop]) -> R
     requires sixteen { length round.old.lanes ≡ 16 }
     ensures entered { OnOk result (Adds 0 (map (stop_command vehicle) stops.now) round.old round.new) }
     ensures in_time { OnOk result (All IsInTime (map (stop_command vehicle) stops.now)) }
-    ensures late { result ≡ Err Late → Any IsTooLate (map (stop_command vehicle) stops.now) }
+    ensures late { result ≡ Err Late → Any (λ c. longest < second_of c) (map (stop_command vehicle) stops.now) }
 {
     for stop in stops {
         let Some(time) = Second::new(stop.second) else {

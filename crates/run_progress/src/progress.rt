@@ -17,7 +17,8 @@ pub(crate) struct Progress {
     /// Of the batch that is being written.
     rows: u64,
     cost: i64,
-    runs: bool,
+    /// Whether a round is being run.
+    pub(crate) runs: bool,
 }
 
 impl Progress {
@@ -31,11 +32,6 @@ impl Progress {
             cost: 0,
             runs: false,
         }
-    }
-
-    /// Whether a round is being run.
-    pub(crate) fn runs(&self) -> bool {
-        self.runs
     }
 
     /// Reads what was written.

@@ -44,14 +44,8 @@ fn line_of(text: &str) -> Line {
         Some(("cost", cost)) => number(cost).map_or(Line::Other, Line::Cost),
         Some(("bound", bound)) => number(bound).map_or(Line::Other, Line::Bound),
         Some(("done", _)) => Line::Done,
-        Some(_) => Line::Other,
-        None => {
-            if text == "overflow" {
-                Line::Overflow
-            } else {
-                Line::Other
-            }
-        }
+        None if text == "overflow" => Line::Overflow,
+        _ => Line::Other,
     }
 }
 
@@ -60,10 +54,7 @@ fn batch_line(rest: &str) -> Line {
     match rest.split_once(' ') {
         None => Line::Batch,
         Some((_, "overflow")) => Line::Summed(Closed::Overflow),
-        Some((_, sums)) => match planned(sums) {
-            Some(closed) => Line::Summed(closed),
-            None => Line::Other,
-        },
+        Some((_, sums)) => planned(sums).map_or(Line::Other, Line::Summed),
     }
 }
 

@@ -78,7 +78,7 @@ impl<K, W: Write> WatchedSink<K, W> {
             return;
         };
         self.progress.read(bytes);
-        if !self.progress.runs() || bytes.last() != Some(&b'\n') {
+        if !self.progress.runs || bytes.last() != Some(&b'\n') {
             return;
         }
         if let Ok(text) = self.progress.text(self.alloc) {

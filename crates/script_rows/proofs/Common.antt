@@ -1,5 +1,5 @@
 -- The names that the proofs of this crate cite from elsewhere, passed on from one place. Declares nothing.
-pub use Rattle.std.proofs.lemmas.Bool.{and_from, and_left, and_parts, and_right, cases_eq, cases_order, not-false}
+pub use Rattle.std.proofs.lemmas.Bool.{and_left, and_parts, cases_order}
 pub use Rattle.std.proofs.lemmas.List.{get_or_at, get_or_default, length_push, map-append, set_at}
 pub use Rattle.std.proofs.lemmas.List.Elements.{All-head, All-nil, All-push, All-same, All-tail, All-weaker, filter-append}
 pub use Rattle.std.proofs.lemmas.Result.{err_from_is_err_and, on_ok_weaker}
@@ -9,7 +9,7 @@ pub use Rattle.pool_base.specs.InOrder.{all_or_first, refused_where, ◌>>=◌}
 pub use Rattle.pool_io.specs.Table.{field_at, record_at}
 pub use Rattle.request_book.specs.declared.command.Command.{Command}
 unfoldable pub use Rattle.script_rows.specs.Line.{command_in, line_in, submit_in, three_in}
-pub use Rattle.script_rows.specs.Line.{IsBehind, is_seal, leaves_empty, party_in}
+pub use Rattle.script_rows.specs.Line.{IsBehind, leaves_empty}
 pub use Rattle.script_rows.specs.Round.{MayStand, NumberedLanes, empty_round, with_command}
 pub use Rattle.script_rows.specs.Script.{round_before, round_of, script_of}
 pub use Rattle.script_rows.specs.declared.fault.ScriptFault.{ScriptFault}

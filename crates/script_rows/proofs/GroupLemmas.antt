@@ -1,7 +1,8 @@
-use Rattle.std.proofs.Common.{◌≡◌, ◌≢◌, ℕ, ◌<◌, Bool, true, false, ◌&&◌, cond, eqb, List, [], ◌∷◌, ◌++◌, map, length, get_or, set, refl, sym, ap, ◌∙◌, inl, inr, arith}
-use Rattle.script_rows.proofs.Common.{range_with_len, cases_eq, and_left, and_right, and_from, map-append, All-head, All-tail, filter-append, Command, Line, NumberedLanes, commands_of, empty_round, with_command, round_of}
+use Rattle.std.proofs.Common.{◌≡◌, ◌≢◌, ℕ, ◌<◌, Bool, false, ◌&&◌, cond, eqb, List, [], ◌∷◌, ◌++◌, map, length, get_or, set, refl, sym, ap, ◌∙◌, arith}
+use Rattle.script_rows.proofs.Common.{range_with_len, and_left, map-append, All-head, All-tail, filter-append, Command, Line, NumberedLanes, commands_of, empty_round, with_command, round_of}
 use Rattle.std.specs.List.{All, filter}
-use Rattle.std.proofs.lemmas.Bool.{eq-eqb, ne_eqb}
+use Rattle.std.proofs.lemmas.Bool.{ne_eqb}
+use Rattle.std.proofs.lemmas.Bool.Decides.{nat_tests}
 use Rattle.std.proofs.lemmas.List.{append-nil, length-set, get_or-set_same, get_or-set_other}
 use Rattle.std.proofs.lemmas.List.FromFn.{length-map-range_with_len, get_or-map-range_with_len, fill_by_all}
 
@@ -21,11 +22,10 @@ commands_of-push : (lines : List Line) (line : Line) (number lane : ℕ) → com
 commands_of-push lines line number lane =
     ap (map (λ (l : Line). l.command)) (filter-append (is_of number lane) lines (line ∷ []))
     ∙ map-append (λ (l : Line). l.command) (filter (is_of number lane) lines) (filter (is_of number lane) (line ∷ []))
-    ∙ ap (λ cs. commands_of lines number lane ++ cs) (single (is_of number lane line))
+    ∙ ap (λ cs. commands_of lines number lane ++ cs) single
   where
-    single : (b : Bool) → map (λ (l : Line). l.command) (cond b (line ∷ []) []) ≡ cond b (line.command ∷ []) []
-    single true = refl
-    single false = refl
+    single : map (λ (l : Line). l.command) (cond (is_of number lane line) (line ∷ []) []) ≡ cond (is_of number lane line) (line.command ∷ []) []
+    single = grind arith
 
 -- the rows of other rounds and lanes add nothing
 commands_of-push_other : (lines : List Line) (line : Line) (number lane : ℕ) → is_of number lane line ≡ false → commands_of (lines ++ line ∷ []) number lane ≡ commands_of lines number lane
@@ -42,21 +42,10 @@ round_of-push lines line within =
     let more : List Command = get_or xs line.lane [] ++ line.command ∷ [] in
     let size : length xs ≡ 16 = length-map-range_with_len (commands_of lines number) 0 16 in
     let each : (k : ℕ) → k < 16 → get_or (set xs line.lane more) k [] ≡ commands_of (lines ++ line ∷ []) number k = λ k below.
-    elim (cases_eq k line.lane) [
-      | inl same ↦
-          let here : get_or (set xs line.lane more) line.lane [] ≡ more = get_or-set_same xs line.lane more [] (omega (arith, size)) in
-          let was : get_or xs line.lane [] ≡ commands_of lines number line.lane = get_or-map-range_with_len (commands_of lines number) 0 16 line.lane line.lane [] within (omega arith) in
-          let is : is_of number line.lane line ≡ true = and_from (eqb line.round number) (eqb line.lane line.lane) (eq-eqb line.round number refl) (eq-eqb line.lane line.lane refl) in
-          ap (λ i. get_or (set xs line.lane more) i []) same ∙ here ∙ ap (λ cs. cs ++ line.command ∷ []) was
-          ∙ ap (λ b. commands_of lines number line.lane ++ cond b (line.command ∷ []) []) (sym is)
-          ∙ sym (commands_of-push lines line number line.lane)
-          ∙ ap (commands_of (lines ++ line ∷ []) number) (sym same)
-      | inr other ↦
-          let here : get_or (set xs line.lane more) k [] ≡ get_or xs k [] = get_or-set_other xs line.lane k more [] other in
-          let was : get_or xs k [] ≡ commands_of lines number k = get_or-map-range_with_len (commands_of lines number) 0 16 k k [] below (omega arith) in
-          let is : is_of number k line ≡ false = and_right (eqb line.round number) (eqb line.lane k) (ne_eqb line.lane k (λ e. other (sym e))) in
-          here ∙ was ∙ sym (commands_of-push_other lines line number k is)
-    ] in
+    let was : get_or xs k [] ≡ commands_of lines number k = get_or-map-range_with_len (commands_of lines number) 0 16 k k [] below (omega arith) in
+    let pushed = commands_of-push lines line number k in
+    let last = append-nil (commands_of lines number k) in
+    grind (arith, nat_tests, get_or-set_same xs line.lane more [], get_or-set_other xs line.lane k more []) in
     let lanes : set xs line.lane more ≡ map (commands_of (lines ++ line ∷ []) number) (range_with_len 0 16) =
     fill_by_all (commands_of (lines ++ line ∷ []) number) (set xs line.lane more) 16 [] (length-set xs line.lane more ∙ size) each in
     let made : List (List Command) → NumberedLanes = λ ls. record { number = number; lanes = ls } in
@@ -75,10 +64,9 @@ round_of-push_other lines line number other =
 commands_of-none : (lines : List Line) (number lane : ℕ) → All (λ n. n ≢ number) (map (λ l. l.round) lines) → commands_of lines number lane ≡ []
 commands_of-none [] number lane none = refl
 commands_of-none (line ∷ lines) number lane none =
-    let other : line.round ≢ number = All-head (λ n. n ≢ number) line.round (map (λ l. l.round) lines) none in
-    let is : is_of number lane line ≡ false = and_left (eqb line.round number) (eqb line.lane lane) (ne_eqb line.round number other) in
-    ap (λ b. map (λ (l : Line). l.command) (cond b (line ∷ filter (is_of number lane) lines) (filter (is_of number lane) lines))) is
-    ∙ commands_of-none lines number lane (All-tail (λ n. n ≢ number) line.round (map (λ l. l.round) lines) none)
+    let other = All-head (λ n. n ≢ number) line.round (map (λ l. l.round) lines) none in
+    let rest = commands_of-none lines number lane (All-tail (λ n. n ≢ number) line.round (map (λ l. l.round) lines) none) in
+    grind (arith, nat_tests)
 
 -- a number that no row has gives a round without commands
 pub round_of-none : (lines : List Line) (number : ℕ) → All (λ n. n ≢ number) (map (λ l. l.round) lines) → round_of lines number ≡ empty_round number

@@ -61,10 +61,6 @@ first_line line within =
     with_line-begins [] line refl
     ∙ ap (λ (r : NumberedLanes). r ∷ []) (sym (round_of-push [] line within ∙ ap (λ r. with_command r line.lane line.command) (round_of-none [] line.round (All-nil (λ n. n ≢ line.round)))))
 
-first_of_none : (lines : List Line) (line : Line) → line.lane < 16 → lines ≡ [] → with_line (rounds_of lines) line ≡ rounds_of (lines ++ line ∷ [])
-first_of_none lines line within none =
-    ap (λ ls. with_line (rounds_of ls) line) none ∙ first_line line within ∙ ap (λ ls. rounds_of (ls ++ line ∷ [])) (sym none)
-
 -- a row of the last round
 more_of_last : (lines : List Line) (line : Line) (front : List ℕ) → line.lane < 16 → distinct (numbers lines) ≡ front ++ line.round ∷ [] → All (λ n. n < line.round) front → list_any (λ n. eqb n line.round) (numbers lines) ≡ true → with_line (rounds_of lines) line ≡ rounds_of (lines ++ line ∷ [])
 more_of_last lines line front within ends before here =
@@ -121,7 +117,7 @@ Built-more lines last rounds line built behind =
     let as_made : with_line rounds line ≡ with_line (rounds_of lines) line = ap (λ rs. with_line rs line) built.made in
     elim built.shape [
       | inl none ↦ record {
-        made = as_made ∙ first_of_none lines line behind.lane none;
+        made = as_made ∙ subst (λ ls. with_line (rounds_of ls) line ≡ rounds_of (ls ++ line ∷ [])) (sym none) (first_line line behind.lane);
         below = below-push lines line last behind.round built.below;
         shape = inr (record { front = []; ends = ap (λ ls. distinct (numbers (ls ++ line ∷ []))) none; before = All-nil (λ n. n < line.round); here = found });
       }

@@ -1,4 +1,4 @@
-use Rattle.std.specs.Prelude.{ℕ, ◌+◌, ◌-◌, ◌<◌, ◌≤◌, Bool, true, false, not, ◌&&◌, List, Result, Ok, Err, length, nat_lt, nat_le, ◌==◌, if◌then◌else◌}
+use Rattle.std.specs.Prelude.{ℕ, ◌+◌, ◌-◌, ◌<◌, ◌≤◌, Bool, false, not, ◌&&◌, List, Result, Ok, Err, length, nat_lt, nat_le, ◌==◌, if◌then◌else◌}
 use Rattle.std.specs.List.{list_all, range_with_len}
 use Rattle.std.specs.Option.{ok_or}
 use Rattle.pool_base.specs.InOrder.{◌>>=◌, refused_where}
@@ -55,11 +55,6 @@ unfoldable pub leaves_empty : ScriptVersion → List (List ℕ) → Word → Boo
 leaves_empty version fields word =
     list_all (λ column. length (field_at fields column) == 0) (range_with_len (3 + used_by version word) (columns_of version - (3 + used_by version word)))
 
--- the word is `seal`
-abbrev pub is_seal : Word → Bool
-is_seal Seal = true
-is_seal _ = false
-
 -- a row behind a row of this round, or the first refusal; rows count from 1
 unfoldable pub line_in : ScriptVersion → ℕ → ℕ → List (List ℕ) → Result Line ScriptFault
 line_in version row last fields = do
@@ -70,7 +65,7 @@ line_in version row last fields = do
   word ← ok_or (word_of (field_at fields 2)) (UnknownCommand row)
   command ← command_in version row fields word
   _ ← refused_where (not (leaves_empty version fields word)) (ExtraField row)
-  _ ← refused_where (is_seal word && not (lane == 0)) (SealLane row)
+  _ ← refused_where (elim word [ Seal ↦ not (lane == 0) | _ ↦ false ]) (SealLane row)
   Ok (record { round = round; lane = lane; command = command })
 
 -- what a row keeps that stands behind a row of a round

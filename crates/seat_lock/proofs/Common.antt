@@ -15,4 +15,4 @@ pub use Rattle.seat_lock.specs.work.Views.{IsPass, calls_in, claim, first_claim,
 pub use lib.ListN.{get_elem?}
 pub use mathlib.Core.Logic.{dite}
 pub use mathlib.Core.Option.{none, some, some-injective, some-ne-none}
-pub use native.Mathlib.Decide.{dec_lt, ℕ_discrete}
+pub use native.Mathlib.Decide.{ℕ_discrete}

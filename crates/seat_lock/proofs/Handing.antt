@@ -1,45 +1,23 @@
 -- Passes as they are handed out and taken back.
 use Rattle.std.proofs.Common.{◌≡◌, ℕ, zero, suc, ◌+◌, ◌-◌, ◌<◌, List, [], ◌∷◌, ◌++◌, map, length, get_or, All, Option, Some, sym, refl, ap, ◌∙◌, subst, arith}
-use Rattle.seat_lock.proofs.Common.{dite, dec_lt, Me, LoggedCall, View, Idle, PassValue, calls_of, claim, calls_in, lane_view, lanes_view, lane_given, lanes_kept, pass_value, IsPass, Claimed, Laned, claim_of}
+use Rattle.std.specs.List.{Contains}
+use Rattle.std.proofs.lemmas.List.{get_or_append_left, length-map}
+use Rattle.std.proofs.lemmas.List.Elements.{All-contains, Contains-append_left, Contains-push}
+use Rattle.std.proofs.Math.Seq.{get_or-append_seam}
+use Rattle.seat_lock.proofs.Common.{Me, LoggedCall, View, Idle, PassValue, calls_of, claim, calls_in, lane_view, lanes_view, lane_given, lanes_kept, pass_value, IsPass, Claimed, Laned, claim_of}
 use Rattle.atomic_table.specs.declared.shared.Seat.{Seat}
 
 module _ {A : Type 0} where
-  front_at : (xs ys : List A) (k : ℕ) (d : A) → k < length xs → get_or (xs ++ ys) k d ≡ get_or xs k d
-  front_at [] ys k d lt = absurd (omega arith)
-  front_at (x ∷ xs) ys zero d lt = refl
-  front_at (x ∷ xs) ys (suc k) d lt = front_at xs ys k d (omega arith)
-
-  seam_at : (xs ys : List A) (x d : A) (k : ℕ) → k ≡ length xs → get_or (xs ++ x ∷ ys) k d ≡ x
-  seam_at [] ys x d zero e = refl
-  seam_at [] ys x d (suc k) e = absurd (omega arith)
-  seam_at (y ∷ xs) ys x d zero e = absurd (omega arith)
-  seam_at (y ∷ xs) ys x d (suc k) e = seam_at xs ys x d k (omega arith)
-
   -- a list built element by element
   pub pushed_each : (xs : List A) (x : A) (n : ℕ) (f : ℕ → A) → length xs ≡ n → ((k : ℕ) (d : A) → k < n → get_or xs k d ≡ f k) → x ≡ f n → (k : ℕ) (d : A) → k < n + 1 → get_or (xs ++ x ∷ []) k d ≡ f k
-  pushed_each xs x n f long each is k d lt = dite (dec_lt k n)
-      (λ below. front_at xs (x ∷ []) k d (omega arith) ∙ each k d below)
-      (λ not_below. let same : k ≡ n = omega arith in seam_at xs [] x d k (omega arith) ∙ is ∙ ap f (sym same))
-
-  length_seam : (ys zs : List A) (p : A) → length ys < length ((ys ++ p ∷ []) ++ zs)
-  length_seam [] zs p = omega arith
-  length_seam (y ∷ ys) zs p = let more = length_seam ys zs p in omega arith
-
-  seam_within : (ys zs : List A) (p d : A) → get_or ((ys ++ p ∷ []) ++ zs) (length ys) d ≡ p
-  seam_within [] zs p d = refl
-  seam_within (y ∷ ys) zs p d = seam_within ys zs p d
+  pushed_each xs x n f long each is k d lt = grind (arith, each k d, get_or_append_left xs (x ∷ []) d k, get_or-append_seam xs x [] d)
 
   -- what holds of each element holds of one in the middle
   pub All-middle : (P : A → Type 0) (xs ys zs : List A) (p : A) → (ys ++ p ∷ []) ++ zs ≡ xs → All P xs → P p
-  All-middle P xs ys zs p is all = subst P (seam_within ys zs p p) (subst (All P) (sym is) all (length ys) p (length_seam ys zs p))
+  All-middle P xs ys zs p is all = All-contains P xs p all (subst (λ l. Contains l p) is (Contains-append_left (ys ++ p ∷ []) zs p (Contains-push ys p)))
 
   pub some_mapped : {D : Type 0} (f : A → D) (xs : List A) → 0 < length xs → 0 < length (map f xs)
-  some_mapped f [] h = h
-  some_mapped f (x ∷ xs) h = omega arith
-
-  pub length-mapped : {D : Type 0} (f : A → D) (xs : List A) → length (map f xs) ≡ length xs
-  length-mapped f [] = refl
-  length-mapped f (x ∷ xs) = ap suc (length-mapped f xs)
+  some_mapped f xs h = omega (arith, length-map xs f)
 
 module _ {B C R : Type 0} where
   -- the seat of one lane is the seat of a pass

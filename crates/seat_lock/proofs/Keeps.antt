@@ -21,15 +21,13 @@ module _ {A : Type 0} where
 
 module _ {C R : Type 0} where
   in_turn_weight : (n : ℕ) (es : List (LoggedCall C R)) (st : Stage C R) → IsInTurn st → Knows n es st → ticket_weight (at n) st ≡ 1
-  in_turn_weight n es Idle t k = absurd t
-  in_turn_weight n es (Waiting x) t k = absurd t
   in_turn_weight n es (InTurn x l) t k = at-same n x k.0
+  in_turn_weight n es _ t k = absurd t
 
   -- what a seat out of turn knows stays so
   knows_on : (n n' : ℕ) (es es' : List (LoggedCall C R)) (st : Stage C R) → ¬ IsInTurn st → Knows n es st → Knows n' es' st
-  knows_on n n' es es' Idle t k = tt
-  knows_on n n' es es' (Waiting x) t k = tt
   knows_on n n' es es' (InTurn x l) t k = absurd (t tt)
+  knows_on n n' es es' _ t k = tt
 
   idle_out : (st : Stage C R) → st ≡ Idle → ¬ IsInTurn st
   idle_out st is t = subst IsInTurn is t
@@ -430,6 +428,5 @@ module _ {B C R Root : Type 0} (root : B → Root) (log : B → List (LoggedCall
       r.slot
     where
       in_turn_one : (st : Stage C R) → IsInTurn st → ticket_weight (λ _. 1) st ≡ 1
-      in_turn_one Idle t = absurd t
-      in_turn_one (Waiting x) t = absurd t
       in_turn_one (InTurn x l) t = refl
+      in_turn_one _ t = absurd t

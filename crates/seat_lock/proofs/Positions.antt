@@ -1,8 +1,9 @@
 -- Each position of a log is that of one call of one lane.
-use Rattle.std.proofs.Common.{◌≡◌, ℕ, zero, suc, ◌+◌, ◌<◌, ◌≤◌, ◌==◌, if◌then◌else◌, cond, Bool, true, false, List, [], ◌∷◌, length, get_or, filter, count_by, sum_by, nat_lt, sym, refl, ap, ◌∙◌, arith, eq-eqb, ne_eqb, le-ltb, lt-ltb}
-use Rattle.seat_lock.proofs.Common.{dite, ℕ_discrete, enumerate_from, LoggedCall, calls_of, below, Laned}
+use Rattle.std.proofs.Common.{◌≡◌, ℕ, zero, suc, ◌+◌, ◌<◌, ◌≤◌, ◌==◌, if◌then◌else◌, cond, Bool, List, [], ◌∷◌, length, get_or, filter, count_by, sum_by, nat_lt, sym, refl, ap, ◌∙◌, arith}
+use Rattle.std.proofs.lemmas.Bool.Decides.{nat_tests}
+use Rattle.seat_lock.proofs.Common.{enumerate_from, LoggedCall, calls_of, below, Laned}
 use Rattle.std.proofs.lemmas.List.Sums.{sum_by-cons}
-use Rattle.seat_lock.proofs.Totals.{at, at-same, at-other}
+use Rattle.seat_lock.proofs.Totals.{at}
 
 below-ext : (f h : ℕ → ℕ) (n : ℕ) → ((k : ℕ) → f k ≡ h k) → below f n ≡ below h n
 below-ext f h zero e = refl
@@ -35,27 +36,20 @@ in_range n m (suc len) = at n m + in_range n (m + 1) len
 
 in_range-past : (n m len : ℕ) → n < m → in_range n m len ≡ 0
 in_range-past n m zero lt = refl
-in_range-past n m (suc len) lt = let here : at n m ≡ 0 = at-other n m (λ e. omega arith) in let more : in_range n (m + 1) len ≡ 0 = in_range-past n (m + 1) len (omega arith) in omega arith
+in_range-past n m (suc len) lt = grind (arith, nat_tests, in_range-past n (m + 1) len)
 
 in_range-is : (n m len : ℕ) → m ≤ n → in_range n m len ≡ (if nat_lt n (m + len) then 1 else 0)
-in_range-is n m zero le = ap (λ b. if b then 1 else 0) (sym (le-ltb n (m + 0) (omega arith)))
-in_range-is n m (suc len) le = dite (ℕ_discrete m n)
-    (λ e. let here : at n m ≡ 1 = at-same n m e in let more : in_range n (m + 1) len ≡ 0 = in_range-past n (m + 1) len (omega arith) in
-    (let z : at n m + in_range n (m + 1) len ≡ 1 = omega arith in z) ∙ ap (λ b. if b then 1 else 0) (sym (lt-ltb n (m + suc len) (omega arith))))
-    (λ ne. let here : at n m ≡ 0 = at-other n m ne in let more = in_range-is n (m + 1) len (omega arith) in
-    (let z : at n m + in_range n (m + 1) len ≡ in_range n (m + 1) len = omega arith in z) ∙ more ∙ ap (λ (k : ℕ). if nat_lt n k then 1 else 0) (let z : m + 1 + len ≡ m + suc len = omega arith in z))
+in_range-is n m zero le = grind (arith, nat_tests)
+in_range-is n m (suc len) le = grind (arith, nat_tests, in_range-past n (m + 1) len, in_range-is n (m + 1) len)
 
 -- of the lanes below so many, one is this
 pick-past : (w lane n : ℕ) → n ≤ lane → below (λ k. if lane == k then w else 0) n ≡ 0
 pick-past w lane zero le = refl
-pick-past w lane (suc n) le =
-    let here : (if lane == n then w else 0) ≡ 0 = ap (λ b. if b then w else 0) (ne_eqb lane n (λ e. omega arith)) in let more : below (λ k. if lane == k then w else 0) n ≡ 0 = pick-past w lane n (omega arith) in omega arith
+pick-past w lane (suc n) le = grind (arith, nat_tests, pick-past w lane n)
 
 pick : (w lane n : ℕ) → lane < n → below (λ k. if lane == k then w else 0) n ≡ w
 pick w lane zero lt = absurd (omega arith)
-pick w lane (suc n) lt = dite (ℕ_discrete lane n)
-    (λ e. let here : (if lane == n then w else 0) ≡ w = ap (λ b. if b then w else 0) (eq-eqb lane n e) in let more : below (λ k. if lane == k then w else 0) n ≡ 0 = pick-past w lane n (omega arith) in omega arith)
-    (λ ne. let here : (if lane == n then w else 0) ≡ 0 = ap (λ b. if b then w else 0) (ne_eqb lane n ne) in let more : below (λ k. if lane == k then w else 0) n ≡ w = pick w lane n (omega arith) in omega arith)
+pick w lane (suc n) lt = grind (arith, nat_tests, pick-past w lane n, pick w lane n)
 
 module _ {C R : Type 0} (n : ℕ) where
   -- how many of these calls have the position n
@@ -66,8 +60,7 @@ module _ {C R : Type 0} (n : ℕ) where
   hits m es lane = calls_at (filter (λ p. p.1.lane == lane) (enumerate_from m es))
 
   one_more : (b : Bool) (x : ℕ × LoggedCall C R) (xs : List (ℕ × LoggedCall C R)) → calls_at (cond b (x ∷ xs) xs) ≡ (if b then at n x.0 else 0) + calls_at xs
-  one_more true x xs = sum_by-cons (λ (c : ℕ × LoggedCall C R). cond (c.0 == n) 1 0) x xs
-  one_more false x xs = omega arith
+  one_more b x xs = grind (arith, sum_by-cons (λ (c : ℕ × LoggedCall C R). cond (c.0 == n) 1 0) x xs)
 
   all_hits : (m : ℕ) (es : List (LoggedCall C R)) (lanes : ℕ) → Laned lanes es → below (hits m es) lanes ≡ in_range n m (length es)
   all_hits m [] lanes l = below-zero lanes

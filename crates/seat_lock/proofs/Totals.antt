@@ -1,6 +1,7 @@
 -- Sums over a list whose elements are read by `get_elem?`, and sums over the numbers below some n.
-use Rattle.std.proofs.Common.{◌≡◌, ◌≢◌, ℕ, zero, suc, ◌+◌, ◌<◌, ◌≤◌, ◌==◌, if◌then◌else◌, List, [], ◌∷◌, ◌++◌, length, set, sym, refl, ap, arith, le_refl, eq-eqb, ne_eqb}
-use Rattle.seat_lock.proofs.Common.{some, some-injective, some-ne-none, dite, ℕ_discrete, get_elem?, Claim, total, below, lane_weight, fresh_claims, first_claim, other_claims}
+use Rattle.std.proofs.Common.{◌≡◌, ◌≢◌, ℕ, zero, suc, ◌+◌, ◌<◌, ◌≤◌, ◌==◌, if◌then◌else◌, List, [], ◌∷◌, ◌++◌, length, set, sym, refl, ap, arith, le_refl}
+use Rattle.std.proofs.lemmas.Bool.Decides.{nat_tests}
+use Rattle.seat_lock.proofs.Common.{some, some-injective, some-ne-none, get_elem?, Claim, total, below, lane_weight, fresh_claims, first_claim, other_claims}
 
 module _ {A : Type 0} (f : A → ℕ) where
   pub total-set : (l : List A) (j : ℕ) (v w : A) → get_elem? l j ≡ some v → total f (set l j w) + f v ≡ total f l + f w
@@ -37,26 +38,22 @@ abbrev pub at : ℕ → ℕ → ℕ
 at k n = if n == k then 1 else 0
 
 pub at-same : (k n : ℕ) → n ≡ k → at k n ≡ 1
-at-same k n e = ap (λ b. if b then 1 else 0) (eq-eqb n k e)
+at-same k n e = grind (arith, nat_tests)
 
 pub at-other : (k n : ℕ) → n ≢ k → at k n ≡ 0
-at-other k n ne = ap (λ b. if b then 1 else 0) (ne_eqb n k ne)
+at-other k n ne = grind (arith, nat_tests)
 
 pub below-past : (k n : ℕ) → n ≤ k → below (at k) n ≡ 0
 below-past k zero le = refl
-below-past k (suc n) le = let here : at k n ≡ 0 = at-other k n (λ e. omega arith) in let more : below (at k) n ≡ 0 = below-past k n (omega arith) in omega arith
+below-past k (suc n) le = grind (arith, nat_tests, below-past k n)
 
 pub below-hit : (k n : ℕ) → k < n → below (at k) n ≡ 1
 below-hit k zero lt = absurd (omega arith)
-below-hit k (suc n) lt = dite (ℕ_discrete n k)
-    (λ e. let here : at k n ≡ 1 = at-same k n e in let more : below (at k) n ≡ 0 = below-past k n (omega arith) in omega arith)
-    (λ ne. let here : at k n ≡ 0 = at-other k n ne in let more : below (at k) n ≡ 1 = below-hit k n (omega arith) in omega arith)
+below-hit k (suc n) lt = grind (arith, nat_tests, below-past k n, below-hit k n)
 
 pub below-most : (k n : ℕ) → below (at k) n ≤ 1
 below-most k zero = omega arith
-below-most k (suc n) = dite (ℕ_discrete n k)
-    (λ e. let here : at k n ≡ 1 = at-same k n e in let more : below (at k) n ≡ 0 = below-past k n (omega arith) in omega arith)
-    (λ ne. let here : at k n ≡ 0 = at-other k n ne in let more : below (at k) n ≤ 1 = below-most k n in omega arith)
+below-most k (suc n) = grind (arith, nat_tests, below-past k n, below-most k n)
 
 pub below-count : (n : ℕ) → below (λ _. 1) n ≡ n
 below-count zero = refl
@@ -81,17 +78,12 @@ module _ (C R : Type 0) where
 
   pub fresh-past : (lane from n : ℕ) → lane < from → lane_weight (at lane) (fresh_claims {C = C} {R = R} from n) ≡ 0
   fresh-past lane from zero lt = refl
-  fresh-past lane from (suc n) lt =
-      let here : at lane from ≡ 0 = at-other lane from (λ e. omega arith) in let more : lane_weight (at lane) (fresh_claims {C = C} {R = R} (suc from) n) ≡ 0 = fresh-past lane (suc from) n (omega arith) in omega arith
+  fresh-past lane from (suc n) lt = grind (arith, nat_tests, fresh-past lane (suc from) n)
 
   pub fresh-most : (lane from n : ℕ) → lane_weight (at lane) (fresh_claims {C = C} {R = R} from n) ≤ 1
   fresh-most lane from zero = omega arith
-  fresh-most lane from (suc n) = dite (ℕ_discrete from lane)
-      (λ e. let here : at lane from ≡ 1 = at-same lane from e in let more : lane_weight (at lane) (fresh_claims {C = C} {R = R} (suc from) n) ≡ 0 = fresh-past lane (suc from) n (omega arith) in omega arith)
-      (λ ne. let here : at lane from ≡ 0 = at-other lane from ne in let more : lane_weight (at lane) (fresh_claims {C = C} {R = R} (suc from) n) ≤ 1 = fresh-most lane (suc from) n in omega arith)
+  fresh-most lane from (suc n) = grind (arith, nat_tests, fresh-past lane (suc from) n, fresh-most lane (suc from) n)
 
   pub fresh-within : (lane from n : ℕ) → 1 ≤ lane_weight (at lane) (fresh_claims {C = C} {R = R} from n) → lane < from + n
   fresh-within lane from zero some_one = absurd (omega arith)
-  fresh-within lane from (suc n) some_one = dite (ℕ_discrete from lane)
-      (λ e. omega arith)
-      (λ ne. let here : at lane from ≡ 0 = at-other lane from ne in let more : lane < suc from + n = fresh-within lane (suc from) n (omega arith) in omega arith)
+  fresh-within lane from (suc n) some_one = grind (arith, nat_tests, fresh-within lane (suc from) n)

@@ -1,5 +1,5 @@
 -- What a seat knows in the course of a turn.
-use Rattle.std.proofs.Common.{◌≡◌, ℕ, ◌+◌, List, [], ◌∷◌, ◌++◌, length, Option, Some, None, sym, refl, ap, ◌∙◌, subst}
+use Rattle.std.proofs.Common.{◌≡◌, ℕ, List, [], ◌∷◌, ◌++◌, length, Option, Some, None, sym, ap, ◌∙◌, subst}
 use Rattle.seat_lock.proofs.Common.{drop-append_seam, Me, rest, LoggedCall, View, Idle, Waiting, InTurn, calls_of, claim, calls_in, with_stage, in_turn, lane_view, since, held, NotesAt}
 use mathlib.Core.List.{append_assoc}
 use Rattle.seat_lock.proofs.Calls.{calls-own}

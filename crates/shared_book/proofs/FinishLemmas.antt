@@ -1,6 +1,6 @@
 -- From the calls of passes to the entries of a book.
 use Rattle.std.proofs.Common.{◌≡◌, ℕ, ◌<◌, List, [], ◌∷◌, ◌++◌, length, map, refl, sym, ap, subst, ◌∙◌}
-use Rattle.std.specs.Prelude.{All, nat_lt, if◌then◌else◌}
+use Rattle.std.specs.Prelude.{nat_lt, if◌then◌else◌}
 use Rattle.std.proofs.lemmas.List.{append_cancel_left, map-append}
 use Rattle.std.proofs.lemmas.List.Elements.{All-map}
 use Rattle.request_book.specs.Book.{BookView, IsBook}
@@ -13,16 +13,11 @@ use Rattle.seat_lock.specs.Values.{GainsCalls, calls_of}
 use Rattle.seat_lock.specs.declared.logged.LoggedCall.{LoggedCall}
 use Rattle.shared_book.specs.declared.locked.BookRoot.{BookRoot}
 use Rattle.shared_book.specs.declared.locked.LockedReply.{LockedReply}
-use Rattle.shared_book.specs.Locked.{calls_from, call_of, entry_of, log_of, root_of}
+use Rattle.shared_book.specs.Locked.{calls_from, entry_of, log_of, root_of}
 use Rattle.shared_book.specs.Shared.{BookPass, IsFinished}
-use Rattle.shared_book.proofs.lemmas.LockedLemmas.{calls-length}
+use Rattle.shared_book.proofs.lemmas.LockedLemmas.{calls-append, calls-length}
 
 module _ (nodes : List ℕ) (wait : ℕ) where
-  pub calls-append : (s : State) (es later : List Entry) → calls_from nodes wait s (es ++ later) ≡ calls_from nodes wait s es ++ calls_from nodes wait (state_after nodes wait s es) later
-  unfolding calls_from state_after
-  calls-append s [] later = refl
-  calls-append s (e ∷ es) later = ap (λ l. call_of (step nodes wait s e.command).0 e ∷ l) (calls-append (step nodes wait s e.command).0 es later)
-
   -- the calls of entries give the entries back
   pub calls-entries : (s : State) (es : List Entry) → map entry_of (calls_from nodes wait s es) ≡ es
   unfolding calls_from
@@ -44,10 +39,7 @@ module _ (nodes : List ℕ) (wait : ℕ) where
 
   pub gained-calls : (s : State) (es all : List Entry) (more : List (LoggedCall Command LockedReply)) → calls_from nodes wait s all ≡ calls_from nodes wait s es ++ more → calls_from nodes wait (state_after nodes wait s es) (map entry_of more) ≡ more
   gained-calls s es all more gained = append_cancel_left (calls_from nodes wait s es) _ _
-      (sym (calls-append s es (map entry_of more)) ∙ ap (calls_from nodes wait s) (sym (gained-entries s es all more gained)) ∙ gained)
-
-lanes-mapped : (n : ℕ) (calls : List (LoggedCall Command LockedReply)) → All (λ c. c.lane < n) calls → All (λ e. e.lane < n) (map entry_of calls)
-lanes-mapped n calls all = All-map (λ (e : Entry). e.lane < n) entry_of calls all
+      (sym (calls-append nodes wait s es (map entry_of more)) ∙ ap (calls_from nodes wait s) (sym (gained-entries s es all more gained)) ∙ gained)
 
 pub finished : ((nodes : List ℕ) (wait : ℕ) (s : State) (round later : List Entry) → state_after nodes wait s (round ++ later) ≡ state_after nodes wait (state_after nodes wait s round) later)
     → (start book : BookView) (passes : List BookPass) → IsBook start → IsBook book → root_of book ≡ root_of start → GainsCalls (log_of start) (log_of book) passes → IsFinished start passes book
@@ -76,6 +68,6 @@ finished rounds_join start book passes opened closed root gains =
           ∙ rounds_join start.nodes start.wait start.base start.entries since
           ∙ ap (λ (s : State). state_after start.nodes start.wait s since) (sym opened.state);
       cut = λ k d lt. gains.cut k d lt ∙ ap (calls_of k) (sym calls);
-      lanes = lanes-mapped (length passes) gains.since gains.lanes;
+      lanes = All-map (λ (e : Entry). e.lane < length passes) entry_of gains.since gains.lanes;
       once = λ n. gains.once n ∙ ap (λ (k : ℕ). if nat_lt n k then 1 else 0) (sym (ap length calls) ∙ calls-length start.nodes start.wait start.state since);
     }

@@ -120,7 +120,7 @@ fn label_by(
     if !is_less(next.delay + ahead, best) {
         return None;
     }
-    if kept.dominates(times, &next) {
+    if kept.is_of_use() && kept.dominates(times, &next) {
         return None;
     }
     Some(next)

@@ -82,7 +82,7 @@ pub(crate) fn is_hopeless(
     if !is_better(label.delay + ahead, best) {
         return true;
     }
-    kept.dominates(times, label)
+    kept.is_of_use() && kept.dominates(times, label)
 }
 
 /// Whether this delay is less than that of what was found.

@@ -6,7 +6,7 @@ use Rattle.stop_orders.specs.Sound.{IsShort, IsSound}
 use Rattle.stop_orders.proofs.lemmas.ClockLemmas.{soon_there, ServesFrom-soon}
 use Rattle.stop_orders.proofs.lemmas.DoneLemmas.{has-none, Completes-none, Completes-front}
 use Rattle.stop_orders.proofs.lemmas.ScanLemmas.{order_short}
-use Rattle.stop_orders.proofs.DeletionLemmas.{rider_left_out, passenger_left_out}
+use Rattle.stop_orders.proofs.lemmas.DeletionLemmas.{rider_left_out, passenger_left_out}
 
 map-remove : {X Y : Type 0} (f : X → Y) (xs : List X) (i : ℕ) → map f (remove xs i) ≡ remove (map f xs) i
 map-remove f xs i = map-append f (take i xs) (drop (suc i) xs) ∙ ap (λ ys. ys ++ map f (drop (suc i) xs)) (sym (take-map f i xs)) ∙ ap (λ ys. take i (map f xs) ++ ys) (sym (drop-map f (suc i) xs))
@@ -22,7 +22,7 @@ module _ (k points : ℕ) (tau : ℕ → ℕ → ℕ) (settled : Settled) (t : I
 
     sub_trip : (stops : List Stop) → Serves tau (trip_task settled v trip) stops → StillServes points tau (trip_task settled v trip) (trip_task settled v (remove trip i)) stops (stops_without_rider i stops)
     sub_trip stops serves = subst (λ task. StillServes points tau (trip_task settled v trip) task stops (stops_without_rider i stops)) (sym (trip_task-remove settled v trip i))
-        (rider_left_out points tau t (trip_task settled v trip) ((sound.each v vehicle).tasks trip riders few) i trip_within stops serves)
+        (rider_left_out points (trip_task settled v trip) ((sound.each v vehicle).tasks trip riders few) i trip_within tau t stops serves)
 
     pub sub_trip_servable : IsServable tau (trip_task settled v trip) → IsServable tau (trip_task settled v (remove trip i))
     sub_trip_servable served = (stops_without_rider i served.0, (sub_trip served.0 served.1).serves)
@@ -84,7 +84,7 @@ served_alone points tau t zero task e valid served =
     (subst (λ u. IsServable tau u) same served, subst (λ u. IsTask points u) same valid)
 served_alone points tau t (suc n) task e valid served =
     let within : 0 < length task.aboard.items = omega arith in
-    let rest = passenger_left_out points tau t task valid 0 within served.0 served.1 in
+    let rest = passenger_left_out points task valid 0 within tau t served.0 served.1 in
     let fewer : length (remove task.aboard.items 0) ≡ n = omega (arith, length-remove task.aboard.items 0 within) in
     served_alone points tau t n (without_passenger 0 task) fewer rest.valid (stops_without_passenger 0 served.0, rest.serves)
 

@@ -3,3 +3,4 @@ pub mod DoneLemmas
 pub mod PlainLemmas
 pub mod ScanLemmas
 pub mod VisitLemmas
+pub mod DeletionLemmas

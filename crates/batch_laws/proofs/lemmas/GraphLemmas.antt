@@ -66,10 +66,7 @@ one_least tau task a b least other =
     omega (arith, below, above, x, y)
 
 same_row : (a b : TripRow) → a.vehicle ≡ b.vehicle → a.riders.items ≡ b.riders.items → a.cost ≡ b.cost → a ≡ b
-same_row a b v r c =
-    ap (λ (x : ℕ). record { vehicle = x; riders = a.riders; cost = a.cost }) v
-    ∙ ap (λ (x : List ℕ). record { vehicle = b.vehicle; riders = record { items = x }; cost = a.cost }) r
-    ∙ ap (λ (x : ℕ). record { vehicle = b.vehicle; riders = b.riders; cost = x }) c
+same_row a b v r c = λ k. record { vehicle = v k; riders = record { items = r k }; cost = c k }
 
 module _ (tau : ℕ → ℕ → ℕ) (settled : Settled) (most : ℕ) where
   -- whatever is a row stands among them
@@ -113,12 +110,7 @@ one_held settled vehicles rows up held other a b =
     (λ v within. let inside : v < vehicles = (let n = a.count in omega (arith, n)) in one_choice settled rows up held other v (vehicle_at settled v).late (a.each v inside) (b.each v inside))
 
 same_graph : (a b : Graph) → a.vehicles ≡ b.vehicles → a.riders ≡ b.riders → a.penalty ≡ b.penalty → a.rows ≡ b.rows → a.held ≡ b.held → a ≡ b
-same_graph a b v r p rows held =
-    ap (λ (x : ℕ). record { vehicles = x; riders = a.riders; penalty = a.penalty; rows = a.rows; held = a.held }) v
-    ∙ ap (λ (x : ℕ). record { vehicles = b.vehicles; riders = x; penalty = a.penalty; rows = a.rows; held = a.held }) r
-    ∙ ap (λ (x : ℕ). record { vehicles = b.vehicles; riders = b.riders; penalty = x; rows = a.rows; held = a.held }) p
-    ∙ ap (λ (x : List TripRow). record { vehicles = b.vehicles; riders = b.riders; penalty = b.penalty; rows = x; held = a.held }) rows
-    ∙ ap (λ (x : List (Option ℕ)). record { vehicles = b.vehicles; riders = b.riders; penalty = b.penalty; rows = b.rows; held = x }) held
+same_graph a b v r p rows held = λ k. record { vehicles = v k; riders = r k; penalty = p k; rows = rows k; held = held k }
 
 module _ (settings : Settings) (tau : ℕ → ℕ → ℕ) (settled : Settled) where
   pub graph_in_order : (g : Graph) → IsTripGraphOf settings tau settled g → AreInOrder RowBefore g.rows

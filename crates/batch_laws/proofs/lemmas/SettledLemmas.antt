@@ -21,38 +21,18 @@ use Rattle.promise_check.specs.Requests.{IsLegOf, request_at, ideal_second}
 use Rattle.promise_check.specs.Promised.{promised_limit, promised_to, is_promised_to, kept_legs, IsLive}
 use Rattle.promise_check.specs.lemmas.Named.{kept_leg}
 use Rattle.promise_check.specs.Settling.{AreLegsOf, IsPlaced, IsLateRight, HoldsPromised, IsLiveRider, HasRightLimit, IsSettled}
-use Rattle.batch_laws.proofs.lemmas.SortedLemmas.{in_order, neighbours_from, nat_strict}
-
-abbrev Less : ℕ → ℕ → Type 0
-Less x y = x < y
+use Rattle.batch_laws.proofs.lemmas.SortedLemmas.{rising_once}
 
 -- a node stands at one place
 pub one_place_of : (points : List ℕ) → IsStrictlyIncreasing points → (i j node : ℕ) → slice_get points i ≡ Some node → slice_get points j ≡ Some node → i ≡ j
 one_place_of points up i j node a b =
-    let inside : i < length points = inside_of i a in
-    let inside' : j < length points = inside_of j b in
-    let at : get_or points i 0 ≡ node = get_or_from_slice_get points i node 0 a in
-    let at' : get_or points j 0 ≡ node = get_or_from_slice_get points j node 0 b in
-    let far = in_order Less nat_strict points (neighbours_from Less points 0 up) in
-    elim (cases_lt i j) as (λ _. i ≡ j) [
-      | inl less ↦ absurd (let below = far i j 0 less inside' in omega (arith, below, at, at'))
-      | inr ge ↦ elim (cases_lt j i) as (λ _. i ≡ j) [
-        | inl less ↦ absurd (let below = far j i 0 less inside in omega (arith, below, at, at'))
-        | inr le ↦ omega arith
-      ]
-    ]
+    rising_once points up i j (inside_of i a) (inside_of j b) (get_or_from_slice_get points i node 0 a ∙ sym (get_or_from_slice_get points j node 0 b))
   where
     inside_of : (k : ℕ) → slice_get points k ≡ Some node → k < length points
     inside_of k e = ⊎_elim (λ found. found.1) (λ none. let no : Some node ≡ None = sym e ∙ none.1 in cc) (slice_get_cases points k).1
 
 same_leg : (a b : Leg) → a.origin ≡ b.origin → a.destination ≡ b.destination → a.latest_pickup ≡ b.latest_pickup → a.ideal ≡ b.ideal → a.latest_dropoff ≡ b.latest_dropoff → a.party ≡ b.party → a ≡ b
-same_leg a b o d l i f p =
-    ap (λ (x : ℕ). record { origin = x; destination = a.destination; latest_pickup = a.latest_pickup; ideal = a.ideal; latest_dropoff = a.latest_dropoff; party = a.party }) o
-    ∙ ap (λ (x : ℕ). record { origin = b.origin; destination = x; latest_pickup = a.latest_pickup; ideal = a.ideal; latest_dropoff = a.latest_dropoff; party = a.party }) d
-    ∙ ap (λ (x : ℕ). record { origin = b.origin; destination = b.destination; latest_pickup = x; ideal = a.ideal; latest_dropoff = a.latest_dropoff; party = a.party }) l
-    ∙ ap (λ (x : ℕ). record { origin = b.origin; destination = b.destination; latest_pickup = b.latest_pickup; ideal = x; latest_dropoff = a.latest_dropoff; party = a.party }) i
-    ∙ ap (λ (x : ℕ). record { origin = b.origin; destination = b.destination; latest_pickup = b.latest_pickup; ideal = b.ideal; latest_dropoff = x; party = a.party }) f
-    ∙ ap (λ (x : ℕ). record { origin = b.origin; destination = b.destination; latest_pickup = b.latest_pickup; ideal = b.ideal; latest_dropoff = b.latest_dropoff; party = x }) p
+same_leg a b o d l i f p = λ k. record { origin = o k; destination = d k; latest_pickup = l k; ideal = i k; latest_dropoff = f k; party = p k }
 
 -- a vehicle but for what rests on orders of stops
 pub record IsSamePlace (a b : SettledVehicle) : Type 0 where
@@ -65,36 +45,18 @@ pub record IsSamePlace (a b : SettledVehicle) : Type 0 where
 
 same_vehicle : (a b : SettledVehicle) → IsSamePlace a b → a.late ≡ b.late → a.held.items ≡ b.held.items → a ≡ b
 same_vehicle a b is late held =
-    ap (λ (x : ℕ). record { id = x; start = a.start; ready = a.ready; seats = a.seats; aboard = a.aboard; aboard_ids = a.aboard_ids; late = a.late; held = a.held }) is.id
-    ∙ ap (λ (x : ℕ). record { id = b.id; start = x; ready = a.ready; seats = a.seats; aboard = a.aboard; aboard_ids = a.aboard_ids; late = a.late; held = a.held }) is.start
-    ∙ ap (λ (x : ℕ). record { id = b.id; start = b.start; ready = x; seats = a.seats; aboard = a.aboard; aboard_ids = a.aboard_ids; late = a.late; held = a.held }) is.ready
-    ∙ ap (λ (x : ℕ). record { id = b.id; start = b.start; ready = b.ready; seats = x; aboard = a.aboard; aboard_ids = a.aboard_ids; late = a.late; held = a.held }) is.seats
-    ∙ ap (λ (x : List Leg). record { id = b.id; start = b.start; ready = b.ready; seats = b.seats; aboard = record { items = x }; aboard_ids = a.aboard_ids; late = a.late; held = a.held }) is.aboard
-    ∙ ap (λ (x : List ℕ). record { id = b.id; start = b.start; ready = b.ready; seats = b.seats; aboard = b.aboard; aboard_ids = record { items = x }; late = a.late; held = a.held }) is.aboard_ids
-    ∙ ap (λ (x : Bool). record { id = b.id; start = b.start; ready = b.ready; seats = b.seats; aboard = b.aboard; aboard_ids = b.aboard_ids; late = x; held = a.held }) late
-    ∙ ap (λ (x : List ℕ). record { id = b.id; start = b.start; ready = b.ready; seats = b.seats; aboard = b.aboard; aboard_ids = b.aboard_ids; late = b.late; held = record { items = x } }) held
+    λ k. record { id = is.id k; start = is.start k; ready = is.ready k; seats = is.seats k; aboard = record { items = is.aboard k }; aboard_ids = record { items = is.aboard_ids k }; late = late k; held = record { items = held k } }
 
 same_rider : (a b : SettledRider) → a.id ≡ b.id → a.leg ≡ b.leg → a.lapsed ≡ b.lapsed → a ≡ b
-same_rider a b i l p =
-    ap (λ (x : ℕ). record { id = x; leg = a.leg; lapsed = a.lapsed }) i
-    ∙ ap (λ (x : Leg). record { id = b.id; leg = x; lapsed = a.lapsed }) l
-    ∙ ap (λ (x : Bool). record { id = b.id; leg = b.leg; lapsed = x }) p
+same_rider a b i l p = λ k. record { id = i k; leg = l k; lapsed = p k }
 
 same_settled : (a b : Settled) → a.now ≡ b.now → a.dwell ≡ b.dwell → a.most_seats ≡ b.most_seats → a.vehicles ≡ b.vehicles → a.riders ≡ b.riders → a ≡ b
-same_settled a b n d s v r =
-    ap (λ (x : ℕ). record { now = x; dwell = a.dwell; most_seats = a.most_seats; vehicles = a.vehicles; riders = a.riders }) n
-    ∙ ap (λ (x : ℕ). record { now = b.now; dwell = x; most_seats = a.most_seats; vehicles = a.vehicles; riders = a.riders }) d
-    ∙ ap (λ (x : ℕ). record { now = b.now; dwell = b.dwell; most_seats = x; vehicles = a.vehicles; riders = a.riders }) s
-    ∙ ap (λ (x : List SettledVehicle). record { now = b.now; dwell = b.dwell; most_seats = b.most_seats; vehicles = x; riders = a.riders }) v
-    ∙ ap (λ (x : List SettledRider). record { now = b.now; dwell = b.dwell; most_seats = b.most_seats; vehicles = b.vehicles; riders = x }) r
+same_settled a b n d s v r = λ k. record { now = n k; dwell = d k; most_seats = s k; vehicles = v k; riders = r k }
 
 -- the tasks of vehicles that are at the same place are the same
 same_task : (dwell : ℕ) (a b : SettledVehicle) (legs : List Leg) → IsSamePlace a b → vehicle_task dwell a legs ≡ vehicle_task dwell b legs
 same_task dwell a b legs is =
-    ap (λ (x : ℕ). record { start = x; ready = a.ready; dwell = dwell; seats = a.seats; aboard = a.aboard; riders = record { items = legs } }) is.start
-    ∙ ap (λ (x : ℕ). record { start = b.start; ready = x; dwell = dwell; seats = a.seats; aboard = a.aboard; riders = record { items = legs } }) is.ready
-    ∙ ap (λ (x : ℕ). record { start = b.start; ready = b.ready; dwell = dwell; seats = x; aboard = a.aboard; riders = record { items = legs } }) is.seats
-    ∙ ap (λ (x : List Leg). record { start = b.start; ready = b.ready; dwell = dwell; seats = b.seats; aboard = record { items = x }; riders = record { items = legs } }) is.aboard
+    λ k. record { start = is.start k; ready = is.ready k; dwell = dwell; seats = is.seats k; aboard = record { items = is.aboard k }; riders = record { items = legs } }
 
 same_test : (a b : Bool) (P : Type 0) → MatchBool a (P → ⊥) P → MatchBool b (P → ⊥) P → a ≡ b
 same_test true true P h k = refl

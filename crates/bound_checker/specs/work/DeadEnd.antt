@@ -3,21 +3,13 @@ use Rattle.std.specs.Prelude.{◌≡◌, ◌==◌, ℕ, ◌<◌, Bool, false, Is
 use Rattle.std.specs.List.{list_any}
 use Rattle.plan_rules.specs.Graph.{Graph, has_rider, choice_at}
 use Rattle.plan_rules.specs.Multipliers.{Usable}
-use Rattle.plan_rules.specs.Tree.{MayUse, IsSoleRow}
-
--- of the rows below n this is the only one that the vehicle may use, or there is none
-abbrev pub IsOnlyOf : Graph → Usable → ℕ → ℕ → Option ℕ → Type 0
-IsOnlyOf g usable v n sole =
-    MatchOption sole ((j : ℕ) → j < n → MayUse g usable v j → ⊥) (λ k. (k < n) × MayUse g usable v k × ((j : ℕ) → j < n → MayUse g usable v j → j ≡ k))
+use Rattle.plan_rules.specs.Tree.{IsSoleRow}
+use Rattle.plan_rules.specs.lemmas.DeadEnd.{StandsInSome, StandsInNone}
 
 -- for each of the first n vehicles its only usable row, or none
 pub record AreSoleRows (g : Graph) (usable : Usable) (n : ℕ) (sole : List (Option ℕ)) : Type 0 where
   pub sized : length sole ≡ n
   pub each : (v : ℕ) → v < n → MatchOption (choice_at sole v) ((k : ℕ) → IsSoleRow g usable v k → ⊥) (IsSoleRow g usable v)
-
--- each of these is a row of the graph
-abbrev pub AreRowsOf : Graph → List (Option ℕ) → Type 0
-AreRowsOf g sole = (v k : ℕ) → choice_at sole v ≡ Some k → k < length g.rows
 
 -- a rider stands in the rows of both vehicles
 pub record ShareARider (g : Graph) (sole : List (Option ℕ)) (v w : ℕ) : Type 0 where
@@ -36,14 +28,6 @@ IsInBoth xs ys = (r : ℕ) × IsTrue (list_any (λ x. x == r) xs) × IsTrue (lis
 -- no number stands in both lists
 abbrev pub IsApart : List ℕ → List ℕ → Type 0
 IsApart xs ys = (r : ℕ) → IsTrue (list_any (λ x. x == r) xs) → IsTrue (list_any (λ y. y == r) ys) → ⊥
-
--- the rider stands in a usable row among the first n
-abbrev pub StandsInSome : Graph → Usable → ℕ → ℕ → Type 0
-StandsInSome g usable n r = (k : ℕ) × (k < n) × IsTrue (usable k) × IsTrue (has_rider g k r)
-
--- the rider stands in no usable row among the first n
-abbrev pub StandsInNone : Graph → Usable → ℕ → ℕ → Type 0
-StandsInNone g usable n r = (k : ℕ) → k < n → IsTrue (usable k) → has_rider g k r ≡ false
 
 -- the marked riders are those who stand in a usable row among the first n
 pub record MarksStanding (g : Graph) (usable : Usable) (n : ℕ) (marks : List Bool) : Type 0 where

@@ -1,7 +1,8 @@
 -- From what each lane did to the one history in which all of them stand.
 use Rattle.std.proofs.Common.{◌≡◌, ◌≢◌, ℕ, suc, ◌+◌, ◌<◌, ◌≤◌, ◌==◌, Bool, true, false, cond, eqb, List, [], ◌∷◌, ◌++◌, length, map, filter, Option, Some, None, refl, sym, ap, subst, ◌∙◌, inl, inr, arith, All, option_map, slice_index_or}
-use Rattle.dispatch_engine.proofs.Common.{enumerate_from, cases_lt, eqb-false, false≢true, Batch, IsGoodOutcome, BookView, closed_state, first_of, unknown_node, unknown_rider, is_aboard, has_ended, unknown_vehicle, time_back, not_promised, vehicle_full, not_aboard, not_this_batch, state_after, RepliesAreSteps, batch_of, sealed_state, one_more, rider_becomes, vehicle_becomes, step, answer, picked_up, dropped_off, submit_refusal, seal_refusal, submit_step, cancel_step, report_step, pickup_step, dropoff_step, seal_step, close_step, table_step, step-table, by-table, Command, Submit, Cancel, Report, Pickup, Dropoff, Seal, Close, Entry, Answer, BookRefusal, Reply, Accepted, Cancelled, Placed, Picked, Dropped, Sealed, Closed, Refused, State, Settings, Roads, calls_of, LoggedCall, LockedReply, calls_from, call_of, entry_of, sealed_by, snapshot_after, BookPass, IsFinished, of_lane, IsCloseOf, IsLaneRunFrom, IsLaneRun, last_sealed, IsGoodFor, LaneClosesAreGood, IsGoodClose, ClosesAreGood, IsReady, IsPlain, calls_of_lane, calls_of_pass, ArePlain, HaveRun, IsJointRun}
+use Rattle.dispatch_engine.proofs.Common.{AllByRecursion, enumerate_from, cases_lt, eqb-false, false≢true, Batch, IsGoodOutcome, BookView, closed_state, first_of, unknown_node, unknown_rider, is_aboard, has_ended, unknown_vehicle, time_back, not_promised, vehicle_full, not_aboard, not_this_batch, state_after, RepliesAreSteps, batch_of, sealed_state, one_more, rider_becomes, vehicle_becomes, step, answer, picked_up, dropped_off, submit_refusal, seal_refusal, submit_step, cancel_step, report_step, pickup_step, dropoff_step, seal_step, close_step, table_step, step-table, by-table, Command, Submit, Cancel, Report, Pickup, Dropoff, Seal, Close, Entry, Answer, BookRefusal, Reply, Accepted, Cancelled, Placed, Picked, Dropped, Sealed, Closed, State, Settings, Roads, calls_of, LoggedCall, LockedReply, calls_from, call_of, entry_of, sealed_by, snapshot_after, BookPass, IsFinished, of_lane, IsCloseOf, IsLaneRunFrom, IsLaneRun, last_sealed, IsGoodFor, LaneClosesAreGood, IsGoodClose, ClosesAreGood, IsReady, IsPlain, calls_of_lane, calls_of_pass, HaveRun, IsJointRun}
 use Rattle.std.proofs.lemmas.Bool.{eq-eqb, eqb-true}
+use Rattle.dispatch_engine.proofs.lemmas.RunLemmas.{filter-mapped}
 use Rattle.request_book.specs.State.{find_rider, find_vehicle}
 use Rattle.request_book.specs.lemmas.Named.{stands_at}
 use Rattle.request_book.specs.declared.rider.BookRider.{BookRider}
@@ -52,8 +53,7 @@ table-quiet nodes wait s (Dropoff vehicle rider time) plain =
     let v = find_vehicle vehicle s.vehicles in
     let r = find_rider rider s.riders in
     answer-quiet s (dropped_off s r vehicle time) (first_of (unknown_vehicle v ∷ unknown_rider r ∷ not_aboard r vehicle ∷ time_back v time ∷ [])) Dropped (dropped-seals s r vehicle time) (λ t. refl) refl
-table-quiet nodes wait s (Seal now) plain = absurd plain
-table-quiet nodes wait s (Close batch outcome) plain = absurd plain
+table-quiet nodes wait s _ plain = absurd plain
 
 pub plain-quiet : (nodes : List ℕ) (wait : ℕ) (s : State) (command : Command) → IsPlain command → IsQuiet s (step nodes wait s command)
 plain-quiet nodes wait s command plain = by-table (IsQuiet s) nodes wait s command (table-quiet nodes wait s command plain)
@@ -98,24 +98,15 @@ close-last s batch outcome last is = by (first_of (not_this_batch s.sealed batch
 
 table-last : (nodes : List ℕ) (wait : ℕ) (s : State) (command : Command) (last : Option Batch) → IsLast s last → IsLast (table_step nodes wait s command).0 (last_sealed last (snapshot_after (table_step nodes wait s command).1 (table_step nodes wait s command).0))
 unfolding table_step
-table-last nodes wait s (Submit rider origin destination time party) last is = quiet-last s _ last (table-quiet nodes wait s (Submit rider origin destination time party) tt) is
-table-last nodes wait s (Cancel rider) last is = quiet-last s _ last (table-quiet nodes wait s (Cancel rider) tt) is
-table-last nodes wait s (Report vehicle node time) last is = quiet-last s _ last (table-quiet nodes wait s (Report vehicle node time) tt) is
-table-last nodes wait s (Pickup vehicle rider time) last is = quiet-last s _ last (table-quiet nodes wait s (Pickup vehicle rider time) tt) is
-table-last nodes wait s (Dropoff vehicle rider time) last is = quiet-last s _ last (table-quiet nodes wait s (Dropoff vehicle rider time) tt) is
 table-last nodes wait s (Seal now) last is = seal-last wait s now last is
 table-last nodes wait s (Close batch outcome) last is = close-last s batch outcome.answer last is
+table-last nodes wait s command last is = quiet-last s _ last (table-quiet nodes wait s command tt) is
 
 step-last : (nodes : List ℕ) (wait : ℕ) (s : State) (command : Command) (last : Option Batch) → IsLast s last → IsLast (step nodes wait s command).0 (last_sealed last (snapshot_after (step nodes wait s command).1 (step nodes wait s command).0))
 step-last nodes wait s command last is = by-table (λ p. IsLast p.0 (last_sealed last (snapshot_after p.1 p.0))) nodes wait s command (table-last nodes wait s command last is)
 
--- a rule of each element
-abbrev Each : {X : Type 0} → (X → Type 0) → List X → Type 0
-Each P [] = Unit {0}
-Each P (x ∷ xs) = P x × Each P xs
-
 -- lane 0 alone seals and closes
-abbrev IsInZero : Entry → Type 0
+abbrev pub IsInZero : Entry → Type 0
 IsInZero e = e.lane ≢ 0 → IsPlain e.command
 
 -- a plain command seals no batch
@@ -128,34 +119,17 @@ answered s next (Some refusal) e = absurd cc
 
 module _ (settings : Settings) (roads : Roads) where
   plain-close : (s : State) (command : Command) (reply : Reply) → IsPlain command → IsGoodClose settings roads s command reply
-  plain-close s (Submit rider origin destination time party) reply plain = tt
-  plain-close s (Cancel rider) reply plain = tt
-  plain-close s (Report vehicle node time) reply plain = tt
-  plain-close s (Pickup vehicle rider time) reply plain = tt
-  plain-close s (Dropoff vehicle rider time) reply plain = tt
-  plain-close s (Seal now) reply plain = absurd plain
   plain-close s (Close batch outcome) reply plain = absurd plain
+  plain-close s _ reply plain = tt
 
   -- a close of the lane that seals is good for the batch that stands sealed
   good-close : (s : State) (command : Command) (reply : Reply) (last : Option Batch) → IsLast s last → IsGoodFor settings roads last command → reply ≡ (step roads.nodes settings.wait s command).1 → IsGoodClose settings roads s command reply
   unfolding table_step close_step
-  good-close s (Submit rider origin destination time party) reply last is good e = tt
-  good-close s (Cancel rider) reply last is good e = tt
-  good-close s (Report vehicle node time) reply last is good e = tt
-  good-close s (Pickup vehicle rider time) reply last is good e = tt
-  good-close s (Dropoff vehicle rider time) reply last is good e = tt
-  good-close s (Seal now) reply last is good e = tt
-  good-close s (Close batch outcome) Accepted last is good e = tt
-  good-close s (Close batch outcome) Cancelled last is good e = tt
-  good-close s (Close batch outcome) Placed last is good e = tt
-  good-close s (Close batch outcome) Picked last is good e = tt
-  good-close s (Close batch outcome) Dropped last is good e = tt
-  good-close s (Close batch outcome) (Sealed number) last is good e = tt
-  good-close s (Close batch outcome) (Refused refusal) last is good e = tt
   good-close s (Close batch outcome) Closed last is good e =
       let stands = close-refused s.sealed batch (answered s (closed_state s outcome.answer) _ (e ∙ ap (λ p. p.1) (step-table roads.nodes settings.wait s (Close batch outcome)))) in
       let same : good.0 ≡ stands.0 = (let both : Some good.0 ≡ Some stands.0 = sym good.1 ∙ is stands.0 stands.1 in cc) in
       (stands.0, stands.1, subst (λ (b : Batch). IsGoodOutcome settings roads b outcome) same good.2)
+  good-close s _ _ last is good e = tt
 
   -- one entry more
   close-first : (s : State) (last : Option Batch) (e : Entry) (rest : List (LoggedCall Command LockedReply)) (More : Type 0)
@@ -174,7 +148,7 @@ module _ (settings : Settings) (roads : Roads) where
       let quiet = plain-quiet roads.nodes settings.wait s e.command plain in
       (plain-close s e.command e.reply plain, more last (λ b f. is b (sym quiet.sealed ∙ f)) good)
 
-  pub closes-join : (s : State) (last : Option Batch) (es : List Entry) → IsLast s last → RepliesAreSteps roads.nodes settings.wait s es → Each IsInZero es → LaneClosesAreGood settings roads last (calls_of_lane 0 (calls_from roads.nodes settings.wait s es)) → ClosesAreGood settings roads s es
+  pub closes-join : (s : State) (last : Option Batch) (es : List Entry) → IsLast s last → RepliesAreSteps roads.nodes settings.wait s es → AllByRecursion IsInZero es → LaneClosesAreGood settings roads last (calls_of_lane 0 (calls_from roads.nodes settings.wait s es)) → ClosesAreGood settings roads s es
   unfolding RepliesAreSteps calls_from ClosesAreGood
   closes-join s last [] is replies zeroth good = tt
   closes-join s last (e ∷ es) is replies zeroth good =
@@ -197,11 +171,6 @@ module _ (nodes : List ℕ) (wait : ℕ) where
   -- where no batch stands sealed, the one of the reply does then
   table-opens : (s : State) (command : Command) → s.sealed ≡ None → Stands (table_step nodes wait s command).0 (sealed_by (table_step nodes wait s command).1)
   unfolding table_step seal_step close_step batch_of sealed_state
-  table-opens s (Submit rider origin destination time party) none = quiet-stands s _ none (table-quiet nodes wait s (Submit rider origin destination time party) tt)
-  table-opens s (Cancel rider) none = quiet-stands s _ none (table-quiet nodes wait s (Cancel rider) tt)
-  table-opens s (Report vehicle node time) none = quiet-stands s _ none (table-quiet nodes wait s (Report vehicle node time) tt)
-  table-opens s (Pickup vehicle rider time) none = quiet-stands s _ none (table-quiet nodes wait s (Pickup vehicle rider time) tt)
-  table-opens s (Dropoff vehicle rider time) none = quiet-stands s _ none (table-quiet nodes wait s (Dropoff vehicle rider time) tt)
   table-opens s (Seal now) none = by (seal_refusal s now)
     where
       by : (o : Option BookRefusal) → Stands (answer s o (Sealed (one_more s.batches)) (sealed_state wait s now)).0 (sealed_by (answer s o (Sealed (one_more s.batches)) (sealed_state wait s now)).1)
@@ -212,6 +181,7 @@ module _ (nodes : List ℕ) (wait : ℕ) where
       by : (o : Option BookRefusal) → Stands (answer s o Closed (closed_state s outcome.answer)).0 (sealed_by (answer s o Closed (closed_state s outcome.answer)).1)
       by None = ap (option_map (λ b. b.number)) (closed-none s outcome.answer)
       by (Some refusal) = ap (option_map (λ b. b.number)) none
+  table-opens s command none = quiet-stands s _ none (table-quiet nodes wait s command tt)
 
   opens : (s : State) (command : Command) → s.sealed ≡ None → Stands (step nodes wait s command).0 (sealed_by (step nodes wait s command).1)
   opens s command none = by-table (λ p. Stands p.0 (sealed_by p.1)) nodes wait s command (table-opens s command none)
@@ -224,15 +194,10 @@ module _ (nodes : List ℕ) (wait : ℕ) where
   -- the close of the batch that stands sealed is taken
   table-closes : (s : State) (command : Command) (batch : ℕ) → Stands s (Some batch) → IsCloseOf batch command → (table_step nodes wait s command).0.sealed ≡ None
   unfolding table_step close_step
-  table-closes s (Submit rider origin destination time party) batch stands is = absurd is
-  table-closes s (Cancel rider) batch stands is = absurd is
-  table-closes s (Report vehicle node time) batch stands is = absurd is
-  table-closes s (Pickup vehicle rider time) batch stands is = absurd is
-  table-closes s (Dropoff vehicle rider time) batch stands is = absurd is
-  table-closes s (Seal now) batch stands is = absurd is
   table-closes s (Close closed outcome) batch stands is =
       ap (λ (o : Option BookRefusal). (answer s o Closed (closed_state s outcome.answer)).0.sealed) (taken s.sealed closed (stands ∙ ap Some (sym is)))
       ∙ closed-none s outcome.answer
+  table-closes s _ batch stands is = absurd is
 
   closes : (s : State) (command : Command) (batch : ℕ) → Stands s (Some batch) → IsCloseOf batch command → (step nodes wait s command).0.sealed ≡ None
   closes s command batch stands is = ap (λ p. p.0.sealed) (step-table nodes wait s command) ∙ table-closes s command batch stands is
@@ -256,7 +221,7 @@ module _ (nodes : List ℕ) (wait : ℕ) where
   ends-none s (Some batch) cs stands run = absurd run
 
   -- after a run of lane 0 no batch stands sealed
-  pub ends-closed : (s : State) (pending : Option ℕ) (cs : List Command) (es : List Entry) → Stands s pending → RepliesAreSteps nodes wait s es → Each IsInZero es → IsLaneRunFrom pending cs (of_lane 0 es) → (state_after nodes wait s es).sealed ≡ None
+  pub ends-closed : (s : State) (pending : Option ℕ) (cs : List Command) (es : List Entry) → Stands s pending → RepliesAreSteps nodes wait s es → AllByRecursion IsInZero es → IsLaneRunFrom pending cs (of_lane 0 es) → (state_after nodes wait s es).sealed ≡ None
   unfolding RepliesAreSteps state_after
   ends-closed s pending cs [] stands replies zeroth run = ends-none s pending cs stands run
   ends-closed s pending cs (e ∷ es) stands replies zeroth run =
@@ -264,7 +229,7 @@ module _ (nodes : List ℕ) (wait : ℕ) where
       ends-first s pending cs e (of_lane 0 es) ((state_after nodes wait next es).sealed ≡ None) stands replies.0 zeroth.0
       (λ p left here rest. ends-closed next p left es here replies.1 zeroth.1 rest) (eqb e.lane 0) refl run
 
-  pub each-told : (s : State) (es : List Entry) → RepliesAreSteps nodes wait s es → Each IsTold es
+  pub each-told : (s : State) (es : List Entry) → RepliesAreSteps nodes wait s es → AllByRecursion IsTold es
   unfolding RepliesAreSteps
   each-told s [] replies = tt
   each-told s (e ∷ es) replies = (
@@ -274,32 +239,31 @@ module _ (nodes : List ℕ) (wait : ℕ) where
 
 -- elements of a lane
 module _ (P : Entry → Type 0) where
-  each-cut : (b : Bool) (e : Entry) (rest : List Entry) → Each P (cond b (e ∷ rest) rest) → Each P rest
+  each-cut : (b : Bool) (e : Entry) (rest : List Entry) → AllByRecursion P (cond b (e ∷ rest) rest) → AllByRecursion P rest
   each-cut true e rest all = all.1
   each-cut false e rest all = all
 
-  each-kept : (b : Bool) (e : Entry) (rest : List Entry) → P e → Each P rest → Each P (cond b (e ∷ rest) rest)
+  each-kept : (b : Bool) (e : Entry) (rest : List Entry) → P e → AllByRecursion P rest → AllByRecursion P (cond b (e ∷ rest) rest)
   each-kept true e rest p all = (p, all)
   each-kept false e rest p all = all
 
-  each-here : (b : Bool) (e : Entry) (rest : List Entry) → b ≡ true → Each P (cond b (e ∷ rest) rest) → P e
+  each-here : (b : Bool) (e : Entry) (rest : List Entry) → b ≡ true → AllByRecursion P (cond b (e ∷ rest) rest) → P e
   each-here true e rest h all = all.0
   each-here false e rest h all = absurd (false≢true h)
 
-  each-lane : (lane : ℕ) (es : List Entry) → Each P es → Each P (of_lane lane es)
+  each-lane : (lane : ℕ) (es : List Entry) → AllByRecursion P es → AllByRecursion P (of_lane lane es)
   each-lane lane [] all = tt
   each-lane lane (e ∷ es) all = each-kept (eqb e.lane lane) e (of_lane lane es) all.0 (each-lane lane es all.1)
 
 -- the entries of a run of plain commands are plain
-plain-run : (cs : List Command) (es : List Entry) → ArePlain cs → Each IsTold es → IsLaneRun cs es → Each (λ e. IsPlain e.command) es
+plain-run : (cs : List Command) (es : List Entry) → AllByRecursion IsPlain cs → AllByRecursion IsTold es → IsLaneRun cs es → AllByRecursion (λ e. IsPlain e.command) es
 plain-run [] [] plain told run = tt
-plain-run [] (e ∷ es) plain told run = absurd run
-plain-run (c ∷ cs) [] plain told run = absurd run
 plain-run (c ∷ cs) (e ∷ es) plain told run =
     let here : IsPlain e.command = subst IsPlain (sym run.0) plain.0 in
     (here, plain-run cs es plain.1 told.1 (subst (λ (p : Option ℕ). IsLaneRunFrom p cs es) (told.0 here) run.1))
+plain-run _ _ plain told run = absurd run
 
-only-zero : (es : List Entry) → ((k : ℕ) → k ≢ 0 → Each (λ e. IsPlain e.command) (of_lane k es)) → Each IsInZero es
+only-zero : (es : List Entry) → ((k : ℕ) → k ≢ 0 → AllByRecursion (λ e. IsPlain e.command) (of_lane k es)) → AllByRecursion IsInZero es
 only-zero [] plain = tt
 only-zero (e ∷ es) plain = (
   λ ne. each-here (λ (x : Entry). IsPlain x.command) (eqb e.lane e.lane) e (of_lane e.lane es) (eq-eqb e.lane e.lane refl) (plain e.lane ne),
@@ -329,13 +293,7 @@ calls-cut lane n (c ∷ cs) = by (eqb c.lane lane) (calls-cut lane (n + 1) cs)
     by false e = e
 
 entries-cut : (lane : ℕ) (calls : List (LoggedCall Command LockedReply)) → map entry_of (calls_of_lane lane calls) ≡ of_lane lane (map entry_of calls)
-entries-cut lane [] = refl
-entries-cut lane (c ∷ cs) = by (eqb c.lane lane) (entries-cut lane cs)
-  where
-    by : (b : Bool) → map entry_of (calls_of_lane lane cs) ≡ of_lane lane (map entry_of cs)
-        → map entry_of (cond b (c ∷ calls_of_lane lane cs) (calls_of_lane lane cs)) ≡ cond b (entry_of c ∷ of_lane lane (map entry_of cs)) (of_lane lane (map entry_of cs))
-    by true e = ap (λ l. entry_of c ∷ l) e
-    by false e = e
+entries-cut lane calls = sym (filter-mapped entry_of (λ (e : Entry). e.lane == lane) calls)
 
 -- the calls of entries give the entries back
 calls-entries : (nodes : List ℕ) (wait : ℕ) (s : State) (es : List Entry) → map entry_of (calls_from nodes wait s es) ≡ es
@@ -378,7 +336,7 @@ module _ (settings : Settings) (roads : Roads) (lanes : ℕ → List Command) (s
   pub joined : IsJointRun settings roads start.state lanes done.since
   joined =
       let told = each-told roads.nodes settings.wait start.state done.since replies in
-      let zeroth : Each IsInZero done.since = only-zero done.since (λ k ne. plain-run (lanes k) (of_lane k done.since) (run.plain k ne) (each-lane IsTold k done.since told) (ran pass k)) in
+      let zeroth : AllByRecursion IsInZero done.since = only-zero done.since (λ k ne. plain-run (lanes k) (of_lane k done.since) (run.plain k ne) (each-lane IsTold k done.since told) (ran pass k)) in
       record {
         lanes = ran pass;
         closes = closes-join settings roads start.state None done.since

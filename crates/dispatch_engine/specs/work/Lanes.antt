@@ -1,4 +1,5 @@
-use Rattle.std.specs.Prelude.{◌≡◌, ◌≢◌, ℕ, ◌==◌, ◌<◌, ◌≤◌, List, ◌∷◌, None, filter, map, length, slice_index_or, []}
+use Rattle.std.specs.Prelude.{◌≡◌, ◌≢◌, ℕ, ◌==◌, ◌<◌, ◌≤◌, List, None, filter, map, length, slice_index_or, []}
+use Rattle.std.specs.List.{AllByRecursion}
 use Rattle.request_book.specs.Replay.{state_after}
 use Rattle.request_book.specs.declared.command.Command.{Command}
 use Rattle.request_book.specs.declared.journal.Entry.{Entry}
@@ -22,17 +23,12 @@ calls_of_lane lane calls = filter (λ c. c.lane == lane) calls
 abbrev pub calls_of_pass : BookPass → List (LoggedCall Command LockedReply)
 calls_of_pass p = map (λ c. c.1) p.calls
 
--- each command is plain
-abbrev pub ArePlain : List Command → Type 0
-ArePlain [] = Unit {0}
-ArePlain (c ∷ cs) = IsPlain c × ArePlain cs
-
 -- each pass ran its lane's commands; lane 0 alone seals, and its closes are good; where there is no pass there is no command
 pub record HaveRun (settings : Settings) (roads : Roads) (lanes : ℕ → List Command) (passes : List BookPass) : Type 0 where
   pub some : 0 < length passes
   pub runs : (k : ℕ) (d : BookPass) → k < length passes → IsLaneRun (lanes k) (map entry_of (calls_of_pass (slice_index_or passes k d)))
   pub closes : (d : BookPass) → LaneClosesAreGood settings roads None (calls_of_pass (slice_index_or passes 0 d))
-  pub plain : (k : ℕ) → k ≢ 0 → ArePlain (lanes k)
+  pub plain : (k : ℕ) → k ≢ 0 → AllByRecursion IsPlain (lanes k)
   pub beyond : (k : ℕ) → length passes ≤ k → lanes k ≡ []
 
 -- the entries are a run of each lane's commands, every close is good, and no batch waits for its close

@@ -19,6 +19,11 @@ pub record WritesBytes (sink : Change SinkView) (piece rest added : List ℕ) (r
   pub fault : result ≡ Err WriteFault → Rose sink.before.faults sink.after.faults
   pub never_falls : sink.before.faults ≤ sink.after.faults
 
--- the same of lines
-pub record WritesLines (sink : Change SinkView) (piece rest : List ℕ) (lines : List (List ℕ)) (result : Result (Unit {0}) ReportFault) : Type 0 where
-  pub text : WritesBytes sink piece rest (lines_text lines) result
+-- nothing was written, and what waits is as it was
+pub record IsSame (sink : Change SinkView) (piece rest : List ℕ) : Type 0 where
+  pub seen : sink.after ≡ sink.before
+  pub waiting : rest ≡ piece
+
+-- the same of lines, where nothing failed before; behind a fault nothing happens any more
+pub record WritesLines (sink : Change SinkView) (piece rest : List ℕ) (before after : Result (Unit {0}) ReportFault) (lines : List (List ℕ)) : Type 0 where
+  pub text : MatchResult before (λ _. WritesBytes sink piece rest (lines_text lines) after) (λ fault. IsSame sink piece rest × (after ≡ Err fault))

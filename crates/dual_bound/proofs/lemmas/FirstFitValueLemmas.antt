@@ -1,6 +1,6 @@
 -- What the first-fit multipliers are worth: none is negative, and the cheapest usable rows stay the cheapest.
 use Rattle.std.proofs.Common.{◌≡◌, ◌==◌, ◌&&◌, ℕ, zero, suc, ◌*◌, ◌<◌, ◌≤◌, Bool, true, false, List, [], ◌∷◌, ◌++◌, length, Option, Some, None, ℤ, pos, ◌+ℤ◌, ◌*ℤ◌, ◌≤ℤ◌, refl, sym, ap, ◌∙◌, subst, ⊎_elim, arith, eq-eqb, eqb-true, ne_eqb, unwrap_or}
-use Rattle.dual_bound.proofs.Common.{int_min, ints, int_min_is, cases_eq, cases_lt, cases_Bool, and_from, and_parts, cond-true, cond-false, get_or_push, get_or_append_left, get_or_past, length_push, int_sum_below, least_below, lesser, Graph, riders_at, row_vehicle, cost_at, has_rider, must_be_served, IsGoodGraph, Usable, multiplier_at, multiplier_sum, is_usable_by, reduced_cost, vehicle_term, rider_term, leaf_value, least_cost, room_at, first_fit_of, first_fit_below, first_fit, first_fit_value, part, int_sum_same, int_sum_plus, int_sum_single, least_below_some, least_below_none, least_below_found, lesser-le_right, lesser-le_left}
+use Rattle.dual_bound.proofs.Common.{none-some, int_min, ints, int_min_is, cases_eq, cases_lt, cases_Bool, and_from, and_parts, cond-true, cond-false, get_or_push, get_or_append_left, get_or_past, length_push, int_sum_below, least_below, lesser, Graph, riders_at, row_vehicle, cost_at, has_rider, must_be_served, IsGoodGraph, Usable, multiplier_at, multiplier_sum, is_usable_by, reduced_cost, vehicle_term, rider_term, leaf_value, least_cost, room_at, first_fit_of, first_fit_below, first_fit, first_fit_value, part, int_sum_same, int_sum_plus, int_sum_single, least_below_some, least_below_none, least_below_found, lesser-le_right, lesser-le_left}
 use Rattle.plan_rules.proofs.lemmas.DualityLemmas.{multiplier_sum_is}
 use Rattle.dual_bound.proofs.lemmas.FirstFitLemmas.{length-first_fit}
 
@@ -174,14 +174,11 @@ reduced_le g ms k h =
 vehicle_term_is : (g : Graph) (u : Usable) (ms : List ℤ) (v : ℕ) → LeavesRoom g u ms → vehicle_term g u ms v ≡ pos 1024 *ℤ least_cost g u v
 vehicle_term_is g u ms v roomy = by_least (least_below (length g.rows) (is_usable_by g u v) (λ k. pos (cost_at g k))) refl
   where
-    not_none : (y : ℤ) → ◌≡◌ {A = Option ℤ} None (Some y) → ⊥
-    not_none y e = cc
-
     unfit : least_below (length g.rows) (is_usable_by g u v) (λ k. pos (cost_at g k)) ≡ None → (k : ℕ) → k < length g.rows → (b : Bool) → is_usable_by g u v k ≡ b → is_usable_by g u v k ≡ false
     unfit none k l false e = e
     unfit none k l true e =
         let w = least_below_some (length g.rows) (is_usable_by g u v) (λ j. pos (cost_at g j)) k l e in
-        absurd (not_none (w.0) (sym none ∙ w.1))
+        absurd (none-some (w.0) (sym none ∙ w.1))
 
     by_least : (o : Option ℤ) → least_below (length g.rows) (is_usable_by g u v) (λ k. pos (cost_at g k)) ≡ o → vehicle_term g u ms v ≡ pos 1024 *ℤ least_cost g u v
     by_least None e =

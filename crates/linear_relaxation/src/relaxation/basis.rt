@@ -31,7 +31,7 @@ pub struct Basis {
     /// How much each condition has: a little more than one where a rider may be left out, so that no two
     /// levels are used up at once.
     capacities: Vec<i64>,
-    factors: Factors,
+    pub factors: Factors,
     /// How many columns came in, and with how many numbers, when the factors were made; none where there are none.
     made: Option<(usize, usize)>,
     /// The last columns that had factors.
@@ -188,7 +188,7 @@ impl Basis {
     }
 
     /// Writes the inverse's row of a place over the conditions.
-    pub fn find_row(&self, place: usize, row: &mut Sparse) {
+    pub fn find_row(&mut self, place: usize, row: &mut Sparse) {
         row.clear();
         row.set(place, ONE);
         self.factors.price(row);
@@ -256,7 +256,8 @@ impl Basis {
         self.entering.at(place)
     }
 
-    /// Puts the column that was found into this place. False where the factors should be made anew.
+    /// Puts the column that was found into this place. False where the factors should be made anew, which is dear where
+    /// they have many numbers.
     pub fn exchange(
         &mut self,
         place: usize,
@@ -272,6 +273,7 @@ impl Basis {
         self.factors.enter(place, &self.entering)?;
         let (count, size) = self.made.unwrap_or((0, 0));
         let most = self.columns.len().saturating_mul(8).saturating_add(2000);
+        let most = most.max(size.saturating_sub(48_000));
         Ok(
             self.factors.len().saturating_sub(count) < MOST_EXCHANGES
                 && self.factors.size().saturating_sub(size) <= most,

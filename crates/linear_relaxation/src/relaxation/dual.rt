@@ -52,7 +52,7 @@ impl Relaxation {
                 None => return Ok((Ended::Failed, rise)),
                 Some(more) => rise = rise.saturating_add(more),
             }
-            if rise >= limit {
+            if rise >= limit || self.is_tired() {
                 break;
             }
         }
@@ -64,7 +64,16 @@ impl Relaxation {
             self.basis.factor(table)?;
             self.reprice();
         }
-        self.pool.list_places(self.prices.len())?;
+        if !self.pool.is_listed() {
+            self.list_places()?;
+        }
+        Ok(())
+    }
+
+    /// Lists the places of each condition in the pool, but for those of rows that are forbidden now.
+    pub fn list_places(&mut self) -> Result<(), OutOfMemory> {
+        self.pool
+            .list_places(self.prices.len(), &self.is_forbidden)?;
         self.products.make_space(self.pool.columns().len())
     }
 

@@ -4,15 +4,17 @@
 //! places of those before it, and only numbers that aren't 0 are.
 use crate::relaxation::sparse::Sparse;
 use pool_base::OutOfMemory;
-use row_tables::fixed_point::{ONE, is_noise, part, quotient};
+use row_tables::fixed_point::{ONE, is_noise, part, quotient, write_over};
 use row_tables::lists::{Lists, short};
 use std::alloc::Global;
+use std::mem::replace;
 
-/// Which place a column came in at, and its number there.
+/// Which place a column came in at, its number there, and the marks of its other places.
 #[derive(Clone, Copy)]
 struct Pivot {
     place: u32,
     value: i64,
+    marks: u64,
 }
 
 /// The columns that came in for those of single conditions, which come first.
@@ -22,6 +24,10 @@ pub struct Factors {
     /// For each column the other places where it isn't 0, and all their numbers.
     places: Lists,
     numbers: Vec<i64>,
+    /// The marks of the column at hand.
+    marks: u64,
+    /// How many numbers were gone through so far.
+    pub work: u64,
 }
 
 impl Factors {
@@ -30,6 +36,8 @@ impl Factors {
             pivots: Vec::new(alloc),
             places: Lists::new(alloc),
             numbers: Vec::new(alloc),
+            marks: 0,
+            work: 0,
         }
     }
 
@@ -40,12 +48,9 @@ impl Factors {
     }
 
     pub fn copy_from(&mut self, other: &Factors) -> Result<(), OutOfMemory> {
-        self.pivots.clear();
-        self.pivots.extend_from_slice(&other.pivots)?;
+        write_over(&mut self.pivots, &other.pivots)?;
         self.places.copy_from(&other.places)?;
-        self.numbers.clear();
-        self.numbers.extend_from_slice(&other.numbers)?;
-        Ok(())
+        write_over(&mut self.numbers, &other.numbers)
     }
 
     /// How many columns came in.
@@ -79,6 +84,7 @@ impl Factors {
 
     fn push(&mut self, place: usize, other: usize, number: i64) -> Result<(), OutOfMemory> {
         if other != place && !is_noise(number) {
+            self.marks |= mark_of(other);
             self.places.push(other)?;
             self.numbers.push(number)?;
         }
@@ -87,12 +93,18 @@ impl Factors {
 
     fn end(&mut self, place: usize, value: i64) -> Result<(), OutOfMemory> {
         let place = short(place);
-        self.pivots.push(Pivot { place, value })?;
+        let marks = replace(&mut self.marks, 0);
+        self.pivots.push(Pivot {
+            place,
+            value,
+            marks,
+        })?;
         self.places.end()
     }
 
     /// Writes numbers over the places where numbers over the conditions stand.
-    pub fn solve(&self, column: &mut Sparse) {
+    pub fn solve(&mut self, column: &mut Sparse) {
+        self.work = self.work.saturating_add(self.numbers.len() as u64);
         for number in 0..self.pivots.len() {
             let pivot = self.pivots[number];
             let place = pivot.place as usize;
@@ -107,13 +119,24 @@ impl Factors {
     }
 
     /// Writes prices of the conditions in place of the costs of the places.
-    pub fn price(&self, costs: &mut Sparse) {
+    pub fn price(&mut self, costs: &mut Sparse) {
+        self.work = self.work.saturating_add(self.numbers.len() as u64);
+        let mut marks = 0;
+        for place in costs.places() {
+            marks |= mark_of(place);
+        }
         for number in (0..self.pivots.len()).rev() {
             if number < self.pivots.len() {
                 let pivot = self.pivots[number];
                 let place = pivot.place as usize;
-                let (places, numbers) = self.column(number);
-                let rest = costs.less_products(costs.at(place), places, numbers);
+                let mut rest = costs.at(place);
+                if marks & pivot.marks != 0 {
+                    let (places, numbers) = self.column(number);
+                    rest = costs.less_products(rest, places, numbers);
+                }
+                if rest != 0 {
+                    marks |= mark_of(place);
+                }
                 costs.set(place, quotient(rest, pivot.value));
             }
         }
@@ -127,4 +150,10 @@ impl Factors {
         let numbers = part(&self.numbers, start, end);
         (self.places.list(number), numbers)
     }
+}
+
+/// One of 64 marks for a place: columns whose marks are all others than those of some numbers meet none of these.
+#[inline]
+fn mark_of(place: usize) -> u64 {
+    1 << (place % 64)
 }

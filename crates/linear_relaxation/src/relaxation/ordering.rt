@@ -183,7 +183,7 @@ impl Ordering {
                 self.rest.push((count, short(place)))?;
             }
         }
-        self.rest.sort()?;
+        self.rest.as_mut_slice().sort_unstable();
         for other in &self.rest {
             self.order.push((NONE, other.1))?;
         }

@@ -18,7 +18,7 @@ const LEAST_LOOK: usize = 1000;
 const LEAST_GAIN: i64 = 1 << 24;
 
 impl Relaxation {
-    /// Takes columns in until the solution over the pool is the best, or one can't come in.
+    /// Takes columns in until the solution over the pool is the best, or one can't come in, or it is tired.
     pub fn pivot_on(&mut self, table: &RowTable) -> Result<(), OutOfMemory> {
         if !self.basis.is_factored() {
             self.basis.factor(table)?;
@@ -29,6 +29,7 @@ impl Relaxation {
         let mut is_exact = true;
         for _ in 0..u64::MAX {
             match self.next_place()? {
+                _ if self.is_tired() => return Ok(()),
                 Some((cost, place)) => {
                     is_exact = false;
                     let column = self.pool.column(place as usize);

@@ -14,8 +14,11 @@ pub struct Pool {
     /// of which a pool has few rows.
     costs: Vec<i64>,
     conditions: Lists,
-    /// For each condition the places of the columns with it, where they are listed.
+    /// The same conditions, but none of a column that was forbidden when they were listed; and for each condition the
+    /// places of the columns with it.
+    open: Lists,
     places: Lists,
+    /// Whether each column's conditions are listed that aren't forbidden.
     is_listed: bool,
     /// Where the next look at the columns starts.
     cursor: usize,
@@ -29,6 +32,7 @@ impl Pool {
             is_in: vec![in alloc; false; columns]?,
             costs: Vec::new(alloc),
             conditions: Lists::new(alloc),
+            open: Lists::new(alloc),
             places: Lists::new(alloc),
             is_listed: false,
             cursor: 0,
@@ -111,13 +115,27 @@ impl Pool {
         rest
     }
 
-    /// Lists the places of each condition, below this many, where that isn't done.
-    pub fn list_places(&mut self, conditions: usize) -> Result<(), OutOfMemory> {
-        if !self.is_listed {
-            self.is_listed = true;
-            self.places.transpose(&self.conditions, conditions)?;
+    /// Whether the places of each condition are listed.
+    pub fn is_listed(&self) -> bool {
+        self.is_listed
+    }
+
+    /// Lists the places of each condition, below this many, but for those of forbidden columns.
+    pub fn list_places(
+        &mut self,
+        conditions: usize,
+        is_forbidden: &[bool],
+    ) -> Result<(), OutOfMemory> {
+        self.is_listed = true;
+        self.open.clear();
+        for place in 0..self.columns.len() {
+            if item(is_forbidden, self.column(place), false) {
+                self.open.end()?;
+            } else {
+                self.open.push_list(self.conditions.list(place))?;
+            }
         }
-        Ok(())
+        self.places.transpose(&self.open, conditions)
     }
 
     /// The places of the columns with a condition, as they were listed last.

@@ -63,12 +63,6 @@ impl Sparse {
         }
     }
 
-    /// Writes ones at these places, and 0 at all others.
-    pub fn load_ones(&mut self, places: &[u32], one: i64) {
-        self.clear();
-        self.add_all(places, one);
-    }
-
     /// Adds a number at each of these places.
     #[inline]
     pub fn add_all(&mut self, places: &[u32], more: i64) {
@@ -106,7 +100,8 @@ impl Sparse {
     pub fn places(&self) -> Places<'_> {
         Places {
             marks: &self.marks,
-            from: 0,
+            word: 0,
+            rest: item(&self.marks, 0, 0),
             left: self.numbers.len(),
         }
     }
@@ -125,11 +120,12 @@ impl Sparse {
     }
 }
 
-/// The marked places from one on.
+/// The marked places from one on: those of the rest of a word, and of the words behind it.
 #[derive(Drop)]
 pub struct Places<'a> {
     marks: &'a [u64],
-    from: usize,
+    word: usize,
+    rest: u64,
     left: usize,
 }
 
@@ -143,25 +139,24 @@ impl<'a> Iterator for Places<'a> {
         if self.left == 0 {
             return None;
         }
-        let place = next_marked(self.marks, self.from)?;
+        if self.rest == 0 {
+            self.word = next_marked(self.marks, self.word)?;
+            self.rest = item(self.marks, self.word, 0);
+        }
+        let place = self.word.wrapping_mul(WORD);
+        let place = place.wrapping_add(self.rest.trailing_zeros() as usize);
+        self.rest &= self.rest.wrapping_sub(1);
         self.left -= 1;
-        self.from = place.wrapping_add(1);
         Some(place)
     }
 }
 
-/// The first marked place from this one on.
+/// The first word behind this one with a mark.
 #[inline]
-fn next_marked(marks: &[u64], from: usize) -> Option<usize> {
-    let first = from / WORD;
-    let rest = item(marks, first, 0) >> (from % WORD);
-    if rest != 0 {
-        return Some(from.wrapping_add(rest.trailing_zeros() as usize));
-    }
-    for word in first.saturating_add(1)..marks.len() {
+fn next_marked(marks: &[u64], word: usize) -> Option<usize> {
+    for word in word.saturating_add(1)..marks.len() {
         if marks[word] != 0 {
-            let place = word.wrapping_mul(WORD);
-            return Some(place.wrapping_add(marks[word].trailing_zeros() as usize));
+            return Some(word);
         }
     }
     None

@@ -1,9 +1,8 @@
 -- Rows given to vehicles, one after the other.
 use Rattle.std.proofs.Common.{◌≡◌, ◌≢◌, ℕ, ◌+◌, ◌<◌, List, [], ◌∷◌, ◌++◌, length, get_or, set, All, Option, Some, None, sym, ◌∙◌, subst, arith}
-use Rattle.outcome_check.proofs.Common.{IsStrictlyIncreasing, get_or_default, get_or_push, get_or_append_left, length_push, Graph, IsRowOf, choice_at, ChosenTrip, Settled, TellsRow, no_chosen}
+use Rattle.outcome_check.proofs.Common.{rising_once, IsStrictlyIncreasing, get_or_default, get_or_push, get_or_append_left, length_push, Graph, IsRowOf, choice_at, ChosenTrip, Settled, TellsRow, no_chosen}
 use Rattle.std.proofs.lemmas.List.{get_or-set_same, get_or-set_other, length-set}
 use borrow.Author.Count.{below_more}
-use Rattle.outcome_check.proofs.lemmas.OrderLemmas.{rising_once}
 
 -- the first vehicles are given the rows beside them, and the others none
 pub record IsGiven (count : ℕ) (vehicles rows : List ℕ) (place : ℕ) (chosen : List (Option ℕ)) : Type 0 where

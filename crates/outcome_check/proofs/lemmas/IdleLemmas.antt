@@ -1,8 +1,6 @@
 -- Idle vehicles and riders who are left out stand at places of the table, each once.
-use Rattle.std.proofs.Common.{◌≡◌, ℕ, ◌<◌, ◌≤◌, Bool, List, [], length, get_or, map, filter, All, sym, ap, ◌∙◌, subst, arith}
-use Rattle.outcome_check.proofs.Common.{range_with_len, IsStrictlyIncreasing, length-map, get_or-map, length-range_with_len, MoveLine, Settled, SettledRider, SettledVehicle, rider_at, no_rider, no_vehicle, IsSound, AreMoves, move_line, rider_id, vehicle_id, has_places, none_matched, HaveOwnPlaces}
-use Rattle.std.proofs.lemmas.List.Sums.{length-filter, count_by-le-length}
-use Rattle.outcome_check.proofs.lemmas.OrderLemmas.{rising_once}
+use Rattle.std.proofs.Common.{◌≡◌, ℕ, ◌<◌, List, [], length, get_or, map, All, sym, ap, ◌∙◌, subst, arith}
+use Rattle.outcome_check.proofs.Common.{rising_once, IsStrictlyIncreasing, length-map, get_or-map, MoveLine, Settled, SettledRider, SettledVehicle, rider_at, no_rider, no_vehicle, IsSound, AreMoves, move_line, rider_id, vehicle_id, has_places, none_matched, HaveOwnPlaces}
 
 -- rising ids tell riders and vehicles apart
 pub one_rider : (settled : Settled) → IsStrictlyIncreasing (map (λ (r : SettledRider). r.id) settled.riders) → (r s : ℕ) → r < length settled.riders → s < length settled.riders → rider_id settled r ≡ rider_id settled s → r ≡ s
@@ -29,10 +27,6 @@ own_places k points tau settled idle left sound some vehicles riders up vp =
       own_vehicles = λ i j a b e. rising_once idle up i j a b (one_vehicle settled sound.vehicle_ids (get_or idle i 0) (get_or idle j 0) (vehicles i 0 a) (vehicles j 0 b) e);
       own_riders = λ i j a b e. rising_once left vp i j a b (one_rider settled sound.rider_ids (get_or left i 0) (get_or left j 0) (riders i 0 a) (riders j 0 b) e);
     }
-
--- no more pass than there are
-pub kept_few : (p : ℕ → Bool) (n : ℕ) → length (filter p (range_with_len 0 n)) ≤ n
-kept_few p n = let e = length-range_with_len 0 n in let few = count_by-le-length p (range_with_len 0 n) in rw (length-filter p (range_with_len 0 n)) (omega arith)
 
 -- without vehicles there is no move
 pub none_move : (tau : ℕ → ℕ → ℕ) (settled : Settled) (idle left : List ℕ) (moves : List MoveLine) → idle ≡ [] → AreMoves tau settled idle left moves → moves ≡ []

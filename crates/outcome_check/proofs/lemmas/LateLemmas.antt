@@ -1,6 +1,6 @@
 -- Late vehicles, and orders of their passengers.
-use Rattle.std.proofs.Common.{◌≡◌, ℕ, ◌<◌, true, false, not, eqb, ⊎_elim, List, [], length, None, refl, sym, ap, ◌∙◌, subst, arith}
-use Rattle.outcome_check.proofs.Common.{LateVehicle, PlannedStop, Settled, Stop, Task, IsTrip, trip_task, IsSound, IsTask, IsOrderOf, ReachesAll, order_delay, told_stops, IsLateOrder, IsLeast}
+use Rattle.std.proofs.Common.{◌≡◌, ℕ, true, false, not, eqb, ⊎_elim, List, [], None, refl, sym, ap, ◌∙◌, subst, arith}
+use Rattle.outcome_check.proofs.Common.{LateVehicle, PlannedStop, Settled, Stop, Task, trip_task, IsOrderOf, ReachesAll, order_delay, told_stops, IsLateOrder, IsLeast}
 use Rattle.std.proofs.lemmas.Bool.Decides.{eqb_tells}
 
 -- the late vehicle that is read where there is none
@@ -10,13 +10,6 @@ no_late = record { vehicle = 0; delay = 0; stops = None }
 -- ids that don't differ are the same
 pub same_id : (a b : ℕ) → false ≡ not (eqb a b) → a ≡ b
 same_id a b e = ⊎_elim (λ yes. yes.1) (λ no. absurd (let f : false ≡ true = e ∙ ap not no.0 in cc)) (eqb_tells a b)
-
--- a trip of nobody
-pub no_trip : (riders : ℕ) → IsTrip riders []
-no_trip riders = record { rising = λ i lt. absurd (omega arith); within = λ i d lt. absurd (omega arith) }
-
-pub valid_task : (settled : Settled) (v points : ℕ) (tau : ℕ → ℕ → ℕ) (task : Task) → ((k : ℕ) × IsSound k points tau settled) → v < length settled.vehicles → task ≡ trip_task settled v [] → IsTask points task
-valid_task settled v points tau task sound within same = subst (IsTask points) (sym same) ((sound.1.each v within).tasks [] (no_trip (length settled.riders)) (omega arith))
 
 module _ (points : List ℕ) (tau : ℕ → ℕ → ℕ) (settled : Settled) (v : ℕ) (task : Task) (same : task ≡ trip_task settled v []) where
   pub late_order_of : (delay : ℕ) (lines : List PlannedStop) (late : IsLateOrder points tau settled v delay lines) → IsOrderOf task late.stops

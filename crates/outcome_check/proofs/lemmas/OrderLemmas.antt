@@ -1,30 +1,16 @@
 -- Orders are read back from what is told of them.
-use Rattle.std.proofs.Common.{◌≡◌, ℕ, zero, suc, ◌+◌, ◌<◌, ◌≤◌, inl, inr, List, [], ◌∷◌, ◌++◌, length, get_or, map, zip, take, refl, sym, ap, ◌∙◌, subst, arith}
-use Rattle.outcome_check.proofs.Common.{AllByRecursion, IsStrictlyIncreasing, cases_lt, get_or_default, take_more, length_push, PlannedStop, Settled, SettledRider, SettledVehicle, Stop, Pick, IsKnown, IsTrip, trip_task, vehicle_at, rider_at, no_rider, no_vehicle, IsOrderOf, visit_at, visits_of, seconds_of, rider_id, told_stop, told_stops, in_order, neighbours_from, nat_strict, HasOwnIds}
+use Rattle.std.proofs.Common.{◌≡◌, ℕ, ◌+◌, ◌<◌, ◌≤◌, List, [], ◌∷◌, ◌++◌, length, get_or, map, zip, take, refl, sym, ap, ◌∙◌, subst, arith}
+use Rattle.outcome_check.proofs.Common.{get_or-map, length-map, rising_once, AllByRecursion, get_or_default, take_more, length_push, PlannedStop, Settled, SettledRider, Stop, Pick, IsKnown, IsTrip, trip_task, vehicle_at, rider_at, no_rider, IsOrderOf, visit_at, visits_of, seconds_of, rider_id, told_stop, told_stops, HasOwnIds}
 use Rattle.std.proofs.lemmas.List.{take_all}
+use Rattle.std.proofs.lemmas.List.Elements.{All-from_recursion}
+use Rattle.std.proofs.lemmas.Slice.Zip.{get_or-zip, length-zip}
 use Rattle.stop_orders.specs.declared.visit.Visit.{Visit}
 use Rattle.stop_orders.specs.Visit.{place_of, seconds_from}
 use Rattle.stop_orders.proofs.lemmas.DoneLemmas.{length-IsOrder}
 
--- a rising list has a number at one place
-pub rising_once : (xs : List ℕ) → IsStrictlyIncreasing xs → (i j : ℕ) → i < length xs → j < length xs → get_or xs i 0 ≡ get_or xs j 0 → i ≡ j
-rising_once xs up i j a b e =
-    let far = in_order (λ (x y : ℕ). x < y) nat_strict xs (neighbours_from (λ (x y : ℕ). x < y) xs 0 up) in
-    elim (cases_lt i j) as (λ _. i ≡ j) [
-      | inl less ↦ absurd (let below = far i j 0 less b in omega (arith, below, e))
-      | inr ge ↦ elim (cases_lt j i) as (λ _. i ≡ j) [
-        | inl less ↦ absurd (let below = far j i 0 less a in omega (arith, below, e))
-        | inr le ↦ omega arith
-      ]
-    ]
-
 -- the rider read at a number
 pub rider_read : (settled : Settled) (riders : List SettledRider) (r : ℕ) (x : SettledRider) → riders ≡ settled.riders → r < length settled.riders → get_or riders r x ≡ rider_at settled r
 rider_read settled riders r x e h = ap (λ (list : List SettledRider). get_or list r x) e ∙ get_or_default settled.riders r x no_rider h
-
--- .. and the vehicle
-pub vehicle_read : (settled : Settled) (vehicles : List SettledVehicle) (v : ℕ) (x : SettledVehicle) → vehicles ≡ settled.vehicles → v < length settled.vehicles → get_or vehicles v x ≡ vehicle_at settled v
-vehicle_read settled vehicles v x e h = ap (λ (list : List SettledVehicle). get_or list v x) e ∙ get_or_default settled.vehicles v x no_vehicle h
 
 module _ (settled : Settled) (v : ℕ) (trip : List ℕ) (own : HasOwnIds settled) (there : v < length settled.vehicles) (is_trip : IsTrip (length settled.riders) trip) where
   inside : (i : ℕ) → i < length trip → get_or trip i 0 < length settled.riders
@@ -34,34 +20,23 @@ module _ (settled : Settled) (v : ℕ) (trip : List ℕ) (own : HasOwnIds settle
   same_number i j id a b e f = rising_once trip is_trip.rising i j a b (own.riders (get_or trip i 0) (get_or trip j 0) (inside i a) (inside j b) (e ∙ sym f))
 
 zip_at : {A B C : Type 0} (f : A × B → C) (xs : List A) (ys : List B) (k : ℕ) (a : A) (b : B) (d : C) → k < length xs → length ys ≡ length xs → get_or (map f (zip xs ys)) k d ≡ f (get_or xs k a, get_or ys k b)
-zip_at f [] ys k a b d h e = absurd (omega arith)
-zip_at f (x ∷ xs) [] k a b d h e = absurd (omega arith)
-zip_at f (x ∷ xs) (y ∷ ys) zero a b d h e = refl
-zip_at f (x ∷ xs) (y ∷ ys) (suc k) a b d h e = zip_at f xs ys k a b d (omega arith) (omega arith)
+zip_at f xs ys k a b d h e = get_or-map f (zip xs ys) k (a, b) d (omega (arith, length-zip xs ys)) ∙ ap f (get_or-zip xs ys k (a, b) h (omega arith))
 
 zip_long : {A B C : Type 0} (f : A × B → C) (xs : List A) (ys : List B) → length ys ≡ length xs → length (map f (zip xs ys)) ≡ length xs
-zip_long f [] ys e = refl
-zip_long f (x ∷ xs) [] e = absurd (omega arith)
-zip_long f (x ∷ xs) (y ∷ ys) e = let rest = zip_long f xs ys (omega arith) in omega (arith, rest)
+zip_long f xs ys e = omega (arith, length-map (zip xs ys) f, length-zip xs ys)
 
 seconds_long : (tau : ℕ → ℕ → ℕ) (dwell place free : ℕ) (vs : List Visit) → length (seconds_from tau dwell place free vs) ≡ length vs
 seconds_long tau dwell place free [] = refl
 seconds_long tau dwell place free (v ∷ vs) = let rest = seconds_long tau dwell (place_of v) (free + tau place (place_of v) + dwell) vs in omega (arith, rest)
 
-pub map_long : {A B : Type 0} (f : A → B) (xs : List A) → length (map f xs) ≡ length xs
-map_long f [] = refl
-map_long f (x ∷ xs) = let rest = map_long f xs in omega (arith, rest)
-
 pub known_at : (riders passengers : ℕ) (stops : List Stop) (k : ℕ) (d : Stop) → AllByRecursion (IsKnown riders passengers) stops → k < length stops → IsKnown riders passengers (get_or stops k d)
-known_at riders passengers [] k d all h = absurd (omega arith)
-known_at riders passengers (s ∷ stops) zero d all h = all.0
-known_at riders passengers (s ∷ stops) (suc k) d all h = known_at riders passengers stops k d all.1 (omega arith)
+known_at riders passengers stops k d all h = All-from_recursion (IsKnown riders passengers) stops all k d h
 
 module _ (points : List ℕ) (tau : ℕ → ℕ → ℕ) (settled : Settled) (v : ℕ) (trip : List ℕ) (stops : List Stop) where
   seconds_as_long : length (seconds_of tau (trip_task settled v trip) stops) ≡ length stops
   seconds_as_long =
       let task = trip_task settled v trip in
-      seconds_long tau task.dwell task.start task.ready (visits_of task stops) ∙ map_long (visit_at task) stops
+      seconds_long tau task.dwell task.start task.ready (visits_of task stops) ∙ length-map stops (visit_at task)
 
   pub told_long : length (told_stops points tau settled v trip stops) ≡ length stops
   told_long = zip_long (told_stop points settled v trip) stops (seconds_of tau (trip_task settled v trip) stops) seconds_as_long
@@ -94,7 +69,7 @@ module _ (settled : Settled) (v : ℕ) (trip : List ℕ) (told : List PlannedSto
     back = λ points tau stops o is.
         let here = told_here k d h points tau stops is in
         let known : IsKnown (length trip) (length (vehicle_at settled v).aboard.items) (get_or stops k (Pick 0)) =
-        subst (λ (n : ℕ). IsKnown n (length (vehicle_at settled v).aboard.items) (get_or stops k (Pick 0))) (map_long (λ (r : ℕ). (rider_at settled r).leg) trip)
+        subst (λ (n : ℕ). IsKnown n (length (vehicle_at settled v).aboard.items) (get_or stops k (Pick 0))) (length-map trip (λ (r : ℕ). (rider_at settled r).leg))
         (known_at (length (trip_task settled v trip).riders.items) (length (vehicle_at settled v).aboard.items) stops k (Pick 0) o.known here.0) in
         let same = reads points (get_or stops k (Pick 0)) (get_or (seconds_of tau (trip_task settled v trip) stops) k 0) known here.1 in
         let within = here.0 in
@@ -108,7 +83,7 @@ module _ (settled : Settled) (v : ℕ) (trip : List ℕ) (told : List PlannedSto
   read_stuck k d h reads points tau stops o is =
       let here = told_here k d h points tau stops is in
       let known : IsKnown (length trip) (length (vehicle_at settled v).aboard.items) (get_or stops k (Pick 0)) =
-      subst (λ (n : ℕ). IsKnown n (length (vehicle_at settled v).aboard.items) (get_or stops k (Pick 0))) (map_long (λ (r : ℕ). (rider_at settled r).leg) trip)
+      subst (λ (n : ℕ). IsKnown n (length (vehicle_at settled v).aboard.items) (get_or stops k (Pick 0))) (length-map trip (λ (r : ℕ). (rider_at settled r).leg))
       (known_at (length (trip_task settled v trip).riders.items) (length (vehicle_at settled v).aboard.items) stops k (Pick 0) o.known here.0) in
       reads points (get_or stops k (Pick 0)) (get_or (seconds_of tau (trip_task settled v trip) stops) k 0) known here.1
 
@@ -117,7 +92,7 @@ module _ (settled : Settled) (v : ℕ) (trip : List ℕ) (told : List PlannedSto
       → (points : List ℕ) (tau : ℕ → ℕ → ℕ) (stops : List Stop) → IsOrderOf (trip_task settled v trip) stops → told ≡ told_stops points tau settled v trip stops → ⊥
   read_too_many few passengers more points tau stops o is =
       let long : length told ≡ length stops = ap (λ (xs : List PlannedStop). length xs) is ∙ told_long points tau settled v trip stops in
-      let riders = map_long (λ (r : ℕ). (rider_at settled r).leg) trip in
+      let riders = length-map trip (λ (r : ℕ). (rider_at settled r).leg) in
       let short = length-IsOrder (length (trip_task settled v trip).riders.items) (length (vehicle_at settled v).aboard.items) stops (omega (arith, riders, few)) o in
       omega (arith, long, short, riders, few, passengers, more)
 

@@ -22,9 +22,7 @@ module _ (settings : Settings) (points : List ℕ) (tau : ℕ → ℕ → ℕ) (
       let same_graph : with.graph ≡ graph = one_trip_graph settings tau settled with.graph graph with.exact exact in
       let same_edges : with.edges ≡ edges = one_rv_graph tau settled with.edges edges with.edges_exact edges_exact in
       let same_pairs : with.pairs ≡ pairs = one_rr_graph tau settled with.pairs pairs with.pairs_exact pairs_exact in
-      subst (λ (x : List (ℕ × ℕ)). P (record { points = points; tau = tau; settled = settled; graph = graph; edges = edges; pairs = x })) same_pairs
-      (subst (λ (x : List RvEdge). P (record { points = points; tau = tau; settled = settled; graph = graph; edges = x; pairs = with.pairs })) same_edges
-      (subst (λ (x : Graph). P (record { points = points; tau = tau; settled = settled; graph = x; edges = with.edges; pairs = with.pairs })) same_graph with.holds))
+      subst P (λ i. record { points = points; tau = tau; settled = settled; graph = same_graph i; edges = same_edges i; pairs = same_pairs i }) with.holds
 
 module _ (settings : Settings) (points : List ℕ) (tau : ℕ → ℕ → ℕ) (settled : Settled) where
   -- an answer is good where all points hold of it

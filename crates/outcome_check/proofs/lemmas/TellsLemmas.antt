@@ -1,10 +1,6 @@
 -- The row of which a trip tells.
-use Rattle.std.proofs.Common.{◌≡◌, ◌<◌, ℕ, List, length, get_or, sym, ap, ◌∙◌, subst}
-use Rattle.outcome_check.proofs.Common.{get_or_default, TripRow, Graph, riders_at, cost_at, no_row, ChosenTrip, Settled, Stop, Task, trip_task, Serves, order_delay, vehicle_id, told_stops, TellsRow}
-
--- the row read at a number
-pub row_read : (graph : Graph) (rows : List TripRow) (k : ℕ) (x : TripRow) → rows ≡ graph.rows → k < length graph.rows → get_or rows k x ≡ get_or graph.rows k no_row
-row_read graph rows k x e h = ap (λ (list : List TripRow). get_or list k x) e ∙ get_or_default graph.rows k x no_row h
+use Rattle.std.proofs.Common.{◌≡◌, ℕ, List, sym, ap, ◌∙◌, subst}
+use Rattle.outcome_check.proofs.Common.{Graph, riders_at, cost_at, ChosenTrip, Settled, Stop, Task, trip_task, Serves, order_delay, vehicle_id, told_stops, TellsRow}
 
 module _ (points : List ℕ) (tau : ℕ → ℕ → ℕ) (settled : Settled) (graph : Graph) (v row : ℕ) (trip : ChosenTrip) (riders : List ℕ) (task : Task)
     (riders_are : riders ≡ riders_at graph row) (task_is : task ≡ trip_task settled v riders) where

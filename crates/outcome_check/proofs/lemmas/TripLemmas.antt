@@ -1,10 +1,11 @@
 -- Trips give one plan, if any.
-use Rattle.std.proofs.Common.{◌≡◌, ◌≢◌, ℕ, zero, suc, ◌+◌, ◌<◌, ◌⊎◌, not, Bool, true, false, cond, List, [], ◌∷◌, length, get_or, filter, All, Contains, Option, Some, None, MatchOption, refl, sym, ap, ◌∙◌, subst, inl, inr, arith, ⊎_elim}
-use Rattle.outcome_check.proofs.Common.{AllZip, range_with_len, IsStrictlyIncreasing, get_or_default, All-filter, All-from_get_or, All-contains, filter_passes, length-range_with_len, get_or-range_with_len, Graph, IsRowOf, HasNoRow, choice_at, riders_at, no_row, ChosenTrip, PlannedStop, Settings, Settled, Stop, Pick, Drop, Alight, IsKnown, is_of_rider, IsTrip, trip_task, vehicle_at, rider_at, IsOrderOf, seconds_of, IsTripGraphOf, rider_id, told_stop, told_stops, IsTripOf, has_head, has_later, head_or_tail, same_rising, graph_in_order, one_place, HasOwnIds, GivesTrips, TellsRow, HasNoRowFor, GiveRows, no_chosen}
+use Rattle.std.proofs.Common.{◌≡◌, ◌≢◌, ℕ, zero, suc, ◌+◌, ◌<◌, ◌⊎◌, not, Bool, true, false, cond, List, [], ◌∷◌, length, get_or, filter, Contains, Option, Some, None, MatchOption, refl, sym, ap, ◌∙◌, subst, inl, inr, arith, ⊎_elim}
+use Rattle.outcome_check.proofs.Common.{kept_below, length-map, AllZip, range_with_len, IsStrictlyIncreasing, get_or_default, All-contains, filter_passes, length-range_with_len, get_or-range_with_len, Graph, IsRowOf, HasNoRow, choice_at, riders_at, no_row, ChosenTrip, PlannedStop, Settings, Settled, Stop, Pick, Drop, Alight, IsKnown, is_of_rider, IsTrip, trip_task, vehicle_at, rider_at, IsOrderOf, seconds_of, IsTripGraphOf, rider_id, told_stop, told_stops, IsTripOf, has_head, has_later, head_or_tail, same_rising, graph_in_order, one_place, HasOwnIds, GivesTrips, TellsRow, HasNoRowFor, GiveRows, no_chosen}
 use Rattle.std.proofs.lemmas.List.{ext_get_or}
+use Rattle.std.proofs.lemmas.Slice.Zip.{AllZip-long}
 use Rattle.std.proofs.lemmas.List.Kept.{IsStrictlyIncreasing-filter}
 use Rattle.plan_rules.proofs.lemmas.PlanLemmas.{plan_choice}
-use Rattle.outcome_check.proofs.lemmas.OrderLemmas.{known_at, told_here, told_long, map_long}
+use Rattle.outcome_check.proofs.lemmas.OrderLemmas.{known_at, told_here, told_long}
 
 -- between lists in pairs and their places
 pub all_zip_from : {A B : Type 0} (R : A → B → Type 0) (xs : List A) (ys : List B) (a : A) (b : B) → length xs ≡ length ys → ((k : ℕ) → k < length xs → R (get_or xs k a) (get_or ys k b)) → AllZip R xs ys
@@ -14,10 +15,7 @@ all_zip_from R (x ∷ xs) [] a b e each = absurd (omega arith)
 all_zip_from R (x ∷ xs) (y ∷ ys) a b e each = (each 0 (omega arith), all_zip_from R xs ys a b (omega arith) (λ k h. each (suc k) (omega arith)))
 
 pub all_zip_long : {A B : Type 0} (R : A → B → Type 0) (xs : List A) (ys : List B) → AllZip R xs ys → length xs ≡ length ys
-all_zip_long R [] [] all = refl
-all_zip_long R [] (y ∷ ys) all = absurd all
-all_zip_long R (x ∷ xs) [] all = absurd all
-all_zip_long R (x ∷ xs) (y ∷ ys) all = let rest = all_zip_long R xs ys all.1 in omega (arith, rest)
+all_zip_long R xs ys all = sym (AllZip-long R xs ys all)
 
 pub all_zip_at : {A B : Type 0} (R : A → B → Type 0) (xs : List A) (ys : List B) (a : A) (b : B) → AllZip R xs ys → (k : ℕ) → k < length xs → R (get_or xs k a) (get_or ys k b)
 all_zip_at R [] ys a b all k h = absurd (omega arith)
@@ -62,11 +60,6 @@ kept_has p n v h pass =
 pub kept_passes : (p : ℕ → Bool) (n v : ℕ) → Contains (filter p (range_with_len 0 n)) v → p v ≡ true
 kept_passes p n v found = All-contains (λ (x : ℕ). p x ≡ true) (filter p (range_with_len 0 n)) v (filter_passes p (range_with_len 0 n)) found
 
-pub kept_below : (p : ℕ → Bool) (n : ℕ) → All (λ r. r < n) (filter p (range_with_len 0 n))
-kept_below p n =
-    All-filter p (λ r. r < n) (range_with_len 0 n)
-    (All-from_get_or (λ r. r < n) (range_with_len 0 n) 0 (λ i h. let e = length-range_with_len 0 n in let at = get_or-range_with_len 0 n i 0 (omega arith) in omega arith))
-
 pub kept_rises : (p : ℕ → Bool) (n : ℕ) → IsStrictlyIncreasing (filter p (range_with_len 0 n))
 kept_rises p n = IsStrictlyIncreasing-filter p (range_with_len 0 n)
     (λ k h.
@@ -79,7 +72,7 @@ module _ (points : List ℕ) (tau : ℕ → ℕ → ℕ) (settled : Settled) (v 
   rider_told : (trip : List ℕ) (stops : List Stop) (told : List PlannedStop) (d : PlannedStop) → IsOrderOf (trip_task settled v trip) stops → told ≡ told_stops points tau settled v trip stops → (i : ℕ) → i < length trip
       → (k : ℕ) × (k < length told) × ((get_or told k d).pick ≡ true) × ((get_or told k d).rider ≡ rider_id settled (get_or trip i 0))
   rider_told trip stops told d o is i h =
-      let as_long = map_long (λ (r : ℕ). (rider_at settled r).leg) trip in
+      let as_long = length-map trip (λ (r : ℕ). (rider_at settled r).leg) in
       let found = filter_has (λ (x y : Stop). ⊥) (is_of_rider i) stops (Pick i) (Drop i ∷ []) (o.rides i (omega (arith, as_long, h))) in
       let k = found.0 in
       let long : length told ≡ length stops = ap (λ (xs : List PlannedStop). length xs) is ∙ told_long points tau settled v trip stops in
@@ -100,7 +93,7 @@ module _ (points : List ℕ) (tau : ℕ → ℕ → ℕ) (settled : Settled) (v 
     where
       by : (s : Stop) (second : ℕ) → IsKnown (length (trip_task settled v trip).riders.items) (length (vehicle_at settled v).aboard.items) s → get_or told k d ≡ told_stop points settled v trip (s, second)
           → (i : ℕ) × (i < length trip) × ((get_or told k d).rider ≡ rider_id settled (get_or trip i 0))
-      by (Pick i) second known tells = (i, let as_long = map_long (λ (r : ℕ). (rider_at settled r).leg) trip in omega (arith, as_long, known), ap (λ (s : PlannedStop). s.rider) tells)
+      by (Pick i) second known tells = (i, let as_long = length-map trip (λ (r : ℕ). (rider_at settled r).leg) in omega (arith, as_long, known), ap (λ (s : PlannedStop). s.rider) tells)
       by (Drop i) second known tells = absurd (let f : (get_or told k d).pick ≡ false = ap (λ (s : PlannedStop). s.pick) tells in let no : true ≡ false = sym pick ∙ f in cc)
       by (Alight i) second known tells = absurd (let f : (get_or told k d).pick ≡ false = ap (λ (s : PlannedStop). s.pick) tells in let no : true ≡ false = sym pick ∙ f in cc)
 

@@ -20,25 +20,11 @@ point_at (suc (suc (suc (suc (suc (suc (suc (suc k)))))))) = point.Moves
 
 back : (q : Point) → point_at (point_place q) ≡ q
 back point.Answer = refl
-back point.Graphs = refl
-back point.Late = refl
-back point.Trips = refl
-back point.Plan = refl
-back point.Bound = refl
-back point.Tree = refl
-back point.Best = refl
-back point.Moves = refl
+back _ = refl
 
 pub last_place : (q : Point) → point_place q < 9
 last_place point.Answer = omega arith
-last_place point.Graphs = omega arith
-last_place point.Late = omega arith
-last_place point.Trips = omega arith
-last_place point.Plan = omega arith
-last_place point.Bound = omega arith
-last_place point.Tree = omega arith
-last_place point.Best = omega arith
-last_place point.Moves = omega arith
+last_place _ = omega arith
 
 module _ (P : Point → Type 0) where
   pub hold_none : HoldBelow P 0

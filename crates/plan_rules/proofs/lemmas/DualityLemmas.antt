@@ -20,8 +20,52 @@ multiplier_sum_is ms n (x ∷ xs) rises low =
     omega (arith, ints)
 
 -- what a choice's riders give, summed over all riders
-abbrev riders_give : Graph → List ℤ → Option ℕ → ℤ
+abbrev pub riders_give : Graph → List ℤ → Option ℕ → ℤ
 riders_give g ms c = int_sum_below g.riders (λ r. part (is_in g c r) (multiplier_at ms r))
+
+-- what the riders of chosen rows give together
+abbrev pub served_give : Graph → List ℤ → List (Option ℕ) → ℤ
+served_give g ms chosen = int_sum_below g.riders (λ r. part (ltb 0 (times_chosen g chosen r)) (multiplier_at ms r))
+
+-- what chosen rows cost, less what their riders give, where no rider is in two of them
+pub choices_sum : (g : Graph) (ms : List ℤ) (chosen : List (Option ℕ)) → ((r : ℕ) → times_chosen g chosen r ≤ 1)
+    → int_sum_below g.vehicles (λ v. pos (1024 * choice_cost g (choice_at chosen v)) -ℤ riders_give g ms (choice_at chosen v)) ≡ (pos (1024 * sum_below g.vehicles (λ v. choice_cost g (choice_at chosen v))) -ℤ served_give g ms chosen)
+choices_sum g ms chosen few =
+    let apart : int_sum_below g.vehicles (λ v. pos (1024 * choice_cost g (choice_at chosen v)) -ℤ riders_give g ms (choice_at chosen v)) ≡ int_sum_below g.vehicles (λ v. pos (1024 * choice_cost g (choice_at chosen v))) -ℤ int_sum_below g.vehicles (λ v. riders_give g ms (choice_at chosen v)) =
+    int_sum_minus g.vehicles (λ v. pos (1024 * choice_cost g (choice_at chosen v))) (λ v. riders_give g ms (choice_at chosen v)) in
+    let costs : int_sum_below g.vehicles (λ v. pos (1024 * choice_cost g (choice_at chosen v))) ≡ pos (sum_below g.vehicles (λ v. 1024 * choice_cost g (choice_at chosen v))) =
+    int_sum_pos g.vehicles (λ v. 1024 * choice_cost g (choice_at chosen v)) in
+    let scaled : sum_below g.vehicles (λ v. 1024 * choice_cost g (choice_at chosen v)) ≡ 1024 * sum_below g.vehicles (λ v. choice_cost g (choice_at chosen v)) =
+    sum_below_scale g.vehicles 1024 (λ v. choice_cost g (choice_at chosen v)) in
+    let swapped : int_sum_below g.vehicles (λ v. riders_give g ms (choice_at chosen v)) ≡ int_sum_below g.riders (λ r. int_sum_below g.vehicles (λ v. part (is_in g (choice_at chosen v) r) (multiplier_at ms r))) =
+    int_sum_swap g.vehicles g.riders (λ v r. part (is_in g (choice_at chosen v) r) (multiplier_at ms r)) in
+    let counted : int_sum_below g.riders (λ r. int_sum_below g.vehicles (λ v. part (is_in g (choice_at chosen v) r) (multiplier_at ms r))) ≡ int_sum_below g.riders (λ r. part (ltb 0 (times_chosen g chosen r)) (multiplier_at ms r)) =
+    int_sum_same g.riders (λ r. int_sum_below g.vehicles (λ v. part (is_in g (choice_at chosen v) r) (multiplier_at ms r))) (λ r. part (ltb 0 (times_chosen g chosen r)) (multiplier_at ms r))
+    (λ r l. once r) in
+    omega (arith, ints)
+  where
+    once : (r : ℕ) → int_sum_below g.vehicles (λ v. part (is_in g (choice_at chosen v) r) (multiplier_at ms r)) ≡ part (ltb 0 (times_chosen g chosen r)) (multiplier_at ms r)
+    once r =
+        let count : times_chosen g chosen r ≡ count_below g.vehicles (λ v. is_in g (choice_at chosen v) r) = times_served_as_count g chosen g.vehicles r in
+        let low : times_chosen g chosen r ≤ 1 = few r in
+        int_sum_once g.vehicles (λ v. is_in g (choice_at chosen v) r) (multiplier_at ms r) (omega arith)
+        ∙ ap (λ (n : ℕ). part (ltb 0 n) (multiplier_at ms r)) (sym count)
+
+-- what served riders give, and the penalties of those who are left out
+pub prices_sum : (g : Graph) (ms : List ℤ) (chosen : List (Option ℕ))
+    → int_sum_below g.riders (λ r. part (ltb 0 (times_chosen g chosen r)) (multiplier_at ms r) +ℤ pos (1024 * (g.penalty * flag (times_chosen g chosen r == 0)))) ≡ served_give g ms chosen +ℤ pos (1024 * (g.penalty * left_out g chosen))
+prices_sum g ms chosen =
+    let apart : int_sum_below g.riders (λ r. part (ltb 0 (times_chosen g chosen r)) (multiplier_at ms r) +ℤ pos (1024 * (g.penalty * flag (times_chosen g chosen r == 0)))) ≡ int_sum_below g.riders (λ r. part (ltb 0 (times_chosen g chosen r)) (multiplier_at ms r)) +ℤ int_sum_below g.riders (λ r. pos (1024 * (g.penalty * flag (times_chosen g chosen r == 0)))) =
+    int_sum_plus g.riders (λ r. part (ltb 0 (times_chosen g chosen r)) (multiplier_at ms r)) (λ r. pos (1024 * (g.penalty * flag (times_chosen g chosen r == 0)))) in
+    let prices : int_sum_below g.riders (λ r. pos (1024 * (g.penalty * flag (times_chosen g chosen r == 0)))) ≡ pos (sum_below g.riders (λ r. 1024 * (g.penalty * flag (times_chosen g chosen r == 0)))) =
+    int_sum_pos g.riders (λ r. 1024 * (g.penalty * flag (times_chosen g chosen r == 0))) in
+    let scaled : sum_below g.riders (λ r. 1024 * (g.penalty * flag (times_chosen g chosen r == 0))) ≡ 1024 * sum_below g.riders (λ r. g.penalty * flag (times_chosen g chosen r == 0)) =
+    sum_below_scale g.riders 1024 (λ r. g.penalty * flag (times_chosen g chosen r == 0)) in
+    let counted : sum_below g.riders (λ r. g.penalty * flag (times_chosen g chosen r == 0)) ≡ g.penalty * left_out g chosen =
+    sum_below_scale g.riders g.penalty (λ r. flag (times_chosen g chosen r == 0)) in
+    let whole : pos (sum_below g.riders (λ r. 1024 * (g.penalty * flag (times_chosen g chosen r == 0)))) ≡ pos (1024 * (g.penalty * left_out g chosen)) =
+    ap pos (scaled ∙ ap (λ (n : ℕ). 1024 * n) counted) in
+    omega (arith, ints)
 
 at_some : (o : Option ℤ) (z d : ℤ) → o ≡ Some z → unwrap_or o d ≡ z
 at_some o z d e = ap (λ (p : Option ℤ). unwrap_or p d) e
@@ -75,49 +119,21 @@ rider_term_le g ms chosen r lawful =
 
 -- the vehicles' terms together
 vehicles_le : (g : Graph) (usable : Usable) (ms : List ℤ) (chosen : List (Option ℕ)) → IsGoodGraph g → IsLawful g chosen → is_within g usable chosen ≡ true
-    → int_sum_below g.vehicles (vehicle_term g usable ms) ≤ℤ (pos (1024 * sum_below g.vehicles (λ v. choice_cost g (choice_at chosen v))) -ℤ int_sum_below g.riders (λ r. part (ltb 0 (times_chosen g chosen r)) (multiplier_at ms r)))
+    → int_sum_below g.vehicles (vehicle_term g usable ms) ≤ℤ (pos (1024 * sum_below g.vehicles (λ v. choice_cost g (choice_at chosen v))) -ℤ served_give g ms chosen)
 unfolding is_within
 vehicles_le g usable ms chosen good lawful within =
     let each : int_sum_below g.vehicles (vehicle_term g usable ms) ≤ℤ int_sum_below g.vehicles (λ v. pos (1024 * choice_cost g (choice_at chosen v)) -ℤ riders_give g ms (choice_at chosen v)) =
     int_sum_le g.vehicles (vehicle_term g usable ms) (λ v. pos (1024 * choice_cost g (choice_at chosen v)) -ℤ riders_give g ms (choice_at chosen v))
     (λ v l. vehicle_term_le g usable ms v (choice_at chosen v) good.rows (lawful.plan.own v l) (all_below_at g.vehicles (λ v. is_choice_usable usable (choice_at chosen v)) v within l)) in
-    let apart : int_sum_below g.vehicles (λ v. pos (1024 * choice_cost g (choice_at chosen v)) -ℤ riders_give g ms (choice_at chosen v)) ≡ int_sum_below g.vehicles (λ v. pos (1024 * choice_cost g (choice_at chosen v))) -ℤ int_sum_below g.vehicles (λ v. riders_give g ms (choice_at chosen v)) =
-    int_sum_minus g.vehicles (λ v. pos (1024 * choice_cost g (choice_at chosen v))) (λ v. riders_give g ms (choice_at chosen v)) in
-    let costs : int_sum_below g.vehicles (λ v. pos (1024 * choice_cost g (choice_at chosen v))) ≡ pos (sum_below g.vehicles (λ v. 1024 * choice_cost g (choice_at chosen v))) =
-    int_sum_pos g.vehicles (λ v. 1024 * choice_cost g (choice_at chosen v)) in
-    let scaled : sum_below g.vehicles (λ v. 1024 * choice_cost g (choice_at chosen v)) ≡ 1024 * sum_below g.vehicles (λ v. choice_cost g (choice_at chosen v)) =
-    sum_below_scale g.vehicles 1024 (λ v. choice_cost g (choice_at chosen v)) in
-    let swapped : int_sum_below g.vehicles (λ v. riders_give g ms (choice_at chosen v)) ≡ int_sum_below g.riders (λ r. int_sum_below g.vehicles (λ v. part (is_in g (choice_at chosen v) r) (multiplier_at ms r))) =
-    int_sum_swap g.vehicles g.riders (λ v r. part (is_in g (choice_at chosen v) r) (multiplier_at ms r)) in
-    let counted : int_sum_below g.riders (λ r. int_sum_below g.vehicles (λ v. part (is_in g (choice_at chosen v) r) (multiplier_at ms r))) ≡ int_sum_below g.riders (λ r. part (ltb 0 (times_chosen g chosen r)) (multiplier_at ms r)) =
-    int_sum_same g.riders (λ r. int_sum_below g.vehicles (λ v. part (is_in g (choice_at chosen v) r) (multiplier_at ms r))) (λ r. part (ltb 0 (times_chosen g chosen r)) (multiplier_at ms r))
-    (λ r l. once r) in
-    omega (arith, ints)
-  where
-    once : (r : ℕ) → int_sum_below g.vehicles (λ v. part (is_in g (choice_at chosen v) r) (multiplier_at ms r)) ≡ part (ltb 0 (times_chosen g chosen r)) (multiplier_at ms r)
-    once r =
-        let count : times_chosen g chosen r ≡ count_below g.vehicles (λ v. is_in g (choice_at chosen v) r) = times_served_as_count g chosen g.vehicles r in
-        let low : times_chosen g chosen r ≤ 1 = lawful.once r in
-        int_sum_once g.vehicles (λ v. is_in g (choice_at chosen v) r) (multiplier_at ms r) (omega arith)
-        ∙ ap (λ (n : ℕ). part (ltb 0 n) (multiplier_at ms r)) (sym count)
+    omega (arith, ints, choices_sum g ms chosen lawful.once)
 
 -- the riders' terms together
 riders_le : (g : Graph) (ms : List ℤ) (chosen : List (Option ℕ)) → IsLawful g chosen
-    → int_sum_below g.riders (rider_term g ms) ≤ℤ (int_sum_below g.riders (λ r. part (ltb 0 (times_chosen g chosen r)) (multiplier_at ms r)) +ℤ pos (1024 * (g.penalty * left_out g chosen)))
+    → int_sum_below g.riders (rider_term g ms) ≤ℤ (served_give g ms chosen +ℤ pos (1024 * (g.penalty * left_out g chosen)))
 riders_le g ms chosen lawful =
     let each : int_sum_below g.riders (rider_term g ms) ≤ℤ int_sum_below g.riders (λ r. part (ltb 0 (times_chosen g chosen r)) (multiplier_at ms r) +ℤ pos (1024 * (g.penalty * flag (times_chosen g chosen r == 0)))) =
     int_sum_le g.riders (rider_term g ms) (λ r. part (ltb 0 (times_chosen g chosen r)) (multiplier_at ms r) +ℤ pos (1024 * (g.penalty * flag (times_chosen g chosen r == 0)))) (λ r l. rider_term_le g ms chosen r lawful) in
-    let apart : int_sum_below g.riders (λ r. part (ltb 0 (times_chosen g chosen r)) (multiplier_at ms r) +ℤ pos (1024 * (g.penalty * flag (times_chosen g chosen r == 0)))) ≡ int_sum_below g.riders (λ r. part (ltb 0 (times_chosen g chosen r)) (multiplier_at ms r)) +ℤ int_sum_below g.riders (λ r. pos (1024 * (g.penalty * flag (times_chosen g chosen r == 0)))) =
-    int_sum_plus g.riders (λ r. part (ltb 0 (times_chosen g chosen r)) (multiplier_at ms r)) (λ r. pos (1024 * (g.penalty * flag (times_chosen g chosen r == 0)))) in
-    let prices : int_sum_below g.riders (λ r. pos (1024 * (g.penalty * flag (times_chosen g chosen r == 0)))) ≡ pos (sum_below g.riders (λ r. 1024 * (g.penalty * flag (times_chosen g chosen r == 0)))) =
-    int_sum_pos g.riders (λ r. 1024 * (g.penalty * flag (times_chosen g chosen r == 0))) in
-    let scaled : sum_below g.riders (λ r. 1024 * (g.penalty * flag (times_chosen g chosen r == 0))) ≡ 1024 * sum_below g.riders (λ r. g.penalty * flag (times_chosen g chosen r == 0)) =
-    sum_below_scale g.riders 1024 (λ r. g.penalty * flag (times_chosen g chosen r == 0)) in
-    let counted : sum_below g.riders (λ r. g.penalty * flag (times_chosen g chosen r == 0)) ≡ g.penalty * left_out g chosen =
-    sum_below_scale g.riders g.penalty (λ r. flag (times_chosen g chosen r == 0)) in
-    let whole : pos (sum_below g.riders (λ r. 1024 * (g.penalty * flag (times_chosen g chosen r == 0)))) ≡ pos (1024 * (g.penalty * left_out g chosen)) =
-    ap pos (scaled ∙ ap (λ (n : ℕ). 1024 * n) counted) in
-    omega (arith, ints)
+    omega (arith, ints, prices_sum g ms chosen)
 
 -- weak duality
 pub leaf_value_le : (g : Graph) (usable : Usable) (ms : List ℤ) (chosen : List (Option ℕ)) → IsGoodGraph g → IsLawful g chosen → is_within g usable chosen ≡ true → leaf_value g usable ms ≤ℤ pos (1024 * cost_of g chosen)

@@ -1,7 +1,7 @@
 -- Riders of rows, and how often riders are served.
 use Rattle.std.proofs.Common.{◌≡◌, ◌==◌, ℕ, zero, suc, ◌+◌, ◌<◌, ◌≤◌, Bool, true, false, IsTrue, List, [], ◌∷◌, length, get_or, Option, Some, None, MatchOption, refl, sym, ap, ◌∙◌, subst, ⊎_elim, arith, add-one, eqb-true, eq-eqb}
 use Rattle.plan_rules.proofs.Common.{list_any, IsStrictlyIncreasing, cases_lt, cases_Bool, or_cases, both_ways, list_any_at, get_or_read, count_below, TripRow, Graph, no_row, row_at, riders_at, row_vehicle, has_rider, IsRowOf, HasNoRow, choice_at, is_in, times_served, IsGraphRow, HoldsRightly, IsStartOf}
-use Rattle.plan_rules.proofs.lemmas.SumLemmas.{flag, flag-true, flag-false, count_below_more, count_below-le, count_below_none, count_below_some, count_below_found}
+use Rattle.plan_rules.proofs.lemmas.SumLemmas.{flag, flag-true, flag-false, count_below_more, count_below_none, count_below_some, count_below_found}
 
 -- ---- lists of riders
 
@@ -59,10 +59,6 @@ times_served_more g chosen n r = count_below_more n (λ v. is_in g (choice_at ch
 pub times_served_none : (g : Graph) (chosen : List (Option ℕ)) (r : ℕ) → times_served g chosen 0 r ≡ 0
 unfolding times_served
 times_served_none g chosen r = refl
-
-pub times_served-le : (g : Graph) (chosen : List (Option ℕ)) (n r : ℕ) → times_served g chosen n r ≤ n
-unfolding times_served
-times_served-le g chosen n r = count_below-le n (λ v. is_in g (choice_at chosen v) r)
 
 pub times_served_found : (g : Graph) (chosen : List (Option ℕ)) (n r : ℕ) → 1 ≤ times_served g chosen n r → (v : ℕ) × (v < n) × (is_in g (choice_at chosen v) r ≡ true)
 unfolding times_served

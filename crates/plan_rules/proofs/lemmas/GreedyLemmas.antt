@@ -1,6 +1,6 @@
 -- Greedy plans: ranks, and what taking a row keeps.
-use Rattle.std.proofs.Common.{All, ◌≡◌, ◌⊎◌, ◌||◌, ℕ, ◌+◌, ◌-◌, ◌*◌, ◌<◌, ◌≤◌, Bool, true, false, List, length, get_or, set, replicate, Option, Some, None, refl, sym, ap, ◌∙◌, subst, inl, inr, ⊎_elim, arith}
-use Rattle.plan_rules.proofs.Common.{list_any, ordering_then, nat_tests, cases_eq, cases_lt, or_cases, or_left, or_right, both_ways, get_or-replicate, length-replicate, get_or_past, Graph, riders_at, cost_at, row_vehicle, has_rider, choice_at, IsGoodGraph, IsTaken, IsApart, IsTriedBefore, IsGreedy, rank_value, rank_of, parts_of, AreRanks, IsSelection, IsInTheWay}
+use Rattle.std.proofs.Common.{All, ◌≡◌, ◌⊎◌, ◌||◌, ℕ, ◌+◌, ◌-◌, ◌*◌, ◌<◌, ◌≤◌, Bool, true, false, List, length, get_or, set, Option, Some, None, refl, sym, ap, ◌∙◌, subst, inl, inr, ⊎_elim, arith}
+use Rattle.plan_rules.proofs.Common.{same_Some, none-some, list_any, ordering_then, nat_tests, cases_eq, cases_lt, or_cases, or_left, or_right, both_ways, get_or_past, Graph, riders_at, cost_at, row_vehicle, has_rider, choice_at, IsGoodGraph, IsTaken, IsApart, IsTriedBefore, IsGreedy, rank_value, rank_of, parts_of, AreRanks, IsSelection, IsInTheWay}
 use Rattle.std.specs.Ordering.{nat_cmp, is_lt}
 use Rattle.std.proofs.lemmas.List.{get_or-set_same, get_or-set_other, length-set}
 use Rattle.plan_rules.proofs.lemmas.GraphLemmas.{rider_below}
@@ -71,12 +71,6 @@ of_rows g ranks are k d l =
     let is : get_or ranks k d ≡ parts_of g k = are.parts k within d in
     subst (IsOfRow g) (sym is) (within, refl)
 
-same_some : (j k : ℕ) → Some j ≡ Some k → j ≡ k
-same_some j k e = cc
-
-none_some : (k : ℕ) → ◌≡◌ {A = Option ℕ} None (Some k) → ⊥
-none_some k e = cc
-
 -- ---- taking a row
 
 module _ (g : Graph) (chosen : List (Option ℕ)) (served : List Bool) (row : ℕ) (good : IsGoodGraph g) (within : row < length g.rows) (selection : IsSelection g chosen served) (free : choice_at chosen (row_vehicle g row) ≡ None) where
@@ -88,7 +82,7 @@ module _ (g : Graph) (chosen : List (Option ℕ)) (served : List Bool) (row : �
 
   -- who is taken has another vehicle
   other_vehicle : (j : ℕ) → IsTaken g chosen j → row_vehicle g j ≡ row_vehicle g row → ⊥
-  other_vehicle j taken e = none_some j (sym free ∙ ap (choice_at chosen) (sym e) ∙ taken)
+  other_vehicle j taken e = none-some j (sym free ∙ ap (choice_at chosen) (sym e) ∙ taken)
 
   pub taken_stays : (j : ℕ) → IsTaken g chosen j → IsTaken g (set chosen (row_vehicle g row) (Some row)) j
   taken_stays j taken = get_or-set_other chosen (row_vehicle g row) (row_vehicle g j) (Some row) None (other_vehicle j taken) ∙ taken
@@ -100,7 +94,7 @@ module _ (g : Graph) (chosen : List (Option ℕ)) (served : List Bool) (row : �
   taken_before j taken =
       ⊎_elim
       (λ (here : row_vehicle g j ≡ row_vehicle g row).
-      inr (same_some j row (sym taken ∙ ap (choice_at (set chosen (row_vehicle g row) (Some row))) here ∙ row_taken)))
+      inr (same_Some j row (sym taken ∙ ap (choice_at (set chosen (row_vehicle g row) (Some row))) here ∙ row_taken)))
       (λ (other : row_vehicle g j ≡ row_vehicle g row → ⊥).
       inl (sym (get_or-set_other chosen (row_vehicle g row) (row_vehicle g j) (Some row) None other) ∙ taken))
       (cases_eq (row_vehicle g j) (row_vehicle g row))
@@ -126,7 +120,7 @@ module _ (g : Graph) (chosen : List (Option ℕ)) (served : List Bool) (row : �
     own = λ v k low e.
         ⊎_elim
         (λ (here : v ≡ row_vehicle g row).
-        let same : k ≡ row = same_some k row (sym e ∙ ap (choice_at (set chosen (row_vehicle g row) (Some row))) here ∙ row_taken) in
+        let same : k ≡ row = same_Some k row (sym e ∙ ap (choice_at (set chosen (row_vehicle g row) (Some row))) here ∙ row_taken) in
         record { within = subst (λ (q : ℕ). q < length g.rows) (sym same) within; own = ap (row_vehicle g) same ∙ sym here })
         (λ (other : v ≡ row_vehicle g row → ⊥).
         selection.own v k low (sym (get_or-set_other chosen (row_vehicle g row) v (Some row) None other) ∙ e))
@@ -216,32 +210,3 @@ settled_more g old new row good within earlier keeps (inr way) apart =
     let before : IsTriedBefore g way.other row = rank_before g way.other row good way.within within differs (earlier way.other way.within way.taken) in
     absurd (way.conflict (apart way.other way.within before (keeps way.other way.taken))))
     (cases_eq way.other row)
-
--- ---- before the first row
-
-nothing : (n v : ℕ) → choice_at (replicate n None) v ≡ None
-nothing n v =
-    ⊎_elim
-    (λ (low : v < n). get_or-replicate n v None None low)
-    (λ (high : n ≤ v). get_or_past (replicate n None) v None (omega (arith, high, length-replicate {A = Option ℕ} n None)))
-    (cases_lt v n)
-
-unmarked : (n r : ℕ) → get_or (replicate n false) r false ≡ false
-unmarked n r =
-    ⊎_elim
-    (λ (low : r < n). get_or-replicate n r false false low)
-    (λ (high : n ≤ r). get_or_past (replicate n false) r false (omega (arith, high, length-replicate n false)))
-    (cases_lt r n)
-
-pub none_taken : (g : Graph) (n k : ℕ) → IsTaken g (replicate n None) k → ⊥
-none_taken g n k taken = none_some k (sym (nothing n (row_vehicle g k)) ∙ taken)
-
-pub selection_none : (g : Graph) → IsSelection g (replicate g.vehicles None) (replicate g.riders false)
-selection_none g = record {
-  sized = length-replicate g.vehicles None;
-  marked = length-replicate g.riders false;
-  own = λ v k l e. absurd (none_some k (sym (nothing g.vehicles v) ∙ e));
-  apart = λ j k lj lk ne a b. absurd (none_taken g g.vehicles j a);
-  serves = λ j r l a e. absurd (none_taken g g.vehicles j a);
-  served_by = λ r e. absurd (both_ways false refl (sym (unmarked g.riders r) ∙ e));
-}

@@ -1,19 +1,13 @@
 -- Plans: the held one is lawful; choices name rows.
-use Rattle.std.proofs.Common.{◌≡◌, ◌⊎◌, ℕ, ◌<◌, ◌≤◌, IsTrue, List, length, Option, Some, None, MatchOption, refl, sym, ◌∙◌, subst, inl, inr, arith, ltb-true}
-use Rattle.plan_rules.proofs.Common.{cases_lt, get_or_past, Graph, has_rider, IsRowOf, HasNoRow, choice_at, times_served, must_be_served, IsGoodGraph, IsPlan, IsLawful, times_chosen}
+use Rattle.std.proofs.Common.{◌≡◌, ◌⊎◌, ℕ, ◌<◌, ◌≤◌, true, IsTrue, List, length, Option, Some, None, MatchOption, refl, sym, ◌∙◌, subst, inl, inr, arith, ltb-true}
+use Rattle.plan_rules.proofs.Common.{none-some, same_Some, cases_lt, get_or_past, Graph, has_rider, IsRowOf, HasNoRow, choice_at, times_served, must_be_served, IsGoodGraph, IsPlan, IsLawful, times_chosen}
 use Rattle.plan_rules.specs.lemmas.Graph.{ChoosesRows}
-use Rattle.plan_rules.proofs.lemmas.GraphLemmas.{held_once, times_served_outside}
+use Rattle.plan_rules.proofs.lemmas.GraphLemmas.{held_once, in_choice, rider_below, times_served_found, times_served_outside}
 
 -- a choice of a plan is a row of its vehicle
 pub own_row : (g : Graph) (v k : ℕ) (c : Option ℕ) → MatchOption c (HasNoRow g v) (IsRowOf g v) → c ≡ Some k → IsRowOf g v k
-own_row g v k None h e = absurd (differ e)
-  where
-    differ : ◌≡◌ {A = Option ℕ} None (Some k) → ⊥
-    differ e = cc
-own_row g v k (Some j) h e = subst (IsRowOf g v) (same e) h
-  where
-    same : Some j ≡ Some k → j ≡ k
-    same e = cc
+own_row g v k None h e = absurd (none-some k e)
+own_row g v k (Some j) h e = subst (IsRowOf g v) (same_Some j k e) h
 
 -- a vehicle that has a row is given one
 pub has_choice : (g : Graph) (v k : ℕ) (c : Option ℕ) → MatchOption c (HasNoRow g v) (IsRowOf g v) → IsRowOf g v k → (j : ℕ) × (c ≡ Some j) × IsRowOf g v j
@@ -26,19 +20,25 @@ plan_choice g chosen v k plan l e = own_row g v k (choice_at chosen v) (plan.own
 pub plan_rows : (g : Graph) (chosen : List (Option ℕ)) → IsPlan g chosen → ChoosesRows g chosen
 plan_rows g chosen plan v k e = by_cases (cases_lt v (length chosen))
   where
-    differ : ◌≡◌ {A = Option ℕ} None (Some k) → ⊥
-    differ e = cc
-
     by_cases : (v < length chosen) ⊎ (length chosen ≤ v) → k < length g.rows
     by_cases s = elim s [
       | inl low ↦ (plan_choice g chosen v k plan (subst (λ (n : ℕ). v < n) (plan.sized) low) e).within
-      | inr high ↦ absurd (differ (sym (get_or_past chosen v None high) ∙ e))
+      | inr high ↦ absurd (none-some k (sym (get_or_past chosen v None high) ∙ e))
     ]
 
 -- the held plan gives each vehicle one of its rows
 pub held_own : (g : Graph) (v : ℕ) (c : Option ℕ) → MatchOption c (HasNoRow g v) (λ k. IsRowOf g v k × ((r : ℕ) → IsTrue (has_rider g k r) → times_served g g.held v r ≡ 0)) → MatchOption c (HasNoRow g v) (IsRowOf g v)
 held_own g v None h = h
 held_own g v (Some k) h = h.0
+
+-- a rider who must be served is one of the graph's
+pub must_below : (g : Graph) (r : ℕ) → IsGoodGraph g → must_be_served g r ≡ true → r < g.riders
+must_below g r good must =
+    let some : 0 < times_served g g.held g.vehicles r = ltb-true 0 (times_served g g.held g.vehicles r) must in
+    let v = times_served_found g g.held g.vehicles r some in
+    let k = in_choice g (choice_at g.held (v.0)) r (v.2) in
+    let own = own_row g (v.0) (k.0) (choice_at g.held (v.0)) (held_own g (v.0) (choice_at g.held (v.0)) (good.holds (v.0) (v.1))) (k.1) in
+    rider_below g (k.0) r (good.rows (k.0) own.within) (k.2)
 
 -- the held plan is lawful
 pub held_is_lawful : (g : Graph) → IsGoodGraph g → IsLawful g g.held

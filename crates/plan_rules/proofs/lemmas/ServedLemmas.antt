@@ -1,10 +1,10 @@
 -- The riders whom chosen rows serve: their marks, and how many they are.
-use Rattle.std.proofs.Common.{◌≡◌, ◌==◌, ◌||◌, ℕ, zero, suc, ◌+◌, ◌<◌, ◌≤◌, Bool, true, false, IsTrue, List, [], ◌∷◌, length, get_or, replicate, nat_lt, Option, Some, None, refl, sym, ap, ◌∙◌, ⊎_elim, arith, ltb-true, ltb-false, le-ltb}
-use Rattle.plan_rules.proofs.Common.{list_any, IsStrictlyIncreasing, cases_eq, cases_Bool, both_ways, get_or-replicate, length-replicate, sum_below, count_below, Graph, row_at, riders_at, has_rider, choice_at, is_in, times_served, must_be_served, IsGraphRow, IsGoodGraph, IsLawful, times_chosen, left_out, choice_size, IsServedOnce, MarksServed}
+use Rattle.std.proofs.Common.{◌≡◌, ◌==◌, ◌||◌, ℕ, zero, suc, ◌+◌, ◌<◌, ◌≤◌, Bool, true, false, List, [], ◌∷◌, length, get_or, replicate, nat_lt, Option, Some, None, refl, sym, ap, ◌∙◌, ⊎_elim, arith, ltb-true, le-ltb}
+use Rattle.plan_rules.proofs.Common.{list_any, IsStrictlyIncreasing, cases_Bool, both_ways, get_or-replicate, length-replicate, sum_below, count_below, Graph, row_at, riders_at, choice_at, is_in, times_served, IsGraphRow, IsGoodGraph, IsLawful, times_chosen, left_out, choice_size, IsServedOnce, MarksServed}
 use Rattle.plan_rules.proofs.lemmas.SumLemmas.{flag, flag-true, flag-false, flag-or, sum_below_same, sum_below_plus, sum_below_zero, sum_below_swap, count_below_single, count_below_two}
 use Rattle.plan_rules.proofs.lemmas.GraphLemmas.{has, tail_rises, head_apart, rider_below, times_served_more, times_served_none, times_served_found, times_served_as_count}
-use Rattle.plan_rules.proofs.lemmas.MarkLemmas.{any_marked, marked_one}
-use Rattle.plan_rules.proofs.lemmas.HeldLemmas.{or_flag}
+use Rattle.plan_rules.proofs.lemmas.MarkLemmas.{marked_one}
+use Rattle.plan_rules.proofs.lemmas.HeldLemmas.{or_flag, unmarked_apart}
 use Rattle.plan_rules.proofs.lemmas.PlanLemmas.{plan_rows}
 
 -- ---- marks
@@ -66,17 +66,7 @@ once_kept g chosen n before none =
 -- a row none of whose riders is marked
 pub once_apart : (g : Graph) (chosen : List (Option ℕ)) (n k : ℕ) (marks : List Bool) → MarksServed g chosen n marks → IsServedOnce g chosen n → choice_at chosen n ≡ Some k → IsGraphRow g.vehicles g.riders (row_at g k) → list_any (λ q. get_or marks q false) (riders_at g k) ≡ false → IsServedOnce g chosen (n + 1)
 once_apart g chosen n k marks marked before choice row none =
-    once_more g chosen n before (λ r e. unserved r (ap (λ (o : Option ℕ). is_in g o r) (sym choice) ∙ e))
-  where
-    unserved : (r : ℕ) → has_rider g k r ≡ true → times_served g chosen n r ≡ 0
-    unserved r e =
-        ⊎_elim
-        (λ (yes : get_or marks r false ≡ true). absurd (both_ways _ none (any_marked marks (riders_at g k) r e yes)))
-        (λ (no : get_or marks r false ≡ false).
-        let low : r < g.riders = rider_below g k r row e in
-        let zero : times_served g chosen n r ≤ 0 = ltb-false 0 (times_served g chosen n r) (sym (marked.marks r low) ∙ no) in
-        omega arith)
-        (cases_Bool (get_or marks r false))
+    once_more g chosen n before (λ r e. unmarked_apart g chosen n k marks marked row none r (ap (λ (o : Option ℕ). is_in g o r) (sym choice) ∙ e))
 
 -- where one of a row's riders is marked, she is served twice
 pub served_twice : (g : Graph) (chosen : List (Option ℕ)) (n k : ℕ) (marks : List Bool) → MarksServed g chosen n marks → n < g.vehicles → choice_at chosen n ≡ Some k → IsGraphRow g.vehicles g.riders (row_at g k) → list_any (λ q. get_or marks q false) (riders_at g k) ≡ true → IsServedOnce g chosen g.vehicles → ⊥
@@ -137,18 +127,3 @@ served_or_left g chosen good lawful =
     ones : (n : ℕ) → sum_below n (λ _. 1) ≡ n
     ones zero = refl
     ones (suc n) = omega (arith, ones n)
-
--- ---- those who must be served
-
-pub kept_more : (g : Graph) (chosen : List (Option ℕ)) (n : ℕ) → ((r : ℕ) → r < n → IsTrue (must_be_served g r) → times_chosen g chosen r ≡ 1) → (must_be_served g n ≡ true → times_chosen g chosen n ≡ 1) → (r : ℕ) → r < n + 1 → IsTrue (must_be_served g r) → times_chosen g chosen r ≡ 1
-kept_more g chosen n before here r l must =
-    ⊎_elim
-    (λ (same : r ≡ n). ap (times_chosen g chosen) same ∙ here (ap (must_be_served g) (sym same) ∙ must))
-    (λ (other : r ≡ n → ⊥). before r (omega (arith, l)) must)
-    (cases_eq r n)
-
--- a marked rider is served once
-pub marked_once : (g : Graph) (chosen : List (Option ℕ)) (marks : List Bool) (r : ℕ) → MarksServed g chosen g.vehicles marks → IsServedOnce g chosen g.vehicles → r < g.riders → get_or marks r false ≡ true → times_chosen g chosen r ≡ 1
-marked_once g chosen marks r marked once l e =
-    let some : 0 < times_chosen g chosen r = ltb-true 0 (times_chosen g chosen r) (sym (marked.marks r l) ∙ e) in
-    omega (arith, once r)

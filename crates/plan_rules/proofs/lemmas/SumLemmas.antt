@@ -1,6 +1,6 @@
 -- Sums, counts and least values over the numbers below n.
 use Rattle.std.proofs.Common.{◌≡◌, ◌==◌, ◌⊎◌, ℕ, zero, suc, ◌+◌, ◌*◌, ◌<◌, ◌≤◌, Bool, true, false, cond, ◌||◌, if◌then◌else◌, ltb, ℤ, pos, ◌+ℤ◌, ◌-ℤ◌, ◌≤ℤ◌, Option, Some, None, refl, sym, ap, ◌∙◌, subst, inl, inr, ⊎_elim, arith, add-one, eq-eqb, ne_eqb, lt-ltb, le-ltb, int_lt}
-use Rattle.plan_rules.proofs.Common.{int_min, ints, int_min_is, both_ways, cases_eq, cases_Bool, cond_both, cond-true, cond-false, and_parts, and_from, and_left, and_right, sum_below, count_below, all_below, int_sum_below, lesser, least_below}
+use Rattle.plan_rules.proofs.Common.{same_Some, none-some, int_min, ints, int_min_is, both_ways, cases_eq, cases_Bool, cond_both, cond-true, cond-false, and_parts, and_from, and_left, and_right, sum_below, count_below, all_below, int_sum_below, lesser, least_below}
 
 -- ---- sums of naturals
 
@@ -22,13 +22,6 @@ pub sum_below_scale : (n c : ℕ) (f : ℕ → ℕ) → sum_below n (λ k. c * f
 sum_below_scale zero c f = omega arith
 sum_below_scale (suc n) c f = omega (arith, sum_below_scale n c f)
 
-pub sum_below_le : (n m : ℕ) (f : ℕ → ℕ) → ((k : ℕ) → k < n → f k ≤ m) → sum_below n f ≤ n * m
-sum_below_le zero m f e = omega arith
-sum_below_le (suc n) m f e =
-    let rest : sum_below n f ≤ n * m = sum_below_le n m f (λ k l. e k (omega arith)) in
-    let last : f n ≤ m = e n (omega arith) in
-    omega arith
-
 pub sum_below_zero : (n : ℕ) → sum_below n (λ _. 0) ≡ 0
 sum_below_zero zero = refl
 sum_below_zero (suc n) = omega (arith, sum_below_zero n)
@@ -46,10 +39,6 @@ sum_below_swap (suc n) m f =
 abbrev pub flag : Bool → ℕ
 flag b = if b then 1 else 0
 
-pub flag-le : (b : Bool) → flag b ≤ 1
-flag-le true = omega arith
-flag-le false = omega arith
-
 pub flag-true : (b : Bool) → b ≡ true → flag b ≡ 1
 flag-true b e = cond-true b 1 0 e
 
@@ -64,15 +53,6 @@ flag-or false b h = omega arith
 
 pub count_below_more : (n : ℕ) (p : ℕ → Bool) → count_below (n + 1) p ≡ count_below n p + flag (p n)
 count_below_more n p = sum_below_more n (λ k. flag (p k))
-
-pub count_below_yes : (n : ℕ) (p : ℕ → Bool) → p n ≡ true → count_below (n + 1) p ≡ count_below n p + 1
-count_below_yes n p e = omega (arith, count_below_more n p, flag-true (p n) e)
-
-pub count_below_no : (n : ℕ) (p : ℕ → Bool) → p n ≡ false → count_below (n + 1) p ≡ count_below n p
-count_below_no n p e = omega (arith, count_below_more n p, flag-false (p n) e)
-
-pub count_below-le : (n : ℕ) (p : ℕ → Bool) → count_below n p ≤ n
-count_below-le n p = omega (arith, sum_below_le n 1 (λ k. flag (p k)) (λ k l. flag-le (p k)))
 
 pub count_below_same : (n : ℕ) (p q : ℕ → Bool) → ((k : ℕ) → k < n → p k ≡ q k) → count_below n p ≡ count_below n q
 count_below_same n p q e =
@@ -280,14 +260,6 @@ lesser-le_left y z = omega (arith, ints, int_min_is y z)
 pub least_below_more : (n : ℕ) (p : ℕ → Bool) (f : ℕ → ℤ) → least_below (n + 1) p f ≡ (if p n then Some (lesser (least_below n p f) (f n)) else least_below n p f)
 least_below_more n p f = rw add-one refl
 
--- z is the least of f at the numbers below n that pass
-pub record IsLeast (n : ℕ) (p : ℕ → Bool) (f : ℕ → ℤ) (z : ℤ) : Type 0 where
-  pub place : ℕ
-  pub within : place < n
-  pub passes : p place ≡ true
-  pub reached : z ≡ f place
-  pub least : (k : ℕ) → k < n → p k ≡ true → z ≤ℤ f k
-
 -- what the least value is, where one passes
 pub least_below_some : (n : ℕ) (p : ℕ → Bool) (f : ℕ → ℤ) (k : ℕ) → k < n → p k ≡ true → (z : ℤ) × (least_below n p f ≡ Some z) × (z ≤ℤ f k)
 least_below_some zero p f k l e = absurd (omega arith)
@@ -325,7 +297,7 @@ least_below_none (suc n) p f e =
     cond-false (p n) (Some (lesser (least_below n p f) (f n))) (least_below n p f) (e n (omega arith))
     ∙ least_below_none n p f (λ k l. e k (omega arith))
 
-int_min_cases : (x y : ℤ) → (int_min x y ≡ x) ⊎ (int_min x y ≡ y)
+pub int_min_cases : (x y : ℤ) → (int_min x y ≡ x) ⊎ (int_min x y ≡ y)
 int_min_cases x y = cond_both (int_lt y x) y x (λ (m : ℤ). (m ≡ x) ⊎ (m ≡ y)) (λ e. inr refl) (λ e. inl refl)
 
 -- some number below n passes and has this value
@@ -342,21 +314,15 @@ from_lesser n p f z passed (Some y) before value =
     (λ (right : int_min y (f n) ≡ f n). (n, omega arith, passed, sym value ∙ right))
     (int_min_cases y (f n))
 
-not_some : (z : ℤ) → ◌≡◌ {A = Option ℤ} None (Some z) → ⊥
-not_some z e = cc
-
-inner : (x y : ℤ) → Some x ≡ Some y → x ≡ y
-inner x y e = cc
-
 -- the least value is reached
 pub least_below_found : (n : ℕ) (p : ℕ → Bool) (f : ℕ → ℤ) (z : ℤ) → least_below n p f ≡ Some z → Reaches n p f z
-least_below_found zero p f z e = absurd (not_some z e)
+least_below_found zero p f z e = absurd (none-some z e)
 least_below_found (suc n) p f z e =
     ⊎_elim
     (λ (yes : p n ≡ true).
     let now : least_below (suc n) p f ≡ Some (lesser (least_below n p f) (f n)) =
     cond-true (p n) (Some (lesser (least_below n p f) (f n))) (least_below n p f) yes in
-    from_lesser n p f z yes (least_below n p f) (λ y is. least_below_found n p f y is) (inner _ _ (sym now ∙ e)))
+    from_lesser n p f z yes (least_below n p f) (λ y is. least_below_found n p f y is) (same_Some _ _ (sym now ∙ e)))
     (λ (no : p n ≡ false).
     let now : least_below (suc n) p f ≡ least_below n p f =
     cond-false (p n) (Some (lesser (least_below n p f) (f n))) (least_below n p f) no in

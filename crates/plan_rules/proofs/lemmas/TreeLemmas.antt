@@ -1,16 +1,10 @@
 -- The leaves and dead ends of a sound tree part the plans, and its value is a bound.
-use Rattle.std.proofs.Common.{◌≡◌, ◌==◌, ◌&&◌, ◌||◌, not, ℕ, ◌+◌, ◌*◌, ◌/◌, ◌<◌, ◌≤◌, Bool, true, false, cond, List, [], ◌∷◌, length, Option, Some, None, count_by, ℤ, pos, negsuc, ◌≤ℤ◌, refl, sym, ap, ◌∙◌, inl, inr, ⊎_elim, arith, eq-eqb, ne_eqb, unwrap_or}
-use Rattle.plan_rules.proofs.Common.{ints, sum_by-cons, cases_eq, cases_Bool, or_right, or_left, both_ways, false_from_ne_true, all_below, lesser, count_below, Graph, row_at, row_vehicle, has_rider, IsRowOf, choice_at, is_in, IsGraphRow, IsGoodGraph, IsPlan, IsLawful, cost_of, IsBound, Usable, leaf_value, every_row, only_row, without_row, CanBranch, IsClash, IsStranded, IsDeadEnd, Place, rounded_up, least_leaf, is_choice_usable, is_within, belongs_to_end, belongs_to_dead_end, ReadsTo, places_from, IsWholeTree, places_read, value_read, Node, Branch, Leaf, Dead}
+use Rattle.std.proofs.Common.{◌≡◌, ◌==◌, ◌&&◌, ◌||◌, not, ℕ, suc, ◌+◌, ◌*◌, ◌/◌, ◌<◌, ◌≤◌, Bool, true, false, cond, List, [], ◌∷◌, length, Option, Some, None, count_by, ℤ, pos, negsuc, ◌≤ℤ◌, refl, sym, ap, ◌∙◌, inl, inr, ⊎_elim, arith, eq-eqb, ne_eqb, unwrap_or}
+use Rattle.plan_rules.proofs.Common.{same_Some, ints, sum_by-cons, cases_eq, cases_Bool, or_right, or_left, both_ways, false_from_ne_true, all_below, lesser, count_below, Graph, row_at, row_vehicle, has_rider, IsRowOf, choice_at, is_in, IsGraphRow, IsGoodGraph, IsPlan, IsLawful, cost_of, IsBound, Usable, leaf_value, every_row, only_row, without_row, CanBranch, IsClash, IsStranded, IsDeadEnd, Place, rounded_up, least_leaf, is_choice_usable, is_within, belongs_to_end, belongs_to_dead_end, ReadsTo, places_from, IsWholeTree, places_read, value_read, Node, Branch, Leaf, Dead}
 use Rattle.plan_rules.proofs.lemmas.SumLemmas.{flag, flag-true, flag-false, all_below_at, all_below_from, all_below_fails, all_below_same, count_below_two, lesser-le_left, lesser-le_right}
 use Rattle.plan_rules.proofs.lemmas.GraphLemmas.{times_served_as_count, times_served_found, in_choice}
 use Rattle.plan_rules.proofs.lemmas.PlanLemmas.{has_choice, plan_choice}
 use Rattle.plan_rules.proofs.lemmas.DualityLemmas.{leaf_value_le}
-
-same_some : (j k : ℕ) → Some j ≡ Some k → j ≡ k
-same_some j k e = cc
-
-none_some : (k : ℕ) → ◌≡◌ {A = Option ℕ} None (Some k) → ⊥
-none_some k e = cc
 
 -- a plan within the usable rows chooses usable rows
 pub within_at : (g : Graph) (usable : Usable) (chosen : List (Option ℕ)) (v k : ℕ) → is_within g usable chosen ≡ true → v < g.vehicles → choice_at chosen v ≡ Some k → usable k ≡ true
@@ -36,7 +30,7 @@ module _ (g : Graph) (usable : Usable) (chosen : List (Option ℕ)) (plan : IsPl
       let own : IsRowOf g w j = plan_choice g chosen w j plan l is in
       ⊎_elim
       (λ (here : w ≡ v).
-      let same : j ≡ k = same_some j k (sym is ∙ ap (choice_at chosen) here ∙ e) in
+      let same : j ≡ k = same_Some j k (sym is ∙ ap (choice_at chosen) here ∙ e) in
       whole (usable j) (not (row_vehicle g j == v)) (j == k) (or_right (not (row_vehicle g j == v)) (j == k) (eq-eqb j k same)))
       (λ (other : w ≡ v → ⊥).
       let apart : (row_vehicle g j == v) ≡ false = ne_eqb (row_vehicle g j) v (λ (q : row_vehicle g j ≡ v). other (sym own.own ∙ q)) in
@@ -55,7 +49,7 @@ module _ (g : Graph) (usable : Usable) (chosen : List (Option ℕ)) (plan : IsPl
       let apart : (i == k) ≡ false =
       ne_eqb i k (λ (q : i ≡ k).
       let here : w ≡ v = sym own.own ∙ ap (row_vehicle g) q ∙ row.own in
-      differs (sym (same_some i j (sym is ∙ ap (choice_at chosen) here ∙ e)) ∙ q)) in
+      differs (sym (same_Some i j (sym is ∙ ap (choice_at chosen) here ∙ e)) ∙ q)) in
       whole (usable i) (i == k) apart
     where
       whole : (a b : Bool) → b ≡ false → (a && not b) ≡ a
@@ -123,10 +117,9 @@ branch_vehicle g usable v k rows can =
     let own : row_vehicle g k ≡ v = row.own in
     omega arith
 
--- where a vehicle isn't the graph's, no plan says anything of its rows
 -- ---- each plan belongs to one end
 
-count-cons : {X : Type 0} (p : X → Bool) (x : X) (xs : List X) → count_by p (x ∷ xs) ≡ flag (p x) + count_by p xs
+pub count-cons : {X : Type 0} (p : X → Bool) (x : X) (xs : List X) → count_by p (x ∷ xs) ≡ flag (p x) + count_by p xs
 count-cons p x xs = sum_by-cons (λ y. cond (p y) 1 0) x xs
 
 -- the ends that a plan belongs to, and the subtrees still to come that it belongs to, are as many as those at first
@@ -224,12 +217,22 @@ no_plan_at_dead_ends g nodes chosen good sound lawful = dead_count g chosen good
 
 -- ---- the value is a bound
 
-pub rounded_up_le : (z : ℤ) (c : ℕ) → z ≤ℤ pos (1024 * c) → rounded_up z ≤ℤ pos c
-rounded_up_le (pos n) c h =
-    let low : n ≤ 1024 * c = omega (arith, ints, h) in
-    let fits : (n + 1023) / 1024 ≤ c = omega arith in
+pub rounded_up_mono : (a b : ℤ) → a ≤ℤ b → rounded_up a ≤ℤ rounded_up b
+rounded_up_mono (pos n) (pos m) h =
+    let le : n ≤ m = omega (arith, ints, h) in
+    let q : (n + 1023) / 1024 ≤ (m + 1023) / 1024 = omega arith in
     omega (arith, ints)
-rounded_up_le (negsuc n) c h = omega (arith, ints)
+rounded_up_mono (pos n) (negsuc m) h = absurd (omega (arith, ints, h))
+rounded_up_mono (negsuc n) (pos m) h = omega (arith, ints)
+rounded_up_mono (negsuc n) (negsuc m) h =
+    let le : m ≤ n = omega (arith, ints, h) in
+    let q : suc m / 1024 ≤ suc n / 1024 = omega arith in
+    omega (arith, ints)
+
+rounded_up_le : (z : ℤ) (c : ℕ) → z ≤ℤ pos (1024 * c) → rounded_up z ≤ℤ pos c
+rounded_up_le z c h =
+    let whole : (1024 * c + 1023) / 1024 ≡ c = omega arith in
+    omega (arith, ints, rounded_up_mono z (pos (1024 * c)) h)
 
 -- some leaf shows at most what the plan costs
 abbrev HasLeafBelow : Graph → List (Option ℕ) → List Place → Type 0

@@ -1,17 +1,12 @@
 -- Leaf values, term by term.
-use Rattle.std.proofs.Common.{◌≡◌, ◌==◌, ℕ, zero, suc, ◌+◌, ◌-◌, ◌<◌, ◌≤◌, Bool, true, false, List, length, get_or, drop, Option, Some, None, ℤ, pos, ◌+ℤ◌, sym, ap, ◌∙◌, ⊎_elim, arith, ne_eqb, eq-eqb}
-use Rattle.plan_rules.proofs.Common.{ints, cases_lt, and_left, and_right, and_from, cond-true, cond-false, at_drop_more, at_drop_all, least_below, lesser, Graph, row_vehicle, IsStartOf, Usable, multiplier_at, multiplier_sum, is_usable_by}
+use Rattle.std.proofs.Common.{◌≡◌, ◌==◌, ℕ, zero, suc, ◌+◌, ◌-◌, ◌<◌, ◌≤◌, Bool, true, false, List, length, get_or, drop, Option, Some, None, ℤ, ◌+ℤ◌, sym, ap, ◌∙◌, ⊎_elim, arith, ne_eqb, eq-eqb}
+use Rattle.plan_rules.proofs.Common.{ints, cases_lt, and_left, and_right, and_from, cond-true, cond-false, at_drop_more, least_below, lesser, Graph, row_vehicle, IsStartOf, Usable, multiplier_at, multiplier_sum, is_usable_by}
 use Rattle.plan_rules.proofs.lemmas.SumLemmas.{least_below_none, least_below_more}
 
 -- the sum so far and that of the riders to come is that of all
 pub sum_more : (ms : List ℤ) (xs : List ℕ) (i : ℕ) (sum whole : ℤ) → i < length xs → sum +ℤ multiplier_sum ms (drop i xs) ≡ whole → (sum +ℤ multiplier_at ms (get_or xs i 0)) +ℤ multiplier_sum ms (drop (i + 1) xs) ≡ whole
 sum_more ms xs i sum whole l e =
     let more : multiplier_sum ms (drop i xs) ≡ multiplier_at ms (get_or xs i 0) +ℤ multiplier_sum ms (drop (i + 1) xs) = at_drop_more (multiplier_sum ms) xs i 0 l in
-    omega (arith, ints)
-
-pub sum_all : (ms : List ℤ) (xs : List ℕ) (i : ℕ) (sum whole : ℤ) → length xs ≤ i → sum +ℤ multiplier_sum ms (drop i xs) ≡ whole → sum ≡ whole
-sum_all ms xs i sum whole l e =
-    let none : multiplier_sum ms (drop i xs) ≡ pos 0 = at_drop_all (multiplier_sum ms) xs i l in
     omega (arith, ints)
 
 -- rows before the vehicle's first one aren't its own, nor are those from its end on

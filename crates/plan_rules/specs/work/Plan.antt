@@ -1,18 +1,8 @@
-use Rattle.std.specs.Prelude.{◌≡◌, ◌<◌, ◌≤◌, ℕ, Bool, false, nat_lt, List, length, slice_index_or, Option, Some, None}
-use Rattle.plan_rules.specs.Graph.{Graph, riders_at, times_served}
+use Rattle.std.specs.Prelude.{◌≤◌, ℕ, List, Option}
+use Rattle.plan_rules.specs.Graph.{Graph, times_served}
 
 -- Parts of a plan's rules, as proofs call them.
-
--- how many riders the chosen row has; no row has none
-abbrev pub choice_size : Graph → Option ℕ → ℕ
-choice_size g None = 0
-choice_size g (Some k) = length (riders_at g k)
 
 -- no rider is in two of the rows that the first n vehicles are given
 abbrev pub IsServedOnce : Graph → List (Option ℕ) → ℕ → Type 0
 IsServedOnce g chosen n = (r : ℕ) → times_served g chosen n r ≤ 1
-
--- for each of the graph's riders there is a mark, set where a row that the first n vehicles are given has her
-pub record MarksServed (g : Graph) (chosen : List (Option ℕ)) (n : ℕ) (flags : List Bool) : Type 0 where
-  pub sized : g.riders ≤ length flags
-  pub marks : (r : ℕ) → r < g.riders → slice_index_or flags r false ≡ nat_lt 0 (times_served g chosen n r)

@@ -2,23 +2,27 @@ use Rattle.std.specs.Prelude.{◌≡◌, ◌≢◌, ℕ, ◌+◌, ◌<◌, ◌�
 use Rattle.rebalancing.specs.declared.matching.Matching.{Matching}
 use Rattle.rebalancing.specs.declared.tree.Tree.{Tree}
 use Rattle.rebalancing.specs.Potentials.{pair_worth}
-use Rattle.rebalancing.specs.work.Prices.{weight_in}
+use Rattle.rebalancing.specs.work.Prices.{IsPriced, weight_in}
 
--- A tree of vehicles r from the root k: each other one stands with its rider c, and was reached from the vehicle at
--- an earlier position, its parent, by a pair whose prices are tight. A rider's place in the tree is 0 where it is outside.
-pub record IsGrown (n m : ℕ) (w : ℕ → ℕ → ℕ) (k : ℕ) (a b q r c parent place : List ℕ) : Type 0 where
-  pub rooted : 0 < length r
+-- The first `count` positions of a tree of vehicles r from the root k: each other one stands with its rider c, and was
+-- reached from the vehicle at an earlier position, its parent, by a pair whose prices are tight.
+pub record IsRooted (n m : ℕ) (w : ℕ → ℕ → ℕ) (k : ℕ) (a b q r c parent place : List ℕ) (count : ℕ) : Type 0 where
   pub root : slice_index r 0 ≡ k
   pub root_free : m ≤ slice_index q k
   pub c_length : length c ≡ length r
   pub parent_length : length parent ≡ length r
+  pub vehicle : (t : ℕ) → t < count → slice_index r t < n
+  pub rider : (t : ℕ) → 0 < t → t < count → slice_index c t < m
+  pub partner : (t : ℕ) → 0 < t → t < count → slice_index q (slice_index r t) ≡ slice_index c t
+  pub earlier : (t : ℕ) → 0 < t → t < count → slice_index parent t < t
+  pub edge : (t : ℕ) → 0 < t → t < count → slice_index a (slice_index r (slice_index parent t)) + slice_index b (slice_index c t) ≡ w (slice_index r (slice_index parent t)) (slice_index c t)
+  pub placed : (t : ℕ) → 0 < t → t < count → slice_index place (slice_index c t) ≡ t
+
+-- a whole tree; a rider's place in it is 0 where it is outside
+pub record IsGrown (n m : ℕ) (w : ℕ → ℕ → ℕ) (k : ℕ) (a b q r c parent place : List ℕ) : Type 0 where
+  pub tree : IsRooted n m w k a b q r c parent place (length r)
+  pub rooted : 0 < length r
   pub place_length : length place ≡ m
-  pub vehicle : (t : ℕ) → t < length r → slice_index r t < n
-  pub rider : (t : ℕ) → 0 < t → t < length r → slice_index c t < m
-  pub partner : (t : ℕ) → 0 < t → t < length r → slice_index q (slice_index r t) ≡ slice_index c t
-  pub earlier : (t : ℕ) → 0 < t → t < length r → slice_index parent t < t
-  pub edge : (t : ℕ) → 0 < t → t < length r → slice_index a (slice_index r (slice_index parent t)) + slice_index b (slice_index c t) ≡ w (slice_index r (slice_index parent t)) (slice_index c t)
-  pub placed : (t : ℕ) → 0 < t → t < length r → slice_index place (slice_index c t) ≡ t
   pub place_most : (j : ℕ) → j < m → slice_index place j < length r
   pub found : (j : ℕ) → j < m → 0 < slice_index place j → slice_index c (slice_index place j) ≡ j
 
@@ -64,36 +68,11 @@ pub record HasRoom (m : ℕ) (t : Tree) : Type 0 where
 -- Between the matching from which a walk set out and the one it ends in: this rider's old vehicle has moved on, and
 -- the vehicle at this position is to take it; the positions up to there are as they were.
 pub record IsOpen (n m : ℕ) (w : ℕ → ℕ → ℕ) (k : ℕ) (a b q p r c parent place : List ℕ) (rider position : ℕ) : Type 0 where
-  pub a_length : length a ≡ n
-  pub b_length : length b ≡ m
-  pub q_length : length q ≡ n
-  pub p_length : length p ≡ m
-  pub c_length : length c ≡ length r
-  pub parent_length : length parent ≡ length r
+  pub priced : IsPriced n m w k (k + 1) rider a b q p
+  pub tree : IsRooted n m w k a b q r c parent place (position + 1)
   pub rider_within : rider < m
   pub position_within : position < length r
-  pub root : slice_index r 0 ≡ k
-  pub root_free : m ≤ slice_index q k
-  pub vehicle : (t : ℕ) → t ≤ position → slice_index r t < n
-  pub c_within : (t : ℕ) → 0 < t → t ≤ position → slice_index c t < m
-  pub partner : (t : ℕ) → 0 < t → t ≤ position → slice_index q (slice_index r t) ≡ slice_index c t
-  pub earlier : (t : ℕ) → 0 < t → t ≤ position → slice_index parent t < t
-  pub edge : (t : ℕ) → 0 < t → t ≤ position → slice_index a (slice_index r (slice_index parent t)) + slice_index b (slice_index c t) ≡ w (slice_index r (slice_index parent t)) (slice_index c t)
-  pub placed : (t : ℕ) → 0 < t → t ≤ position → slice_index place (slice_index c t) ≡ t
   pub last_edge : slice_index a (slice_index r position) + slice_index b rider ≡ w (slice_index r position) rider
-  pub q_most : (i : ℕ) → i < n → slice_index q i ≤ m
-  pub p_most : (j : ℕ) → j < m → slice_index p j ≤ n
-  pub a_most : (i : ℕ) → i < n → slice_index a i ≤ pair_worth
-  pub light : (i j : ℕ) → i < n → j < m → w i j ≤ pair_worth
-  pub covers : (i j : ℕ) → i < n → j < m → w i j ≤ slice_index a i + slice_index b j
-  pub tight : (i : ℕ) → i < n → slice_index q i < m → slice_index a i + slice_index b (slice_index q i) ≡ w i (slice_index q i)
-  pub forth : (i : ℕ) → i < n → slice_index q i < m → slice_index p (slice_index q i) ≡ i
-  pub apart : (i : ℕ) → i < n → slice_index q i < m → slice_index q i ≢ rider
-  pub back : (j : ℕ) → j < m → j ≢ rider → slice_index p j < n → slice_index q (slice_index p j) ≡ j
-  pub free_rider : (j : ℕ) → j < m → j ≢ rider → n ≤ slice_index p j → slice_index b j ≡ 0
-  pub free_vehicle : (i : ℕ) → i < n → i < k → m ≤ slice_index q i → slice_index a i ≡ 0
-  pub waiting : (i : ℕ) → i < n → k + 1 ≤ i → m ≤ slice_index q i
-  pub waiting_price : (i : ℕ) → i < n → k + 1 ≤ i → slice_index a i ≡ pair_worth
 
 -- the matching stands between, with this rider to be taken by the vehicle at this position of the tree
 abbrev pub IsOpenMatching : Matching → Tree → ℕ → ℕ → Type 0

@@ -1,13 +1,13 @@
 -- The batch of a seal: what it shows, and what it keeps.
-use Rattle.std.proofs.Common.{◌≡◌, ℕ, zero, suc, ◌+◌, ◌<◌, ◌≤◌, Bool, true, false, cond, leb, ltb, eqb, ◌&&◌, List, [], ◌∷◌, ◌++◌, length, map, Option, Some, None, refl, sym, ap, subst, ◌∙◌, inl, inr, arith, is_some, option_map, option_and_then, count_by, slice_index}
-use Rattle.request_book.proofs.Common.{cons_option, IsStrictlyIncreasing, cases_eq, length-map, sum_by-cons, IsKept, IsOnce, riders_aboard, Passenger, Rider, Vehicle, BookRider, Status, Waiting, Promised, Aboard, Delivered, Expired, State, IsConsistent, seat_in, look_up, by_key, KeysRise, KeysDiffer, AllAbove, changed_in_turn, pool_id, is_active, pool_promise, vehicle_of, shown, with_status, passenger_of, is_over, after_seal, batch_of, asking, over_id, find_rider, find_vehicle, find_passenger}
+use Rattle.std.proofs.Common.{◌≡◌, ℕ, zero, suc, ◌+◌, ◌<◌, ◌≤◌, Bool, true, false, cond, leb, List, [], ◌∷◌, ◌++◌, length, map, Option, Some, None, refl, sym, ap, subst, ◌∙◌, arith, is_some, option_map, option_and_then, count_by}
+use Rattle.request_book.proofs.Common.{cons_option, nat_tests, IsStrictlyIncreasing, length-map, sum_by-cons, IsKept, IsOnce, riders_aboard, Passenger, Rider, Vehicle, BookRider, Expired, State, IsConsistent, seat_in, look_up, by_key, KeysRise, KeysDiffer, changed_in_turn, pool_id, is_active, pool_promise, shown, with_status, is_over, after_seal, batch_of, asking, over_id, find_rider, find_vehicle, find_passenger}
 use Rattle.std.specs.List.{filter_map, All, Contains}
-use Rattle.std.proofs.lemmas.Bool.{ne_eqb, leb-true, true≢false}
+use Rattle.std.proofs.lemmas.Bool.{leb-true}
+use Rattle.std.proofs.lemmas.List.{map-id, get_or-map}
 use Rattle.batch_snapshot.specs.declared.promise.Promise.{Promise}
-use Rattle.request_book.specs.declared.rider.Status.TheVariants.{Cancelled}
 use Rattle.request_book.proofs.lemmas.IndexLemmas.{IsPool, pool_id-keeps}
 use Rattle.request_book.proofs.lemmas.SealLemmas.{changed_in_turn-marked, marked, map-agree}
-use Rattle.request_book.proofs.lemmas.KeyedLemmas.{IsOrderOf, look_up-here, look_up-there, look_up-nil, look_up-key, look_up-at, look_up-filter_map, KeysDiffer-filter_map, KeysDiffer-from_rise, by_key-order, filter_map-by_key, made-rise, made-found, look_up-map, length-by_key, length-filter_map, All-from_look_up, All-look_up}
+use Rattle.request_book.proofs.lemmas.KeyedLemmas.{IsOrderOf, look_up-here, look_up-later, look_up-nil, look_up-key, look_up-at, pairs_from_rise, look_up-keys, differ-keys, look_up-filter_map, KeysDiffer-filter_map, KeysDiffer-from_rise, by_key-order, filter_map-by_key, made-rise, made-found, look_up-map, length-by_key, length-filter_map, All-from_look_up, All-look_up}
 
 -- what is made of changed elements
 filter_map-map : {X Y Z : Type 0} (h : Y → Option Z) (g : X → Y) (xs : List X) → filter_map h (map g xs) ≡ filter_map (λ x. h (g x)) xs
@@ -30,42 +30,23 @@ module _ (wait now : ℕ) where
   pub shown-is : (r : BookRider) (y : Rider) → shows r ≡ Some y → IsShown r y
   shown-is r y e = by (is_over wait now r) refl e
     where
-      in_pool : (o : Option (Option Promise)) → is_over wait now r ≡ false → pool_promise r.status ≡ o → leb r.time now ≡ true → option_map (shown r) o ≡ Some y → IsShown r y
+      in_pool : (o : Option (Option Promise)) → is_over wait now r ≡ false → pool_promise r.status ≡ o → r.time ≤ now → option_map (shown r) o ≡ Some y → IsShown r y
       in_pool None w p t f = absurd cc
       in_pool (Some q) w p t f =
           let is : shown r q ≡ y = cc in
-          record {
-            id = sym (ap (λ (z : Rider). z.id) is);
-            active = ap is_some p;
-            asked = subst (λ (z : Rider). z.time ≤ now) is (leb-true r.time now t);
-            waits = w;
-            origin = sym (ap (λ (z : Rider). z.origin) is);
-            destination = sym (ap (λ (z : Rider). z.destination) is);
-          }
-
-      in_time : (t : Bool) → is_over wait now r ≡ false → leb r.time now ≡ t → cond t (option_map (shown r) (pool_promise r.status)) None ≡ Some y → IsShown r y
-      in_time false w t f = absurd cc
-      in_time true w t f = in_pool (pool_promise r.status) w refl t f
-
-      gone : (t : Bool) → cond t None None ≡ Some y → IsShown r y
-      gone true f = absurd cc
-      gone false f = absurd cc
+          subst (IsShown r) is (record { id = refl; active = ap is_some p; asked = t; waits = w; origin = refl; destination = refl })
 
       by : (o : Bool) → is_over wait now r ≡ o → asking now (cond o (with_status Expired r) r) ≡ Some y → IsShown r y
-      by true o f = gone (leb r.time now) f
-      by false o f = in_time (leb r.time now) o refl f
+      by true w f = grind arith
+      by false w f = by_time (leb r.time now) refl f
+        where
+          by_time : (t : Bool) → leb r.time now ≡ t → cond t (option_map (shown r) (pool_promise r.status)) None ≡ Some y → IsShown r y
+          by_time true t g = in_pool (pool_promise r.status) w refl (leb-true r.time now t) g
+          by_time false t g = absurd cc
 
   -- whose wait is over is active
   pub over-is : (r : BookRider) (n : ℕ) → over_id wait now r ≡ Some n → (n ≡ r.id) × (is_active r.status ≡ true)
-  over-is r n e = by (is_active r.status) refl e
-    where
-      in_time : (t : Bool) → is_active r.status ≡ true → cond t (Some r.id) None ≡ Some n → (n ≡ r.id) × (is_active r.status ≡ true)
-      in_time true a f = (cc, a)
-      in_time false a f = absurd cc
-
-      by : (a : Bool) → is_active r.status ≡ a → cond (a && ltb (r.time + wait) now) (Some r.id) None ≡ Some n → (n ≡ r.id) × (is_active r.status ≡ true)
-      by true a f = in_time (ltb (r.time + wait) now) a f
-      by false a f = absurd cc
+  over-is r n e = grind arith
 
   module _ (pool : List ℕ) (riders : List BookRider) (up : KeysRise (λ id. id) pool) (differ : KeysDiffer (λ r. r.id) riders) (is : IsPool pool riders) where
     pub active-listed : (k : ℕ) (r : BookRider) → find_rider k riders ≡ Some r → is_active r.status ≡ true → look_up (λ id. id) k pool ≡ Some k
@@ -87,77 +68,39 @@ module _ (wait now : ℕ) where
 pub count_by-le : {X : Type 0} (p q : X → Bool) → ((x : X) → p x ≡ true → q x ≡ true) → (xs : List X) → count_by p xs ≤ count_by q xs
 count_by-le p q more [] = omega arith
 count_by-le p q more (x ∷ xs) =
-    let rest = count_by-le p q more xs in
-    let head : cond (p x) 1 0 ≤ cond (q x) 1 0 = one (p x) (q x) (more x) in
-    omega (arith, rest, head, sum_by-cons (λ y. cond (p y) 1 0) x xs, sum_by-cons (λ y. cond (q y) 1 0) x xs)
-  where
-    one : (a b : Bool) → (a ≡ true → b ≡ true) → cond a 1 0 ≤ cond b 1 0
-    one true true h = omega arith
-    one true false h = absurd (true≢false (sym (h refl)))
-    one false true h = omega arith
-    one false false h = omega arith
+    grind (arith, more x, count_by-le p q more xs, sum_by-cons (λ y. cond (p y) 1 0) x xs, sum_by-cons (λ y. cond (q y) 1 0) x xs)
 
--- numbers whose keys rise, index by index
-module _ {X : Type 0} (key : X → ℕ) where
-  first-above : (k : ℕ) (xs : List X) → AllAbove key k xs → 0 < length xs → k < slice_index (map key xs) 0
-  unfolding AllAbove
-  first-above k [] all some = absurd (omega arith)
-  first-above k (x ∷ xs) all some = all.0
-
-  pub increasing_from_rise : (xs : List X) → KeysRise key xs → IsStrictlyIncreasing (map key xs)
-  unfolding KeysRise
-  increasing_from_rise [] up k in' = absurd (omega arith)
-  increasing_from_rise (x ∷ xs) up zero in' = first-above (key x) xs up.0 (omega (arith, length-map xs key))
-  increasing_from_rise (x ∷ xs) up (suc k) in' =
-      let same : suc k + 1 ≡ suc (k + 1) = omega arith in
-      rw same (increasing_from_rise xs up.1 k (omega arith))
-
-map-own : (xs : List ℕ) → map (λ n. n) xs ≡ xs
-map-own [] = refl
-map-own (x ∷ xs) = ap (λ ys. x ∷ ys) (map-own xs)
+-- keys that rise are numbers that rise
+pub increasing_from_rise : {X : Type 0} (key : X → ℕ) (xs : List X) → KeysRise key xs → IsStrictlyIncreasing (map key xs)
+increasing_from_rise key [] up k in' = absurd (omega arith)
+increasing_from_rise key (x ∷ xs) up k in' =
+    let within : k + 1 < length (x ∷ xs) = omega (arith, length-map (x ∷ xs) key) in
+    omega (arith, pairs_from_rise key (x ∷ xs) up k (k + 1) x (omega arith) within, get_or-map key (x ∷ xs) k x 0 (omega arith), get_or-map key (x ∷ xs) (k + 1) x 0 within)
 
 -- numbers of which none is found twice
 once_from_differ : (ids : List ℕ) → KeysDiffer (λ n. n) ids → IsOnce ids
-unfolding KeysDiffer
+unfolding KeysDiffer look_up
 once_from_differ [] d i j lt in' e = omega arith
-once_from_differ (x ∷ xs) d zero zero lt in' e = omega arith
-once_from_differ (x ∷ xs) d zero (suc j) lt in' e =
-    let at = look_up-at (λ n. n) j xs 0 d.1 (omega arith) in
-    let none = subst (λ k. look_up (λ n. n) k xs ≡ None) e d.0 in
-    absurd cc
-once_from_differ (x ∷ xs) d (suc i) zero lt in' e = omega arith
+once_from_differ (x ∷ xs) d i zero lt in' e = omega arith
+once_from_differ (x ∷ xs) d zero (suc j) lt in' e = grind (arith, nat_tests, d.0, look_up-at (λ n. n) j xs 0 d.1)
 once_from_differ (x ∷ xs) d (suc i) (suc j) lt in' e = once_from_differ xs d.1 i j (omega arith) (omega arith) e
 
 look_up-append_none : (k : ℕ) (xs ys : List ℕ) → look_up (λ n. n) k xs ≡ None → look_up (λ n. n) k ys ≡ None → look_up (λ n. n) k (xs ++ ys) ≡ None
+unfolding look_up
 look_up-append_none k [] ys a b = b
-look_up-append_none k (x ∷ xs) ys a b =
-    elim (cases_eq x k) [
-      | inl e ↦ let found = look_up-here (λ n. n) k x xs e in absurd cc
-      | inr ne ↦ look_up-there (λ n. n) k x (xs ++ ys) ne ∙ look_up-append_none k xs ys (sym (look_up-there (λ n. n) k x xs ne) ∙ a) b
-    ]
+look_up-append_none k (x ∷ xs) ys a b = grind (arith, nat_tests, look_up-append_none k xs ys)
 
 differ-append : (xs ys : List ℕ) → KeysDiffer (λ n. n) xs → KeysDiffer (λ n. n) ys → ((k : ℕ) → look_up (λ n. n) k xs ≡ Some k → look_up (λ n. n) k ys ≡ None) → KeysDiffer (λ n. n) (xs ++ ys)
 unfolding KeysDiffer
 differ-append [] ys d e apart = e
 differ-append (x ∷ xs) ys d e apart = (
   look_up-append_none x xs ys d.0 (apart x (look_up-here (λ n. n) x x xs refl)),
-  differ-append xs ys d.1 e (λ k found. apart k (look_up-there (λ n. n) k x xs (λ s. let none = subst (λ j. look_up (λ n. n) j xs ≡ None) s d.0 in absurd cc) ∙ found)),
+  differ-append xs ys d.1 e (λ k found. apart k (look_up-later (λ n. n) k x xs k d.0 found)),
 )
 
--- keys as numbers
-module _ {X : Type 0} (key : X → ℕ) where
-  look_up-keys : (k : ℕ) (xs : List X) → look_up (λ n. n) k (map key xs) ≡ option_map key (look_up key k xs)
-  look_up-keys k [] = look_up-nil (λ n. n) k ∙ ap (option_map key) (sym (look_up-nil key k))
-  look_up-keys k (x ∷ xs) =
-      elim (cases_eq (key x) k) [
-        | inl e ↦ look_up-here (λ n. n) k (key x) (map key xs) e ∙ ap (option_map key) (sym (look_up-here key k x xs e))
-        | inr ne ↦ look_up-there (λ n. n) k (key x) (map key xs) ne ∙ look_up-keys k xs ∙ ap (option_map key) (sym (look_up-there key k x xs ne))
-      ]
-
-  differ-keys : (xs : List X) → KeysDiffer key xs → KeysDiffer (λ n. n) (map key xs)
-  unfolding KeysDiffer
-  differ-keys [] d = tt
-  differ-keys (x ∷ xs) d = (look_up-keys (key x) xs ∙ ap (option_map key) d.0, differ-keys xs d.1)
+-- who is in the pool is aboard of no vehicle
+pub seatless : (r : BookRider) (x : ℕ) → is_active r.status ≡ true → seat_in x r ≡ None
+seatless r x on = grind arith
 
 -- who is aboard of some vehicle
 module _ (riders : List BookRider) where
@@ -167,19 +110,7 @@ module _ (riders : List BookRider) where
 
   -- a seat in one vehicle is no seat in another one
   apart : (x y k : ℕ) (p : Passenger) → (x ≡ y → ⊥) → option_and_then (seat_in x) (find_rider k riders) ≡ Some p → option_and_then (seat_in y) (find_rider k riders) ≡ None
-  apart x y k p ne e = by (find_rider k riders) e
-    where
-      seat : (r : BookRider) (o : Option ℕ) → option_and_then (λ v. cond (eqb v x) (Some (passenger_of r)) None) o ≡ Some p → option_and_then (λ v. cond (eqb v y) (Some (passenger_of r)) None) o ≡ None
-      seat r None f = absurd cc
-      seat r (Some v) f =
-          elim (cases_eq v y) [
-            | inl same ↦ let off = ne_eqb v x (λ g. ne (sym g ∙ same)) in (let none : None ≡ Some p = sym (ap (λ b. cond b (Some (passenger_of r)) None) off) ∙ f in absurd cc)
-            | inr other ↦ ap (λ b. cond b (Some (passenger_of r)) None) (ne_eqb v y other)
-          ]
-
-      by : (o : Option BookRider) → option_and_then (seat_in x) o ≡ Some p → option_and_then (seat_in y) o ≡ None
-      by None f = refl
-      by (Some r) f = seat r (vehicle_of r.status) f
+  apart x y k p ne e = grind (arith, nat_tests)
 
   nobody : (k : ℕ) (vs : List Vehicle) → KeysDiffer (λ v. v.id) vs → Seated vs → ((x : ℕ) (v : Vehicle) → find_vehicle x vs ≡ Some v → option_and_then (seat_in x) (find_rider k riders) ≡ None) → look_up (λ n. n) k (riders_aboard vs) ≡ None
   unfolding KeysDiffer
@@ -193,7 +124,7 @@ module _ (riders : List BookRider) where
       (λ x u found. none x u (later x u found)))
     where
       later : (x : ℕ) (u : Vehicle) → find_vehicle x vs ≡ Some u → find_vehicle x (v ∷ vs) ≡ Some u
-      later x u found = look_up-there (λ (u : Vehicle). u.id) x v vs (λ e. let none = subst (λ j. find_vehicle j vs ≡ None) e d.0 in absurd cc) ∙ found
+      later x u found = look_up-later (λ (u : Vehicle). u.id) x v vs u d.0 found
 
   aboard-differ : (vs : List Vehicle) → KeysDiffer (λ v. v.id) vs → Seated vs → ((x : ℕ) (v : Vehicle) → find_vehicle x vs ≡ Some v → KeysDiffer (λ p. p.rider) v.aboard.items) → KeysDiffer (λ n. n) (riders_aboard vs)
   unfolding KeysDiffer
@@ -207,7 +138,7 @@ module _ (riders : List BookRider) where
       (λ x u at. elsewhere k (find_passenger k v.aboard.items) refl found x u at))
     where
       later : (x : ℕ) (u : Vehicle) → find_vehicle x vs ≡ Some u → find_vehicle x (v ∷ vs) ≡ Some u
-      later x u found = look_up-there (λ (u : Vehicle). u.id) x v vs (λ e. let none = subst (λ j. find_vehicle j vs ≡ None) e d.0 in absurd cc) ∙ found
+      later x u found = look_up-later (λ (u : Vehicle). u.id) x v vs u d.0 found
 
       elsewhere : (k : ℕ) (o : Option Passenger) → find_passenger k v.aboard.items ≡ o → look_up (λ n. n) k (map (λ p. p.rider) v.aboard.items) ≡ Some k → (x : ℕ) (u : Vehicle) → find_vehicle x vs ≡ Some u → option_and_then (seat_in x) (find_rider k riders) ≡ None
       elsewhere k None e found x u at = let none = look_up-keys (λ (p : Passenger). p.rider) k v.aboard.items ∙ ap (option_map (λ (p : Passenger). p.rider)) e in absurd cc
@@ -251,12 +182,8 @@ module _ (wait now : ℕ) (s : State) (kept : IsConsistent s) where
 
   few : length batch-list ≤ 1000
   few =
-      let count = count_by-le (λ r. is_some (shows wait now r)) (λ r. is_active r.status) (λ r on. active r (shows wait now r) refl on) s.riders in
+      let count = count_by-le (λ r. is_some (shows wait now r)) (λ r. is_active r.status) (λ r on. grind arith) s.riders in
       omega (arith, kept.pool, count, ap length batch-list-is, length-by_key (λ (y : Rider). y.id) (filter_map (shows wait now) s.riders), length-filter_map (shows wait now) s.riders)
-    where
-      active : (r : BookRider) (o : Option Rider) → shows wait now r ≡ o → is_some (shows wait now r) ≡ true → is_active r.status ≡ true
-      active r None e on = let off = ap is_some e in absurd cc
-      active r (Some y) e on = (shown-is wait now r y e).active
 
   abbrev expired-list : List ℕ
   expired-list = by_key (λ n. n) (filter_map (over_id wait now) s.riders)
@@ -264,70 +191,55 @@ module _ (wait now : ℕ) (s : State) (kept : IsConsistent s) where
   expired-order : IsOrderOf (λ n. n) (filter_map (over_id wait now) s.riders) expired-list
   expired-order = by_key-order (λ n. n) (filter_map (over_id wait now) s.riders) (KeysDiffer-filter_map (λ (r : BookRider). r.id) (λ n. n) (over_id wait now) (λ r n e. (over-is wait now r n e).0) s.riders kept.riders_differ)
 
-  -- who still waits is not among those whose wait is over
-  not-expired : (k : ℕ) (r : BookRider) → find_rider k s.riders ≡ Some r → is_over wait now r ≡ false → look_up (λ n. n) k expired-list ≡ None
-  not-expired k r found waits =
-      expired-order.found k
-      ∙ look_up-filter_map (λ (r : BookRider). r.id) (λ n. n) (over_id wait now) (λ r n e. (over-is wait now r n e).0) k s.riders kept.riders_differ
-      ∙ ap (option_and_then (over_id wait now)) found
-      ∙ rw waits refl
+  expired-found : (k : ℕ) → look_up (λ n. n) k expired-list ≡ option_and_then (over_id wait now) (find_rider k s.riders)
+  expired-found k = expired-order.found k ∙ look_up-filter_map (λ (r : BookRider). r.id) (λ n. n) (over_id wait now) (λ r n e. (over-is wait now r n e).0) k s.riders kept.riders_differ
 
+  expired-listed : (id : ℕ) → Contains expired-list id → look_up (λ n. n) id expired-list ≡ Some id
+  expired-listed id in' =
+      let at = look_up-at (λ n. n) in'.0 expired-list id (KeysDiffer-from_rise (λ n. n) expired-list expired-order.rise) in'.1 in
+      subst (λ j. look_up (λ n. n) j expired-list ≡ Some j) in'.2 at
+
+  -- who still waits is not among those whose wait is over
   batch-apart : All (λ y. ¬ (Contains expired-list y.id)) batch-list
   batch-apart = batch-each (λ (y : Rider). ¬ (Contains expired-list y.id)) (λ k r y found is in'.
       let id : k ≡ y.id = sym (look_up-key (λ (r : BookRider). r.id) k s.riders r found) ∙ sym is.id in
-      let none : look_up (λ n. n) y.id expired-list ≡ None = subst (λ j. look_up (λ n. n) j expired-list ≡ None) id (not-expired k r found is.waits) in
-      let at = look_up-at (λ n. n) in'.0 expired-list y.id (KeysDiffer-from_rise (λ n. n) expired-list expired-order.rise) in'.1 in
-      let some : look_up (λ n. n) y.id expired-list ≡ Some y.id = subst (λ j. look_up (λ n. n) j expired-list ≡ Some j) in'.2 at in
+      let none : look_up (λ n. n) k expired-list ≡ None = expired-found k ∙ ap (option_and_then (over_id wait now)) found ∙ ap (λ b. cond b (Some r.id) None) is.waits in
+      let some = expired-listed y.id in' in
       absurd cc)
 
-  -- who is in the pool is aboard of no vehicle
-  pool-seatless : (r : BookRider) (x : ℕ) → is_active r.status ≡ true → seat_in x r ≡ None
-  pool-seatless r x on = ap (option_and_then (λ v. cond (eqb v x) (Some (passenger_of r)) None)) (free r.status on)
-    where
-      free : (t : Status) → is_active t ≡ true → vehicle_of t ≡ None
-      free Waiting e = refl
-      free (Promised p) e = refl
-      free (Aboard v) e = absurd cc
-      free Cancelled e = refl
-      free Delivered e = refl
-      free Expired e = refl
+  vehicles-differ : KeysDiffer (λ v. v.id) s.vehicles
+  vehicles-differ = KeysDiffer-from_rise (λ (v : Vehicle). v.id) s.vehicles kept.vehicles_rise
+
+  passengers-differ : KeysDiffer (λ n. n) (riders_aboard s.vehicles)
+  passengers-differ =
+      aboard-differ s.riders s.vehicles vehicles-differ batch-seated (λ x v found. All-look_up (λ (v : Vehicle). v.id) (λ (u : Vehicle). KeysDiffer (λ p. p.rider) u.aboard.items) x s.vehicles v kept.passengers found)
 
   batch-once : IsOnce (map (λ r. r.id) batch-list ++ riders_aboard s.vehicles)
   batch-once =
-      let vehicles = KeysDiffer-from_rise (λ (v : Vehicle). v.id) s.vehicles kept.vehicles_rise in
       once_from_differ (map (λ r. r.id) batch-list ++ riders_aboard s.vehicles)
       (differ-append (map (λ r. r.id) batch-list) (riders_aboard s.vehicles)
       (differ-keys (λ (y : Rider). y.id) batch-list (KeysDiffer-from_rise (λ (y : Rider). y.id) batch-list batch-rise))
-      (aboard-differ s.riders s.vehicles vehicles batch-seated (λ x v found. All-look_up (λ (v : Vehicle). v.id) (λ (u : Vehicle). KeysDiffer (λ p. p.rider) u.aboard.items) x s.vehicles v kept.passengers found))
-      (λ k found. nobody s.riders k s.vehicles vehicles batch-seated (λ x v at. waiting k (look_up (λ (y : Rider). y.id) k batch-list) refl found x)))
+      passengers-differ
+      (λ k found. nobody s.riders k s.vehicles vehicles-differ batch-seated (λ x v at. waiting k (look_up (λ (y : Rider). y.id) k batch-list) refl found x)))
     where
       waiting : (k : ℕ) (o : Option Rider) → look_up (λ r. r.id) k batch-list ≡ o → look_up (λ n. n) k (map (λ r. r.id) batch-list) ≡ Some k → (x : ℕ) → option_and_then (seat_in x) (find_rider k s.riders) ≡ None
       waiting k None e found x = let none = look_up-keys (λ (y : Rider). y.id) k batch-list ∙ ap (option_map (λ (y : Rider). y.id)) e in absurd cc
-      waiting k (Some y) e found x = let at = batch-found k y e in ap (option_and_then (seat_in x)) at.1 ∙ pool-seatless at.0 x at.2.active
+      waiting k (Some y) e found x = let at = batch-found k y e in ap (option_and_then (seat_in x)) at.1 ∙ seatless at.0 x at.2.active
 
   -- whose wait is over was in the pool, and so is aboard of no vehicle
   over-seatless : (k : ℕ) → look_up (λ n. n) k expired-list ≡ Some k → (x : ℕ) → option_and_then (seat_in x) (find_rider k s.riders) ≡ None
-  over-seatless k listed x =
-      by (find_rider k s.riders) (sym (
-      expired-order.found k
-      ∙ look_up-filter_map (λ (r : BookRider). r.id) (λ n. n) (over_id wait now) (λ r n e. (over-is wait now r n e).0) k s.riders kept.riders_differ
-      ) ∙ listed)
+  over-seatless k listed x = by (find_rider k s.riders) (sym (expired-found k) ∙ listed)
     where
       by : (o : Option BookRider) → option_and_then (over_id wait now) o ≡ Some k → option_and_then (seat_in x) o ≡ None
       by None e = absurd cc
-      by (Some r) e = pool-seatless r x (over-is wait now r k e).1
+      by (Some r) e = seatless r x (over-is wait now r k e).1
 
   batch-aboard_apart : All (λ id. ¬ (Contains expired-list id)) (riders_aboard s.vehicles)
   batch-aboard_apart =
-      let vehicles = KeysDiffer-from_rise (λ (v : Vehicle). v.id) s.vehicles kept.vehicles_rise in
-      All-from_look_up (λ n. n) (λ id. ¬ (Contains expired-list id)) (riders_aboard s.vehicles)
-      (aboard-differ s.riders s.vehicles vehicles batch-seated (λ x v found. All-look_up (λ (v : Vehicle). v.id) (λ (u : Vehicle). KeysDiffer (λ p. p.rider) u.aboard.items) x s.vehicles v kept.passengers found))
+      All-from_look_up (λ n. n) (λ id. ¬ (Contains expired-list id)) (riders_aboard s.vehicles) passengers-differ
       (λ k id found in'.
       let own : id ≡ k = look_up-key (λ n. n) k (riders_aboard s.vehicles) id found in
-      let at = look_up-at (λ n. n) in'.0 expired-list id (KeysDiffer-from_rise (λ n. n) expired-list expired-order.rise) in'.1 in
-      let some : look_up (λ n. n) id expired-list ≡ Some id = subst (λ j. look_up (λ n. n) j expired-list ≡ Some j) in'.2 at in
-      let none : look_up (λ n. n) id (riders_aboard s.vehicles) ≡ None = nobody s.riders id s.vehicles vehicles batch-seated (λ x v at. over-seatless id some x) in
-      let listed : look_up (λ n. n) id (riders_aboard s.vehicles) ≡ Some id = subst (λ j. look_up (λ n. n) j (riders_aboard s.vehicles) ≡ Some id) (sym own) found in
+      let none = nobody s.riders id s.vehicles vehicles-differ batch-seated (λ x v at. over-seatless id (expired-listed id in') x) in
       absurd cc)
 
   pub batch-kept : IsKept (batch_of wait s now)
@@ -337,7 +249,7 @@ module _ (wait now : ℕ) (s : State) (kept : IsConsistent s) where
     rider_count = few;
     vehicles_rise = increasing_from_rise (λ (v : Vehicle). v.id) s.vehicles kept.vehicles_rise;
     riders_rise = increasing_from_rise (λ (y : Rider). y.id) batch-list batch-rise;
-    expired_rise = subst IsStrictlyIncreasing (map-own _) (increasing_from_rise (λ n. n) expired-list expired-order.rise);
+    expired_rise = subst IsStrictlyIncreasing (map-id expired-list) (increasing_from_rise (λ n. n) expired-list expired-order.rise);
     seats = kept.seats;
     asked = batch-each (λ (y : Rider). y.time ≤ now) (λ k r y found is. is.asked);
     once = batch-once;
@@ -348,18 +260,10 @@ module _ (wait now : ℕ) (s : State) (kept : IsConsistent s) where
 -- what a seal makes of the riders and the pool
 module _ (wait now : ℕ) where
   pub after_seal-id : (r : BookRider) → (after_seal wait now r).id ≡ r.id
-  after_seal-id r = by (is_over wait now r)
-    where
-      by : (o : Bool) → (cond o (with_status Expired r) r).id ≡ r.id
-      by true = refl
-      by false = refl
+  after_seal-id r = grind arith
 
   pub after_seal-active : (r : BookRider) → is_active (after_seal wait now r).status ≡ true → is_active r.status ≡ true
-  after_seal-active r e = by (is_over wait now r) refl e
-    where
-      by : (o : Bool) → is_over wait now r ≡ o → is_active (cond o (with_status Expired r) r).status ≡ true → is_active r.status ≡ true
-      by true o f = absurd (true≢false (sym f))
-      by false o f = f
+  after_seal-active r e = grind arith
 
   module _ (riders : List BookRider) (differ : KeysDiffer (λ r. r.id) riders) where
     -- who expires in turn
@@ -372,30 +276,21 @@ module _ (wait now : ℕ) where
         own : (r : BookRider) (n : ℕ) → over_id wait now r ≡ Some n → n ≡ r.id
         own r n e = (over-is wait now r n e).0
 
-        either : (r : BookRider) (b : Bool) → is_some (cond b (Some r.id) None) ≡ b
-        either r true = refl
-        either r false = refl
-
         over : (k : ℕ) (r : BookRider) → find_rider k riders ≡ Some r → is_some (look_up (λ n. n) r.id (by_key (λ id. id) (filter_map (over_id wait now) riders))) ≡ is_over wait now r
         over k r found =
             let order = by_key-order (λ n. n) (filter_map (over_id wait now) riders) (KeysDiffer-filter_map (λ (r : BookRider). r.id) (λ n. n) (over_id wait now) own riders differ) in
-            let at : find_rider r.id riders ≡ Some r = subst (λ j. find_rider j riders ≡ Some r) (sym (look_up-key (λ (r : BookRider). r.id) k riders r found)) found in
-            ap is_some (order.found r.id ∙ look_up-filter_map (λ (r : BookRider). r.id) (λ n. n) (over_id wait now) own r.id riders differ ∙ ap (option_and_then (over_id wait now)) at) ∙ either r (is_over wait now r)
+            let made = order.found r.id ∙ look_up-filter_map (λ (r : BookRider). r.id) (λ n. n) (over_id wait now) own r.id riders differ in
+            let same = look_up-key (λ (r : BookRider). r.id) k riders r found in
+            let at : find_rider r.id riders ≡ Some r = cc in
+            grind arith
 
     -- who stays
     module _ (pool : List ℕ) (up : KeysRise (λ id. id) pool) (is : IsPool pool riders) where
-      stays : BookRider → Option ℕ
-      stays r = pool_id (after_seal wait now r)
-
       stays-own : (r : BookRider) (n : ℕ) → pool_id (after_seal wait now r) ≡ Some n → n ≡ r.id
       stays-own r n e = pool_id-keeps (after_seal wait now r) n e ∙ after_seal-id r
 
       stays-listed : (k : ℕ) (r : BookRider) (n : ℕ) → find_rider k riders ≡ Some r → pool_id (after_seal wait now r) ≡ Some n → look_up (λ id. id) k pool ≡ Some k
-      stays-listed k r n found e = active-listed wait now pool riders up differ is k r found (after_seal-active r (on (is_active (after_seal wait now r).status) refl e))
-        where
-          on : (b : Bool) → is_active (after_seal wait now r).status ≡ b → cond b (Some (after_seal wait now r).id) None ≡ Some n → is_active (after_seal wait now r).status ≡ true
-          on true f g = f
-          on false f g = absurd cc
+      stays-listed k r n found e = active-listed wait now pool riders up differ is k r found (grind arith)
 
       pub staying-rise : KeysRise (λ id. id) (filter_map (λ id. option_and_then (λ r. pool_id (after_seal wait now r)) (find_rider id riders)) pool)
       staying-rise = made-rise (λ (r : BookRider). r.id) (λ n. n) (λ r. pool_id (after_seal wait now r)) stays-own pool riders up differ stays-listed

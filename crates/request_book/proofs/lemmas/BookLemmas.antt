@@ -1,7 +1,8 @@
 -- What every book keeps is kept by each command.
 use Rattle.std.proofs.Common.{◌≡◌, ℕ, zero, suc, ◌≤◌, ◌<◌, Bool, false, List, [], ◌∷◌, ◌++◌, length, get_or, take, Option, Some, None, refl, sym, ap, subst, ◌∙◌, arith, option_and_then}
-use Rattle.request_book.proofs.Common.{list_any, All-nil, All-weaker, IsFleet, Passenger, Vehicle, Command, Entry, Reply, State, BookView, IsBook, opening, IsConsistent, IsNode, NamesNodes, look_up, KeysRise, KeysDiffer, state_after, RepliesAreSteps, find_vehicle, find_passenger, step}
+use Rattle.request_book.proofs.Common.{Register, HasRoom, IsIndexed, state_of, list_any, All-nil, All-weaker, IsFleet, Passenger, Vehicle, Command, Entry, Reply, State, BookView, IsBook, opening, IsConsistent, IsNode, NamesNodes, look_up, KeysRise, KeysDiffer, state_after, RepliesAreSteps, find_vehicle, find_passenger, step}
 use Rattle.std.specs.List.{All}
+use Rattle.request_book.specs.work.Stored.{IsStored}
 use Rattle.request_book.proofs.lemmas.ConsistentLemmas.{step-consistent}
 use Rattle.request_book.proofs.lemmas.KeyedLemmas.{look_up-nil, All-look_up, rise_from_increasing}
 use Rattle.request_book.proofs.lemmas.NamedLemmas.{step-named}
@@ -34,6 +35,15 @@ applied-book old lane command reply next spare book stepped =
       base_named = book.base_named;
       named = subst (NamesNodes old.nodes) (sym is) (step-named old.nodes old.wait old.state command book.consistent book.named);
     }
+
+-- a book whose lists have as much room or more
+pub stored-roomier : (b : BookView) (es : List Entry) (len capacity len' capacity' : ℕ) (g g' : Register) → IsStored b len capacity g → es ≡ b.entries → state_of g' ≡ b.state → len' ≡ len → capacity ≤ capacity' → IsIndexed g' → HasRoom b.spare g' → IsStored (record b { entries = es; state = state_of g' }) len' capacity' g'
+stored-roomier b es len capacity len' capacity' g g' h entries state long wide indexed room = record {
+  book = subst (λ s. IsBook (record b { entries = es; state = s })) (sym state) (subst (λ l. IsBook (record b { entries = l })) (sym entries) h.book);
+  indexed = indexed;
+  room = room;
+  entries = omega (arith, h.entries, long, wide);
+}
 
 -- a new journal begins
 pub round-book : (old : BookView) (first : ℕ) → IsBook old → IsBook (record { nodes = old.nodes; wait = old.wait; first = first; base = old.state; entries = []; state = old.state; spare = 0 })

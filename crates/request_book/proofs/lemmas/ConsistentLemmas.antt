@@ -1,13 +1,13 @@
 -- What every state of a book keeps is kept by each step.
-use Rattle.std.proofs.Common.{◌≡◌, ℕ, ◌+◌, ◌<◌, ◌≤◌, Bool, true, false, cond, eqb, leb, ◌&&◌, List, [], ◌∷◌, ◌++◌, length, map, Option, Some, None, refl, sym, ap, subst, ◌∙◌, inl, inr, arith, option_map, option_and_then, count_by}
-use Rattle.request_book.proofs.Common.{cases_eq, length-map, sum_by-cons, sum_by_push, Batch, HasSeats, persons_aboard, Passenger, Rider, Vehicle, Command, Submit, Cancel, Report, Pickup, Dropoff, Seal, Close, Answer, Overflow, Planned, BookRefusal, BookFull, NotAboard, VehicleFull, Reply, Accepted, Cancelled, Placed, Picked, Dropped, Sealed, Closed, BookRider, Status, Waiting, Promised, Aboard, Delivered, Expired, State, Pick, after_answer, after_plan, picks, in_batch, takes_in, lets_out, planned_status, closed_state, AreConsistent, IsConsistent, seat_in, changed_at, without, KeysRise, KeysDiffer, first_of, unknown_vehicle, unknown_rider, is_aboard, has_ended, not_promised, not_aboard, time_back, vehicle_full, seat_refusal, not_this_batch, is_active, vehicle_of, with_status, passenger_of, is_over, after_seal, sealed_state, one_more, find_rider, find_vehicle, find_passenger, pool_count, rider_becomes, vehicle_becomes, step, stands_at, answer, picked_up, dropped_off, submit_refusal, submit_step, cancel_step, report_step, pickup_step, dropoff_step, seal_refusal, seal_step, close_step, table_step}
+use Rattle.std.proofs.Common.{◌≡◌, ℕ, ◌+◌, ◌<◌, ◌≤◌, Bool, true, false, cond, eqb, List, [], ◌∷◌, ◌++◌, length, map, Option, Some, None, refl, sym, ap, subst, ◌∙◌, arith, option_map, option_and_then, count_by}
+use Rattle.request_book.proofs.Common.{nat_tests, length-map, sum_by-cons, sum_by_push, Batch, HasSeats, persons_aboard, Passenger, Rider, Vehicle, Command, Submit, Cancel, Report, Pickup, Dropoff, Seal, Close, Answer, Overflow, Planned, BookRefusal, Reply, Accepted, Cancelled, Placed, Picked, Dropped, Sealed, Closed, BookRider, Status, Waiting, Aboard, Delivered, State, Pick, after_answer, after_plan, picks, takes_in, lets_out, closed_state, AreConsistent, IsConsistent, seat_in, changed_at, without, KeysRise, KeysDiffer, first_of, unknown_vehicle, unknown_rider, is_aboard, has_ended, not_promised, not_aboard, time_back, vehicle_full, seat_refusal, not_this_batch, is_active, vehicle_of, with_status, passenger_of, after_seal, sealed_state, one_more, find_rider, find_vehicle, find_passenger, pool_count, rider_becomes, vehicle_becomes, step, stands_at, answer, picked_up, dropped_off, submit_refusal, submit_step, cancel_step, report_step, pickup_step, dropoff_step, seal_refusal, seal_step, close_step, table_step}
 use Rattle.std.specs.List.{All, sum_by}
-use Rattle.std.proofs.lemmas.Bool.{eq-eqb, ne_eqb, eqb-true, leb-true, leb-false, true≢false}
+use Rattle.std.proofs.lemmas.Bool.{eq-eqb}
 use Rattle.std.proofs.lemmas.List.{length-append}
 use Rattle.request_book.specs.declared.rider.Status.TheVariants.{Cancelled as GivenUp}
-use Rattle.request_book.proofs.lemmas.BatchLemmas.{after_seal-id}
+use Rattle.request_book.proofs.lemmas.BatchLemmas.{after_seal-id, after_seal-active, seatless}
 use Rattle.request_book.proofs.lemmas.CloseLemmas.{after_plan-id, after_plan-active}
-use Rattle.request_book.proofs.lemmas.KeyedLemmas.{look_up-key, look_up-map, look_up-changed_here, look_up-changed_there, look_up-push_here, look_up-push_there, look_up-without_here, look_up-without_there, KeysDiffer-push, KeysDiffer-map, KeysDiffer-changed_at, KeysDiffer-from_rise, KeysRise-changed_at, All-changed_at, length-changed_at}
+use Rattle.request_book.proofs.lemmas.KeyedLemmas.{at_each, look_up-key, look_up-map, look_up-changed_here, look_up-changed_there, look_up-push_here, look_up-push_there, look_up-without_here, look_up-without_there, KeysDiffer-push, KeysDiffer-map, KeysDiffer-changed_at, KeysDiffer-from_rise, KeysDiffer-without, KeysRise-changed_at, All-changed_at, length-changed_at}
 use Rattle.request_book.proofs.lemmas.StepTable.{step-table}
 use Rattle.request_book.proofs.lemmas.StepLemmas.{first_of-none, active_left, submit-fits, closed-some}
 
@@ -23,61 +23,23 @@ held x k vehicles = option_and_then (λ v. find_passenger k v.aboard.items) (fin
 abbrev pub seated : ℕ → ℕ → List BookRider → Option Passenger
 seated x k riders = option_and_then (seat_in x) (find_rider k riders)
 
-seatless : (r : BookRider) (x : ℕ) → vehicle_of r.status ≡ None → seat_in x r ≡ None
-seatless r x e = ap (option_and_then (λ v. cond (eqb v x) (Some (passenger_of r)) None)) e
-
 seated_elsewhere : (r : BookRider) (x y : ℕ) → vehicle_of r.status ≡ Some y → (y ≡ x → ⊥) → seat_in x r ≡ None
-seated_elsewhere r x y e ne = ap (option_and_then (λ v. cond (eqb v x) (Some (passenger_of r)) None)) e ∙ ap (λ b. cond b (Some (passenger_of r)) None) (ne_eqb y x ne)
-
--- who is in the pool is in no vehicle
-free : (t : Status) → is_active t ≡ true → vehicle_of t ≡ None
-free Waiting e = refl
-free (Promised p) e = refl
-free (Aboard v) e = absurd cc
-free GivenUp e = absurd cc
-free Delivered e = absurd cc
-free Expired e = absurd cc
+seated_elsewhere r x y e ne = grind (arith, nat_tests)
 
 carried : (vehicle : ℕ) (t : Status) → seat_refusal vehicle t ≡ None → vehicle_of t ≡ Some vehicle
-carried vehicle Waiting e = absurd cc
-carried vehicle (Promised p) e = absurd cc
-carried vehicle (Aboard v) e = by (eqb v vehicle) refl e
-  where
-    by : (b : Bool) → eqb v vehicle ≡ b → cond b None (Some NotAboard) ≡ None → Some v ≡ Some vehicle
-    by true f g = ap Some (eqb-true v vehicle f)
-    by false f g = absurd cc
-carried vehicle GivenUp e = absurd cc
-carried vehicle Delivered e = absurd cc
-carried vehicle Expired e = absurd cc
+carried vehicle t e = grind (arith, nat_tests)
 
 -- fewer pass where a change lets nobody else pass
 count_by-map_le : {X : Type 0} (p : X → Bool) (f : X → X) → ((x : X) → p (f x) ≡ true → p x ≡ true) → (xs : List X) → count_by p (map f xs) ≤ count_by p xs
 count_by-map_le p f lower [] = omega arith
 count_by-map_le p f lower (x ∷ xs) =
-    omega (arith, sum_by-cons (λ y. cond (p y) 1 0) (f x) (map f xs), sum_by-cons (λ y. cond (p y) 1 0) x xs, one (p (f x)) (p x) (lower x), count_by-map_le p f lower xs)
-  where
-    one : (a b : Bool) → (a ≡ true → b ≡ true) → cond a 1 0 ≤ cond b 1 0
-    one true true h = omega arith
-    one true false h = absurd (true≢false (sym (h refl)))
-    one false b h = omega arith
-
-KeysDiffer-without : {X : Type 0} (key : X → ℕ) (k : ℕ) (xs : List X) → KeysDiffer key xs → KeysDiffer key (without key k xs)
-unfolding KeysDiffer without
-KeysDiffer-without key k [] d = tt
-KeysDiffer-without key k (x ∷ xs) d =
-    elim (cases_eq (key x) k) [
-      | inl e ↦ rw (eq-eqb (key x) k e) (KeysDiffer-without key k xs d.1)
-      | inr ne ↦ rw (ne_eqb (key x) k ne) (look_up-without_there key k (key x) xs (λ e. ne (sym e)) ∙ d.0, KeysDiffer-without key k xs d.1)
-    ]
+    grind (arith, lower x, count_by-map_le p f lower xs, sum_by-cons (λ y. cond (p y) 1 0) (f x) (map f xs), sum_by-cons (λ y. cond (p y) 1 0) x xs)
 
 persons-without : (k : ℕ) (xs : List Passenger) → sum_by (λ p. p.party) (without (λ p. p.rider) k xs) ≤ sum_by (λ p. p.party) xs
 unfolding without
 persons-without k [] = omega arith
 persons-without k (x ∷ xs) =
-    elim (cases_eq x.rider k) [
-      | inl e ↦ rw (eq-eqb x.rider k e) (omega (arith, sum_by-cons (λ (p : Passenger). p.party) x xs, persons-without k xs))
-      | inr ne ↦ rw (ne_eqb x.rider k ne) (omega (arith, sum_by-cons (λ (p : Passenger). p.party) x xs, sum_by-cons (λ (p : Passenger). p.party) x (without (λ p. p.rider) k xs), persons-without k xs))
-    ]
+    grind (arith, nat_tests, persons-without k xs, sum_by-cons (λ (p : Passenger). p.party) x xs, sum_by-cons (λ (p : Passenger). p.party) x (without (λ p. p.rider) k xs))
 
 -- a rider of another status
 module _ (riders : List BookRider) (k : ℕ) (status : Status) where
@@ -92,14 +54,7 @@ module _ (riders : List BookRider) (k : ℕ) (status : Status) where
 
   changed-pool : is_active status ≡ false → pool_count changed ≤ pool_count riders
   unfolding changed_at
-  changed-pool off = count_by-map_le (λ r. is_active r.status) (λ r. cond (eqb r.id k) (with_status status r) r) lower riders
-    where
-      lower : (r : BookRider) → is_active (cond (eqb r.id k) (with_status status r) r).status ≡ true → is_active r.status ≡ true
-      lower r e = by (eqb r.id k) e
-        where
-          by : (b : Bool) → is_active (cond b (with_status status r) r).status ≡ true → is_active r.status ≡ true
-          by true f = absurd (true≢false (sym f ∙ off))
-          by false f = f
+  changed-pool off = count_by-map_le (λ r. is_active r.status) (λ r. cond (eqb r.id k) (with_status status r) r) (λ r e. grind (arith, nat_tests)) riders
 
 -- a change of a vehicle
 module _ (vehicles : List Vehicle) (x : ℕ) (f : Vehicle → Vehicle) (keeps : (v : Vehicle) → (f v).id ≡ v.id) where
@@ -155,13 +110,10 @@ module _ (riders : List BookRider) (vehicles : List Vehicle) (kept : AreConsiste
   given_up : (k : ℕ) (r : BookRider) → find_rider k riders ≡ Some r → is_active r.status ≡ true → AreConsistent (changed_at (λ r. r.id) k (with_status GivenUp) riders) vehicles
   given_up k r found on = restatus k GivenUp refl vehicles refl kept.vehicles_rise kept.seats kept.passengers (λ x j. kept.aboard x j ∙ same x j)
     where
-      same : (x j : ℕ) → seated x j riders ≡ seated x j (changed_at (λ r. r.id) k (with_status GivenUp) riders)
-      same x j =
-          elim (cases_eq k j) [
-            | inl e ↦ subst (λ i. seated x i riders ≡ seated x i (changed_at (λ r. r.id) k (with_status GivenUp) riders)) e
-                (ap (option_and_then (seat_in x)) found ∙ seatless r x (free r.status on) ∙ sym (changed-here riders k GivenUp x r found))
-            | inr ne ↦ sym (changed-there riders k GivenUp x j ne)
-          ]
+      same : (x j : ℕ) → seated x j riders ≡ seated x j (changed riders k GivenUp)
+      same x =
+          at_each (λ i. seated x i riders ≡ seated x i (changed riders k GivenUp)) k
+          (ap (option_and_then (seat_in x)) found ∙ seatless r x on ∙ sym (changed-here riders k GivenUp x r found)) (λ j ne. sym (changed-there riders k GivenUp x j ne))
 
   placed_at : (x node time : ℕ) → AreConsistent riders (changed_at (λ v. v.id) x (stands_at node time) vehicles)
   placed_at x node time = record {
@@ -179,13 +131,11 @@ module _ (riders : List BookRider) (vehicles : List Vehicle) (kept : AreConsiste
       by k None = refl
       by k (Some v) = refl
 
-      same : (y k : ℕ) → held y k (changed_at (λ v. v.id) x (stands_at node time) vehicles) ≡ held y k vehicles
+      same : (y k : ℕ) → held y k (moved vehicles x (stands_at node time) (λ v. refl)) ≡ held y k vehicles
       same y k =
-          elim (cases_eq x y) [
-            | inl e ↦ subst (λ j. held j k (changed_at (λ v. v.id) x (stands_at node time) vehicles) ≡ held j k vehicles) e
-                (ap (option_and_then (λ (v : Vehicle). find_passenger k v.aboard.items)) (look_up-changed_here (λ (v : Vehicle). v.id) x (stands_at node time) (λ v. refl) vehicles) ∙ by k (find_vehicle x vehicles))
-            | inr ne ↦ moved-there vehicles x (stands_at node time) (λ v. refl) y k ne
-          ]
+          at_each (λ j. held j k (moved vehicles x (stands_at node time) (λ v. refl)) ≡ held j k vehicles) x
+          (ap (option_and_then (λ (v : Vehicle). find_passenger k v.aboard.items)) (look_up-changed_here (λ (v : Vehicle). v.id) x (stands_at node time) (λ v. refl) vehicles) ∙ by k (find_vehicle x vehicles))
+          (λ j ne. moved-there vehicles x (stands_at node time) (λ v. refl) j k ne) y
 
   submitted : (r : BookRider) → r.status ≡ Waiting → find_rider r.id riders ≡ None → pool_count riders < 1000 → length riders < 100000 → AreConsistent (riders ++ r ∷ []) vehicles
   submitted r waits new few below = record {
@@ -200,146 +150,81 @@ module _ (riders : List BookRider) (vehicles : List Vehicle) (kept : AreConsiste
   }
     where
       one : (b : Bool) → cond b 1 0 ≤ 1
-      one true = omega arith
-      one false = omega arith
+      one b = grind arith
 
       same : (x k : ℕ) → seated x k riders ≡ seated x k (riders ++ r ∷ [])
-      same x k =
-          elim (cases_eq r.id k) [
-            | inl e ↦ subst (λ j. seated x j riders ≡ seated x j (riders ++ r ∷ [])) e
-                (ap (option_and_then (seat_in x)) new ∙ sym (ap (option_and_then (seat_in x)) (look_up-push_here (λ (q : BookRider). q.id) r.id r riders refl new) ∙ seatless r x (ap vehicle_of waits)))
-            | inr ne ↦ sym (ap (option_and_then (seat_in x)) (look_up-push_there (λ (q : BookRider). q.id) k r riders ne))
-          ]
+      same x =
+          at_each (λ j. seated x j riders ≡ seated x j (riders ++ r ∷ [])) r.id
+          (ap (option_and_then (seat_in x)) new ∙ sym (ap (option_and_then (seat_in x)) (look_up-push_here (λ (q : BookRider). q.id) r.id r riders refl new) ∙ seatless r x (ap is_active waits)))
+          (λ k ne. sym (ap (option_and_then (seat_in x)) (look_up-push_there (λ (q : BookRider). q.id) k r riders ne)))
 
   module _ (x : ℕ) (v : Vehicle) (r : BookRider) (time : ℕ) (at : find_vehicle x vehicles ≡ Some v) (found : find_rider r.id riders ≡ Some r) where
-    abbrev boarded : List BookRider
-    boarded = changed_at (λ r. r.id) r.id (with_status (Aboard x)) riders
+    -- a rider gets into a vehicle, or out of it: nobody else's seat changes
+    seat_changes : (f : Vehicle → Vehicle) (keeps : (u : Vehicle) → (f u).id ≡ u.id) (status : Status) → is_active status ≡ false → All HasSeats (changed_at (λ v. v.id) x f vehicles) → All HasEachOnce (changed_at (λ v. v.id) x f vehicles)
+        → find_passenger r.id (f v).aboard.items ≡ seat_in x (with_status status r) → ((k : ℕ) → (r.id ≡ k → ⊥) → find_passenger k (f v).aboard.items ≡ find_passenger k v.aboard.items)
+        → ((y : ℕ) → (x ≡ y → ⊥) → seat_in y r ≡ seat_in y (with_status status r)) → AreConsistent (changed_at (λ r. r.id) r.id (with_status status) riders) (changed_at (λ v. v.id) x f vehicles)
+    seat_changes f keeps status off seats once own rest away =
+        restatus r.id status off (moved vehicles x f keeps) (length-changed_at (λ (v : Vehicle). v.id) x f vehicles)
+        (KeysRise-changed_at (λ (v : Vehicle). v.id) x f keeps vehicles kept.vehicles_rise) seats once (λ y k.
+        at_each (λ y. held y k (moved vehicles x f keeps) ≡ seated y k (changed riders r.id status)) x (here k) (λ y ne. there y k ne) y)
+      where
+        here : (k : ℕ) → held x k (moved vehicles x f keeps) ≡ seated x k (changed riders r.id status)
+        here =
+            at_each (λ k. held x k (moved vehicles x f keeps) ≡ seated x k (changed riders r.id status)) r.id
+            (moved-here vehicles x f keeps r.id v at ∙ own ∙ sym (changed-here riders r.id status x r found))
+            (λ k ne. moved-here vehicles x f keeps k v at ∙ rest k ne ∙ held-is x k v at ∙ sym (changed-there riders r.id status x k ne))
 
-    abbrev with_one : List Vehicle
-    with_one = changed_at (λ v. v.id) x (takes_in r time) vehicles
+        there : (y k : ℕ) → (x ≡ y → ⊥) → held y k (moved vehicles x f keeps) ≡ seated y k (changed riders r.id status)
+        there y k ne =
+            moved-there vehicles x f keeps y k ne ∙ kept.aboard y k
+            ∙ at_each (λ k. seated y k riders ≡ seated y k (changed riders r.id status)) r.id
+            (ap (option_and_then (seat_in y)) found ∙ away y ne ∙ sym (changed-here riders r.id status y r found)) (λ k other. sym (changed-there riders r.id status y k other)) k
 
-    picked : is_active r.status ≡ true → persons_aboard v + r.party ≤ v.seats → AreConsistent boarded with_one
+    picked : is_active r.status ≡ true → persons_aboard v + r.party ≤ v.seats → AreConsistent (changed_at (λ r. r.id) r.id (with_status (Aboard x)) riders) (changed_at (λ v. v.id) x (takes_in r time) vehicles)
     picked on fit =
-        restatus r.id (Aboard x) refl with_one
-        (length-changed_at (λ (v : Vehicle). v.id) x (takes_in r time) vehicles)
-        (KeysRise-changed_at (λ (v : Vehicle). v.id) x (takes_in r time) (λ v. refl) vehicles kept.vehicles_rise)
+        seat_changes (takes_in r time) (λ v. refl) (Aboard x) refl
         (All-changed_at (λ (v : Vehicle). v.id) HasSeats x (takes_in r time) vehicles differ kept.seats (λ u here has.
         record { some = has.some; most = has.most; enough = omega (arith, fits u here, sum_by_push (λ (p : Passenger). p.party) u.aboard.items (passenger_of r)) }))
         (All-changed_at (λ (v : Vehicle). v.id) HasEachOnce x (takes_in r time) vehicles differ kept.passengers (λ u here has.
         KeysDiffer-push (λ (p : Passenger). p.rider) (passenger_of r) u.aboard.items has (absent u here)))
-        aboard
+        (look_up-push_here (λ (p : Passenger). p.rider) r.id (passenger_of r) v.aboard.items refl (absent v at) ∙ sym (ap (λ b. cond b (Some (passenger_of r)) None) (eq-eqb x x refl)))
+        (λ k ne. look_up-push_there (λ (p : Passenger). p.rider) k (passenger_of r) v.aboard.items ne)
+        (λ y ne. seatless r y on ∙ sym (seated_elsewhere (with_status (Aboard x) r) y x refl ne))
       where
         fits : (u : Vehicle) → find_vehicle x vehicles ≡ Some u → persons_aboard u + r.party ≤ u.seats
         fits u here = let is : v ≡ u = cc in subst (λ w. persons_aboard w + r.party ≤ w.seats) is fit
 
         absent : (u : Vehicle) → find_vehicle x vehicles ≡ Some u → find_passenger r.id u.aboard.items ≡ None
-        absent u here = held-is x r.id u here ∙ ap (option_and_then (seat_in x)) found ∙ seatless r x (free r.status on)
+        absent u here = held-is x r.id u here ∙ ap (option_and_then (seat_in x)) found ∙ seatless r x on
 
-        here : (k : ℕ) → held x k with_one ≡ seated x k boarded
-        here k =
-            moved-here vehicles x (takes_in r time) (λ v. refl) k v at ∙ elim (cases_eq r.id k) [
-              | inl e ↦ subst (λ j. find_passenger j (v.aboard.items ++ passenger_of r ∷ []) ≡ seated x j boarded) e
-                  (look_up-push_here (λ (p : Passenger). p.rider) r.id (passenger_of r) v.aboard.items refl (absent v at)
-                  ∙ sym (changed-here riders r.id (Aboard x) x r found ∙ ap (λ b. cond b (Some (passenger_of r)) None) (eq-eqb x x refl)))
-              | inr ne ↦
-                  look_up-push_there (λ (p : Passenger). p.rider) k (passenger_of r) v.aboard.items ne ∙ held-is x k v at ∙ sym (changed-there riders r.id (Aboard x) x k ne)
-            ]
-
-        there : (y k : ℕ) → (x ≡ y → ⊥) → held y k with_one ≡ seated y k boarded
-        there y k ne =
-            moved-there vehicles x (takes_in r time) (λ v. refl) y k ne ∙ kept.aboard y k ∙ elim (cases_eq r.id k) [
-              | inl e ↦ subst (λ j. seated y j riders ≡ seated y j boarded) e
-                  (ap (option_and_then (seat_in y)) found ∙ seatless r y (free r.status on)
-                  ∙ sym (changed-here riders r.id (Aboard x) y r found ∙ seated_elsewhere (with_status (Aboard x) r) y x refl ne))
-              | inr other ↦ sym (changed-there riders r.id (Aboard x) y k other)
-            ]
-
-        aboard : (y k : ℕ) → held y k with_one ≡ seated y k boarded
-        aboard y k = elim (cases_eq x y) [ inl e ↦ subst (λ j. held j k with_one ≡ seated j k boarded) e (here k) | inr ne ↦ there y k ne ]
-
-    abbrev delivered : List BookRider
-    delivered = changed_at (λ r. r.id) r.id (with_status Delivered) riders
-
-    abbrev without_one : List Vehicle
-    without_one = changed_at (λ v. v.id) x (lets_out r time) vehicles
-
-    dropped : vehicle_of r.status ≡ Some x → AreConsistent delivered without_one
+    dropped : vehicle_of r.status ≡ Some x → AreConsistent (changed_at (λ r. r.id) r.id (with_status Delivered) riders) (changed_at (λ v. v.id) x (lets_out r time) vehicles)
     dropped in' =
-        restatus r.id Delivered refl without_one
-        (length-changed_at (λ (v : Vehicle). v.id) x (lets_out r time) vehicles)
-        (KeysRise-changed_at (λ (v : Vehicle). v.id) x (lets_out r time) (λ v. refl) vehicles kept.vehicles_rise)
+        seat_changes (lets_out r time) (λ v. refl) Delivered refl
         (All-changed_at (λ (v : Vehicle). v.id) HasSeats x (lets_out r time) vehicles differ kept.seats (λ u here has.
         record { some = has.some; most = has.most; enough = omega (arith, has.enough, persons-without r.id u.aboard.items) }))
         (All-changed_at (λ (v : Vehicle). v.id) HasEachOnce x (lets_out r time) vehicles differ kept.passengers (λ u here has.
         KeysDiffer-without (λ (p : Passenger). p.rider) r.id u.aboard.items has))
-        aboard
-      where
-        here : (k : ℕ) → held x k without_one ≡ seated x k delivered
-        here k =
-            moved-here vehicles x (lets_out r time) (λ v. refl) k v at ∙ elim (cases_eq r.id k) [
-              | inl e ↦ subst (λ j. find_passenger j (without (λ p. p.rider) r.id v.aboard.items) ≡ seated x j delivered) e
-                  (look_up-without_here (λ (p : Passenger). p.rider) r.id v.aboard.items ∙ sym (changed-here riders r.id Delivered x r found))
-              | inr ne ↦
-                  look_up-without_there (λ (p : Passenger). p.rider) r.id k v.aboard.items ne ∙ held-is x k v at ∙ sym (changed-there riders r.id Delivered x k ne)
-            ]
-
-        there : (y k : ℕ) → (x ≡ y → ⊥) → held y k without_one ≡ seated y k delivered
-        there y k ne =
-            moved-there vehicles x (lets_out r time) (λ v. refl) y k ne ∙ kept.aboard y k ∙ elim (cases_eq r.id k) [
-              | inl e ↦ subst (λ j. seated y j riders ≡ seated y j delivered) e
-                  (ap (option_and_then (seat_in y)) found ∙ seated_elsewhere r y x in' ne ∙ sym (changed-here riders r.id Delivered y r found))
-              | inr other ↦ sym (changed-there riders r.id Delivered y k other)
-            ]
-
-        aboard : (y k : ℕ) → held y k without_one ≡ seated y k delivered
-        aboard y k = elim (cases_eq x y) [ inl e ↦ subst (λ j. held j k without_one ≡ seated j k delivered) e (here k) | inr ne ↦ there y k ne ]
+        (look_up-without_here (λ (p : Passenger). p.rider) r.id v.aboard.items)
+        (λ k ne. look_up-without_there (λ (p : Passenger). p.rider) r.id k v.aboard.items ne)
+        (λ y ne. seated_elsewhere r y x in' ne)
 
   expired : (wait now : ℕ) → AreConsistent (map (after_seal wait now) riders) vehicles
-  expired wait now = mapped (after_seal wait now) (after_seal-id wait now) (λ r e. lower r (is_over wait now r) refl e) (λ r x. seat r x (is_over wait now r) refl)
-    where
-      pair : (a b : Bool) → (a && b) ≡ true → a ≡ true
-      pair true b e = refl
-      pair false b e = absurd (true≢false (sym e))
-
-      lower : (r : BookRider) (b : Bool) → is_over wait now r ≡ b → is_active (cond b (with_status Expired r) r).status ≡ true → is_active r.status ≡ true
-      lower r true e f = absurd (true≢false (sym f))
-      lower r false e f = f
-
-      seat : (r : BookRider) (x : ℕ) (b : Bool) → is_over wait now r ≡ b → seat_in x (cond b (with_status Expired r) r) ≡ seat_in x r
-      seat r x true e = sym (seatless r x (free r.status (pair _ _ e)))
-      seat r x false e = refl
+  expired wait now = mapped (after_seal wait now) (after_seal-id wait now) (after_seal-active wait now) (λ r x. grind (arith, nat_tests, seatless r x))
 
   planned : (batch : List Rider) (ps : List Pick) → AreConsistent (map (after_plan batch ps) riders) vehicles
-  planned batch ps = mapped (after_plan batch ps) (after_plan-id batch ps) (λ r e. sym (after_plan-active batch ps r) ∙ e) (λ r x. seat r x (is_active r.status) refl)
-    where
-      seat : (r : BookRider) (x : ℕ) (a : Bool) → is_active r.status ≡ a → seat_in x (after_plan batch ps r) ≡ seat_in x r
-      seat r x true e = seatless (after_plan batch ps r) x (free (after_plan batch ps r).status (after_plan-active batch ps r ∙ e)) ∙ sym (seatless r x (free r.status e))
-      seat r x false e = ap (λ a. seat_in x (cond (a && in_batch batch r.id) (with_status (planned_status ps r.id) r) r)) e
+  planned batch ps =
+      mapped (after_plan batch ps) (after_plan-id batch ps) (λ r e. sym (after_plan-active batch ps r) ∙ e) (λ r x. grind (arith, seatless r x, seatless (after_plan batch ps r) x, after_plan-active batch ps r))
 
   answered : (batch : List Rider) (a : Answer) → AreConsistent (after_answer batch a riders) vehicles
   unfolding after_answer
   answered batch Overflow = kept
   answered batch (Planned plan) = planned batch (picks plan.chosen)
 
-pub submit-below : (nodes : List ℕ) (s : State) (r : BookRider) → submit_refusal nodes s r ≡ None → length s.riders < 100000
-submit-below nodes s r none =
-    let a = first_of-none _ _ none in
-    let b = first_of-none _ _ a.1 in
-    let d = first_of-none _ _ b.1 in
-    let e = first_of-none _ _ d.1 in
-    let f = first_of-none _ _ e.1 in
-    let g = first_of-none _ _ f.1 in
-    by (leb 100000 (length s.riders)) refl g.0
-  where
-    by : (b : Bool) → leb 100000 (length s.riders) ≡ b → cond b (Some BookFull) None ≡ None → length s.riders < 100000
-    by true f g = absurd cc
-    by false f g = leb-false 100000 (length s.riders) f
-
 submit-consistent : (nodes : List ℕ) (s : State) (r : BookRider) → r.status ≡ Waiting → IsConsistent s → IsConsistent (submit_step nodes s r).0
 unfolding submit_step
 submit-consistent nodes s r waits kept =
     answer-keeps IsConsistent s (submit_refusal nodes s r) Accepted (record s { riders = s.riders ++ r ∷ [] }) kept
-    (λ none. let fits = submit-fits nodes s r none in submitted s.riders s.vehicles kept r waits fits.0 fits.1 (submit-below nodes s r none))
+    (λ none. let fits = submit-fits nodes s r none in submitted s.riders s.vehicles kept r waits fits.0 fits.1 fits.2)
 
 cancel-consistent : (s : State) (rider : ℕ) → IsConsistent s → IsConsistent (cancel_step s rider).0
 unfolding cancel_step
@@ -366,24 +251,14 @@ pub record GetsIn (s : State) (vehicle rider : ℕ) (v : Vehicle) (r : BookRider
 
 pub getting_in : (s : State) (vehicle rider time : ℕ) (v : Vehicle) (r : BookRider) → find_vehicle vehicle s.vehicles ≡ Some v → find_rider rider s.riders ≡ Some r
     → first_of (unknown_vehicle (Some v) ∷ unknown_rider (Some r) ∷ is_aboard (Some r) ∷ has_ended (Some r) ∷ not_promised (Some r) vehicle ∷ time_back (Some v) time ∷ vehicle_full (Some v) (Some r) ∷ []) ≡ None → GetsIn s vehicle rider v r
+unfolding first_of
 getting_in s vehicle rider time v r at found none =
-    let a = first_of-none _ _ none in
-    let b = first_of-none _ _ a.1 in
-    let d = first_of-none _ _ b.1 in
-    let e = first_of-none _ _ d.1 in
-    let f = first_of-none _ _ e.1 in
-    let g = first_of-none _ _ f.1 in
-    let h = first_of-none _ _ g.1 in
     record {
       at = at;
       found = subst (λ k. find_rider k s.riders ≡ Some r) (sym (look_up-key (λ (r : BookRider). r.id) rider s.riders r found)) found;
-      active = active_left r.status d.0 e.0;
-      fits = fit (leb (persons_aboard v + r.party) v.seats) refl h.0;
+      active = grind arith;
+      fits = grind (arith, nat_tests);
     }
-  where
-    fit : (b : Bool) → leb (persons_aboard v + r.party) v.seats ≡ b → cond b None (Some VehicleFull) ≡ None → persons_aboard v + r.party ≤ v.seats
-    fit true f g = leb-true (persons_aboard v + r.party) v.seats f
-    fit false f g = absurd cc
 
 pickup-consistent : (s : State) (vehicle rider time : ℕ) → IsConsistent s → IsConsistent (pickup_step s vehicle rider time).0
 unfolding pickup_step

@@ -1,8 +1,8 @@
 -- What a register finds after a change.
-use Rattle.std.proofs.Common.{◌≡◌, ℕ, ◌+◌, ◌<◌, Bool, true, false, cond, List, [], ◌∷◌, ◌++◌, length, get_or, set, map, Option, Some, None, refl, sym, ap, subst, ◌∙◌, inl, inr, arith, is_some, option_map, option_and_then, count_by}
-use Rattle.request_book.proofs.Common.{cases_eq, BookRider, Status, look_up, changed_at, without, placed, by_key, KeysRise, KeysDiffer, Register, pool_id, HasRoom, is_active, with_status, find_rider, find_vehicle, pool_count, Vehicle}
+use Rattle.std.proofs.Common.{Vec, Global, ◌≡◌, ℕ, ◌+◌, ◌<◌, Bool, true, false, cond, List, [], ◌∷◌, ◌++◌, length, get_or, set, map, Option, Some, None, refl, sym, ap, subst, ◌∙◌, arith, vec_capacity, is_some, option_map, option_and_then, count_by}
+use Rattle.request_book.proofs.Common.{cond_both, BookRider, Status, look_up, changed_at, without, placed, by_key, KeysRise, KeysDiffer, Register, pool_id, HasRoom, IsIndexed, is_active, with_status, find_rider, find_vehicle, pool_count, Vehicle}
 use Rattle.std.specs.List.{filter_map}
-use Rattle.request_book.proofs.lemmas.KeyedLemmas.{set-changed_at, look_up-changed_here, look_up-changed_there, look_up-without_here, look_up-without_there, look_up-placed_here, look_up-placed_there, look_up-push_here, look_up-push_there, look_up-map, look_up-key, look_up-filter_map, KeysDiffer-filter_map, KeysDiffer-from_rise, KeysRise-placed, by_key-order, same_from_look_up, length-by_key, length-filter_map}
+use Rattle.request_book.proofs.lemmas.KeyedLemmas.{at_each, set-changed_at, look_up-changed_here, look_up-changed_there, look_up-without_here, look_up-without_there, look_up-placed_here, look_up-placed_there, look_up-push_here, look_up-push_there, look_up-map, look_up-key, look_up-filter_map, KeysDiffer-filter_map, KeysDiffer-from_rise, KeysRise-placed, KeysRise-changed_at, KeysDiffer-changed_at, KeysRise-without, map-changed_at, by_key-order, same_from_look_up, length-by_key, length-filter_map}
 
 -- the pool is the ids of the active riders
 abbrev pub IsPool : List ℕ → List BookRider → Type 0
@@ -12,80 +12,55 @@ pub IsPool-same : (pool pool' : List ℕ) (riders riders' : List BookRider) → 
 IsPool-same pool pool' riders riders' e f is =
     subst (λ ids. IsPool ids riders') (sym e) (subst (IsPool pool) (sym f) is)
 
+-- a pool in which one id alone stands otherwise
+IsPool-but : (k : ℕ) (pool pool' : List ℕ) (riders riders' : List BookRider) → look_up (λ n. n) k pool' ≡ option_and_then pool_id (find_rider k riders')
+    → ((j : ℕ) → (k ≡ j → ⊥) → (look_up (λ n. n) j pool' ≡ look_up (λ n. n) j pool) × (find_rider j riders' ≡ find_rider j riders)) → IsPool pool riders → IsPool pool' riders'
+IsPool-but k pool pool' riders riders' here there is =
+    at_each (λ id. look_up (λ n. n) id pool' ≡ option_and_then pool_id (find_rider id riders')) k here
+    (λ id ne. let same = there id ne in same.0 ∙ is id ∙ ap (option_and_then pool_id) (sym same.1))
+
 pub pool_id-inactive : (r : BookRider) → is_active r.status ≡ false → pool_id r ≡ None
 pool_id-inactive r e = rw e refl
 
 -- a rider who leaves the pool
 pub IsPool-without : (pool : List ℕ) (riders : List BookRider) (rider : ℕ) (status : Status) → is_active status ≡ false → IsPool pool riders → IsPool (without (λ id. id) rider pool) (changed_at (λ r. r.id) rider (with_status status) riders)
-IsPool-without pool riders rider status off is id =
-    elim (cases_eq rider id) [
-      | inl same ↦
-          let gone : look_up (λ n. n) id (without (λ n. n) rider pool) ≡ None = subst (λ j. look_up (λ n. n) j (without (λ n. n) rider pool) ≡ None) same (look_up-without_here (λ n. n) rider pool) in
-          let now : find_rider id (changed_at (λ r. r.id) rider (with_status status) riders) ≡ option_map (with_status status) (find_rider id riders) =
-          subst (λ j. find_rider j (changed_at (λ r. r.id) rider (with_status status) riders) ≡ option_map (with_status status) (find_rider j riders)) same (look_up-changed_here (λ r. r.id) rider (with_status status) (λ r. refl) riders) in
-          gone ∙ sym (ap (option_and_then pool_id) now ∙ out (find_rider id riders))
-      | inr other ↦
-          look_up-without_there (λ n. n) rider id pool other ∙ is id ∙ ap (option_and_then pool_id) (sym (look_up-changed_there (λ r. r.id) rider id (with_status status) (λ r. refl) riders other))
-    ]
+IsPool-without pool riders rider status off is =
+    IsPool-but rider pool (without (λ n. n) rider pool) riders (changed_at (λ r. r.id) rider (with_status status) riders)
+    (look_up-without_here (λ n. n) rider pool ∙ sym (ap (option_and_then pool_id) (look_up-changed_here (λ (r : BookRider). r.id) rider (with_status status) (λ r. refl) riders) ∙ out (find_rider rider riders)))
+    (λ j ne. (look_up-without_there (λ n. n) rider j pool ne, look_up-changed_there (λ (r : BookRider). r.id) rider j (with_status status) (λ r. refl) riders ne)) is
   where
     out : (o : Option BookRider) → option_and_then pool_id (option_map (with_status status) o) ≡ None
     out None = refl
     out (Some r) = pool_id-inactive (with_status status r) off
 
--- a rider who was and stays out of the pool
-pub IsPool-outside : (pool : List ℕ) (riders : List BookRider) (rider : ℕ) (status : Status) → is_active status ≡ false → option_and_then pool_id (find_rider rider riders) ≡ None → IsPool pool riders → IsPool pool (changed_at (λ r. r.id) rider (with_status status) riders)
-IsPool-outside pool riders rider status off out is id =
-    elim (cases_eq rider id) [
-      | inl same ↦
-          let now : find_rider id (changed_at (λ r. r.id) rider (with_status status) riders) ≡ option_map (with_status status) (find_rider id riders) =
-          subst (λ j. find_rider j (changed_at (λ r. r.id) rider (with_status status) riders) ≡ option_map (with_status status) (find_rider j riders)) same (look_up-changed_here (λ r. r.id) rider (with_status status) (λ r. refl) riders) in
-          is id ∙ subst (λ j. option_and_then pool_id (find_rider j riders) ≡ None) same out ∙ sym (ap (option_and_then pool_id) now ∙ gone (find_rider id riders))
-      | inr other ↦
-          is id ∙ ap (option_and_then pool_id) (sym (look_up-changed_there (λ r. r.id) rider id (with_status status) (λ r. refl) riders other))
-    ]
-  where
-    gone : (o : Option BookRider) → option_and_then pool_id (option_map (with_status status) o) ≡ None
-    gone None = refl
-    gone (Some r) = pool_id-inactive (with_status status r) off
+-- a new rider
+module _ (pool : List ℕ) (riders : List BookRider) (new : BookRider) (none : find_rider new.id riders ≡ None) (is : IsPool pool riders) where
+  last : find_rider new.id (riders ++ new ∷ []) ≡ Some new
+  last = look_up-push_here (λ (r : BookRider). r.id) new.id new riders refl none
 
--- a new rider who waits
-pub IsPool-placed : (pool : List ℕ) (riders : List BookRider) (new : BookRider) → is_active new.status ≡ true → find_rider new.id riders ≡ None → IsPool pool riders → IsPool (placed (λ id. id) new.id pool) (riders ++ new ∷ [])
-IsPool-placed pool riders new on none is id =
-    elim (cases_eq new.id id) [
-      | inl same ↦
-          let absent : find_rider id riders ≡ None = subst (λ j. find_rider j riders ≡ None) same none in
-          look_up-placed_here (λ n. n) id new.id pool same (is id ∙ ap (option_and_then pool_id) absent) ∙ sym (ap (option_and_then pool_id) (look_up-push_here (λ r. r.id) id new riders same absent) ∙ rw on refl)
-      | inr other ↦
-          look_up-placed_there (λ n. n) id new.id pool other ∙ is id ∙ ap (option_and_then pool_id) (sym (look_up-push_there (λ r. r.id) id new riders other))
-    ]
+  earlier : (j : ℕ) → (new.id ≡ j → ⊥) → find_rider j (riders ++ new ∷ []) ≡ find_rider j riders
+  earlier j ne = look_up-push_there (λ (r : BookRider). r.id) j new riders ne
 
--- a new rider of any status
-pub IsPool-entered : (pool : List ℕ) (riders : List BookRider) (new : BookRider) → find_rider new.id riders ≡ None → IsPool pool riders → IsPool (cond (is_active new.status) (placed (λ id. id) new.id pool) pool) (riders ++ new ∷ [])
-IsPool-entered pool riders new none is = by (is_active new.status) refl
-  where
-    outside : is_active new.status ≡ false → IsPool pool (riders ++ new ∷ [])
-    outside off id =
-        elim (cases_eq new.id id) [
-          | inl same ↦
-              let absent : find_rider id riders ≡ None = subst (λ j. find_rider j riders ≡ None) same none in
-              is id ∙ ap (option_and_then pool_id) absent ∙ sym (ap (option_and_then pool_id) (look_up-push_here (λ r. r.id) id new riders same absent) ∙ pool_id-inactive new off)
-          | inr other ↦ is id ∙ ap (option_and_then pool_id) (sym (look_up-push_there (λ r. r.id) id new riders other))
-        ]
+  -- who waits
+  pub IsPool-placed : is_active new.status ≡ true → IsPool (placed (λ id. id) new.id pool) (riders ++ new ∷ [])
+  IsPool-placed on =
+      IsPool-but new.id pool (placed (λ n. n) new.id pool) riders (riders ++ new ∷ [])
+      (look_up-placed_here (λ n. n) new.id new.id pool refl (is new.id ∙ ap (option_and_then pool_id) none) ∙ sym (ap (option_and_then pool_id) last ∙ rw on refl))
+      (λ j ne. (look_up-placed_there (λ n. n) j new.id pool ne, earlier j ne)) is
 
-    by : (b : Bool) → is_active new.status ≡ b → IsPool (cond b (placed (λ id. id) new.id pool) pool) (riders ++ new ∷ [])
-    by true on = IsPool-placed pool riders new on none is
-    by false off = outside off
+  -- of any status
+  pub IsPool-entered : IsPool (cond (is_active new.status) (placed (λ id. id) new.id pool) pool) (riders ++ new ∷ [])
+  IsPool-entered =
+      cond_both (is_active new.status) (placed (λ id. id) new.id pool) pool (λ p. IsPool p (riders ++ new ∷ [])) IsPool-placed (λ off.
+      IsPool-but new.id pool pool riders (riders ++ new ∷ [])
+      (is new.id ∙ ap (option_and_then pool_id) none ∙ sym (ap (option_and_then pool_id) last ∙ pool_id-inactive new off)) (λ j ne. (refl, earlier j ne)) is)
 
 pub rise-entered : (b : Bool) (pool : List ℕ) (id : ℕ) → KeysRise (λ id. id) pool → look_up (λ id. id) id pool ≡ None → KeysRise (λ id. id) (cond b (placed (λ id. id) id pool) pool)
 rise-entered true pool id rise none = KeysRise-placed (λ id. id) id pool rise none
 rise-entered false pool id rise none = rise
 
 pub pool_id-keeps : (r : BookRider) (id : ℕ) → pool_id r ≡ Some id → id ≡ r.id
-pool_id-keeps r id e = by (is_active r.status) refl e
-  where
-    by : (b : Bool) → is_active r.status ≡ b → cond b (Some r.id) None ≡ Some id → id ≡ r.id
-    by true f g = cc
-    by false f g = absurd cc
+pool_id-keeps r id e = grind arith
 
 -- the pool is as long as there are active riders
 pub length-pool : (pool : List ℕ) (riders : List BookRider) → KeysRise (λ id. id) pool → KeysDiffer (λ r. r.id) riders → IsPool pool riders → length pool ≡ pool_count riders
@@ -94,22 +69,38 @@ length-pool pool riders rise differ is =
     let apart = KeysDiffer-filter_map (λ r. r.id) (λ n. n) pool_id pool_id-keeps riders differ in
     let order = by_key-order (λ n. n) ids apart in
     let same : pool ≡ by_key (λ n. n) ids = same_from_look_up (λ n. n) pool (by_key (λ n. n) ids) rise order.rise (λ k. is k ∙ sym (order.found k ∙ look_up-filter_map (λ r. r.id) (λ n. n) pool_id pool_id-keeps k riders differ)) in
-    ap length same ∙ length-by_key (λ n. n) ids ∙ length-filter_map pool_id riders ∙ count
-  where
-    each : (r : BookRider) → is_some (pool_id r) ≡ is_active r.status
-    each r = by (is_active r.status)
-      where
-        by : (b : Bool) → is_some (cond b (Some r.id) None) ≡ b
-        by true = refl
-        by false = refl
-
-    count : count_by (λ r. is_some (pool_id r)) riders ≡ pool_count riders
-    count = ap (λ p. count_by p riders) (λ i r. each r i)
+    let each : (r : BookRider) → is_some (pool_id r) ≡ is_active r.status = λ r. grind arith in
+    ap length same ∙ length-by_key (λ n. n) ids ∙ length-filter_map pool_id riders ∙ ap (λ p. count_by p riders) (λ i r. each r i)
 
 -- a write at the place of a vehicle changes that vehicle
-pub vehicle-set : (f : Vehicle → Vehicle) (k at : ℕ) (vs : List Vehicle) (d : Vehicle) → KeysRise (λ v. v.id) vs → at < length vs → ((d : Vehicle) → find_vehicle k vs ≡ Some (get_or vs at d)) → set vs at (f (get_or vs at d)) ≡ changed_at (λ v. v.id) k f vs
-vehicle-set f k at vs d rise in' found =
-    set-changed_at (λ v. v.id) f k at vs d (KeysDiffer-from_rise (λ v. v.id) vs rise) in' (look_up-key (λ v. v.id) k vs (get_or vs at d) (found d))
+pub vehicle-set : (f : Vehicle → Vehicle) (k at : ℕ) (vs : List Vehicle) (d x : Vehicle) → KeysRise (λ v. v.id) vs → at < length vs → ((d : Vehicle) → find_vehicle k vs ≡ Some (get_or vs at d)) → d ≡ get_or vs at d → x ≡ f d → set vs at x ≡ changed_at (λ v. v.id) k f vs
+vehicle-set f k at vs d x rise in' found read wrote =
+    ap (set vs at) (wrote ∙ ap f read) ∙ set-changed_at (λ v. v.id) f k at vs d (KeysDiffer-from_rise (λ v. v.id) vs rise) in' (look_up-key (λ v. v.id) k vs (get_or vs at d) (found d))
+
+-- and what the register keeps
+pub IsIndexed-vehicle : (g : Register) (us : Vec Vehicle Global) (f : Vehicle → Vehicle) (k : ℕ) → ((v : Vehicle) → (f v).id ≡ v.id) → us.items ≡ changed_at (λ v. v.id) k f g.vehicles.items → IsIndexed g → IsIndexed (record g { vehicles = us })
+IsIndexed-vehicle g us f k keeps changed h = record {
+  ids = h.ids;
+  vehicle_ids = h.vehicle_ids ∙ sym (ap (map (λ (v : Vehicle). v.id)) changed ∙ map-changed_at (λ (v : Vehicle). v.id) k f keeps g.vehicles.items);
+  riders = h.riders;
+  vehicles = subst (KeysRise (λ (v : Vehicle). v.id)) (sym changed) (KeysRise-changed_at (λ (v : Vehicle). v.id) k f keeps g.vehicles.items h.vehicles);
+  pool_rise = h.pool_rise;
+  pool = h.pool;
+  pool_room = h.pool_room;
+}
+
+-- what the register keeps where a rider leaves the pool
+pub IsIndexed-leaves : (g : Register) (rs : Vec BookRider Global) (pool : Vec ℕ Global) (k : ℕ) (status : Status) → is_active status ≡ false → rs.items ≡ changed_at (λ r. r.id) k (with_status status) g.riders.items → pool.items ≡ without (λ id. id) k g.pool.items
+    → vec_capacity pool ≡ vec_capacity g.pool → IsIndexed g → IsIndexed (record g { riders = rs; pool = pool })
+IsIndexed-leaves g rs pool k status off riders left room h = record {
+  ids = h.ids ∙ sym (ap (map (λ (r : BookRider). r.id)) riders ∙ map-changed_at (λ (r : BookRider). r.id) k (with_status status) (λ r. refl) g.riders.items);
+  vehicle_ids = h.vehicle_ids;
+  riders = subst (KeysDiffer (λ (r : BookRider). r.id)) (sym riders) (KeysDiffer-changed_at (λ (r : BookRider). r.id) k (with_status status) (λ r. refl) g.riders.items h.riders);
+  vehicles = h.vehicles;
+  pool_rise = subst (KeysRise (λ (n : ℕ). n)) (sym left) (KeysRise-without (λ n. n) k g.pool.items h.pool_rise);
+  pool = IsPool-same _ pool.items _ rs.items left riders (IsPool-without g.pool.items g.riders.items k status off h.pool);
+  pool_room = omega (arith, h.pool_room, room);
+}
 
 -- riders whose place in the pool stays
 pub IsPool-map : (f : BookRider → BookRider) → ((r : BookRider) → (f r).id ≡ r.id) → ((r : BookRider) → pool_id (f r) ≡ pool_id r) → (pool : List ℕ) (riders : List BookRider) → IsPool pool riders → IsPool pool (map f riders)

@@ -1,6 +1,6 @@
 -- Every step keeps that the state names nodes of the network alone.
-use Rattle.std.proofs.Common.{◌≡◌, ℕ, Bool, true, false, cond, eqb, ◌&&◌, List, [], ◌∷◌, ◌++◌, map, Option, Some, None, refl, sym, ap, subst, ◌∙◌, option_and_then}
-use Rattle.request_book.proofs.Common.{All-nil, All-cons, All-head, All-tail, All-append, All-push, All-map, All-weaker, Passenger, Rider, Vehicle, Command, Submit, Cancel, Report, Pickup, Dropoff, Seal, Close, Answer, Overflow, Planned, UnknownNode, Accepted, Cancelled, Placed, Picked, Dropped, Sealed, BookRider, Status, Waiting, Aboard, Delivered, Expired, State, after_answer, after_plan, picks, in_batch, takes_in, lets_out, asking, planned_status, IsConsistent, IsNode, NamesNodes, seat_in, KeysDiffer, by_key, unknown_node, is_active, vehicle_of, with_status, passenger_of, is_over, after_seal, batch_of, sealed_state, one_more, find_rider, find_vehicle, find_passenger, has_node, rider_becomes, vehicle_becomes, step, stands_at, picked_up, dropped_off, submit_refusal, submit_step, cancel_step, report_step, pickup_step, dropoff_step, seal_refusal, seal_step, close_step, table_step}
+use Rattle.std.proofs.Common.{arith, ◌≡◌, ℕ, ◌&&◌, List, [], ◌∷◌, ◌++◌, map, Option, Some, None, refl, sym, ap, subst, ◌∙◌, option_and_then}
+use Rattle.request_book.proofs.Common.{first_of, cond_both, All-nil, All-cons, All-head, All-tail, All-append, All-push, All-map, All-weaker, Passenger, Rider, Vehicle, Command, Submit, Cancel, Report, Pickup, Dropoff, Seal, Close, Answer, Overflow, Planned, Accepted, Cancelled, Placed, Picked, Dropped, Sealed, BookRider, Status, Waiting, Aboard, Delivered, Expired, State, after_answer, after_plan, picks, in_batch, takes_in, lets_out, asking, planned_status, IsConsistent, IsNode, NamesNodes, seat_in, KeysDiffer, by_key, unknown_node, is_active, with_status, passenger_of, is_over, after_seal, batch_of, sealed_state, one_more, find_rider, find_vehicle, find_passenger, rider_becomes, vehicle_becomes, step, stands_at, picked_up, dropped_off, submit_refusal, submit_step, cancel_step, report_step, pickup_step, dropoff_step, seal_refusal, seal_step, close_step, table_step}
 use Rattle.std.specs.List.{All, filter_map, flat_map}
 use Rattle.batch_snapshot.specs.Points.{named_nodes}
 use Rattle.batch_snapshot.specs.lemmas.Points.{vehicle_nodes, rider_nodes}
@@ -9,7 +9,6 @@ use Rattle.request_book.proofs.lemmas.BatchLemmas.{batch-each}
 use Rattle.request_book.proofs.lemmas.ConsistentLemmas.{answer-keeps, close-keeps}
 use Rattle.request_book.proofs.lemmas.KeyedLemmas.{All-changed_at, All-look_up, All-from_look_up, KeysDiffer-from_rise}
 use Rattle.request_book.proofs.lemmas.StepTable.{step-table}
-use Rattle.request_book.proofs.lemmas.StepLemmas.{first_of-none}
 
 All-flat_map : {X Y : Type 0} (P : Y → Type 0) (f : X → List Y) (xs : List X) → All (λ x. All P (f x)) xs → All P (flat_map f xs)
 All-flat_map P f [] h = All-nil P
@@ -17,23 +16,11 @@ All-flat_map P f (x ∷ xs) h = All-append P (f x) (flat_map f xs) (All-head (λ
 
 -- a seat is the rider's own
 seat-is : (x : ℕ) (r : BookRider) (p : Passenger) → seat_in x r ≡ Some p → passenger_of r ≡ p
-seat-is x r p e = by (vehicle_of r.status) e
-  where
-    one : (b : Bool) → cond b (Some (passenger_of r)) None ≡ Some p → passenger_of r ≡ p
-    one true f = cc
-    one false f = absurd cc
-
-    by : (o : Option ℕ) → option_and_then (λ v. cond (eqb v x) (Some (passenger_of r)) None) o ≡ Some p → passenger_of r ≡ p
-    by None f = absurd cc
-    by (Some v) f = one (eqb v x) f
+seat-is x r p e = grind arith
 
 module _ (nodes : List ℕ) where
   known : (node : ℕ) → unknown_node nodes node ≡ None → IsNode nodes node
-  known node e = by (has_node nodes node) refl e
-    where
-      by : (b : Bool) → has_node nodes node ≡ b → cond b None (Some UnknownNode) ≡ None → has_node nodes node ≡ true
-      by true f g = f
-      by false f g = absurd cc
+  known node e = grind arith
 
   abbrev HasNodes : BookRider → Type 0
   HasNodes r = IsNode nodes r.origin × IsNode nodes r.destination
@@ -56,17 +43,12 @@ module _ (nodes : List ℕ) where
   }
 
   submit-named : (s : State) (r : BookRider) → NamesNodes nodes s → NamesNodes nodes (submit_step nodes s r).0
-  unfolding submit_step
+  unfolding submit_step first_of
   submit-named s r named =
       answer-keeps (NamesNodes nodes) s (submit_refusal nodes s r) Accepted (record s { riders = s.riders ++ r ∷ [] }) named (λ none.
-      let a = first_of-none _ _ none in
-      let b = first_of-none _ _ a.1 in
-      let d = first_of-none _ _ b.1 in
-      record {
-        riders = All-push HasNodes s.riders r named.riders (known r.origin b.0, known r.destination d.0);
-        vehicles = named.vehicles;
-        sealed = named.sealed;
-      })
+      let origin : IsNode nodes r.origin = grind arith in
+      let destination : IsNode nodes r.destination = grind arith in
+      record { riders = All-push HasNodes s.riders r named.riders (origin, destination); vehicles = named.vehicles; sealed = named.sealed })
 
   cancel-named : (s : State) (rider : ℕ) → IsConsistent s → NamesNodes nodes s → NamesNodes nodes (cancel_step s rider).0
   unfolding cancel_step
@@ -74,10 +56,10 @@ module _ (nodes : List ℕ) where
       answer-keeps (NamesNodes nodes) s _ Cancelled (rider_becomes s rider GivenUp) named (λ none. rider_becomes-named s rider GivenUp kept named)
 
   report-named : (s : State) (vehicle node time : ℕ) → IsConsistent s → NamesNodes nodes s → NamesNodes nodes (report_step nodes s vehicle node time).0
-  unfolding report_step
+  unfolding report_step first_of
   report-named s vehicle node time kept named =
       answer-keeps (NamesNodes nodes) s _ Placed (vehicle_becomes s vehicle (stands_at node time)) named (λ none.
-      vehicle_becomes-named s vehicle (stands_at node time) (differ s kept) (λ v. known node (first_of-none _ _ (first_of-none _ _ none).1).0) named)
+      vehicle_becomes-named s vehicle (stands_at node time) (differ s kept) (λ v. grind arith) named)
 
   pickup-named : (s : State) (vehicle rider time : ℕ) → IsConsistent s → NamesNodes nodes s → NamesNodes nodes (pickup_step s vehicle rider time).0
   unfolding pickup_step
@@ -145,14 +127,10 @@ module _ (nodes : List ℕ) where
     sealed-named : NamesNodes nodes (sealed_state wait s now)
     unfolding sealed_state
     sealed-named = record {
-      riders = All-map HasNodes (after_seal wait now) s.riders (All-weaker HasNodes (λ r. HasNodes (after_seal wait now r)) (λ r has. by r (is_over wait now r) has) s.riders named.riders);
+      riders = All-map HasNodes (after_seal wait now) s.riders (All-weaker HasNodes (λ r. HasNodes (after_seal wait now r)) (λ r has. cond_both (is_over wait now r) (with_status Expired r) r HasNodes (λ b. has) (λ b. has)) s.riders named.riders);
       vehicles = named.vehicles;
       sealed = λ b e. let is : batch_of wait s now ≡ b = cc in subst (λ b. All (IsNode nodes) (named_nodes b)) is batch-named;
     }
-      where
-        by : (r : BookRider) (b : Bool) → HasNodes r → HasNodes (cond b (with_status Expired r) r)
-        by r true has = has
-        by r false has = has
 
   seal-named : (wait : ℕ) (s : State) (now : ℕ) → IsConsistent s → NamesNodes nodes s → NamesNodes nodes (seal_step wait s now).0
   unfolding seal_step
@@ -163,11 +141,8 @@ module _ (nodes : List ℕ) where
   unfolding after_answer
   answer-named batch Overflow riders named = named
   answer-named batch (Planned plan) riders named =
-      All-map HasNodes (after_plan batch (picks plan.chosen)) riders (All-weaker HasNodes (λ r. HasNodes (after_plan batch (picks plan.chosen) r)) (λ r has. by r (is_active r.status && in_batch batch r.id) has) riders named)
-    where
-      by : (r : BookRider) (b : Bool) → HasNodes r → HasNodes (cond b (with_status (planned_status (picks plan.chosen) r.id) r) r)
-      by r true has = has
-      by r false has = has
+      let after = after_plan batch (picks plan.chosen) in
+      All-map HasNodes after riders (All-weaker HasNodes (λ r. HasNodes (after r)) (λ r has. cond_both (is_active r.status && in_batch batch r.id) (with_status (planned_status (picks plan.chosen) r.id) r) r HasNodes (λ b. has) (λ b. has)) riders named)
 
   close-named : (s : State) (batch : ℕ) (a : Answer) → NamesNodes nodes s → NamesNodes nodes (close_step s batch a).0
   close-named s batch a named =

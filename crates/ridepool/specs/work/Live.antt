@@ -1,5 +1,6 @@
 -- The steps of a call of `live`.
-use Rattle.std.specs.Prelude.{◌≡◌, List, ℕ, Some, Result, Ok, Err}
+use Rattle.std.specs.Prelude.{◌≡◌, List, ℕ, Option, Some, Result, Ok, Err}
+use Rattle.dispatch_report.specs.Written.{Change, SinkView}
 use Rattle.live_dispatch.specs.declared.fault.LiveFault.{LiveFault}
 use Rattle.live_dispatch.specs.declared.fault.LiveFault.TheVariants as live
 use Rattle.live_rows.specs.declared.start.StartFault.{StartFault}
@@ -8,8 +9,14 @@ use Rattle.pool_base.specs.declared.which.Which.TheVariants as file
 use Rattle.pool_io.specs.declared.input.Input.TheVariants.{Rows}
 use Rattle.pool_io.specs.declared.records.RowFault.TheVariants as row
 use Rattle.rider_limits.specs.Words.{fault_of}
+use Rattle.rider_notices.specs.Told.{NotifierView}
+use Rattle.ridepool.specs.Live.{LiveSeen}
 use Rattle.ridepool.specs.declared.status.RunStatus.{RunStatus}
 use Rattle.ridepool.specs.declared.status.RunStatus.TheVariants.{Done, Words, Script, ReadFault, WriteFault, OutOfMemory}
+
+-- a call behind its inputs, by its parts
+abbrev pub live_seen : Option (List ℕ) → ℕ → ℕ → Change SinkView → List NotifierView → List NotifierView → LiveSeen
+live_seen script low high out told left = record { script = script; reads = record { before = low; after = high }; out = out; notifiers = record { before = told; after = left } }
 
 -- the words are refused, or there was no memory for them
 abbrev pub RefusesWords : List (List ℕ) → RunStatus → Type 0

@@ -49,10 +49,14 @@ RefusesRounds read (Script fault) = read ≡ Err fault
 RefusesRounds read OutOfMemory = Unit {0}
 RefusesRounds read _ = ⊥
 
+-- the inputs of a call
+abbrev pub inputs_got : Settings → ReadInputs → Inputs
+inputs_got settings got = record { settings = settings; roads = got.network; vehicles = got.fleet; rounds = got.script }
+
 -- what came of the sources
 pub record ReadSources (s : Sources) (result : Result ReadInputs RunStatus) : Type 0 where
   pub inputs : MatchResult result
-      (λ got. (settings : Settings) → AreReadFrom s (record { settings = settings; roads = got.network; vehicles = got.fleet; rounds = got.script }))
+      (λ got. (settings : Settings) → AreReadFrom s (inputs_got settings got))
       (IsStop s)
   pub refused : IfErr result HidesNoMemory
 
@@ -74,6 +78,6 @@ IsNoInput mode s status = IsStop s status
 -- what came of the inputs
 pub record GotInputs (settings : Settings) (s : Sources) (result : Result ReadInputs RunStatus) : Type 0 where
   pub inputs : MatchResult result
-      (λ got. AreInputs settings.mode s (record { settings = settings; roads = got.network; vehicles = got.fleet; rounds = got.script }))
+      (λ got. AreInputs settings.mode s (inputs_got settings got))
       (IsNoInput settings.mode s)
   pub refused : IfErr result HidesNoMemory

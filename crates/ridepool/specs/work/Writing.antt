@@ -20,12 +20,13 @@ use Rattle.rider_notices.specs.Told.{NotifierView, HaveHeard}
 use Rattle.road_network.specs.Roads.{Roads}
 use Rattle.route_drive.specs.Day.{day_fault}
 use Rattle.route_drive.specs.Driven.{IsTooLateDay}
+use Rattle.route_drive.specs.Promises.{IsKeptDay}
 use Rattle.route_drive.specs.declared.day_run.DayRound.{DayRound}
 use Rattle.route_drive.specs.declared.day_run.DriveFault.{DriveFault}
 use Rattle.route_drive.specs.declared.day_run.DriveFault.TheVariants as drive
 use Rattle.script_rows.specs.Round.{NumberedLanes}
 use Rattle.ridepool.specs.Inputs.{Inputs}
-use Rattle.ridepool.specs.Drive.{DrivesDay, DrivesSome}
+use Rattle.ridepool.specs.Drive.{DrivesDay}
 use Rattle.ridepool.specs.Report.{journals_of, rounds_notices, IsCutShort, IsPart, IsWhole}
 use Rattle.ridepool.specs.Run.{RunsScript, RunsSome}
 use Rattle.dispatch_report.specs.declared.fault.ReportFault.{ReportFault}
@@ -54,7 +55,7 @@ added_by settings = added_text settings.mode settings.proof
 
 -- these are some first rounds of a call, and all with its last lines
 abbrev pub AreFirst : Mode → Inputs → List DayRound → Type 0
-AreFirst Drive i made = DrivesSome i made
+AreFirst Drive i made = (rest : List DayRound) × IsKeptDay i.settings i.roads (opening i.vehicles) i.rounds (made ++ rest)
 AreFirst _ i made = RunsSome i made
 
 abbrev pub AreAllWith : Mode → Inputs → List DayRound → List ℕ → Type 0

@@ -1,8 +1,9 @@
 -- The rounds of a day: requests, and in lane 0 a seal before them.
-use Rattle.std.proofs.Common.{◌≡◌, ℕ, zero, suc, ◌+◌, ◌<◌, ◌≤◌, max, Bool, true, false, not, cond, ltb, List, [], ◌∷◌, ◌++◌, length, drop, get_or, replicate, Option, Some, None, unwrap_or, refl, sym, ap, ◌∙◌, subst, arith, inl, inr, append_assoc, length-append, All, ◌||◌, option_and_then}
-use Rattle.route_drive.proofs.Common.{AllByRecursion, list_any, option_or, cases_lt, get_or-replicate, length-replicate, All-head, All-tail, recursion_from_All, first_fault, first_fault-each, Command, Submit, Seal, IsRound, MayStand, NumberedLanes, empty_round, lane_at, back_fault, day_fault, first_seal, is_of_day, is_seal_command, lane_fault, latest_seal, round_fault, seal_of, seals_fault, fault_at}
-use Rattle.std.proofs.lemmas.Bool.{ltb-false, true≢false}
-use Rattle.std.proofs.lemmas.List.{get_or-append-add, take_at}
+use Rattle.std.proofs.Common.{◌≡◌, ℕ, ◌+◌, ◌<◌, ◌≤◌, max, Bool, true, false, not, cond, ltb, List, [], ◌∷◌, ◌++◌, length, drop, get_or, Option, Some, None, unwrap_or, refl, sym, ap, ◌∙◌, subst, arith, inl, inr, append_assoc, length-append, All, option_and_then}
+use Rattle.route_drive.proofs.Common.{AllByRecursion, list_any, option_or, cases_lt, All-head, All-tail, recursion_from_All, first_fault, first_fault-each, Command, Submit, Seal, IsRound, MayStand, NumberedLanes, empty_round, lane_at, day_fault, first_seal, is_of_day, is_seal_command, lane_fault, latest_seal, round_fault, seal_of, seals_fault, fault_at}
+use Rattle.std.proofs.lemmas.Bool.{ltb-false, true≢false, or_parts}
+use Rattle.std.proofs.lemmas.List.{get_or-append-add, take_at, get_or_past}
+use Rattle.route_drive.proofs.DayLemmas.{latest-push}
 use Rattle.route_drive.proofs.kept.Lists.{both, all_weaker}
 use Rattle.route_drive.proofs.kept.Mixed.{IsRequest}
 use Rattle.route_drive.specs.declared.day.DayFault.TheVariants as fault
@@ -25,22 +26,13 @@ neither : {X : Type 0} (o p : Option X) → option_or o p ≡ None → (o ≡ No
 neither None p e = (refl, e)
 neither (Some x) p e = absurd cc
 
-none_first : {X : Type 0} (p : X → Bool) (x : X) (xs : List X) (b : Bool) → p x ≡ b → (b || list_any p xs) ≡ false → (list_any p xs ≡ false → AllByRecursion (λ x. p x ≡ false) xs) → AllByRecursion (λ x. p x ≡ false) (x ∷ xs)
-none_first p x xs true h e rest = absurd (true≢false e)
-none_first p x xs false h e rest = (h, rest e)
-
 none_any : {X : Type 0} (p : X → Bool) (xs : List X) → list_any p xs ≡ false → AllByRecursion (λ x. p x ≡ false) xs
 none_any p [] e = tt
-none_any p (x ∷ xs) e = none_first p x xs (p x) refl e (λ rest. none_any p xs rest)
+none_any p (x ∷ xs) e = let both = or_parts (p x) (list_any p xs) e in (both.0, none_any p xs both.1)
 
 untold : {X : Type 0} (b : Bool) (x : X) → cond b (Some x) None ≡ None → b ≡ false
 untold true x e = absurd cc
 untold false x e = refl
-
-unfound : (lanes : List (List Command)) (k : ℕ) → length lanes ≤ k → get_or lanes k [] ≡ []
-unfound [] k h = refl
-unfound (l ∷ lanes) zero h = absurd (omega (arith, h))
-unfound (l ∷ lanes) (suc k) h = unfound lanes k (omega (arith, h))
 
 -- a command of a day in a lane other than 0 is a request
 asks_elsewhere : (lane : ℕ) → (lane ≡ 0 → ⊥) → (c : Command) → (not (is_of_day c) ≡ false) × MayStand lane c → IsRequest c
@@ -57,7 +49,7 @@ asks_later command two = absurd (true≢false two.0)
 lane_of_day : (round : NumberedLanes) (lane : ℕ) → first_fault (lane_fault round) (length round.lanes) ≡ None → AllByRecursion (λ c. not (is_of_day c) ≡ false) (lane_at round lane)
 lane_of_day round lane none = elim (cases_lt lane (length round.lanes)) [
   | inl h ↦ none_any (λ c. not (is_of_day c)) (lane_at round lane) (untold (list_any (λ c. not (is_of_day c)) (lane_at round lane)) (fault.Command round.number lane) (first_fault-each (lane_fault round) (length round.lanes) lane none h))
-  | inr h ↦ subst (AllByRecursion (λ c. not (is_of_day c) ≡ false)) (sym (unfound round.lanes lane h)) tt
+  | inr h ↦ subst (AllByRecursion (λ c. not (is_of_day c) ≡ false)) (sym (get_or_past round.lanes lane [] h)) tt
 ]
 
 dropped : {X : Type 0} (P : X → Type 0) (x : X) (xs : List X) → AllByRecursion P (drop 1 (x ∷ xs)) → AllByRecursion P xs
@@ -65,7 +57,7 @@ dropped P x xs all = all
 
 -- lane 0, by its first command
 own_lane : (latest before : ℕ) (round : NumberedLanes) → before ≤ latest → AllByRecursion (λ c. not (is_of_day c) ≡ false) (lane_at round 0) → AllByRecursion (λ c. is_seal_command c ≡ false) (drop 1 (lane_at round 0))
-    → back_fault latest round ≡ None → IsDayLane before round
+    → option_and_then (λ now. cond (ltb now latest) (Some (fault.SealBack round.number)) None) (seal_of round) ≡ None → IsDayLane before round
 own_lane latest before round le of_day unsealed back = by (lane_at round 0) refl of_day unsealed
   where
     asked : (cs : List Command) → AllByRecursion (λ c. not (is_of_day c) ≡ false) cs → AllByRecursion (λ c. is_seal_command c ≡ false) cs → AllByRecursion IsRequest cs
@@ -88,19 +80,13 @@ own_lane latest before round le of_day unsealed back = by (lane_at round 0) refl
 
 day_round : (latest before : ℕ) (round : NumberedLanes) → before ≤ latest → IsRound round → round_fault latest round ≡ None → IsDayRound before round
 day_round latest before round le is none =
-    let lanes = neither (first_fault (lane_fault round) (length round.lanes)) (option_or (seals_fault round) (back_fault latest round)) none in
-    let rest = neither (seals_fault round) (back_fault latest round) lanes.1 in
+    let lanes = neither (first_fault (lane_fault round) (length round.lanes)) (option_or (seals_fault round) (option_and_then (λ now. cond (ltb now latest) (Some (fault.SealBack round.number)) None) (seal_of round))) none in
+    let rest = neither (seals_fault round) (option_and_then (λ now. cond (ltb now latest) (Some (fault.SealBack round.number)) None) (seal_of round)) lanes.1 in
     record {
       own = own_lane latest before round le (lane_of_day round 0 lanes.0) (none_any is_seal_command (drop 1 (lane_at round 0)) (untold (list_any is_seal_command (drop 1 (lane_at round 0))) (fault.Seals round.number) rest.0)) rest.1;
       others = λ lane other. all_weaker (λ c. (not (is_of_day c) ≡ false) × MayStand lane c) IsRequest (asks_elsewhere lane other) (lane_at round lane)
           (both (λ c. not (is_of_day c) ≡ false) (MayStand lane) (lane_at round lane) (lane_of_day round lane lanes.0) (recursion_from_All (MayStand lane) (lane_at round lane) (is.stand lane)));
     }
-
-latest_more : (rounds : List NumberedLanes) (r : NumberedLanes) → latest_seal (rounds ++ r ∷ []) ≡ max (unwrap_or (seal_of r) 0) (latest_seal rounds)
-latest_more [] r = omega arith
-latest_more (x ∷ rounds) r =
-    let e : latest_seal (rounds ++ r ∷ []) ≡ max (unwrap_or (seal_of r) 0) (latest_seal rounds) = latest_more rounds r in
-    omega (arith, e)
 
 -- the second behind which the next round comes
 next_latest : (o : Option ℕ) (before latest : ℕ) → before ≤ latest → unwrap_or o before ≤ max (unwrap_or o 0) latest
@@ -117,7 +103,7 @@ rounds_on : (rest before : List NumberedLanes) (latest : ℕ) → latest ≤ lat
 rounds_on [] before latest le none all = tt
 rounds_on (r ∷ rest) before latest le none all =
     let same : (before ++ r ∷ []) ++ rest ≡ before ++ r ∷ rest = append_assoc before (r ∷ []) rest in
-    let more : latest_seal (before ++ r ∷ []) ≡ max (unwrap_or (seal_of r) 0) (latest_seal before) = latest_more before r in
+    let more : latest_seal (before ++ r ∷ []) ≡ max (unwrap_or (seal_of r) 0) (latest_seal before) = latest-push before r in
     let next : unwrap_or (seal_of r) latest ≤ max (unwrap_or (seal_of r) 0) (latest_seal before) = next_latest (seal_of r) latest (latest_seal before) le in
     let here : fault_at (before ++ r ∷ rest) (length before) ≡ None = none (length before) (grind (arith, length-append)) in (
       day_round (latest_seal before) latest r le (All-head IsRound r rest all) (sym (fault_front before r rest) ∙ here),
@@ -127,10 +113,3 @@ rounds_on (r ∷ rest) before latest le none all =
 
 pub are_day_rounds : (rounds : List NumberedLanes) → All IsRound rounds → day_fault rounds ≡ None → AreDayRounds 0 rounds
 are_day_rounds rounds all none = rounds_on rounds [] 0 (omega arith) (λ k below. first_fault-each (fault_at rounds) (length rounds) k none below) all
-
--- an empty round has no command
-pub nothing_at : (number lane : ℕ) → lane_at (empty_round number) lane ≡ []
-nothing_at number lane = elim (cases_lt lane 16) [
-  | inl h ↦ get_or-replicate 16 lane [] [] h
-  | inr h ↦ unfound (replicate 16 []) lane (let e = length-replicate {A = List Command} 16 [] in omega (arith, e, h))
-]

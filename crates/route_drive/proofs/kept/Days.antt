@@ -1,35 +1,34 @@
 -- A driven day, round by round.
-use Rattle.std.proofs.Common.{◌≡◌, ℕ, ◌≤◌, cond, eqb, List, [], ◌∷◌, ◌++◌, length, map, Option, Some, None, unwrap_or, refl, sym, ap, ◌∙◌, subst, arith, inl, inr, All, MatchOption}
-use Rattle.route_drive.proofs.Common.{AllByRecursion, option_map_or, cases_eq, cond-true, cond-false, length-map, Vehicle, next_position, look_up, RepliesAreSteps, state_after, find_vehicle, Command, Seal, Entry, Journal, ChosenTrip, Planned, PlannedStop, BookRider, State, look_up-here, look_up-there, look_up-nil, rounds-join, Settings, Roads, IsNetwork, NumberedLanes, lane_at, ClosesAreGood, IsRoundRun, IsRun, Course, seal_of, AreDriven, IsDrivenRound, IsPrecededBy, courses_after, courses_left, left_course, left_state, plan_in, planned_course, AreEntered, IsInTime, to_come, course_of, IsKept, IsServing, chosen_stops}
+use Rattle.std.proofs.Common.{◌≡◌, ℕ, ◌≤◌, cond, eqb, List, [], ◌∷◌, ◌++◌, length, map, Option, Some, None, unwrap_or, refl, sym, ap, ◌∙◌, subst, arith, inl, inr, All, MatchOption, true, false}
+use Rattle.route_drive.proofs.Common.{AllByRecursion, option_map_or, cases_eq, cond-true, cond-false, Vehicle, next_position, look_up, RepliesAreSteps, state_after, find_vehicle, Command, Seal, Entry, Journal, ChosenTrip, Planned, PlannedStop, BookRider, State, look_up-here, look_up-there, look_up-nil, rounds-join, Settings, Roads, IsNetwork, NumberedLanes, lane_at, ClosesAreGood, IsRoundRun, IsRun, Course, seal_of, AreDriven, IsDrivenRound, IsPrecededBy, courses_after, courses_left, left_course, plan_in, planned_course, AreEntered, to_come, course_of, IsKept, IsServing, chosen_stops, stops_with, longest, second_of}
 use Rattle.std.proofs.lemmas.Bool.{eq-eqb, ne_eqb}
 use Rattle.route_drive.proofs.kept.DayRounds.{AreDayRounds, IsDayLane, IsDayRound}
-use Rattle.route_drive.proofs.kept.Journals.{entries_in}
+use Rattle.std.specs.List.{flat_map}
+use Rattle.route_drive.proofs.DriveLemmas.{courses_each}
+use Rattle.route_drive.proofs.LeaveLemmas.{count_stays, ids_stay}
 use Rattle.route_drive.proofs.kept.Keeping.{AllKeep, all_append}
 use Rattle.route_drive.proofs.kept.Mixed.{IsMixed, IsRequest, asked_only, mixed, mixed_asked}
-use Rattle.route_drive.proofs.kept.Rounds.{Ends, asked_end, seal_round, stops_with}
+use Rattle.route_drive.proofs.kept.Rounds.{Ends, asked_end, seal_round}
 use Rattle.route_drive.proofs.kept.States.{vehicle_id}
 
 -- what is on its way for a vehicle is found by its id alone
 course_by_ids : (xs ys : List Vehicle) (courses : List Course) (id : ℕ) → map (λ v. v.id) xs ≡ map (λ v. v.id) ys → course_of xs courses id ≡ course_of ys courses id
 course_by_ids [] [] courses id same = refl
-course_by_ids [] (y ∷ ys) courses id same = absurd cc
-course_by_ids (x ∷ xs) [] courses id same = absurd cc
 course_by_ids (x ∷ xs) (y ∷ ys) [] id same = refl
 course_by_ids (x ∷ xs) (y ∷ ys) (course ∷ courses) id same =
     let head : x.id ≡ y.id = cc in
     let tail : map (λ (v : Vehicle). v.id) xs ≡ map (λ (v : Vehicle). v.id) ys = cc in
     ap (λ k. cond (eqb k id) course (course_of xs courses id)) head ∙ ap (λ c. cond (eqb y.id id) course c) (course_by_ids xs ys courses id tail)
+course_by_ids xs ys courses id same = absurd cc
 
 -- a change of all courses that leaves nothing as it is
 course_mapped : (f : Course → Course) → f (record { stops = record { items = [] }; target = None }) ≡ record { stops = record { items = [] }; target = None } → (vehicles : List Vehicle) (courses : List Course) (id : ℕ)
     → course_of vehicles (map f courses) id ≡ f (course_of vehicles courses id)
 course_mapped f none [] courses id = sym none
 course_mapped f none (v ∷ vehicles) [] id = sym none
-course_mapped f none (v ∷ vehicles) (course ∷ courses) id = elim (cases_eq v.id id) [
-  | inl e ↦ cond-true (eqb v.id id) (f course) (course_of vehicles (map f courses) id) (eq-eqb v.id id e) ∙ sym (ap f (cond-true (eqb v.id id) course (course_of vehicles courses id) (eq-eqb v.id id e)))
-  | inr ne ↦
-      cond-false (eqb v.id id) (f course) (course_of vehicles (map f courses) id) (ne_eqb v.id id ne) ∙ course_mapped f none vehicles courses id
-      ∙ sym (ap f (cond-false (eqb v.id id) course (course_of vehicles courses id) (ne_eqb v.id id ne)))
+course_mapped f none (v ∷ vehicles) (course ∷ courses) id = elim (eqb v.id id) as (λ b. cond b (f course) (course_of vehicles (map f courses) id) ≡ f (cond b course (course_of vehicles courses id))) [
+  | true ↦ refl
+  | false ↦ course_mapped f none vehicles courses id
 ]
 
 -- courses made of the vehicles
@@ -79,21 +78,15 @@ course_after s t round es courses id v ids found = by (plan_in es)
         ap (λ (c : Course). c.stops.items) (course_made (planned_course t.riders planned) t.vehicles id v found) ∙ planned_stops t.riders planned v
         ∙ ap (chosen_stops planned) (vehicle_id id t.vehicles v found)
 
--- as many courses as vehicles
-after_each : (s t : State) (round : NumberedLanes) (es : List Entry) (courses : List Course) → map (λ v. v.id) t.vehicles ≡ map (λ v. v.id) s.vehicles → length courses ≡ length s.vehicles
-    → length (courses_after t round es courses) ≡ length t.vehicles
-after_each s t round es courses ids same = by (plan_in es)
-  where
-    by : (o : Option Planned) → length (option_map_or (λ planned. map (planned_course t.riders planned) t.vehicles) o (map (left_course (seal_of round)) courses)) ≡ length t.vehicles
-    by None =
-        length-map courses (left_course (seal_of round)) ∙ same ∙ sym (length-map s.vehicles (λ (v : Vehicle). v.id)) ∙ ap length (sym ids) ∙ length-map t.vehicles (λ (v : Vehicle). v.id)
-    by (Some planned) = length-map t.vehicles (planned_course t.riders planned)
+-- the entries of journals, in order
+abbrev pub entries_in : List Journal → List Entry
+entries_in js = flat_map (λ j. j.entries) js
 
 -- how a round is driven, by its seal
 abbrev WayOf : Settings → Roads → State → List Course → NumberedLanes → NumberedLanes → Option ℕ → Type 0
 WayOf settings roads s courses round driven seal =
     MatchOption seal (IsPrecededBy [] round driven)
-    (λ now. (entered : List Command) × AreEntered roads settings.dwell now s.vehicles courses entered × All IsInTime entered × IsPrecededBy entered round driven)
+    (λ now. (entered : List Command) × AreEntered roads settings.dwell now s.vehicles courses entered × All (λ c. second_of c ≤ longest) entered × IsPrecededBy entered round driven)
 
 module _ (settings : Settings) (roads : Roads) where
   -- between two rounds: what is on its way is served, no batch is open, and no seal was later than a second
@@ -116,9 +109,9 @@ module _ (settings : Settings) (roads : Roads) where
     on = record {
       kept = record {
         state = ends.kept.state;
-        each = λ id v found. subst (IsServing settings roads (state_after roads.nodes settings.wait s es).riders v v.time) (sym (course_after s (state_after roads.nodes settings.wait s es) round es courses id v ends.ids found)) (ends.kept.each id v found);
+        each = λ id v found. subst (IsServing settings roads (state_after roads.nodes settings.wait s es).riders v v.time) (sym (course_after s (state_after roads.nodes settings.wait s es) round es courses id v (ids_stay roads.nodes settings.wait s es) found)) (ends.kept.each id v found);
       };
-      each = after_each s (state_after roads.nodes settings.wait s es) round es courses ends.ids same;
+      each = courses_each (state_after roads.nodes settings.wait s es) round es courses (same ∙ sym (count_stays roads.nodes settings.wait s es));
       closed = ends.sealed;
       last = λ l is. before l (sym ends.last_is ∙ is);
     };
@@ -183,21 +176,18 @@ module _ (settings : Settings) (roads : Roads) where
       → AreDayRounds latest rounds → AreDriven settings roads courses rounds script js → IsRun settings roads s position (script ++ end ∷ []) (js ++ j ∷ []) → AreOver s courses rounds js end j
   unfolding state_after
   rounds_over [] [] [] end j s position latest courses net on day driven run = record { latest = latest; all = tt; on = on; base = run.0; run = run.2 }
-  rounds_over [] [] (k ∷ js) end j s position latest courses net on day driven run = absurd driven
-  rounds_over [] (d ∷ script) js end j s position latest courses net on day driven run = absurd driven
-  rounds_over (r ∷ rounds) [] js end j s position latest courses net on day driven run = absurd driven
-  rounds_over (r ∷ rounds) (d ∷ script) [] end j s position latest courses net on day driven run = absurd driven
   rounds_over (r ∷ rounds) (d ∷ script) (k ∷ js) end j s position latest courses net on day driven run =
       let over : IsRoundOver s courses latest r k.entries = round_over s courses latest r d k net on day.0 (subst (λ t. IsDrivenRound settings roads t courses r d) run.0 driven.0) run.0 run.2 in
-      let left : left_state settings roads k ≡ state_after roads.nodes settings.wait s k.entries = ap (λ t. state_after roads.nodes settings.wait t k.entries) run.0 in
-      let rest : AreOver (state_after roads.nodes settings.wait s k.entries) (courses_after (left_state settings roads k) r k.entries courses) rounds js end j =
-      rounds_over rounds script js end j (state_after roads.nodes settings.wait s k.entries) (next_position position k.entries) (unwrap_or (seal_of r) latest) (courses_after (left_state settings roads k) r k.entries courses) net
+      let left : state_after roads.nodes settings.wait k.base k.entries ≡ state_after roads.nodes settings.wait s k.entries = ap (λ t. state_after roads.nodes settings.wait t k.entries) run.0 in
+      let rest : AreOver (state_after roads.nodes settings.wait s k.entries) (courses_after (state_after roads.nodes settings.wait k.base k.entries) r k.entries courses) rounds js end j =
+      rounds_over rounds script js end j (state_after roads.nodes settings.wait s k.entries) (next_position position k.entries) (unwrap_or (seal_of r) latest) (courses_after (state_after roads.nodes settings.wait k.base k.entries) r k.entries courses) net
       (subst (λ t. IsOnDay (state_after roads.nodes settings.wait s k.entries) (courses_after t r k.entries courses) (unwrap_or (seal_of r) latest)) (sym left) over.on) day.1 driven.1 run.3 in
       let same = rounds-join roads.nodes settings.wait s k.entries (entries_in js) in
       record {
         latest = rest.latest;
         all = all_append settings roads k.entries (entries_in js) s over.all rest.all;
-        on = subst (λ t. IsOnDay t (courses_left settings roads (courses_after (left_state settings roads k) r k.entries courses) rounds js) rest.latest) (sym same) rest.on;
+        on = subst (λ t. IsOnDay t (courses_left settings roads (courses_after (state_after roads.nodes settings.wait k.base k.entries) r k.entries courses) rounds js) rest.latest) (sym same) rest.on;
         base = rest.base ∙ sym same;
         run = rest.run;
       }
+  rounds_over rounds script js end j s position latest courses net on day driven run = absurd driven

@@ -1,41 +1,33 @@
 -- Stops that are entered: what each leaves of what the vehicles have to do.
 use Rattle.std.proofs.Common.{◌≡◌, ℕ, ◌+◌, ◌-◌, ◌≤◌, Bool, true, false, List, [], ◌∷◌, ◌++◌, length, Some, None, refl, sym, ap, ◌∙◌, subst, arith, inl, inr, length-append}
-use Rattle.route_drive.proofs.Common.{AllByRecursion, option_map_or, cases_eq, MatchBool-at_true, MatchBool-at_false, sum_by-cons, sum_by_push, persons_aboard, Passenger, Vehicle, look_up, without, KeysDiffer, with_status, passenger_of, find_rider, find_passenger, takes_in, lets_out, PlannedStop, BookRider, Status, Waiting, Promised, Aboard, Cancelled, Delivered, Expired, look_up-here, look_up-there, look_up-nil, without_key-absent, Settings, Roads, IsDroppedInTime, AreReached, party_at, seats_after, IsRightPickup, IsRightDropoff, IsRightStop, IsOfVehicle, calls_of, HasCalls, IsServing}
+use Rattle.route_drive.proofs.Common.{AllByRecursion, option_map_or, cases_eq, MatchBool-at_true, MatchBool-at_false, sum_by-cons, sum_by_push, persons_aboard, Passenger, Vehicle, look_up, without, KeysDiffer, with_status, passenger_of, find_rider, find_passenger, takes_in, lets_out, PlannedStop, BookRider, Status, Promised, Aboard, Delivered, look_up-here, look_up-there, look_up-nil, without_key-absent, Settings, Roads, IsDroppedInTime, AreReached, party_at, seats_after, IsRightPickup, IsRightDropoff, IsRightStop, IsOfVehicle, calls_of, HasCalls, IsServing}
 use Rattle.std.specs.List.{sum_by}
 use Rattle.std.proofs.lemmas.Bool.{eq-eqb, ne_eqb}
 use Rattle.route_drive.proofs.kept.Lists.{both, all_weaker, all_from}
 use Rattle.route_drive.proofs.kept.Riders.{changed, find_other, find_same, same_party, seats_by_party, calls_own, calls_other, no_pickup, no_stop, right_elsewhere, serves_elsewhere}
 
 -- a passenger who gets out leaves one passenger less, and the seats of their party
-fewer_passengers : (x : ℕ) (ps : List Passenger) (p : Passenger) → KeysDiffer (λ p. p.rider) ps → find_passenger x ps ≡ Some p → length (without (λ p. p.rider) x ps) + 1 ≡ length ps
+fewer : (x : ℕ) (ps : List Passenger) (p : Passenger) → KeysDiffer (λ p. p.rider) ps → find_passenger x ps ≡ Some p
+    → (length (without (λ p. p.rider) x ps) + 1 ≡ length ps) × (sum_by (λ p. p.party) (without (λ p. p.rider) x ps) + p.party ≡ sum_by (λ p. p.party) ps)
 unfolding KeysDiffer without
-fewer_passengers x [] p differ found = absurd (let n = look_up-nil (λ (p : Passenger). p.rider) x in cc)
-fewer_passengers x (q ∷ ps) p differ found = elim (cases_eq q.rider x) [
-  | inl e ↦
-      let none : look_up (λ (p : Passenger). p.rider) x ps ≡ None = subst (λ k. look_up (λ (p : Passenger). p.rider) k ps ≡ None) e differ.0 in
-      rw (eq-eqb q.rider x e) (ap (λ qs. length qs + 1) (without_key-absent (λ (p : Passenger). p.rider) x ps none) ∙ omega arith)
-  | inr ne ↦
-      let ih : length (without (λ (p : Passenger). p.rider) x ps) + 1 ≡ length ps = fewer_passengers x ps p differ.1 (sym (look_up-there (λ (p : Passenger). p.rider) x q ps ne) ∙ found) in
-      rw (ne_eqb q.rider x ne) (omega (arith, ih))
-]
-
-fewer_persons : (x : ℕ) (ps : List Passenger) (p : Passenger) → KeysDiffer (λ p. p.rider) ps → find_passenger x ps ≡ Some p → sum_by (λ p. p.party) (without (λ p. p.rider) x ps) + p.party ≡ sum_by (λ p. p.party) ps
-unfolding KeysDiffer without
-fewer_persons x [] p differ found = absurd (let n = look_up-nil (λ (p : Passenger). p.rider) x in cc)
-fewer_persons x (q ∷ ps) p differ found = elim (cases_eq q.rider x) [
-  | inl e ↦
-      let none : look_up (λ (p : Passenger). p.rider) x ps ≡ None = subst (λ k. look_up (λ (p : Passenger). p.rider) k ps ≡ None) e differ.0 in
-      let here : look_up (λ (p : Passenger). p.rider) x (q ∷ ps) ≡ Some q = look_up-here (λ (p : Passenger). p.rider) x q ps e in
-      let is : q ≡ p = cc in
-      let party : q.party ≡ p.party = ap (λ (p : Passenger). p.party) is in
-      let all : sum_by (λ (p : Passenger). p.party) (q ∷ ps) ≡ q.party + sum_by (λ (p : Passenger). p.party) ps = sum_by-cons (λ (p : Passenger). p.party) q ps in
-      rw (eq-eqb q.rider x e) (ap (λ qs. sum_by (λ (p : Passenger). p.party) qs + p.party) (without_key-absent (λ (p : Passenger). p.rider) x ps none) ∙ omega (arith, all, party))
-  | inr ne ↦
-      let ih : sum_by (λ (p : Passenger). p.party) (without (λ (p : Passenger). p.rider) x ps) + p.party ≡ sum_by (λ (p : Passenger). p.party) ps = fewer_persons x ps p differ.1 (sym (look_up-there (λ (p : Passenger). p.rider) x q ps ne) ∙ found) in
-      let all : sum_by (λ (p : Passenger). p.party) (q ∷ ps) ≡ q.party + sum_by (λ (p : Passenger). p.party) ps = sum_by-cons (λ (p : Passenger). p.party) q ps in
-      let rest : sum_by (λ (p : Passenger). p.party) (q ∷ without (λ (p : Passenger). p.rider) x ps) ≡ q.party + sum_by (λ (p : Passenger). p.party) (without (λ (p : Passenger). p.rider) x ps) = sum_by-cons (λ (p : Passenger). p.party) q (without (λ (p : Passenger). p.rider) x ps) in
-      rw (ne_eqb q.rider x ne) (omega (arith, ih, all, rest))
-]
+fewer x [] p differ found = absurd (let n = look_up-nil (λ (p : Passenger). p.rider) x in cc)
+fewer x (q ∷ ps) p differ found =
+    let all : sum_by (λ (p : Passenger). p.party) (q ∷ ps) ≡ q.party + sum_by (λ (p : Passenger). p.party) ps = sum_by-cons (λ (p : Passenger). p.party) q ps in
+    elim (cases_eq q.rider x) [
+      | inl e ↦
+          let none : look_up (λ (p : Passenger). p.rider) x ps ≡ None = subst (λ k. look_up (λ (p : Passenger). p.rider) k ps ≡ None) e differ.0 in
+          let here : look_up (λ (p : Passenger). p.rider) x (q ∷ ps) ≡ Some q = look_up-here (λ (p : Passenger). p.rider) x q ps e in
+          let is : q ≡ p = cc in
+          let party : q.party ≡ p.party = ap (λ (p : Passenger). p.party) is in
+          let left = without_key-absent (λ (p : Passenger). p.rider) x ps none in (
+            rw (eq-eqb q.rider x e) (ap (λ qs. length qs + 1) left ∙ omega arith),
+            rw (eq-eqb q.rider x e) (ap (λ qs. sum_by (λ (p : Passenger). p.party) qs + p.party) left ∙ omega (arith, all, party)),
+          )
+      | inr ne ↦
+          let ih = fewer x ps p differ.1 (sym (look_up-there (λ (p : Passenger). p.rider) x q ps ne) ∙ found) in
+          let rest : sum_by (λ (p : Passenger). p.party) (q ∷ without (λ (p : Passenger). p.rider) x ps) ≡ q.party + sum_by (λ (p : Passenger). p.party) (without (λ (p : Passenger). p.rider) x ps) = sum_by-cons (λ (p : Passenger). p.party) q (without (λ (p : Passenger). p.rider) x ps) in
+          (rw (ne_eqb q.rider x ne) (omega (arith, ih.0)), rw (ne_eqb q.rider x ne) (omega (arith, ih.1, all, rest)))
+    ]
 
 module _ (settings : Settings) (roads : Roads) (riders : List BookRider) where
   -- a vehicle goes on serving where the status of a rider of another vehicle changes
@@ -70,7 +62,6 @@ module _ (settings : Settings) (roads : Roads) (riders : List BookRider) where
       → IsServing settings roads riders v free (stop ∷ stops)
       → IsServing settings roads (changed riders stop.rider (Aboard v.id)) (takes_in r stop.second v) (stop.second + settings.dwell) stops
   serves_on_picked v free stop stops r pick found status node fits serves =
-      let x : ℕ = stop.rider in
       let own : calls_of stop.rider (stop ∷ stops) ≡ true ∷ false ∷ [] = (subst (λ t. HasCalls v.id t (calls_of stop.rider (stop ∷ stops))) status (serves.calls stop.rider r found)) refl in
       let later : calls_of stop.rider stops ≡ false ∷ [] =
       let e : stop.pick ∷ calls_of stop.rider stops ≡ true ∷ false ∷ [] = sym (calls_own stop.rider stop stops refl) ∙ own in ap tail e in
@@ -126,12 +117,9 @@ module _ (settings : Settings) (roads : Roads) (riders : List BookRider) where
       front = calls_own stop.rider stop stops refl ∙ ap (λ b. b ∷ calls_of stop.rider stops) pick
 
       by : (t : Status) → r.status ≡ t → IsOfVehicle v t → HasCalls v t (calls_of stop.rider (stop ∷ stops)) → (r.status ≡ Aboard v) × (calls_of stop.rider stops ≡ [])
-      by Waiting e h k = absurd h
       by (Promised p) e h k = absurd (let a : false ∷ calls_of stop.rider stops ≡ true ∷ false ∷ [] = sym front ∙ k h in cc)
       by (Aboard u) e h k = (e ∙ ap Aboard h, let a : false ∷ calls_of stop.rider stops ≡ false ∷ [] = sym front ∙ k h in cc)
-      by Cancelled e h k = absurd h
-      by Delivered e h k = absurd h
-      by Expired e h k = absurd h
+      by status e h k = absurd h
 
   -- the vehicle serves the stops after a drop-off
   pub serves_on_dropped : (v : Vehicle) (free : ℕ) (stop : PlannedStop) (stops : List PlannedStop) (r : BookRider) (p : Passenger) → stop.pick ≡ false → find_rider stop.rider riders ≡ Some r
@@ -141,10 +129,11 @@ module _ (settings : Settings) (roads : Roads) (riders : List BookRider) where
       → IsServing settings roads (changed riders stop.rider Delivered) (lets_out r stop.second v) (stop.second + settings.dwell) stops
   serves_on_dropped v free stop stops r p pick found id none node differ seated same fits serves =
       let party : party_at riders stop ≡ r.party = ap (λ o. option_map_or (λ (r : BookRider). r.party) o 0) found in
+      let less = fewer stop.rider v.aboard.items p differ seated in
       let persons : persons_aboard (lets_out r stop.second v) + p.party ≡ persons_aboard v =
-      subst (λ k. sum_by (λ (p : Passenger). p.party) (without (λ (p : Passenger). p.rider) k v.aboard.items) + p.party ≡ persons_aboard v) (sym id) (fewer_persons stop.rider v.aboard.items p differ seated) in
+      subst (λ k. sum_by (λ (p : Passenger). p.party) (without (λ (p : Passenger). p.rider) k v.aboard.items) + p.party ≡ persons_aboard v) (sym id) less.1 in
       let count : length (without (λ (p : Passenger). p.rider) r.id v.aboard.items) + 1 ≡ length v.aboard.items =
-      subst (λ k. length (without (λ (p : Passenger). p.rider) k v.aboard.items) + 1 ≡ length v.aboard.items) (sym id) (fewer_passengers stop.rider v.aboard.items p differ seated) in
+      subst (λ k. length (without (λ (p : Passenger). p.rider) k v.aboard.items) + 1 ≡ length v.aboard.items) (sym id) less.0 in
       let after : seats_after riders stop (v.seats - persons_aboard v) ≡ v.seats - persons_aboard v + party_at riders stop = rw pick refl in
       record {
         reached = subst (λ n. AreReached roads settings.dwell n (stop.second + settings.dwell) stops) node serves.reached.1;

@@ -53,8 +53,8 @@ module _ (settings : Settings) (roads : Roads) where
   stop_keeps s v stop own = by stop.pick refl
     where
       by : (b : Bool) → stop.pick ≡ b → EntryKeeps settings roads s (cond b (Pickup v stop.rider stop.second) (Dropoff v stop.rider stop.second)) (cond b Picked Dropped)
-      by true e = let right = picked_up_right settings roads s.riders v stop e own in (refl, record { of = right.rider; found = right.found; in_wait = right.in_time })
-      by false e = let right = dropped_right settings roads s.riders v stop e own in (refl, record { of = right.rider; found = right.found; in_time = right.in_time })
+      by true e = let right = picked_up_right settings roads s.riders v stop e own in (refl, right.rider, right.found, right.in_time)
+      by false e = let right = dropped_right settings roads s.riders v stop e own in (refl, right.rider, right.found, right.in_time)
 
   stop_by : (s : State) (v : ℕ) (stop : PlannedStop) → IsRightStop settings roads s.riders v stop → (rider limit : ℕ) → IsBound s rider limit → IsPickedBy rider limit (stop_command v stop)
   stop_by s v stop own rider limit bound = by stop.pick refl

@@ -1,38 +1,28 @@
 -- The laws of driven days.
-use Rattle.std.proofs.Common.{[], arith, ◌≡◌, ◌+◌, ◌<◌, Bool, true, false, cond, map, None, refl, sym, ap, ◌∙◌, subst}
-use Rattle.route_drive.proofs.Common.{travel_time, AnswersWith, IsGoodPlan, after_answer, after_plan, picks, IsConsistent, NamesNodes, step, Pickup, Dropoff, Close, Answer, Planned, PlannedStop, Reply, Picked, Dropped, Closed, State, step-consistent, step-named, look_up-nil, reached-consistent, IsNode, state_after, BookRider, All-nil, has_node, IsKept, IsDone, IsBound, TellsNothingLate, StopsAreAnswered, ReportsAreServed, SealsKeep, NoPromiseLapses, ClosesKeep, IsClosedOn, closed, stops_after, OpeningIsKept}
-use Rattle.route_drive.proofs.kept.Lists.{all_weaker}
+use Rattle.std.proofs.Common.{[], arith, ◌≡◌, ℕ, ◌+◌, ◌≤◌, Bool, true, false, cond, List, ◌∷◌, All, Some, ap, refl, None, IfSome}
+use Rattle.route_drive.proofs.Common.{travel_time, AnswersWith, IsGoodOutcome, IsGoodPlan, Batch, Vehicle, after_answer, opening, find_vehicle, step, Pickup, Dropoff, Close, Answer, PlannedStop, Reply, Picked, Dropped, Closed, State, look_up-nil, reached-consistent, IsNode, state_after, BookRider, All-nil, Settings, Roads, IsKept, IsDayState, IsDone, IsServing, KeepsBounds, ShowsRiders, AreReported, IsClosedInTime, closed, planned_in, stops_with}
+use Rattle.batch_snapshot.specs.Kept.{IsFleet}
+use Rattle.request_book.specs.declared.outcome.Outcome.{Outcome}
 use Rattle.route_drive.proofs.kept.Replies.{close_is}
-use Rattle.route_drive.proofs.kept.States.{pickup_done, dropoff_done, report_done}
-use Rattle.route_drive.proofs.kept.Sealing.{sealed_kept, sealed_shows, sealed_bounds}
-use Rattle.route_drive.proofs.kept.Reported.{reported_there}
-use Rattle.route_drive.proofs.kept.Lapse.{all_in_time, nothing_lapses}
-use Rattle.route_drive.proofs.kept.Closed.{closed_kept, closed_bounds}
+use Rattle.route_drive.proofs.kept.States.{pickup_done, dropoff_done, stepped}
+use Rattle.route_drive.proofs.kept.Trips.{all_in_time, nothing_lapses}
+use Rattle.route_drive.proofs.kept.Made.{closed_kept, closed_bounds}
 use Rattle.request_book.specs.declared.outcome.Answer.TheVariants as answer
 
-pub stops_are_answered : StopsAreAnswered
+-- a vehicle's next stop is answered picked or dropped, and the vehicle then serves the stops after it, each at its
+-- second, while every other vehicle goes on as it was and no promised pickup is put off
+pub stops_are_answered : (settings : Settings) (roads : Roads) (s : State) (v : Vehicle) (free : ℕ) (stop : PlannedStop) (stops : List PlannedStop) → IsDayState roads s → find_vehicle v.id s.vehicles ≡ Some v
+    → v.time ≤ free → IsServing settings roads s.riders v free (stop ∷ stops)
+    → IsDone settings roads s (cond stop.pick (Pickup v.id stop.rider stop.second) (Dropoff v.id stop.rider stop.second)) (cond stop.pick Picked Dropped) v.id stop.node stop.second (stop.second + settings.dwell) stops
 stops_are_answered settings roads s v free stop stops day at early serves = by stop.pick refl
   where
     by : (b : Bool) → stop.pick ≡ b → IsDone settings roads s (cond b (Pickup v.id stop.rider stop.second) (Dropoff v.id stop.rider stop.second)) (cond b Picked Dropped) v.id stop.node stop.second (stop.second + settings.dwell) stops
     by true e = pickup_done settings roads s day v at free stop stops early e serves
     by false e = dropoff_done settings roads s day v at free stop stops early e serves
 
-pub reports_are_served : ReportsAreServed
-reports_are_served settings roads s v free now target stops there net day at named early later serves reported =
-    let is = reported_there roads net settings.dwell now (record { node = v.node; second = v.time; free = free }) named early target there stops
-    (all_weaker (λ (stop : PlannedStop). (has_node roads.nodes stop.node ≡ true) × (now < stop.second)) (λ (stop : PlannedStop). has_node roads.nodes stop.node ≡ true) (λ stop h. h.0) stops later)
-    (all_weaker (λ (stop : PlannedStop). (has_node roads.nodes stop.node ≡ true) × (now < stop.second)) (λ (stop : PlannedStop). now < stop.second) (λ stop h. h.1) stops later)
-    serves.reached reported in
-    (is.by, report_done settings roads s day v at free there.node there.second stops is.named is.later serves is.reached)
-
-pub seals_keep : SealsKeep
-seals_keep settings roads s stops now reply kept later on is = record {
-  kept = sealed_kept settings roads s stops now kept later on reply is;
-  shows = sealed_shows settings roads s stops now kept later on;
-  bounds = sealed_bounds settings roads s stops now kept later on;
-}
-
-pub no_promise_lapses : NoPromiseLapses
+-- in a batch that is sealed while every vehicle serves its stops, no vehicle is late and no promise lapses
+pub no_promise_lapses : (settings : Settings) (roads : Roads) (s : State) (stops : ℕ → List PlannedStop) (b : Batch) (outcome : Outcome) → IsKept settings roads s stops → ShowsRiders s b → AreReported s b
+    → s.sealed ≡ Some b → IsGoodOutcome settings roads b outcome → IsClosedInTime settings roads s outcome.answer
 no_promise_lapses settings roads s stops b outcome kept shows early sealed good = record {
   batch = b;
   sealed = sealed;
@@ -40,46 +30,35 @@ no_promise_lapses settings roads s stops b outcome kept shows early sealed good 
   tells = by outcome.answer good.answer;
 }
   where
-    by : (a : Answer) → AnswersWith settings good.points (travel_time good.times) good.settled (IsGoodPlan settings) a → TellsNothingLate a
+    by : (a : Answer) → AnswersWith settings good.points (travel_time good.times) good.settled (IsGoodPlan settings) a → IfSome (planned_in a) (λ planned. (planned.late ≡ []) × (planned.lapsed ≡ []))
     by answer.Overflow is = tt
     by (answer.Planned planned) is = nothing_lapses settings roads s stops b good.settled good.points good.times kept shows early good.limits good.table planned is
 
-pub closes_keep : ClosesKeep
+-- after the close of such a batch every vehicle serves the stops of its chosen trip, or after an overflow those that it
+-- had, and nobody who had a promise is promised a later pickup
+pub closes_keep : (settings : Settings) (roads : Roads) (s : State) (stops : ℕ → List PlannedStop) (b : Batch) (outcome : Outcome) → IsKept settings roads s stops → ShowsRiders s b → AreReported s b
+    → s.sealed ≡ Some b → IsGoodOutcome settings roads b outcome → IsKept settings roads (closed s b outcome) (stops_with (planned_in outcome.answer) stops) × KeepsBounds s (closed s b outcome)
 unfolding after_answer
-closes_keep settings roads s stops b outcome kept shows early sealed good = by outcome.answer refl good.answer
+closes_keep settings roads s stops b outcome kept shows early sealed good = by outcome.answer (close_is roads.nodes settings.wait s b outcome sealed) good.answer
   where
-    is : step roads.nodes settings.wait s (Close b.number outcome) ≡ (closed s b outcome, Closed)
-    is = close_is roads.nodes settings.wait s b outcome sealed
+    by : (a : Answer) → step roads.nodes settings.wait s (Close b.number outcome) ≡ (record s { riders = after_answer b.riders a s.riders; sealed = None }, Closed)
+        → AnswersWith settings good.points (travel_time good.times) good.settled (IsGoodPlan settings) a
+        → IsKept settings roads (record s { riders = after_answer b.riders a s.riders; sealed = None }) (stops_with (planned_in a) stops) × KeepsBounds s (record s { riders = after_answer b.riders a s.riders; sealed = None })
+    by answer.Overflow is good_answer = (
+      record {
+        state = stepped settings roads s (record s { sealed = None }) (Close b.number outcome) kept.state (ap (λ (p : State × Reply). p.0) is)
+            (λ x r p f t. let was = kept.state.promises x r p f t in record { last = was.last; sealed = was.sealed; asked = was.asked; vehicle = was.vehicle; at = was.at });
+        each = kept.each;
+      },
+      λ x limit was. record { of = was.of; found = was.found; bound = was.bound },
+    )
+    by (answer.Planned planned) is good_plan = (
+      closed_kept settings roads s stops b good.settled good.points good.times kept shows early good.limits good.table planned good_plan (Close b.number outcome) Closed is,
+      closed_bounds settings roads s stops b good.settled good.points good.times kept shows early good.limits good.table planned good_plan,
+    )
 
-    overflow : outcome.answer ≡ answer.Overflow → closed s b outcome ≡ record s { sealed = None }
-    overflow e = ap (λ a. record s { riders = after_answer b.riders a s.riders; sealed = None }) e
-
-    plan : (planned : Planned) → outcome.answer ≡ answer.Planned planned → closed s b outcome ≡ record s { riders = map (after_plan b.riders (picks planned.chosen)) s.riders; sealed = None }
-    plan planned e = ap (λ a. record s { riders = after_answer b.riders a s.riders; sealed = None }) e
-
-    by : (a : Answer) → outcome.answer ≡ a → AnswersWith settings good.points (travel_time good.times) good.settled (IsGoodPlan settings) a → IsClosedOn settings roads s stops b outcome
-    by answer.Overflow e good_answer = record {
-      is = is;
-      kept = subst (λ a. IsKept settings roads (closed s b outcome) (stops_after a stops)) (sym e)
-          (subst (λ t. IsKept settings roads t stops) (sym (overflow e)) (record {
-            state = record {
-              consistent = subst IsConsistent (ap (λ (p : State × Reply). p.0) is ∙ overflow e) (step-consistent roads.nodes settings.wait s (Close b.number outcome) kept.state.consistent);
-              named = subst (NamesNodes roads.nodes) (ap (λ (p : State × Reply). p.0) is ∙ overflow e) (step-named roads.nodes settings.wait s (Close b.number outcome) kept.state.consistent kept.state.named);
-              promises = λ x r p f t. let was = kept.state.promises x r p f t in record { last = was.last; sealed = was.sealed; asked = was.asked; vehicle = was.vehicle; at = was.at };
-            };
-            each = kept.each;
-          }));
-      bounds = λ x limit was. subst (λ t. IsBound t x limit) (sym (overflow e)) (record { of = was.of; found = was.found; bound = was.bound });
-    }
-    by (answer.Planned planned) e good_plan = record {
-      is = is;
-      kept = subst (λ a. IsKept settings roads (closed s b outcome) (stops_after a stops)) (sym e)
-          (subst (λ t. IsKept settings roads t (stops_after (answer.Planned planned) stops)) (sym (plan planned e))
-          (closed_kept settings roads s stops b good.settled good.points good.times kept shows early good.limits good.table planned good_plan (Close b.number outcome) Closed (is ∙ ap (λ (t : State). (t, Closed)) (plan planned e))));
-      bounds = λ x limit was. subst (λ t. IsBound t x limit) (sym (plan planned e)) (closed_bounds settings roads s stops b good.settled good.points good.times kept shows early good.limits good.table planned good_plan x limit was);
-    }
-
-pub opening_is_kept : OpeningIsKept
+-- the state with which a day begins: nothing is on its way, nobody is promised or aboard
+pub opening_is_kept : (settings : Settings) (roads : Roads) (vehicles : List Vehicle) → IsFleet vehicles → All (λ v. IsNode roads.nodes v.node) vehicles → IsKept settings roads (opening vehicles) (λ id. [])
 unfolding state_after
 opening_is_kept settings roads vehicles fleet named = record {
   state = record {

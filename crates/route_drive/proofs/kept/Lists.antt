@@ -1,13 +1,7 @@
 -- Filters, and lists whose parts are counted.
 use Rattle.std.proofs.Common.{◌≡◌, ℕ, zero, suc, ◌+◌, ◌*◌, ◌<◌, ◌≤◌, Bool, true, false, not, List, [], ◌∷◌, length, map, filter, refl, sym, ap, ◌∙◌, subst, arith, inl, inr}
-use Rattle.route_drive.proofs.Common.{AllByRecursion, cases_Bool, cond-true, cond-false, false≢true, length-filter_both}
-
--- what a filter does at the front of a list
-pub skips : {X : Type 0} (p : X → Bool) (x : X) (xs : List X) → p x ≡ false → filter p (x ∷ xs) ≡ filter p xs
-skips p x xs e = cond-false (p x) (x ∷ filter p xs) (filter p xs) e
-
-pub takes : {X : Type 0} (p : X → Bool) (x : X) (xs : List X) → p x ≡ true → filter p (x ∷ xs) ≡ x ∷ filter p xs
-takes p x xs e = cond-true (p x) (x ∷ filter p xs) (filter p xs) e
+use Rattle.route_drive.proofs.Common.{AllByRecursion, cases_Bool, false≢true, length-filter_both}
+pub use Rattle.stop_orders.proofs.lemmas.DeletionLemmas.{skips, takes}
 
 -- the test of the renamed is a test of what was
 pub filter_renamed : {X Y : Type 0} (p : Y → Bool) (q : X → Bool) (g : X → Y) (P : X → Type 0) → ((x : X) → P x → p (g x) ≡ q x) → (xs : List X) → AllByRecursion P xs → filter p (map g xs) ≡ map g (filter q xs)
@@ -45,6 +39,15 @@ all_filtered P p (x ∷ xs) all = elim (cases_Bool (p x)) [
   | inl k ↦ subst (λ ys. AllByRecursion (λ x. P x × (p x ≡ true)) ys) (sym (takes p x xs k)) ((all.0, k), all_filtered P p xs all.1)
   | inr k ↦ subst (λ ys. AllByRecursion (λ x. P x × (p x ≡ true)) ys) (sym (skips p x xs k)) (all_filtered P p xs all.1)
 ]
+
+-- a filter keeps all, or none
+pub filter_all : {X : Type 0} (p : X → Bool) (xs : List X) → AllByRecursion (λ x. p x ≡ true) xs → filter p xs ≡ xs
+filter_all p [] all = refl
+filter_all p (x ∷ xs) all = takes p x xs all.0 ∙ ap (λ ys. x ∷ ys) (filter_all p xs all.1)
+
+pub filter_none : {X : Type 0} (p : X → Bool) (xs : List X) → AllByRecursion (λ x. p x ≡ false) xs → filter p xs ≡ []
+filter_none p [] all = refl
+filter_none p (x ∷ xs) all = skips p x xs all.0 ∙ filter_none p xs all.1
 
 -- a filter by one test of what another keeps
 pub filter_filter : {X : Type 0} (p q : X → Bool) → ((x : X) → p x ≡ true → q x ≡ true) → (xs : List X) → filter p (filter q xs) ≡ filter p xs

@@ -1,27 +1,21 @@
--- A close with a good plan on a driven day: the chosen trips are what the vehicles now serve.
-use Rattle.std.proofs.Common.{◌≡◌, ◌⊎◌, ℕ, ◌+◌, ◌<◌, ◌≤◌, Bool, true, false, cond, List, [], ◌∷◌, length, get_or, map, Option, Some, None, refl, sym, ap, ◌∙◌, subst, arith, inl, inr, slice_get, is_some, option_map, option_and_then, unwrap_or, ◌&&◌, min, nat_eq, ◌-◌, ◌*◌, MatchBool, max}
-use Rattle.route_drive.proofs.Common.{AllByRecursion, cases_Bool, slice_get_within, get_or_from_slice_get, slice_get-get_or, travel_time, Times, Batch, Promise, Rider, Vehicle, HasGraphsWith, IsGoodPlan, request_at, IsSettled, HasRightLimit, shown, find_rider, find_vehicle, PlannedStop, Planned, State, Settings, Roads, index_in, Settled, vehicle_at, rider_at, AreTravelTimes, IsKept, IsDistinct, option_map_or, cases_lt, false≢true, get_or-map, length-map, persons_aboard, Passenger, rider_id, told_stop, IsTripOf, times_served_some, times_served_found, in_choice, choice_at, riders_at, is_in, IsLegOf, no_request, IsPlaced, picks, trip_picks, after_plan, in_batch, planned_status, look_up, KeysDiffer, with_status, passenger_of, is_active, ChosenTrip, BookRider, Status, Waiting, Promised, Aboard, Cancelled, Delivered, Expired, look_up-at, KeysDiffer-from_rise, has_node, Leg, Stop, Pick, Drop, Alight, IsKnown, trip_task, no_leg, leg_at, visit_at, free_seats, calls_of, find_passenger, and_from, and_parts, cond-true, times_chosen, ideal_second, Task, look_up-map, look_up-key, latest_of, Visit, ideal_dropoff, IsDroppedInTime, AreReached, party_at, HasSeatsFor, IsRightPickup, IsRightDropoff, IsRightStop, IsOfVehicle, HasCalls, IsServing, seat_in, persons}
-use Rattle.std.proofs.lemmas.Bool.{eq-eqb}
-use Rattle.route_drive.proofs.kept.Batches.{found_at}
-use Rattle.route_drive.proofs.kept.Sealing.{ShowsRiders}
-use Rattle.route_drive.proofs.kept.Served.{request_rider}
-use Rattle.std.proofs.lemmas.Bool.{true≢false}
-use Rattle.route_drive.proofs.kept.Batches.{distinct_from_differ, IsAsking, IsRiderAboard}
-use Rattle.route_drive.proofs.kept.Lapse.{vehicle_of_number}
-use Rattle.route_drive.proofs.kept.Served.{vehicle_found}
-use Rattle.route_drive.proofs.kept.Told.{told_from, none_promised, one_promised, IsPickPromised, found_among, none_among}
-use Rattle.route_drive.proofs.kept.Walks.{has_index, index_at, name_at, is_node_at}
-use Rattle.route_drive.proofs.kept.Trips.{trip_of, trip_back, trip_is, one_trip, told_id}
+-- A close with a good plan on a driven day: the chosen trips are what the vehicles now serve, and the state after it is kept.
+use Rattle.std.proofs.Common.{◌≡◌, ◌⊎◌, ℕ, ◌+◌, ◌<◌, ◌≤◌, Bool, true, false, cond, List, [], ◌∷◌, length, get_or, map, Option, Some, None, refl, sym, ap, ◌∙◌, subst, arith, inl, inr, slice_get, is_some, option_map, option_and_then, unwrap_or, ◌&&◌, min, ◌-◌, ◌*◌, MatchBool, max, zero, suc, Contains}
+use Rattle.route_drive.proofs.Common.{AllByRecursion, cases_Bool, slice_get_within, get_or_from_slice_get, slice_get-get_or, travel_time, Times, Batch, Promise, Rider, Vehicle, HasGraphsWith, IsGoodPlan, request_at, IsSettled, HasRightLimit, shown, find_rider, find_vehicle, PlannedStop, Planned, State, Settings, Roads, index_in, Settled, vehicle_at, rider_at, AreTravelTimes, IsKept, option_map_or, cases_lt, false≢true, get_or-map, length-map, persons_aboard, Passenger, rider_id, told_stop, IsTripOf, times_served_some, times_served_found, in_choice, choice_at, riders_at, is_in, IsLegOf, no_request, IsPlaced, picks, trip_picks, after_plan, in_batch, planned_status, look_up, KeysDiffer, with_status, passenger_of, is_active, ChosenTrip, BookRider, Status, Waiting, Promised, Aboard, look_up-at, KeysDiffer-from_rise, has_node, Leg, Stop, Pick, Drop, Alight, IsKnown, trip_task, no_leg, leg_at, visit_at, free_seats, calls_of, find_passenger, and_from, and_parts, cond-true, times_chosen, ideal_second, Task, look_up-map, look_up-key, latest_of, Visit, ideal_dropoff, IsDroppedInTime, AreReached, party_at, HasSeatsFor, IsRightPickup, IsRightDropoff, IsRightStop, IsOfVehicle, HasCalls, IsServing, seat_in, persons, ShowsRiders, get_or_default, is_promised_to, IsLive, Delivered, MatchBool-at_false, must_be_served, promised_limit, promised_to, filter_range_has, IsPromiseKept, step, Command, Reply, look_up-here, look_up-there, HoldsPromised, chosen_stops, IsBoundBy, IsBound, KeepsBounds}
+use Rattle.std.proofs.lemmas.Bool.{eq-eqb, true≢false, lt-ltb}
+use Rattle.route_drive.proofs.kept.Batches.{found_at, same_place, IsAsking, IsRiderAboard, same_persons, other_id}
+use Rattle.route_drive.proofs.kept.Served.{request_rider, vehicle_found}
+use Rattle.route_drive.proofs.kept.Trips.{vehicle_of_number, not_late, number_of_vehicle, promise_is_live, trip_of, trip_back, trip_is, one_trip, told_id, row_of, rider_aboard, known, member_calls, passenger_calls, other_calls}
+use Rattle.route_drive.proofs.kept.Told.{told_from, none_promised, one_promised, IsPickPromised, found_among, none_among, IsTold, told_reached, told_seats, told_all, told_length}
+use Rattle.route_drive.proofs.kept.Walks.{has_index, name_at, is_node_at}
 use Rattle.request_book.specs.Closing.{Pick as PlanPick}
 use Rattle.request_book.proofs.lemmas.CloseLemmas.{after_plan-id}
 use Rattle.stop_orders.proofs.lemmas.DoneLemmas.{length-IsOrder}
 use Rattle.route_drive.proofs.kept.Lists.{all_weaker, both}
-use Rattle.route_drive.proofs.kept.Batches.{same_persons}
-use Rattle.route_drive.proofs.kept.Trips.{row_of}
 use Rattle.route_drive.proofs.kept.Riders.{found_id}
 use Rattle.route_drive.proofs.kept.Tables.{time_between}
-use Rattle.route_drive.proofs.kept.Told.{IsTold, told_reached, told_seats, told_all, told_length}
-use Rattle.route_drive.proofs.kept.Chosen.{rider_aboard, known, member_calls, passenger_calls, other_calls}
+use Rattle.route_drive.proofs.kept.States.{stepped, vehicle_id}
+use Rattle.route_drive.proofs.kept.Sealing.{first_call}
+use Rattle.trip_graph.specs.Answer.{IsRowWith}
 use Rattle.batch_solver.specs.declared.point.Point.TheVariants as point
 
 all_each : {A X : Type 0} (P : A → X → Type 0) (xs : List X) → ((a : A) → AllByRecursion (P a) xs) → AllByRecursion (λ x. (a : A) → P a x) xs
@@ -37,6 +31,22 @@ after_is batch ps r active among = cond-true (is_active r.status && in_batch bat
 
 pub after_stays : (batch : List Rider) (ps : List PlanPick) (r : BookRider) → is_active r.status ≡ false → after_plan batch ps r ≡ r
 after_stays batch ps r active = rw active refl
+
+-- the element of a key, where no other has it
+look_up_only : {X : Type 0} (key : X → ℕ) (xs : List X) (i : ℕ) (x : X) → slice_get xs i ≡ Some x → ((j : ℕ) (y : X) → slice_get xs j ≡ Some y → key y ≡ key x → j ≡ i) → look_up key (key x) xs ≡ Some x
+look_up_only key [] i x at only = absurd cc
+look_up_only key (y ∷ ys) zero x at only = let is : y ≡ x = cc in look_up-here key (key x) y ys (ap key is) ∙ ap Some is
+look_up_only key (y ∷ ys) (suc i) x at only = look_up-there key (key x) y ys (λ e. absurd (let h : 0 ≡ suc i = only 0 y refl e in omega arith)) ∙ look_up_only key ys i x at (λ j z e k. let h : suc j ≡ suc i = only (suc j) z e k in omega arith)
+
+-- a request of the batch by its rider's id
+number_in_batch : (batch : List Rider) (id : ℕ) → in_batch batch id ≡ true → (n : ℕ) × (n < length batch) × ((request_at batch n).id ≡ id)
+number_in_batch batch id among = by (look_up (λ (r : Rider). r.id) id batch) refl among
+  where
+    by : (o : Option Rider) → look_up (λ (r : Rider). r.id) id batch ≡ o → is_some o ≡ true → (n : ℕ) × (n < length batch) × ((request_at batch n).id ≡ id)
+    by None e some = absurd (false≢true some)
+    by (Some y) e some =
+        let place = found_at (λ (r : Rider). r.id) id batch y e in
+        (place.0, place.1, ap (λ (r : Rider). r.id) (place.2 no_request) ∙ look_up-key (λ (r : Rider). r.id) id batch y e)
 
 module _ (settings : Settings) (roads : Roads) (s : State) (stops : ℕ → List PlannedStop) (b : Batch) (settled : Settled) (points : List ℕ) (times : Times)
     (kept : IsKept settings roads s stops) (shows : ShowsRiders s b) (early : (id : ℕ) (v : Vehicle) → find_vehicle id s.vehicles ≡ Some v → b.sealed_at ≤ v.time)
@@ -108,7 +118,6 @@ module _ (settings : Settings) (roads : Roads) (s : State) (stops : ℕ → List
       → planned_status (picks planned.chosen) (request_at b.riders (get_or (riders_at good.graph own.is.row) i 0)).id ≡ Promised (record { vehicle = own.x.id; pickup = (member_promised k own i h).second })
   unfolding picks
   member_status k own i h =
-      let r : ℕ = get_or (riders_at good.graph own.is.row) i 0 in
       let low = member_low k own i h in
       let one = member_promised k own i h in
       let has : has_node (riders_at good.graph own.is.row) (get_or (riders_at good.graph own.is.row) i 0) ≡ true = is_node_at (riders_at good.graph own.is.row) i h in
@@ -163,6 +172,12 @@ module _ (settings : Settings) (roads : Roads) (s : State) (stops : ℕ → List
   passenger_stays : (z : ℕ) (r : BookRider) (v : ℕ) → find_rider z s.riders ≡ Some r → r.status ≡ Aboard v → find_rider z riders' ≡ Some r
   passenger_stays z r v found status = find_planned z ∙ ap (option_map (after_plan b.riders (picks planned.chosen))) found ∙ ap Some (after_stays b.riders (picks planned.chosen) r (ap is_active status))
 
+  -- whoever is promised something before the plan is in the batch
+  promised_in_batch : (z : ℕ) (r : BookRider) (p : Promise) → find_rider z s.riders ≡ Some r → r.status ≡ Promised p → in_batch b.riders r.id ≡ true
+  promised_in_batch z r p found status =
+      let there = shows.promised z r p found status in
+      ap (λ z. is_some (look_up (λ (r : Rider). r.id) z b.riders)) (found_id z s.riders r found) ∙ ap is_some there
+
   module _ (k : ℕ) (own : HasTrip k) where
     abbrev trip : List ℕ
     trip = riders_at good.graph own.is.row
@@ -213,7 +228,6 @@ module _ (settings : Settings) (roads : Roads) (s : State) (stops : ℕ → List
 
     pub member_leg : (i : ℕ) → i < length trip → HasLeg (get_or trip i 0) (leg_at (map (λ r. (rider_at settled r).leg) trip) i)
     member_leg i h =
-        let n : ℕ = get_or trip i 0 in
         let low : get_or trip i 0 < length b.riders = member_low k own i h in
         let of = planned_rider (get_or trip i 0) low in
         let leg = (limits.riders (get_or trip i 0) (request_at b.riders (get_or trip i 0)) (slice_get-get_or b.riders (get_or trip i 0) no_request low)).leg in
@@ -243,7 +257,6 @@ module _ (settings : Settings) (roads : Roads) (s : State) (stops : ℕ → List
 
     passenger_leg : (j : ℕ) → (h : j < length own.x.aboard.items) → IsLegOf settings points (travel_time times) (aboard_at j h).rider.origin (aboard_at j h).rider.destination (aboard_at j h).rider.time (aboard_at j h).rider.party (leg_at (vehicle_at settled k).aboard.items j)
     passenger_leg j h =
-        let none : Passenger = record { rider = 0; origin = 0; destination = 0; time = 0; party = 0 } in
         subst (λ (p : Passenger). IsLegOf settings points (travel_time times) p.origin p.destination p.time p.party (leg_at (vehicle_at settled k).aboard.items j)) (sym (aboard_at j h).is)
         (placed.aboard.each j (get_or own.x.aboard.items j (record { rider = 0; origin = 0; destination = 0; time = 0; party = 0 })) (slice_get-get_or own.x.aboard.items j (record { rider = 0; origin = 0; destination = 0; time = 0; party = 0 }) h))
 
@@ -301,11 +314,12 @@ module _ (settings : Settings) (roads : Roads) (s : State) (stops : ℕ → List
     at_point : (o n : ℕ) → slice_get points o ≡ Some n → get_or points o 0 ≡ n
     at_point o n e = get_or_from_slice_get points o n 0 e
 
-    member_drop_in_time : (n : ℕ) (leg : Leg) (second : ℕ) → (has : HasLeg n leg) → second ≤ leg.latest_dropoff → IsDroppedInTime roads settings.delay has.r second
-    member_drop_in_time n leg second has le = record {
+    dropped_in_time : (leg : Leg) (r : BookRider) (second : ℕ) → slice_get points leg.origin ≡ Some r.origin → slice_get points leg.destination ≡ Some r.destination
+        → leg.ideal ≡ ideal_dropoff r.time (travel_time times leg.origin leg.destination) → leg.latest_dropoff ≡ leg.ideal + settings.delay → second ≤ leg.latest_dropoff → IsDroppedInTime roads settings.delay r second
+    dropped_in_time leg r second origin destination ideal latest le = record {
       seconds = travel_time times leg.origin leg.destination;
-      between = time_between roads points times table leg.origin leg.destination has.r.origin has.r.destination has.origin has.destination;
-      in_time = let a = has.latest_dropoff in let c : leg.ideal ≡ ideal_dropoff has.r.time (travel_time times leg.origin leg.destination) = has.ideal in subst (λ m. second ≤ m) (a ∙ ap (λ m. m + settings.delay) c) le;
+      between = time_between roads points times table leg.origin leg.destination r.origin r.destination origin destination;
+      in_time = subst (λ m. second ≤ m) (latest ∙ ap (λ m. m + settings.delay) ideal) le;
     }
 
     all_told : AllByRecursion (λ stop. IsMemberPickup stop ⊎ ((stop.pick ≡ false) × IsRightDropoff roads settings.delay riders' own.x.id stop)) (told_from roads points times table riders' settled.dwell vis told (vehicle_at settled k).start (vehicle_at settled k).ready own.is.stops)
@@ -334,13 +348,12 @@ module _ (settings : Settings) (roads : Roads) (s : State) (stops : ℕ → List
                 found = ap (λ z. find_rider z riders') (told_name i h) ∙ leg.now_found;
                 own = subst (IsOfVehicle own.x.id) (sym (member_status k own i h)) refl;
                 node = at_point (leg_at (map (λ r. (rider_at settled r).leg) trip) i).destination leg.r.destination leg.destination;
-                in_time = let d = member_drop_in_time (get_or trip i 0) (leg_at (map (λ r. (rider_at settled r).leg) trip) i) second leg le in record { seconds = d.seconds; between = d.between; in_time = d.in_time };
+                in_time = dropped_in_time (leg_at (map (λ r. (rider_at settled r).leg) trip) i) (with_status (planned_status (picks planned.chosen) (request_at b.riders (get_or trip i 0)).id) leg.r) second leg.origin leg.destination leg.ideal leg.latest_dropoff le;
               },
             )
         by (Alight j) second h le =
             let of = aboard_at j h in
             let leg = passenger_leg j h in
-            let z : ℕ = get_or (map (λ (p : Passenger). p.rider) own.x.aboard.items) j 0 in
             inr (
               refl,
               record {
@@ -348,12 +361,7 @@ module _ (settings : Settings) (roads : Roads) (s : State) (stops : ℕ → List
                 found = ap (λ z. find_rider z riders') (told_aboard j) ∙ passenger_stays (get_or (map (λ (p : Passenger). p.rider) own.x.aboard.items) j 0) of.rider own.x.id of.found of.status;
                 own = subst (IsOfVehicle own.x.id) (sym of.status) refl;
                 node = at_point (leg_at (vehicle_at settled k).aboard.items j).destination of.rider.destination leg.destination_place;
-                in_time = record {
-                  seconds = travel_time times (leg_at (vehicle_at settled k).aboard.items j).origin (leg_at (vehicle_at settled k).aboard.items j).destination;
-                  between = time_between roads points times table (leg_at (vehicle_at settled k).aboard.items j).origin (leg_at (vehicle_at settled k).aboard.items j).destination of.rider.origin of.rider.destination leg.origin_place leg.destination_place;
-                  in_time = let c : (leg_at (vehicle_at settled k).aboard.items j).ideal ≡ ideal_dropoff of.rider.time (travel_time times (leg_at (vehicle_at settled k).aboard.items j).origin (leg_at (vehicle_at settled k).aboard.items j).destination) = leg.ideal in
-                      subst (λ m. second ≤ m) (leg.latest_dropoff ∙ ap (λ m. m + settings.delay) c) le;
-                };
+                in_time = dropped_in_time (leg_at (vehicle_at settled k).aboard.items j) of.rider second leg.origin_place leg.destination_place leg.ideal leg.latest_dropoff le;
               },
             )
 
@@ -388,23 +396,16 @@ module _ (settings : Settings) (roads : Roads) (s : State) (stops : ℕ → List
 
     -- a vehicle has one number
     pub one_number : (j : ℕ) (other : HasTrip j) → other.x.id ≡ own.x.id → j ≡ k
-    one_number j other e =
-        let names : List ℕ = map (λ (v : Vehicle). v.id) b.vehicles in
-        let differ : KeysDiffer (λ (v : Vehicle). v.id) b.vehicles = subst (KeysDiffer (λ (v : Vehicle). v.id)) (sym shows.vehicles) (KeysDiffer-from_rise (λ (v : Vehicle). v.id) s.vehicles kept.state.consistent.vehicles_rise) in
-        let distinct : IsDistinct nat_eq (map (λ (v : Vehicle). v.id) b.vehicles) = distinct_from_differ (λ (v : Vehicle). v.id) b.vehicles differ in
-        let n : length (map (λ (v : Vehicle). v.id) b.vehicles) ≡ length b.vehicles = length-map b.vehicles (λ (v : Vehicle). v.id) in
-        let lj = slice_get_within b.vehicles j other.x other.at in
-        let lk = slice_get_within b.vehicles k own.x own.at in
-        let a : get_or (map (λ (v : Vehicle). v.id) b.vehicles) j 0 ≡ other.x.id = get_or-map (λ (v : Vehicle). v.id) b.vehicles j other.x 0 lj ∙ ap (λ (v : Vehicle). v.id) (get_or_from_slice_get b.vehicles j other.x other.x other.at) in
-        let c : get_or (map (λ (v : Vehicle). v.id) b.vehicles) k 0 ≡ own.x.id = get_or-map (λ (v : Vehicle). v.id) b.vehicles k own.x 0 lk ∙ ap (λ (v : Vehicle). v.id) (get_or_from_slice_get b.vehicles k own.x own.x own.at) in
-        sym (index_at (map (λ (v : Vehicle). v.id) b.vehicles) j distinct (omega (arith, lj, n))) ∙ ap (index_in (map (λ (v : Vehicle). v.id) b.vehicles)) (a ∙ e ∙ sym c) ∙ index_at (map (λ (v : Vehicle). v.id) b.vehicles) k distinct (omega (arith, lk, n))
+    one_number j other e = same_place (λ (v : Vehicle). v.id) b.vehicles (subst (KeysDiffer (λ (v : Vehicle). v.id)) (sym shows.vehicles) (KeysDiffer-from_rise (λ (v : Vehicle). v.id) s.vehicles kept.state.consistent.vehicles_rise)) j k other.x own.x
+        (slice_get_within b.vehicles j other.x other.at) (slice_get_within b.vehicles k own.x own.at)
+        (ap (λ (v : Vehicle). v.id) (get_or_from_slice_get b.vehicles j other.x other.x other.at) ∙ e ∙ sym (ap (λ (v : Vehicle). v.id) (get_or_from_slice_get b.vehicles k own.x own.x own.at)))
 
     same_trip : (j : ℕ) (other : HasTrip j) → j ≡ k → other.t ≡ own.t
     same_trip j other e = let a : slice_get planned.chosen k ≡ Some other.t = subst (λ j. slice_get planned.chosen j ≡ Some other.t) e other.chosen in let c = own.chosen in cc
 
     -- the calls of whoever is of the vehicle after the plan
     batch_calls : (z : ℕ) (r : BookRider) → find_rider z s.riders ≡ Some r → in_batch b.riders r.id ≡ true → HasCalls own.x.id (planned_status (picks planned.chosen) r.id) (calls_of z own.t.stops.items)
-    batch_calls z r found among = by (look_up (λ (r : Rider). r.id) r.id b.riders) refl among
+    batch_calls z r found among = let n = number_in_batch b.riders r.id among in subst (λ id. HasCalls own.x.id (planned_status (picks planned.chosen) id) (calls_of z own.t.stops.items)) n.2 (placed_calls n.0 n.1 n.2 (where_is n.0))
       where
         id : r.id ≡ z
         id = found_id z s.riders r found
@@ -420,24 +421,12 @@ module _ (settings : Settings) (roads : Roads) (s : State) (stops : ℕ → List
             subst (λ t. HasCalls own.x.id t (calls_of z own.t.stops.items)) (sym status)
             (λ same. ap (λ (t : ChosenTrip). calls_of z t.stops.items) (sym (same_trip j other (one_number j other same))) ∙ ap (λ z. calls_of z other.t.stops.items) (sym name) ∙ calls)
 
-        by : (o : Option Rider) → look_up (λ (r : Rider). r.id) r.id b.riders ≡ o → is_some o ≡ true → HasCalls own.x.id (planned_status (picks planned.chosen) r.id) (calls_of z own.t.stops.items)
-        by None e some = absurd (false≢true some)
-        by (Some y) e some =
-            let place = found_at (λ (r : Rider). r.id) r.id b.riders y e in
-            let name : (request_at b.riders place.0).id ≡ r.id = ap (λ (r : Rider). r.id) (place.2 no_request) ∙ look_up-key (λ (r : Rider). r.id) r.id b.riders y e in
-            subst (λ n. HasCalls own.x.id (planned_status (picks planned.chosen) n) (calls_of z own.t.stops.items)) name
-            (placed_calls place.0 place.1 name (where_is place.0))
-
     other_status_calls : (z : ℕ) (r : BookRider) → find_rider z s.riders ≡ Some r → (is_active r.status && in_batch b.riders r.id) ≡ false → HasCalls own.x.id r.status (calls_of z own.t.stops.items)
     other_status_calls z r found out = by r.status refl
       where
         by : (t : Status) → r.status ≡ t → HasCalls own.x.id t (calls_of z own.t.stops.items)
-        by Waiting e = tt
         by (Promised p) e =
-            let there = shows.promised z r p found e in
-            let id : r.id ≡ z = found_id z s.riders r found in
-            let among : in_batch b.riders r.id ≡ true = ap (λ z. is_some (look_up (λ (r : Rider). r.id) z b.riders)) id ∙ ap is_some there in
-            absurd (true≢false (sym (and_from (is_active r.status) (in_batch b.riders r.id) (ap is_active e) among) ∙ out))
+            absurd (true≢false (sym (and_from (is_active r.status) (in_batch b.riders r.id) (ap is_active e) (promised_in_batch z r p found e)) ∙ out))
         by (Aboard u) e = λ same.
             let found_x = vehicle_found settings roads s stops b settled points times kept shows early limits table k own.x own.at in
             let at_z : find_passenger z own.x.aboard.items ≡ Some (passenger_of r) =
@@ -446,9 +435,7 @@ module _ (settings : Settings) (roads : Roads) (s : State) (stops : ℕ → List
             let name : get_or (map (λ (p : Passenger). p.rider) own.x.aboard.items) place.0 0 ≡ z =
             get_or-map (λ (p : Passenger). p.rider) own.x.aboard.items place.0 (record { rider = 0; origin = 0; destination = 0; time = 0; party = 0 }) 0 place.1 ∙ ap (λ (p : Passenger). p.rider) (place.2 (record { rider = 0; origin = 0; destination = 0; time = 0; party = 0 })) ∙ found_id z s.riders r found in
             ap (λ z. calls_of z own.t.stops.items) (sym name) ∙ passenger_calls settings roads s stops b settled points times kept shows early limits table planned good k own.within own.x own.at own.t own.is place.0 place.1
-        by Cancelled e = tt
-        by Delivered e = tt
-        by Expired e = tt
+        by status e = tt
 
     items_calls : (z : ℕ) (q : BookRider) → find_rider z riders' ≡ Some q → HasCalls own.x.id q.status (calls_of z own.t.stops.items)
     items_calls z q e = by (find_rider z s.riders) refl (sym (find_planned z) ∙ e)
@@ -494,3 +481,164 @@ module _ (settings : Settings) (roads : Roads) (s : State) (stops : ℕ → List
           calls = items_calls;
           few = few_items;
         }
+
+  abbrev pub planned_state : State
+  planned_state = record s { riders = map (after_plan b.riders (picks planned.chosen)) s.riders; sealed = None }
+
+  chosen_found : (k : ℕ) (own : HasTrip k) → look_up (λ (t : ChosenTrip). t.vehicle) own.t.vehicle planned.chosen ≡ Some own.t
+  chosen_found k own = look_up_only (λ (t : ChosenTrip). t.vehicle) planned.chosen k own.t own.chosen (λ j u e same.
+      let back = trip_back settings roads s stops b settled points times kept shows early limits table planned good j u e in
+      let x = vehicle_of_number settings roads s stops b settled points times kept shows early limits table j back.0 in
+      one_number k own j (record { within = back.0; x = x.0; at = x.1; t = u; chosen = e; is = back.1 })
+      (sym (trip_vehicle j (record { within = back.0; x = x.0; at = x.1; t = u; chosen = e; is = back.1 })) ∙ same ∙ trip_vehicle k own))
+
+  -- whoever is promised something after the plan
+  next_promise : (z : ℕ) (q : BookRider) (promise : Promise) → find_rider z riders' ≡ Some q → q.status ≡ Promised promise → IsPromiseKept planned_state q promise
+  next_promise z q promise e status = by (find_rider z s.riders) refl (sym (find_planned z) ∙ e)
+    where
+      member : (r : BookRider) → find_rider z s.riders ≡ Some r → (n : ℕ) → n < length b.riders → (request_at b.riders n).id ≡ r.id → with_status (planned_status (picks planned.chosen) r.id) r ≡ q
+          → IsPlaced' n → IsPromiseKept planned_state q promise
+      member r f n low name h (stays out) = absurd (
+          let a : planned_status (picks planned.chosen) (request_at b.riders n).id ≡ Waiting = left_status n low out in
+          let c : Promised promise ≡ Waiting = sym status ∙ sym (ap (λ (q : BookRider). q.status) h) ∙ ap (planned_status (picks planned.chosen)) (sym name) ∙ a in cc)
+      member r f n low name h (rides j other i l at) =
+          let a = member_status j other i l in
+          let second : ℕ = (member_promised j other i l).second in
+          let c : Promised promise ≡ Promised (record { vehicle = other.x.id; pickup = (member_promised j other i l).second }) =
+          sym status ∙ sym (ap (λ (q : BookRider). q.status) h) ∙ ap (planned_status (picks planned.chosen)) (sym name) ∙ ap (λ m. planned_status (picks planned.chosen) (request_at b.riders m).id) (sym at) ∙ a in
+          let d : promise ≡ record { vehicle = other.x.id; pickup = (member_promised j other i l).second } = cc in
+          let of = planned_rider n low in
+          let one = of.1 in
+          let id : r.id ≡ z = found_id z s.riders r f in
+          let two : find_rider (request_at b.riders n).id s.riders ≡ Some r = ap (λ z. find_rider z s.riders) (name ∙ id) ∙ f in
+          let same : of.0 ≡ r = cc in
+          let time : r.time ≡ q.time = ap (λ (q : BookRider). q.time) h in
+          let asked = of.2.asked in
+          record {
+            last = b.sealed_at;
+            sealed = shows.last;
+            asked = subst (λ m. m ≤ b.sealed_at) (ap (λ (r : BookRider). r.time) same ∙ time) asked;
+            vehicle = other.x;
+            at = ap (λ (p : Promise). find_vehicle p.vehicle s.vehicles) d ∙ vehicle_found settings roads s stops b settled points times kept shows early limits table j other.x other.at;
+          }
+
+      with_r : (r : BookRider) → find_rider z s.riders ≡ Some r → (o : Bool) → (is_active r.status && in_batch b.riders r.id) ≡ o → cond o (with_status (planned_status (picks planned.chosen) r.id) r) r ≡ q → IsPromiseKept planned_state q promise
+      with_r r f true g h =
+          let n = number_in_batch b.riders r.id (and_parts (is_active r.status) (in_batch b.riders r.id) g).1 in
+          member r f n.0 n.1 n.2 h (where_is n.0)
+      with_r r f false g h = absurd (
+          let t : r.status ≡ Promised promise = ap (λ (q : BookRider). q.status) h ∙ status in
+          true≢false (sym (and_from (is_active r.status) (in_batch b.riders r.id) (ap is_active t) (promised_in_batch z r promise f t)) ∙ g))
+
+      by : (o : Option BookRider) → find_rider z s.riders ≡ o → option_map (after_plan b.riders (picks planned.chosen)) o ≡ Some q → IsPromiseKept planned_state q promise
+      by None f g = absurd cc
+      by (Some r) f g = with_r r f (is_active r.status && in_batch b.riders r.id) refl (let h : Some (after_plan b.riders (picks planned.chosen) r) ≡ Some q = g in cc)
+
+  -- the state after the close is kept, with the stops of the chosen trips
+  pub closed_kept : (command : Command) (reply : Reply) → step roads.nodes settings.wait s command ≡ (planned_state, reply) → IsKept settings roads planned_state (chosen_stops planned)
+  closed_kept command reply is = record {
+    state = stepped settings roads s planned_state command kept.state (ap (λ (p : State × Reply). p.0) is) next_promise;
+    each = λ id v found.
+        let k = number_of_vehicle settings roads s stops b settled points times kept shows early limits table id v found in
+        let own = has_trip k.0 k.1 in
+        let one = own.at in
+        let two = k.2 in
+        let same : own.x ≡ v = cc in
+        let vid : own.t.vehicle ≡ id = trip_vehicle k.0 own ∙ ap (λ (v : Vehicle). v.id) same ∙ vehicle_id id s.vehicles v found in
+        let items : own.t.stops.items ≡ chosen_stops planned id =
+        sym (ap (λ o. option_map_or (λ (t : ChosenTrip). t.stops.items) o []) (ap (λ z. look_up (λ (t : ChosenTrip). t.vehicle) z planned.chosen) (sym vid) ∙ chosen_found k.0 own)) in
+        subst (IsServing settings roads riders' v v.time) items
+        (subst (λ (v : Vehicle). IsServing settings roads riders' v v.time own.t.stops.items) same (serves_chosen k.0 own));
+  }
+
+  -- a promise is planned again, not later
+  kept_in_plan : (n : ℕ) (p : Promise) → n < length b.riders → (request_at b.riders n).promise ≡ Some p → 1 ≤ times_chosen good.graph (good.holds point.Plan).chosen n
+  kept_in_plan n p low e =
+      let to : is_promised_to p.vehicle (request_at b.riders n) ≡ true = rw e (eq-eqb p.vehicle p.vehicle refl) in
+      let live = promise_is_live settings roads s stops b settled points times kept shows early limits table n p.vehicle low to in
+      let listed : Contains (promised_to (vehicle_at settled live.vehicle).id b.riders) n = filter_range_has (λ m. is_promised_to (vehicle_at settled live.vehicle).id (request_at b.riders m)) (length b.riders) n low live.promised in
+      let held : (vehicle_at settled live.vehicle).held.items ≡ promised_to (vehicle_at settled live.vehicle).id b.riders = holds live.vehicle live.live (limits.held live.vehicle live.within) listed in
+      let row = MatchBool-at_false (choice_at good.graph.held live.vehicle ≡ None) ((m : ℕ) × (choice_at good.graph.held live.vehicle ≡ Some m) × IsRowWith good.graph.rows live.vehicle (vehicle_at settled live.vehicle).held.items m)
+      (not_late settings roads s stops b settled points times kept shows early limits table live.vehicle live.within) (good.exact.hold.each live.vehicle live.within) in
+      let riders : riders_at good.graph row.0 ≡ promised_to (vehicle_at settled live.vehicle).id b.riders = row.2.trip ∙ held in
+      let at : get_or (promised_to (vehicle_at settled live.vehicle).id b.riders) listed.0 0 ≡ n = get_or_default (promised_to (vehicle_at settled live.vehicle).id b.riders) listed.0 0 n listed.1 ∙ listed.2 in
+      let has : has_node (riders_at good.graph row.0) n ≡ true =
+      subst (λ xs. has_node xs n ≡ true) (sym riders) (subst (λ m. has_node (promised_to (vehicle_at settled live.vehicle).id b.riders) m ≡ true) at (is_node_at (promised_to (vehicle_at settled live.vehicle).id b.riders) listed.0 listed.1)) in
+      let c = good.exact.vehicle_total in
+      let l = live.within in
+      let served = times_served_some good.graph good.graph.held good.graph.vehicles n live.vehicle (omega (arith, c, l)) (ap (λ o. is_in good.graph o n) row.1 ∙ has) in
+      let must : must_be_served good.graph n ≡ true = lt-ltb 0 _ (omega (arith, served)) in
+      let one : times_chosen good.graph (good.holds point.Plan).chosen n ≡ 1 = (good.holds point.Plan).holds.lawful.kept n must in
+      omega (arith, one)
+    where
+      holds : (k : ℕ) → IsLive settings (travel_time times) b.riders settled.riders (vehicle_at settled k) → HoldsPromised settings (travel_time times) b.riders settled.riders (vehicle_at settled k) → Contains (promised_to (vehicle_at settled k).id b.riders) n
+          → (vehicle_at settled k).held.items ≡ promised_to (vehicle_at settled k).id b.riders
+      holds k live (inl both) listed = both.1
+      holds k live (inr other) listed = absurd (other.0 (let l = listed.1 in omega (arith, l)) live)
+
+  pub closed_bounds : KeepsBounds s planned_state
+  closed_bounds z limit was = by was.of.status refl was.bound
+    where
+      find' : find_rider z riders' ≡ Some (after_plan b.riders (picks planned.chosen) was.of)
+      find' = find_planned z ∙ ap (option_map (after_plan b.riders (picks planned.chosen))) was.found
+
+      stays_same : is_active was.of.status ≡ false → IsBound planned_state z limit
+      stays_same off = record { of = was.of; found = find' ∙ ap Some (after_stays b.riders (picks planned.chosen) was.of off); bound = was.bound }
+
+      again : (p : Promise) → was.of.status ≡ Promised p → p.pickup ≤ limit → (n : ℕ) → (low : n < length b.riders) → (request_at b.riders n).id ≡ was.of.id → (request_at b.riders n).promise ≡ Some p
+          → IsPlaced' n → IsBound planned_state z limit
+      again p t le n low name promise (stays out) = absurd (
+          let one = kept_in_plan n p low promise in
+          let some = times_served_found good.graph (good.holds point.Plan).chosen good.graph.vehicles n one in
+          let c = good.exact.vehicle_total in
+          let l = some.1 in
+          let choice = in_choice good.graph (choice_at (good.holds point.Plan).chosen some.0) n some.2 in
+          out some.0 choice.0 (omega (arith, c, l)) choice.1 choice.2)
+      again p t le n low name promise (rides j other i l at) =
+          let id : (request_at b.riders (get_or (riders_at good.graph other.is.row) i 0)).id ≡ was.of.id = ap (λ m. (request_at b.riders m).id) at ∙ name in
+          let status = member_status j other i l in
+          let calls : calls_of (request_at b.riders (get_or (riders_at good.graph other.is.row) i 0)).id other.t.stops.items ≡ true ∷ false ∷ [] =
+          member_calls settings roads s stops b settled points times kept shows early limits table planned good j other.within other.x other.at other.t other.is i l in
+          let call = first_call (λ stop. (IsMemberPickup j other stop ⊎ ((stop.pick ≡ false) × IsRightDropoff roads settings.delay riders' other.x.id stop))
+          × (stop.rider ≡ (request_at b.riders (get_or (riders_at good.graph other.is.row) i 0)).id → stop.pick ≡ true → stop.second ≡ (member_promised j other i l).second))
+          (request_at b.riders (get_or (riders_at good.graph other.is.row) i 0)).id true (false ∷ []) other.t.stops.items calls
+          (both (λ stop. IsMemberPickup j other stop ⊎ ((stop.pick ≡ false) × IsRightDropoff roads settings.delay riders' other.x.id stop))
+          (λ (stop : PlannedStop). stop.rider ≡ (request_at b.riders (get_or (riders_at good.graph other.is.row) i 0)).id → stop.pick ≡ true → stop.second ≡ (member_promised j other i l).second)
+          other.t.stops.items (items_told j other) (member_promised j other i l).at) in
+          let second : call.0.second ≡ (member_promised j other i l).second = call.3.1 call.1 call.2 in
+          let low_limit : call.0.second ≤ (rider_at settled n).leg.latest_pickup = limit_of call.0 call.1 call.2 call.3.0 in
+          let keeps : (rider_at settled n).leg.latest_pickup ≤ p.pickup = by_promise (limits.limits n (let c = limits.rider_count in omega (arith, low, c))) in
+          record {
+            of = with_status (planned_status (picks planned.chosen) was.of.id) was.of;
+            found = find' ∙ ap Some (after_is b.riders (picks planned.chosen) was.of (ap is_active t) (promised_in_batch z was.of p was.found t));
+            bound = subst (IsBoundBy limit) (sym (ap (planned_status (picks planned.chosen)) (sym id) ∙ status)) (omega (arith, second, low_limit, keeps, le));
+          }
+        where
+          limit_of : (stop : PlannedStop) → stop.rider ≡ (request_at b.riders (get_or (riders_at good.graph other.is.row) i 0)).id → stop.pick ≡ true
+              → IsMemberPickup j other stop ⊎ ((stop.pick ≡ false) × IsRightDropoff roads settings.delay riders' other.x.id stop) → stop.second ≤ (rider_at settled n).leg.latest_pickup
+          limit_of stop rider pick (inr drop) = absurd (true≢false (sym pick ∙ drop.0))
+          limit_of stop rider pick (inl member) =
+              let trip = (trip_is settings roads s stops b settled points times kept shows early limits table planned good j other.is.row other.within other.is.chooses).0 in
+              let same : get_or (riders_at good.graph other.is.row) member.i 0 ≡ n =
+              other_id b.riders shows.rise (get_or (riders_at good.graph other.is.row) member.i 0) n (trip.within member.i 0 member.within) low (sym member.rider ∙ rider ∙ ap (λ m. (request_at b.riders m).id) at) in
+              subst (λ m. stop.second ≤ (rider_at settled m).leg.latest_pickup) same member.in_limit
+
+          by_promise : HasRightLimit settings (travel_time times) b.riders settled n → (rider_at settled n).leg.latest_pickup ≤ p.pickup
+          by_promise (inl live) =
+              let e = live.1 in
+              let f : promised_limit settings.wait (request_at b.riders n) ≡ min p.pickup ((request_at b.riders n).time + settings.wait) = rw promise refl in
+              omega (arith, e, f)
+          by_promise (inr lapsed) = absurd (lapsed.0 (promise_is_live settings roads s stops b settled points times kept shows early limits table n p.vehicle low (rw promise (eq-eqb p.vehicle p.vehicle refl))))
+
+      by : (t : Status) → was.of.status ≡ t → IsBoundBy limit t → IsBound planned_state z limit
+      by (Promised p) e le =
+          let n = number_in_batch was.of (promised_in_batch z was.of p was.found e) in
+          let there = shows.promised z was.of p was.found e in
+          let id : was.of.id ≡ z = found_id z s.riders was.of was.found in
+          let at : look_up (λ (r : Rider). r.id) (request_at b.riders n.0).id b.riders ≡ Some (request_at b.riders n.0) = look_up-at (λ (r : Rider). r.id) n.0 b.riders no_request (KeysDiffer-from_rise (λ (r : Rider). r.id) b.riders shows.rise) n.1 in
+          let at_z : look_up (λ (r : Rider). r.id) z b.riders ≡ Some (request_at b.riders n.0) = ap (λ z. look_up (λ (r : Rider). r.id) z b.riders) (sym (n.2 ∙ id)) ∙ at in
+          let is : request_at b.riders n.0 ≡ shown was.of (Some p) = cc in
+          again p e le n.0 n.1 n.2 (ap (λ (r : Rider). r.promise) is) (where_is n.0)
+      by (Aboard v) e le = stays_same (ap is_active e)
+      by Delivered e le = stays_same (ap is_active e)
+      by status e le = absurd le

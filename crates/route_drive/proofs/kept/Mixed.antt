@@ -1,7 +1,9 @@
 -- The entries of a round in one order: those of lane 0, with requests of any lanes between.
-use Rattle.std.proofs.Common.{◌≡◌, ◌⊎◌, ℕ, true, eqb, List, [], ◌∷◌, Option, Some, None, Result, Ok, Err, refl, sym, subst, inl, inr}
-use Rattle.route_drive.proofs.Common.{AllByRecursion, cases_eq, RepliesAreSteps, answered, step, submit, Command, Submit, Entry, BookRefusal, Accepted, Waiting, State, sealed_by, IsCloseOf, IsLaneRun, IsLaneRunFrom, of_lane}
+use Rattle.std.proofs.Common.{◌≡◌, ◌⊎◌, ℕ, true, eqb, List, [], ◌∷◌, Option, Some, None, refl, sym, subst, inl, inr}
+use Rattle.route_drive.proofs.Common.{AllByRecursion, cases_eq, RepliesAreSteps, step, Command, Submit, Entry, State, sealed_by, IsCloseOf, IsLaneRun, IsLaneRunFrom, of_lane}
 use Rattle.std.proofs.lemmas.Bool.{eq-eqb, ne_eqb}
+use Rattle.dispatch_engine.proofs.lemmas.LaneLemmas.{plain-quiet}
+use Rattle.dispatch_engine.specs.lemmas.Lanes.{IsPlain}
 use Rattle.route_drive.proofs.kept.Lists.{all_filtered, all_weaker, skips, takes}
 
 -- a request
@@ -42,8 +44,7 @@ own_first e es (Some batch) cs on run = inr (run.0, on None cs run.1)
 
 mix : (es : List Entry) (o : Option ℕ) (cs : List Command) → AllByRecursion IsAskedElsewhere es → IsLaneRunFrom o cs (of_lane 0 es) → IsMixed o cs es
 mix [] None [] all run = tt
-mix [] None (c ∷ cs) all run = absurd run
-mix [] (Some batch) cs all run = absurd run
+mix [] o cs all run = absurd run
 mix (e ∷ es) o cs all run = elim (cases_eq e.lane 0) [
   | inl here ↦ own_first e es o cs (λ o cs rest. mix es o cs all.1 rest) (subst (IsLaneRunFrom o cs) (takes (λ (x : Entry). eqb x.lane 0) e es (eq-eqb e.lane 0 here)) run)
   | inr other ↦ asked_first e es o cs (all.0 other) (mix es o cs all.1 (subst (IsLaneRunFrom o cs) (skips (λ (x : Entry). eqb x.lane 0) e es (ne_eqb e.lane 0 other)) run))
@@ -52,11 +53,10 @@ mix (e ∷ es) o cs all run = elim (cases_eq e.lane 0) [
 -- a lane of requests has entries of requests
 asked_run : (cs : List Command) (es : List Entry) → AllByRecursion IsRequest cs → AllByRecursion IsAskedOnly es → IsLaneRunFrom None cs es → AllByRecursion IsAsked es
 asked_run [] [] all only run = tt
-asked_run [] (e ∷ es) all only run = absurd run
-asked_run (c ∷ cs) [] all only run = absurd run
 asked_run (c ∷ cs) (e ∷ es) all only run =
     let is : IsRequest e.command = subst IsRequest (sym run.0) all.0 in
     (is, asked_run cs es all.1 only.1 (subst (λ o. IsLaneRunFrom o cs es) (only.0 is) run.1))
+asked_run cs es all only run = absurd run
 
 -- what holds of each other lane holds of the entries of other lanes
 pub of_others : (P : Entry → Type 0) (es : List Entry) → ((lane : ℕ) → (lane ≡ 0 → ⊥) → AllByRecursion P (of_lane lane es)) → AllByRecursion (λ (e : Entry). (e.lane ≡ 0 → ⊥) → P e) es
@@ -72,21 +72,15 @@ of_others P (e ∷ es) all = (λ other. first (all e.lane other), of_others P es
       | inr other ↦ subst (AllByRecursion P) (skips (λ (x : Entry). eqb x.lane lane) e es (ne_eqb e.lane lane other)) own
     ]
 
--- no request is answered with a batch
-asked_reply : (nodes : List ℕ) (wait : ℕ) (s : State) (c : Command) → IsRequest c → sealed_by (step nodes wait s c).1 ≡ None
-unfolding step
-asked_reply nodes wait s (Submit rider origin destination time party) is =
-    by (submit nodes s (record { id = rider; origin = origin; destination = destination; time = time; party = party; status = Waiting }))
-  where
-    by : (o : Result State BookRefusal) → sealed_by (answered s Accepted o).1 ≡ None
-    by (Ok next) = refl
-    by (Err refusal) = refl
-asked_reply nodes wait s command is = absurd is
+-- a request is neither a seal nor a close, and so isn't answered with a batch
+pub asked_plain : (c : Command) → IsRequest c → IsPlain c
+asked_plain (Submit rider origin destination time party) is = tt
+asked_plain command is = absurd is
 
 pub asked_only : (nodes : List ℕ) (wait : ℕ) (s : State) (es : List Entry) → RepliesAreSteps nodes wait s es → AllByRecursion IsAskedOnly es
 unfolding RepliesAreSteps
 asked_only nodes wait s [] replies = tt
-asked_only nodes wait s (e ∷ es) replies = (λ is. subst (λ r. sealed_by r ≡ None) (sym replies.0) (asked_reply nodes wait s e.command is), asked_only nodes wait (step nodes wait s e.command).0 es replies.1)
+asked_only nodes wait s (e ∷ es) replies = (λ is. subst (λ r. sealed_by r ≡ None) (sym replies.0) (plain-quiet nodes wait s e.command (asked_plain e.command is)).told, asked_only nodes wait (step nodes wait s e.command).0 es replies.1)
 
 -- entries whose lanes are runs of a round's lanes, where all other lanes than 0 have requests alone
 pub mixed : (nodes : List ℕ) (wait : ℕ) (s : State) (lanes : ℕ → List Command) (es : List Entry) → RepliesAreSteps nodes wait s es

@@ -100,51 +100,44 @@ module _ (riders passengers : List ℕ) (distinct : IsDistinct nat_eq riders) (d
 unfoldable pub alights_only : Stop → Bool
 alights_only stop = elim stop [ Pick k ↦ false | Drop k ↦ false | Alight k ↦ true ]
 
+-- a passenger's stop is one of these
+alights_own : (j : ℕ) (s : Stop) → is_of_passenger j s ≡ true → alights_only s ≡ true
+unfolding alights_only
+alights_own j (Alight k) e = refl
+alights_own j s e = absurd (false≢true e)
+
 pub passengers_order : (riders passengers : ℕ) (stops : List Stop) → IsOrder riders passengers stops → IsOrder 0 passengers (filter alights_only stops)
 unfolding alights_only
 passengers_order riders passengers stops order = record {
   rides = λ i h. absurd (omega arith);
-  alights = λ j h. filter_filter (is_of_passenger j) alights_only (own j) stops ∙ order.alights j h;
+  alights = λ j h. filter_filter (is_of_passenger j) alights_only (alights_own j) stops ∙ order.alights j h;
   known = all_weaker (λ s. IsKnown riders passengers s × (alights_only s ≡ true)) (IsKnown 0 passengers) (λ s h. still s h.0 h.1) (filter alights_only stops) (all_filtered (IsKnown riders passengers) alights_only stops order.known);
 }
   where
-    own : (j : ℕ) (s : Stop) → is_of_passenger j s ≡ true → alights_only s ≡ true
-    own j (Pick k) e = absurd (false≢true e)
-    own j (Drop k) e = absurd (false≢true e)
-    own j (Alight k) e = refl
-
     still : (s : Stop) → IsKnown riders passengers s → alights_only s ≡ true → IsKnown 0 passengers s
-    still (Pick k) h e = absurd (false≢true e)
-    still (Drop k) h e = absurd (false≢true e)
     still (Alight k) h e = h
+    still s h e = absurd (false≢true e)
 
 -- an order has two stops for each rider and one for each passenger
 pub order_length : (riders passengers : ℕ) (stops : List Stop) → IsOrder riders passengers stops → 2 * riders + passengers ≤ length stops
 unfolding alights_only
 order_length riders passengers stops order =
     let a : passengers * 1 ≤ length (filter alights_only stops) = many_apart is_of_passenger 1 one_passenger passengers (filter alights_only stops)
-    (λ j h. ap length (filter_filter (is_of_passenger j) alights_only (alights j) stops ∙ order.alights j h)) in
+    (λ j h. ap length (filter_filter (is_of_passenger j) alights_only (alights_own j) stops ∙ order.alights j h)) in
     let b : riders * 2 ≤ length (filter (λ s. not (alights_only s)) stops) = many_apart is_of_rider 2 one_rider riders (filter (λ s. not (alights_only s)) stops)
     (λ i h. ap length (filter_filter (is_of_rider i) (λ s. not (alights_only s)) (others i) stops ∙ order.rides i h)) in
     let whole : length (filter alights_only stops) + length (filter (λ s. not (alights_only s)) stops) ≡ length stops = length-filter_both alights_only (λ s. not (alights_only s)) (λ s. refl) stops in
     omega (arith, a, b, whole)
   where
     one_passenger : (i j : ℕ) (s : Stop) → is_of_passenger i s ≡ true → is_of_passenger j s ≡ true → i ≡ j
-    one_passenger i j (Pick k) e f = absurd (false≢true e)
-    one_passenger i j (Drop k) e f = absurd (false≢true e)
     one_passenger i j (Alight k) e f = sym (eqb-true k i e) ∙ eqb-true k j f
+    one_passenger i j s e f = absurd (false≢true e)
 
     one_rider : (i j : ℕ) (s : Stop) → is_of_rider i s ≡ true → is_of_rider j s ≡ true → i ≡ j
     one_rider i j (Pick k) e f = sym (eqb-true k i e) ∙ eqb-true k j f
     one_rider i j (Drop k) e f = sym (eqb-true k i e) ∙ eqb-true k j f
     one_rider i j (Alight k) e f = absurd (false≢true e)
 
-    alights : (j : ℕ) (s : Stop) → is_of_passenger j s ≡ true → alights_only s ≡ true
-    alights j (Pick k) e = absurd (false≢true e)
-    alights j (Drop k) e = absurd (false≢true e)
-    alights j (Alight k) e = refl
-
     others : (i : ℕ) (s : Stop) → is_of_rider i s ≡ true → not (alights_only s) ≡ true
-    others i (Pick k) e = refl
-    others i (Drop k) e = refl
     others i (Alight k) e = absurd (false≢true e)
+    others i s e = refl

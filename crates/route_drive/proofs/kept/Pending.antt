@@ -2,11 +2,12 @@
 use Rattle.std.proofs.Common.{◌≡◌, ◌⊎◌, ℕ, ◌+◌, ◌<◌, ◌≤◌, true, false, cond, leb, ltb, List, [], ◌∷◌, ◌++◌, map, Option, Some, refl, sym, ap, ◌∙◌, subst, arith, inl, inr}
 use Rattle.route_drive.proofs.Common.{AllByRecursion, cases_Bool, cases_lt, lt-leb, Vehicle, IsNode, find_rider, find_vehicle, step, Command, Report, PlannedStop, Reply, Placed, Picked, Dropped, BookRider, State, All-look_up, Settings, Roads, IsNetwork, has_node, NodeAt, IsReported, due, goal_of, standing_after, stop_command, to_come, AreReached, IsRightStop, IsServing, IsDayState, IsDone}
 use Rattle.std.proofs.lemmas.Bool.{lt-ltb, le-ltb, le-leb}
-use Rattle.route_drive.proofs.kept.Lists.{takes, skips, all_weaker, both}
+use Rattle.route_drive.proofs.kept.Lists.{takes, skips, all_weaker}
 use Rattle.route_drive.proofs.kept.Enter.{picked_up_right, dropped_right}
 use Rattle.route_drive.proofs.kept.Keeping.{OneKeeps, report_one, stop_one}
-use Rattle.route_drive.proofs.kept.States.{vehicle_id}
-use Rattle.route_drive.proofs.kept.Laws.{stops_are_answered, reports_are_served}
+use Rattle.route_drive.proofs.kept.States.{report_done, vehicle_id}
+use Rattle.route_drive.proofs.kept.Laws.{stops_are_answered}
+use Rattle.route_drive.proofs.kept.Reported.{reported_there}
 
 -- what is to be entered of a vehicle: its stops that are due, and then its report; or nothing more
 pub data IsPending (settings : Settings) (roads : Roads) (now : ℕ) (riders : List BookRider) (v : Vehicle) (target : Option ℕ) (commands : List Command) (left : List PlannedStop) : Type 0 where
@@ -40,6 +41,58 @@ first_due now stop stops le = (
   skips (λ (stop : PlannedStop). ltb now stop.second) stop stops (le-ltb now stop.second le),
 )
 
+-- the stops of a vehicle that are still to be entered, once no report follows them
+pub record IsRunning (settings : Settings) (roads : Roads) (riders : List BookRider) (v : Vehicle) (commands : List Command) : Type 0 where
+  pub free : ℕ
+  pub stops : List PlannedStop
+  pub early : v.time ≤ free
+  pub serves : IsServing settings roads riders v free stops
+  pub told : commands ≡ map (stop_command v.id) stops
+
+-- the first of a vehicle's commands is answered, and leaves this of its riders and of the vehicle
+pub record IsEnteredOne (settings : Settings) (roads : Roads) (s : State) (v : Vehicle) (command : Command) (P : List BookRider → Vehicle → Type 0) : Type 0 where
+  pub reply : Reply
+  pub node : ℕ
+  pub time : ℕ
+  pub free : ℕ
+  pub stops : List PlannedStop
+  pub done : IsDone settings roads s command reply v.id node time free stops
+  pub keeps : OneKeeps settings roads s command (step roads.nodes settings.wait s command).1
+  pub pending : P done.t.riders done.own.v
+
+-- the next stop of a vehicle is
+stop_next : (settings : Settings) (roads : Roads) (s : State) → IsDayState roads s → (v : Vehicle) (free : ℕ) (stop : PlannedStop) (stops : List PlannedStop) (command : Command) (P : List BookRider → Vehicle → Type 0)
+    → find_vehicle v.id s.vehicles ≡ Some v → v.time ≤ free → IsServing settings roads s.riders v free (stop ∷ stops) → stop_command v.id stop ≡ command
+    → ((riders : List BookRider) (u : Vehicle) → u.id ≡ v.id → u.node ≡ stop.node → u.time ≡ stop.second → IsServing settings roads riders u (stop.second + settings.dwell) stops → P riders u)
+    → IsEnteredOne settings roads s v command P
+stop_next settings roads s day v free stop stops command P at early serves is then =
+    let done = stops_are_answered settings roads s v free stop stops day at early serves in
+    subst (λ command. IsEnteredOne settings roads s v command P) is (record {
+      reply = cond stop.pick Picked Dropped;
+      node = stop.node;
+      time = stop.second;
+      free = stop.second + settings.dwell;
+      stops = stops;
+      done = done;
+      keeps = stop_one settings roads s v.id v.id stop.node stop.second (stop.second + settings.dwell) stop stops day serves.right.0 done;
+      pending = then done.t.riders done.own.v (vehicle_id v.id done.t.vehicles done.own.v done.own.at) done.own.there done.own.by done.own.serves;
+    })
+
+pub run_next : (settings : Settings) (roads : Roads) (s : State) → IsDayState roads s → (v : Vehicle) (free : ℕ) (stops : List PlannedStop) (command : Command) (commands : List Command)
+    → find_vehicle v.id s.vehicles ≡ Some v → v.time ≤ free → IsServing settings roads s.riders v free stops → command ∷ commands ≡ map (stop_command v.id) stops
+    → IsEnteredOne settings roads s v command (λ riders u. IsRunning settings roads riders u commands)
+run_next settings roads s day v free [] command commands at early serves told = absurd cc
+run_next settings roads s day v free (stop ∷ stops) command commands at early serves told =
+    let one : stop_command v.id stop ≡ command = cc in
+    let rest : commands ≡ map (stop_command v.id) stops = cc in
+    stop_next settings roads s day v free stop stops command (λ riders u. IsRunning settings roads riders u commands) at early serves one (λ riders u id node time on. record {
+      free = stop.second + settings.dwell;
+      stops = stops;
+      early = omega (arith, time);
+      serves = on;
+      told = rest ∙ ap (λ n. map (stop_command n) stops) (sym id);
+    })
+
 module _ (settings : Settings) (roads : Roads) (net : IsNetwork roads) (now : ℕ) (s : State) (day : IsDayState roads s) where
   -- the stops of a vehicle are nodes of the network
   stops_named : (v : ℕ) (stops : List PlannedStop) → AllByRecursion (IsRightStop settings roads s.riders v) stops → AllByRecursion (λ (stop : PlannedStop). has_node roads.nodes stop.node ≡ true) stops
@@ -52,37 +105,24 @@ module _ (settings : Settings) (roads : Roads) (net : IsNetwork roads) (now : �
       by stop own (inl pick) = let right = picked_up_right settings roads s.riders v stop pick own in subst (λ n. has_node roads.nodes n ≡ true) (sym right.node) (named stop.rider right.rider right.found).0
       by stop own (inr drop) = let right = dropped_right settings roads s.riders v stop drop own in subst (λ n. has_node roads.nodes n ≡ true) (sym right.node) (named stop.rider right.rider right.found).1
 
-  -- the first of a vehicle's commands is answered, and leaves the others to be entered
-  pub record IsEnteredOne (v : Vehicle) (target : Option ℕ) (command : Command) (commands : List Command) (left : List PlannedStop) : Type 0 where
-    pub reply : Reply
-    pub node : ℕ
-    pub time : ℕ
-    pub free : ℕ
-    pub stops : List PlannedStop
-    pub done : IsDone settings roads s command reply v.id node time free stops
-    pub keeps : OneKeeps settings roads s command (step roads.nodes settings.wait s command).1
-    pub pending : IsPending settings roads now done.t.riders done.own.v target commands left
-
   report_next : (v : Vehicle) (free : ℕ) (target : Option ℕ) (stops : List PlannedStop) (there : NodeAt) (command : Command) (commands : List Command) (left : List PlannedStop)
       → find_vehicle v.id s.vehicles ≡ Some v → v.time ≤ free → IsServing settings roads s.riders v free stops → AllByRecursion (λ stop. now < stop.second) stops
       → IsReported roads now (standing_after settings.dwell (record { node = v.node; second = v.time; free = free }) (due now stops)) (goal_of target (to_come now stops)) there
       → command ∷ commands ≡ map (stop_command v.id) (due now stops) ++ Report v.id there.node there.second ∷ [] → left ≡ to_come now stops
-      → IsEnteredOne v target command commands left
+      → IsEnteredOne settings roads s v command (λ riders u. IsPending settings roads now riders u target commands left)
   report_next v free target stops there command commands left at early serves later reported told left_is =
       let none = none_due now stops later in
       let here : has_node roads.nodes v.node ≡ true = All-look_up (λ (v : Vehicle). v.id) (λ (v : Vehicle). IsNode roads.nodes v.node) v.id s.vehicles v day.named.vehicles at in
-      let is : IsReported roads now (record { node = v.node; second = v.time; free = free }) (goal_of target stops) there =
-      subst (λ ss. IsReported roads now (record { node = v.node; second = v.time; free = free }) (goal_of target ss) there) none.1
-      (subst (λ ds. IsReported roads now (standing_after settings.dwell (record { node = v.node; second = v.time; free = free }) ds) (goal_of target (to_come now stops)) there) none.0 reported) in
-      let served = reports_are_served settings roads s v free now target stops there net day at here early
-      (both (λ (stop : PlannedStop). has_node roads.nodes stop.node ≡ true) (λ stop. now < stop.second) stops (stops_named v.id stops serves.right) later) serves is in
-      let done = served.1 in
+      let is = reported_there roads net settings.dwell now (record { node = v.node; second = v.time; free = free }) here early target there stops (stops_named v.id stops serves.right) later serves.reached
+      (subst (λ ss. IsReported roads now (record { node = v.node; second = v.time; free = free }) (goal_of target ss) there) none.1
+      (subst (λ ds. IsReported roads now (standing_after settings.dwell (record { node = v.node; second = v.time; free = free }) ds) (goal_of target (to_come now stops)) there) none.0 reported)) in
+      let done = report_done settings roads s day v at free there.node there.second stops is.named is.later serves is.reached in
       let line : command ∷ commands ≡ Report v.id there.node there.second ∷ [] = told ∙ ap (λ ds. map (stop_command v.id) ds ++ Report v.id there.node there.second ∷ []) none.0 in
       let one : Report v.id there.node there.second ≡ command = cc in
       let rest : commands ≡ [] = cc in
       let by : done.own.v.time ≡ there.second = done.own.by in
       let same : stops ≡ left = sym (left_is ∙ none.1) in
-      subst (λ command. IsEnteredOne v target command commands left) one (record {
+      subst (λ command. IsEnteredOne settings roads s v command (λ riders u. IsPending settings roads now riders u target commands left)) one (record {
         reply = Placed;
         node = there.node;
         time = there.second;
@@ -90,38 +130,26 @@ module _ (settings : Settings) (roads : Roads) (net : IsNetwork roads) (now : �
         stops = stops;
         done = done;
         keeps = report_one settings roads s v.id there.node there.second v.id there.node there.second there.second stops day done;
-        pending = subst (IsPending settings roads now done.t.riders done.own.v target commands) same (IsPending.over (let h = served.0 in omega (arith, h, by)) (subst (λ f. IsServing settings roads done.t.riders done.own.v f stops) (sym by) done.own.serves) later rest);
+        pending = subst (IsPending settings roads now done.t.riders done.own.v target commands) same (IsPending.over (let h = is.by in omega (arith, h, by)) (subst (λ f. IsServing settings roads done.t.riders done.own.v f stops) (sym by) done.own.serves) later rest);
       })
 
   pub entered_next : (v : Vehicle) (target : Option ℕ) (command : Command) (commands : List Command) (left : List PlannedStop) → find_vehicle v.id s.vehicles ≡ Some v
-      → IsPending settings roads now s.riders v target (command ∷ commands) left → IsEnteredOne v target command commands left
+      → IsPending settings roads now s.riders v target (command ∷ commands) left → IsEnteredOne settings roads s v command (λ riders u. IsPending settings roads now riders u target commands left)
   entered_next v target command commands left at (IsPending.over by serves later none) = absurd cc
   entered_next v target command commands left at (IsPending.waits free [] there early serves reported told left_is) = report_next v free target [] there command commands left at early serves tt reported told left_is
   entered_next v target command commands left at (IsPending.waits free (stop ∷ stops) there early serves reported told left_is) = elim (cases_lt now stop.second) [
     | inl late ↦ report_next v free target (stop ∷ stops) there command commands left at early serves (later_from roads settings.dwell now v.node free stop stops late serves.reached) reported told left_is
     | inr le ↦
         let first = first_due now stop stops le in
-        let done = stops_are_answered settings roads s v free stop stops day at early serves in
         let line : command ∷ commands ≡ stop_command v.id stop ∷ (map (stop_command v.id) (due now stops) ++ Report v.id there.node there.second ∷ []) = told ∙ ap (λ ds. map (stop_command v.id) ds ++ Report v.id there.node there.second ∷ []) first.0 in
         let one : stop_command v.id stop ≡ command = cc in
         let rest : commands ≡ map (stop_command v.id) (due now stops) ++ Report v.id there.node there.second ∷ [] = cc in
         let is : IsReported roads now (standing_after settings.dwell (record { node = stop.node; second = stop.second; free = stop.second + settings.dwell }) (due now stops)) (goal_of target (to_come now stops)) there =
         subst (λ ss. IsReported roads now (standing_after settings.dwell (record { node = stop.node; second = stop.second; free = stop.second + settings.dwell }) (due now stops)) (goal_of target ss) there) first.1
         (subst (λ ds. IsReported roads now (standing_after settings.dwell (record { node = v.node; second = v.time; free = free }) ds) (goal_of target (to_come now (stop ∷ stops))) there) first.0 reported) in
-        let there_is : IsReported roads now (standing_after settings.dwell (record { node = done.own.v.node; second = done.own.v.time; free = stop.second + settings.dwell }) (due now stops)) (goal_of target (to_come now stops)) there =
-        subst (λ n. IsReported roads now (standing_after settings.dwell (record { node = n; second = done.own.v.time; free = stop.second + settings.dwell }) (due now stops)) (goal_of target (to_come now stops)) there) (sym done.own.there)
-        (subst (λ t. IsReported roads now (standing_after settings.dwell (record { node = stop.node; second = t; free = stop.second + settings.dwell }) (due now stops)) (goal_of target (to_come now stops)) there) (sym done.own.by) is) in
-        let by : done.own.v.time ≡ stop.second = done.own.by in
-        let id : done.own.v.id ≡ v.id = vehicle_id v.id done.t.vehicles done.own.v done.own.at in
-        subst (λ command. IsEnteredOne v target command commands left) one (record {
-          reply = cond stop.pick Picked Dropped;
-          node = stop.node;
-          time = stop.second;
-          free = stop.second + settings.dwell;
-          stops = stops;
-          done = done;
-          keeps = stop_one settings roads s v.id v.id stop.node stop.second (stop.second + settings.dwell) stop stops day serves.right.0 done;
-          pending = IsPending.waits (stop.second + settings.dwell) stops there (omega (arith, by)) done.own.serves there_is
-              (rest ∙ ap (λ n. map (stop_command n) (due now stops) ++ Report n there.node there.second ∷ []) (sym id)) (left_is ∙ first.1);
-        })
+        stop_next settings roads s day v free stop stops command (λ riders u. IsPending settings roads now riders u target commands left) at early serves one (λ riders u id node time on.
+        IsPending.waits (stop.second + settings.dwell) stops there (omega (arith, time)) on
+        (subst (λ n. IsReported roads now (standing_after settings.dwell (record { node = n; second = u.time; free = stop.second + settings.dwell }) (due now stops)) (goal_of target (to_come now stops)) there) (sym node)
+        (subst (λ t. IsReported roads now (standing_after settings.dwell (record { node = stop.node; second = t; free = stop.second + settings.dwell }) (due now stops)) (goal_of target (to_come now stops)) there) (sym time) is))
+        (rest ∙ ap (λ n. map (stop_command n) (due now stops) ++ Report n there.node there.second ∷ []) (sym id)) (left_is ∙ first.1))
   ]

@@ -1,22 +1,23 @@
 -- A driven day keeps its promises.
-use Rattle.std.proofs.Common.{◌≡◌, ℕ, Bool, true, false, cond, eqb, List, [], ◌∷◌, ◌++◌, map, None, refl, sym, ap, ◌∙◌, subst, All}
-use Rattle.route_drive.proofs.Common.{length-map, Vehicle, BookView, IsBook, opening, IsNode, RepliesAreSteps, state_after, Entry, Journal, State, rounds-join, Settings, Roads, IsNetwork, IsRound, NumberedLanes, empty_round, IsRun, Course, DayRound, entries_of, day_fault, HasDrivenToTheEnd, IsDrivenDay, IsNewBook, IsPrecededBy, courses_from, first_courses, number_after, at_rest, left_commands, course_of, DaysKeep, EntriesKeep, IsDayState, IsKept, IsServing}
+use Rattle.std.proofs.Common.{◌≡◌, ℕ, eqb, List, [], ◌∷◌, ◌++◌, map, None, refl, sym, ap, ◌∙◌, subst, All}
+use Rattle.route_drive.proofs.Common.{length-map, Vehicle, BookView, IsBook, opening, IsNode, RepliesAreSteps, state_after, Entry, Journal, State, rounds-join, Settings, Roads, IsNetwork, IsRound, NumberedLanes, empty_round, IsRun, Course, DayRound, entries_of, day_fault, HasDrivenToTheEnd, IsDrivenDay, IsNewBook, IsPrecededBy, courses_from, first_courses, number_after, at_rest, left_commands, course_of, DaysKeep, EntriesKeep, IsKept, IsServing, AllByRecursion, lane_at, ClosesAreGood, HasSeats}
 use Rattle.batch_snapshot.specs.Kept.{IsFleet}
 use Rattle.route_drive.proofs.kept.DayRounds.{AreDayRounds, are_day_rounds}
-use Rattle.route_drive.proofs.kept.Days.{AreOver, IsOnDay, rounds_over}
-use Rattle.route_drive.proofs.kept.Journals.{entries_in, entries_last, entries_made, journals_last}
+use Rattle.route_drive.proofs.kept.Days.{AreOver, IsOnDay, entries_in, rounds_over}
 use Rattle.route_drive.proofs.kept.Keeping.{all_append, entries_keep}
 use Rattle.route_drive.proofs.kept.Laws.{opening_is_kept}
-use Rattle.route_drive.proofs.kept.Left.{AreDone, last_round}
+use Rattle.route_drive.proofs.kept.Mixed.{IsMixed, IsRequest, mixed}
+use Rattle.route_drive.proofs.kept.Rounds.{Ends, last_round}
+use Rattle.route_drive.proofs.DriveLemmas.{nothing_at}
+use Rattle.route_drive.proofs.EntryLemmas.{entries_of-push}
+use Rattle.std.proofs.lemmas.Bool.{cond_both}
+use Rattle.std.proofs.lemmas.List.{append-nil, map_push}
+use Rattle.std.proofs.lemmas.List.Folds.{flat_map-map}
 
 -- at first nothing is on its way
 at_rest_all : (vehicles : List Vehicle) (id : ℕ) → course_of vehicles (map (λ v. at_rest) vehicles) id ≡ at_rest
 at_rest_all [] id = refl
-at_rest_all (v ∷ vehicles) id = by (eqb v.id id) (at_rest_all vehicles id)
-  where
-    by : (b : Bool) → course_of vehicles (map (λ v. at_rest) vehicles) id ≡ at_rest → cond b at_rest (course_of vehicles (map (λ v. at_rest) vehicles) id) ≡ at_rest
-    by true e = refl
-    by false e = e
+at_rest_all (v ∷ vehicles) id = cond_both (eqb v.id id) at_rest (course_of vehicles (map (λ v. at_rest) vehicles) id) (λ c. c ≡ at_rest) (λ e. refl) (λ e. at_rest_all vehicles id)
 
 module _ (settings : Settings) (roads : Roads) (net : IsNetwork roads) (vehicles : List Vehicle) (fleet : IsFleet vehicles) (named : All (λ v. IsNode roads.nodes v.node) vehicles) where
   first_day : IsOnDay settings roads (opening vehicles) (first_courses settings roads (opening vehicles)) 0
@@ -36,25 +37,29 @@ module _ (settings : Settings) (roads : Roads) (net : IsNetwork roads) (vehicles
   to_the_end : (rounds : List NumberedLanes) (made : List DayRound) → All IsRound rounds → day_fault rounds ≡ None → HasDrivenToTheEnd settings roads (opening vehicles) rounds made → EntriesKeep settings roads (opening vehicles) (entries_of made)
   to_the_end rounds made whole day driven =
       let days : AreDayRounds 0 rounds = are_day_rounds rounds whole day in
-      let s : State = opening vehicles in
       let js : List Journal = map (λ (r : DayRound). r.journal) driven.first in
       let courses : List Course = courses_from settings roads (opening vehicles) rounds driven.first in
       let es : List Entry = driven.last.journal.entries in
-      let split : map (λ (r : DayRound). r.journal) made ≡ map (λ (r : DayRound). r.journal) driven.first ++ driven.last.journal ∷ [] = ap (map (λ (r : DayRound). r.journal)) driven.parts ∙ journals_last driven.first driven.last in
+      let split : map (λ (r : DayRound). r.journal) made ≡ map (λ (r : DayRound). r.journal) driven.first ++ driven.last.journal ∷ [] = ap (map (λ (r : DayRound). r.journal)) driven.parts ∙ map_push (λ (r : DayRound). r.journal) driven.first driven.last in
       let over : AreOver settings roads (opening vehicles) (first_courses settings roads (opening vehicles)) rounds (map (λ (r : DayRound). r.journal) driven.first) driven.end driven.last.journal =
       rounds_over settings roads rounds driven.script (map (λ (r : DayRound). r.journal) driven.first) driven.end driven.last.journal (opening vehicles) 0 0 (first_courses settings roads (opening vehicles)) net first_day days driven.driven
       (subst (IsRun settings roads (opening vehicles) 0 (driven.script ++ driven.end ∷ [])) split driven.run) in
       let t : State = state_after roads.nodes settings.wait (opening vehicles) (entries_in js) in
-      let done : AreDone settings roads t es =
-      last_round settings roads t courses (number_after rounds) driven.end driven.last.journal over.on.kept
-      (subst (λ (t : State). IsPrecededBy (left_commands t.vehicles courses) (empty_round (number_after rounds)) driven.end) over.base driven.left)
-      (subst (λ (t : State). RepliesAreSteps roads.nodes settings.wait t es) over.base over.run.replies) over.run.lanes in
-      let those : entries_of made ≡ entries_in js ++ es =
-      ap entries_of driven.parts ∙ entries_last driven.first driven.last ∙ ap (λ l. l ++ es) (entries_made driven.first) in
-      let end : IsDayState roads (state_after roads.nodes settings.wait (opening vehicles) (entries_in js ++ es)) =
-      subst (IsDayState roads) (sym (rounds-join roads.nodes settings.wait (opening vehicles) (entries_in js) es)) done.state in
+      let number : ℕ = number_after rounds in
+      let preceded : IsPrecededBy (left_commands t.vehicles courses) (empty_round (number_after rounds)) driven.end =
+      subst (λ (t : State). IsPrecededBy (left_commands t.vehicles courses) (empty_round (number_after rounds)) driven.end) over.base driven.left in
+      let replies : RepliesAreSteps roads.nodes settings.wait t es = subst (λ (t : State). RepliesAreSteps roads.nodes settings.wait t es) over.base over.run.replies in
+      let own : lane_at driven.end 0 ≡ left_commands t.vehicles courses = preceded.first ∙ ap (λ l. left_commands t.vehicles courses ++ l) (nothing_at number 0) ∙ append-nil (left_commands t.vehicles courses) in
+      let ends : Ends settings roads t es (λ id. []) t.last_seal =
+      last_round settings roads t courses es over.on.kept over.on.each over.on.closed
+      (subst (λ cs. IsMixed None cs es) own (mixed roads.nodes settings.wait t (lane_at driven.end) es replies
+      (λ lane other. subst (AllByRecursion IsRequest) (sym (preceded.others lane other ∙ nothing_at number lane)) tt) over.run.lanes))
+      replies (subst (λ (t : State). ClosesAreGood settings roads t es) over.base over.run.closes) in
+      let those : entries_of made ≡ entries_in js ++ es = ap entries_of driven.parts ∙ entries_of-push driven.first driven.last ∙ ap (λ l. l ++ es) (sym (flat_map-map (λ (j : Journal). j.entries) (λ (r : DayRound). r.journal) driven.first)) in
+      let seats : All HasSeats (state_after roads.nodes settings.wait (opening vehicles) (entries_in js ++ es)).vehicles =
+      subst (λ (t : State). All HasSeats t.vehicles) (sym (rounds-join roads.nodes settings.wait (opening vehicles) (entries_in js) es)) ends.kept.state.consistent.seats in
       subst (EntriesKeep settings roads (opening vehicles)) (sym those)
-      (entries_keep settings roads (entries_in js ++ es) (opening vehicles) (all_append settings roads (entries_in js) es (opening vehicles) over.all done.all) end.consistent.seats)
+      (entries_keep settings roads (entries_in js ++ es) (opening vehicles) (all_append settings roads (entries_in js) es (opening vehicles) over.all ends.all) seats)
 
   -- a day without a round
   no_round : (made : List DayRound) → made ≡ [] → EntriesKeep settings roads (opening vehicles) (entries_of made)

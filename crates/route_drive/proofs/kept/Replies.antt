@@ -1,82 +1,45 @@
 -- How the book answers what is entered on a driven day.
-use Rattle.std.proofs.Common.{◌≡◌, ◌⊎◌, ℕ, ◌+◌, ◌≤◌, true, List, [], ◌∷◌, ◌++◌, Option, Some, None, refl, ap, ◌∙◌, inl, inr}
-use Rattle.route_drive.proofs.Common.{Batch, persons_aboard, Promise, Vehicle, one_more, after_answer, closed_state, first_of, duplicate_rider, unknown_node, unknown_rider, is_aboard, has_ended, unknown_vehicle, time_back, not_promised, vehicle_full, not_aboard, batch_open, clock_back, not_this_batch, sealed_state, find_rider, find_vehicle, step, rider_becomes, vehicle_becomes, stands_at, takes_in, lets_out, answer, submit_step, submit_refusal, report_step, pickup_step, dropoff_step, seal_step, close_step, table_step, by-table, Submit, Report, Pickup, Dropoff, Seal, Close, BookRefusal, Reply, Accepted, Placed, Picked, Dropped, Sealed, Closed, BookRider, Waiting, Promised, Aboard, Delivered, State, has_node}
+use Rattle.std.proofs.Common.{◌≡◌, ◌⊎◌, ℕ, ◌+◌, ◌≤◌, true, List, [], ◌∷◌, ◌++◌, Option, Some, None, refl, ap, inl, inr}
+use Rattle.route_drive.proofs.Common.{Batch, persons_aboard, Promise, Vehicle, one_more, after_answer, closed_state, first_of, duplicate_rider, batch_open, clock_back, sealed_state, find_rider, find_vehicle, step, rider_becomes, vehicle_becomes, stands_at, takes_in, lets_out, answer, submit_step, submit_refusal, report_step, pickup_step, dropoff_step, seal_step, close_step, table_step, by-table, Submit, Report, Pickup, Dropoff, Seal, Close, BookRefusal, Accepted, Placed, Picked, Dropped, Sealed, Closed, BookRider, Waiting, Promised, Aboard, Delivered, State, has_node}
 use Rattle.std.proofs.lemmas.Bool.{eq-eqb, le-ltb, le-leb}
 use Rattle.request_book.specs.declared.outcome.Outcome.{Outcome}
-use Rattle.request_book.proofs.lemmas.StepLemmas.{first_of-none, closed-some}
+use Rattle.request_book.proofs.lemmas.StepLemmas.{first_of-none}
 
--- nothing speaks against a pickup, a drop-off, a report
-pickup_free : (v : Vehicle) (r : BookRider) (promise : Promise) (vehicle time : ℕ) → r.status ≡ Promised promise → promise.vehicle ≡ vehicle → v.time ≤ time → persons_aboard v + r.party ≤ v.seats
-    → first_of (unknown_vehicle (Some v) ∷ unknown_rider (Some r) ∷ is_aboard (Some r) ∷ has_ended (Some r) ∷ not_promised (Some r) vehicle ∷ time_back (Some v) time ∷ vehicle_full (Some v) (Some r) ∷ []) ≡ None
-unfolding first_of
-pickup_free v r promise vehicle time status own back fits =
-    rw (status, eq-eqb promise.vehicle vehicle own, le-ltb time v.time back, le-leb (persons_aboard v + r.party) v.seats fits) refl
-
-dropoff_free : (v : Vehicle) (r : BookRider) (vehicle time : ℕ) → r.status ≡ Aboard vehicle → v.time ≤ time
-    → first_of (unknown_vehicle (Some v) ∷ unknown_rider (Some r) ∷ not_aboard (Some r) vehicle ∷ time_back (Some v) time ∷ []) ≡ None
-unfolding first_of
-dropoff_free v r vehicle time status back = rw (status, eq-eqb vehicle vehicle refl, le-ltb time v.time back) refl
-
-report_free : (nodes : List ℕ) (v : Vehicle) (node time : ℕ) → has_node nodes node ≡ true → v.time ≤ time
-    → first_of (unknown_vehicle (Some v) ∷ unknown_node nodes node ∷ time_back (Some v) time ∷ []) ≡ None
-unfolding first_of
-report_free nodes v node time named back = rw (named, le-ltb time v.time back) refl
-
-close_free : (o : Option Batch) (b : Batch) → o ≡ Some b → first_of (not_this_batch o b.number ∷ []) ≡ None
-unfolding first_of
-close_free o b e = rw (e, eq-eqb b.number b.number refl) refl
-
+-- nothing speaks against a seal
 seal_free : (sealed : Option Batch) (last : Option ℕ) (now : ℕ) → sealed ≡ None → ((l : ℕ) → last ≡ Some l → l ≤ now) → first_of (batch_open sealed ∷ clock_back last now ∷ []) ≡ None
 unfolding first_of
 seal_free sealed None now closed later = rw closed refl
 seal_free sealed (Some last) now closed later = rw (closed, le-ltb now last (later last refl)) refl
 
--- the answer where nothing speaks against it
-answered : (s : State) (o : Option BookRefusal) (reply : Reply) (next : State) → o ≡ None → answer s o reply next ≡ (next, reply)
-answered s o reply next none = ap (λ p. answer s p reply next) none
-
 module _ (nodes : List ℕ) (wait : ℕ) (s : State) where
-  table-pickup_is : (vehicle rider time : ℕ) (v : Vehicle) (r : BookRider) (promise : Promise) → find_vehicle vehicle s.vehicles ≡ Some v → find_rider rider s.riders ≡ Some r
-      → r.status ≡ Promised promise → promise.vehicle ≡ vehicle → v.time ≤ time → persons_aboard v + r.party ≤ v.seats
-      → table_step nodes wait s (Pickup vehicle rider time) ≡ (vehicle_becomes (rider_becomes s r.id (Aboard vehicle)) vehicle (takes_in r time), Picked)
-  unfolding table_step pickup_step
-  table-pickup_is vehicle rider time v r promise at found status own back fits =
-      rw (at, found) (answered s _ Picked (vehicle_becomes (rider_becomes s r.id (Aboard vehicle)) vehicle (takes_in r time)) (pickup_free v r promise vehicle time status own back fits))
-
   pub pickup_is : (vehicle rider time : ℕ) (v : Vehicle) (r : BookRider) (promise : Promise) → find_vehicle vehicle s.vehicles ≡ Some v → find_rider rider s.riders ≡ Some r
       → r.status ≡ Promised promise → promise.vehicle ≡ vehicle → v.time ≤ time → persons_aboard v + r.party ≤ v.seats
       → step nodes wait s (Pickup vehicle rider time) ≡ (vehicle_becomes (rider_becomes s r.id (Aboard vehicle)) vehicle (takes_in r time), Picked)
-  pickup_is vehicle rider time v r promise at found status own back fits = by-table (λ p. p ≡ (vehicle_becomes (rider_becomes s r.id (Aboard vehicle)) vehicle (takes_in r time), Picked)) nodes wait s (Pickup vehicle rider time) (table-pickup_is vehicle rider time v r promise at found status own back fits)
-
-  table-dropoff_is : (vehicle rider time : ℕ) (v : Vehicle) (r : BookRider) → find_vehicle vehicle s.vehicles ≡ Some v → find_rider rider s.riders ≡ Some r
-      → r.status ≡ Aboard vehicle → v.time ≤ time
-      → table_step nodes wait s (Dropoff vehicle rider time) ≡ (vehicle_becomes (rider_becomes s r.id Delivered) vehicle (lets_out r time), Dropped)
-  unfolding table_step dropoff_step
-  table-dropoff_is vehicle rider time v r at found status back =
-      rw (at, found) (answered s _ Dropped (vehicle_becomes (rider_becomes s r.id Delivered) vehicle (lets_out r time)) (dropoff_free v r vehicle time status back))
+  unfolding table_step pickup_step first_of
+  pickup_is vehicle rider time v r promise at found status own back fits = by-table (λ p. p ≡ (vehicle_becomes (rider_becomes s r.id (Aboard vehicle)) vehicle (takes_in r time), Picked)) nodes wait s (Pickup vehicle rider time)
+      (rw (at, found, status, eq-eqb promise.vehicle vehicle own, le-ltb time v.time back, le-leb (persons_aboard v + r.party) v.seats fits) refl)
 
   pub dropoff_is : (vehicle rider time : ℕ) (v : Vehicle) (r : BookRider) → find_vehicle vehicle s.vehicles ≡ Some v → find_rider rider s.riders ≡ Some r
       → r.status ≡ Aboard vehicle → v.time ≤ time
       → step nodes wait s (Dropoff vehicle rider time) ≡ (vehicle_becomes (rider_becomes s r.id Delivered) vehicle (lets_out r time), Dropped)
-  dropoff_is vehicle rider time v r at found status back = by-table (λ p. p ≡ (vehicle_becomes (rider_becomes s r.id Delivered) vehicle (lets_out r time), Dropped)) nodes wait s (Dropoff vehicle rider time) (table-dropoff_is vehicle rider time v r at found status back)
-
-  table-report_is : (vehicle node time : ℕ) (v : Vehicle) → find_vehicle vehicle s.vehicles ≡ Some v → has_node nodes node ≡ true → v.time ≤ time
-      → table_step nodes wait s (Report vehicle node time) ≡ (vehicle_becomes s vehicle (stands_at node time), Placed)
-  unfolding table_step report_step
-  table-report_is vehicle node time v at named back =
-      rw at (answered s _ Placed (vehicle_becomes s vehicle (stands_at node time)) (report_free nodes v node time named back))
+  unfolding table_step dropoff_step first_of
+  dropoff_is vehicle rider time v r at found status back = by-table (λ p. p ≡ (vehicle_becomes (rider_becomes s r.id Delivered) vehicle (lets_out r time), Dropped)) nodes wait s (Dropoff vehicle rider time)
+      (rw (at, found, status, eq-eqb vehicle vehicle refl, le-ltb time v.time back) refl)
 
   pub report_is : (vehicle node time : ℕ) (v : Vehicle) → find_vehicle vehicle s.vehicles ≡ Some v → has_node nodes node ≡ true → v.time ≤ time
       → step nodes wait s (Report vehicle node time) ≡ (vehicle_becomes s vehicle (stands_at node time), Placed)
-  report_is vehicle node time v at named back = by-table (λ p. p ≡ (vehicle_becomes s vehicle (stands_at node time), Placed)) nodes wait s (Report vehicle node time) (table-report_is vehicle node time v at named back)
+  unfolding table_step report_step first_of
+  report_is vehicle node time v at named back = by-table (λ p. p ≡ (vehicle_becomes s vehicle (stands_at node time), Placed)) nodes wait s (Report vehicle node time)
+      (rw (at, named, le-ltb time v.time back) refl)
 
   -- a request changes nothing, or its rider is new and waits
-  table-submit_is : (rider origin destination time party : ℕ)
-      → ((table_step nodes wait s (Submit rider origin destination time party)).0 ≡ s)
+  pub submit_is : (rider origin destination time party : ℕ)
+      → ((step nodes wait s (Submit rider origin destination time party)).0 ≡ s)
       ⊎ ((find_rider rider s.riders ≡ None)
-      × ((table_step nodes wait s (Submit rider origin destination time party)).0 ≡ record s { riders = s.riders ++ (record { id = rider; origin = origin; destination = destination; time = time; party = party; status = Waiting }) ∷ [] }))
+      × ((step nodes wait s (Submit rider origin destination time party)).0 ≡ record s { riders = s.riders ++ (record { id = rider; origin = origin; destination = destination; time = time; party = party; status = Waiting }) ∷ [] }))
   unfolding table_step submit_step
-  table-submit_is rider origin destination time party = by (submit_refusal nodes s r) refl
+  submit_is rider origin destination time party = by-table (λ p. (p.0 ≡ s) ⊎ ((find_rider rider s.riders ≡ None) × (p.0 ≡ record s { riders = s.riders ++ (record { id = rider; origin = origin; destination = destination; time = time; party = party; status = Waiting }) ∷ [] }))) nodes wait s (Submit rider origin destination time party)
+      (by (submit_refusal nodes s r) refl)
     where
       r : BookRider
       r = record { id = rider; origin = origin; destination = destination; time = time; party = party; status = Waiting }
@@ -90,27 +53,15 @@ module _ (nodes : List ℕ) (wait : ℕ) (s : State) where
       by (Some refusal) e = inl refl
       by None e = inr (fresh (find_rider rider s.riders) (first_of-none _ _ e).0, refl)
 
-  pub submit_is : (rider origin destination time party : ℕ)
-      → ((step nodes wait s (Submit rider origin destination time party)).0 ≡ s)
-      ⊎ ((find_rider rider s.riders ≡ None)
-      × ((step nodes wait s (Submit rider origin destination time party)).0 ≡ record s { riders = s.riders ++ (record { id = rider; origin = origin; destination = destination; time = time; party = party; status = Waiting }) ∷ [] }))
-  submit_is rider origin destination time party = by-table (λ p. (p.0 ≡ s) ⊎ ((find_rider rider s.riders ≡ None) × (p.0 ≡ record s { riders = s.riders ++ (record { id = rider; origin = origin; destination = destination; time = time; party = party; status = Waiting }) ∷ [] }))) nodes wait s (Submit rider origin destination time party) (table-submit_is rider origin destination time party)
-
   -- a seal where no batch is open, not before the last
-  table-seal_is : (now : ℕ) → s.sealed ≡ None → ((last : ℕ) → s.last_seal ≡ Some last → last ≤ now) → table_step nodes wait s (Seal now) ≡ (sealed_state wait s now, Sealed (one_more s.batches))
-  unfolding table_step seal_step
-  table-seal_is now closed later = answered s _ (Sealed (one_more s.batches)) (sealed_state wait s now) (seal_free s.sealed s.last_seal now closed later)
-
   pub seal_is : (now : ℕ) → s.sealed ≡ None → ((last : ℕ) → s.last_seal ≡ Some last → last ≤ now) → step nodes wait s (Seal now) ≡ (sealed_state wait s now, Sealed (one_more s.batches))
-  seal_is now closed later = by-table (λ p. p ≡ (sealed_state wait s now, Sealed (one_more s.batches))) nodes wait s (Seal now) (table-seal_is now closed later)
+  unfolding table_step seal_step
+  seal_is now closed later = by-table (λ p. p ≡ (sealed_state wait s now, Sealed (one_more s.batches))) nodes wait s (Seal now)
+      (ap (λ o. answer s o (Sealed (one_more s.batches)) (sealed_state wait s now)) (seal_free s.sealed s.last_seal now closed later))
 
   -- the close of the sealed batch
-  table-close_is : (b : Batch) (outcome : Outcome) → s.sealed ≡ Some b
-      → table_step nodes wait s (Close b.number outcome) ≡ (record s { riders = after_answer b.riders outcome.answer s.riders; sealed = None }, Closed)
-  unfolding table_step close_step
-  table-close_is b outcome sealed =
-      answered s _ Closed (closed_state s outcome.answer) (close_free s.sealed b sealed) ∙ ap (λ (t : State). (t, Closed)) (closed-some s b outcome.answer sealed)
-
   pub close_is : (b : Batch) (outcome : Outcome) → s.sealed ≡ Some b
       → step nodes wait s (Close b.number outcome) ≡ (record s { riders = after_answer b.riders outcome.answer s.riders; sealed = None }, Closed)
-  close_is b outcome sealed = by-table (λ p. p ≡ (record s { riders = after_answer b.riders outcome.answer s.riders; sealed = None }, Closed)) nodes wait s (Close b.number outcome) (table-close_is b outcome sealed)
+  unfolding table_step close_step closed_state first_of
+  close_is b outcome sealed = by-table (λ p. p ≡ (record s { riders = after_answer b.riders outcome.answer s.riders; sealed = None }, Closed)) nodes wait s (Close b.number outcome)
+      (rw (sealed, eq-eqb b.number b.number refl) refl)

@@ -1,8 +1,10 @@
 -- Where a vehicle is reported at a seal, its stops to come are still reached at their seconds.
-use Rattle.std.proofs.Common.{◌≡◌, ℕ, ◌+◌, ◌<◌, ◌≤◌, Bool, true, false, cond, leb, List, [], ◌∷◌, length, get_or, max, find, Contains, Option, Some, None, refl, sym, ap, ◌∙◌, subst, arith}
+use Rattle.std.proofs.Common.{◌≡◌, ℕ, ◌+◌, ◌<◌, ◌≤◌, Bool, true, false, cond, leb, List, [], ◌∷◌, length, get_or, max, find, Contains, Option, Some, refl, sym, ap, ◌∙◌, subst, arith}
 use Rattle.route_drive.proofs.Common.{AllByRecursion, sum_by-cons, never, PlannedStop, Arc, Roads, IsNetwork, index_in, has_node, IsWalk, walk_seconds, IsLeastTime, NodeAt, Stay, WalkStep, IsReported, goal_of, walk_end, steps_of, AreReached}
 use Rattle.std.proofs.lemmas.Bool.{leb-true}
-use Rattle.route_drive.proofs.kept.Walks.{ends_within, rest_is_least, has_index, index_at, is_node_at, node_from_index, contains_node}
+use Rattle.std.proofs.lemmas.Option.{cond_some}
+use Rattle.travel_times.proofs.lemmas.WalkLemmas.{goal_within}
+use Rattle.route_drive.proofs.kept.Walks.{rest_is_least, has_index, index_at, is_node_at, node_from_index, contains_node}
 
 -- a step of a walk parts it
 record IsOnWay (roads : Roads) (from goal acc : ℕ) (walk : List Arc) (step : WalkStep) : Type 0 where
@@ -20,13 +22,9 @@ more_seconds arc walk = sum_by-cons (λ (a : Arc). a.seconds) arc walk
 
 on_way : (roads : Roads) (from goal acc : ℕ) (walk : List Arc) (test : WalkStep → Bool) (step : WalkStep) → IsWalk roads.arcs from walk goal → find test (steps_of roads.nodes from acc walk) ≡ Some step
     → IsOnWay roads from goal acc walk step × (test step ≡ true)
-on_way roads from goal acc [] test step walks found = by (test (record { node = get_or roads.nodes from 0; seconds = acc })) refl found
-  where
-    by : (b : Bool) → test (record { node = get_or roads.nodes from 0; seconds = acc }) ≡ b → cond b (Some (record { node = get_or roads.nodes from 0; seconds = acc })) None ≡ Some step → IsOnWay roads from goal acc [] step × (test step ≡ true)
-    by true e f =
-        let is : record { node = get_or roads.nodes from 0; seconds = acc } ≡ step = cc in
-        (record { via = from; before = []; rest = []; there = refl; onward = walks; whole = omega arith; node = sym (ap (λ (s : WalkStep). s.node) is); seconds = sym (ap (λ (s : WalkStep). s.seconds) is) ∙ omega arith }, ap test (sym is) ∙ e)
-    by false e f = absurd cc
+on_way roads from goal acc [] test step walks found =
+    let hit = cond_some (test (record { node = get_or roads.nodes from 0; seconds = acc })) (record { node = get_or roads.nodes from 0; seconds = acc }) step found in
+    (record { via = from; before = []; rest = []; there = refl; onward = walks; whole = omega arith; node = sym (ap (λ (s : WalkStep). s.node) hit.1); seconds = sym (ap (λ (s : WalkStep). s.seconds) hit.1) ∙ omega arith }, ap test (sym hit.1) ∙ hit.0)
 on_way roads from goal acc (arc ∷ walk) test step walks found = by (on_way roads arc.to goal (acc + arc.seconds) walk test step walks.2) (test (record { node = get_or roads.nodes from 0; seconds = acc })) refl found
   where
     by : (find test (steps_of roads.nodes arc.to (acc + arc.seconds) walk) ≡ Some step → IsOnWay roads arc.to goal (acc + arc.seconds) walk step × (test step ≡ true))
@@ -62,7 +60,7 @@ pub record IsThere (roads : Roads) (dwell now : ℕ) (at : Stay) (stops : List P
 module _ (roads : Roads) (net : IsNetwork roads) (dwell now : ℕ) (at : Stay) (here : has_node roads.nodes at.node ≡ true) (left : at.second ≤ at.free) (target : Option ℕ) (there : NodeAt) where
   -- the steps of a walk from here are nodes
   step_named : (goal : ℕ) (walk : List Arc) (via : ℕ) → IsWalk roads.arcs (index_in roads.nodes at.node) walk via → via < length roads.nodes
-  step_named goal walk via walks = ends_within roads.arcs walk (length roads.nodes) (index_in roads.nodes at.node) via net.arcs walks (has_index roads.nodes at.node here)
+  step_named goal walk via walks = goal_within roads.arcs walk (length roads.nodes) (index_in roads.nodes at.node) via net.arcs walks (has_index roads.nodes at.node here)
 
   stands : (time : ℕ) (stops : List PlannedStop) → there ≡ record { node = at.node; second = time } → now ≤ time → at.second ≤ time → AreReached roads dwell at.node time stops → IsThere roads dwell now at stops there
   stands time stops is by later reached = subst (IsThere roads dwell now at stops) (sym is) (record { reached = reached; named = here; by = by; later = later })
@@ -76,49 +74,43 @@ module _ (roads : Roads) (net : IsNetwork roads) (dwell now : ℕ) (at : Stay) (
   reported_there (s ∷ stops) named later reached (IsReported.is_cut_off to le goal none is) =
       let e : s.node ≡ to = cc in
       absurd (none (contains_node roads.nodes at.node here) (subst (λ n. Contains roads.nodes n) e (contains_node roads.nodes s.node named.0)) reached.0.least.walk (subst (λ n. IsWalk roads.arcs (index_in roads.nodes at.node) reached.0.least.walk (index_in roads.nodes n)) e reached.0.least.walks))
-  reported_there [] named later reached (IsReported.walks to steps step le goal shortest on found is) =
+  reported_there stops named later reached (IsReported.walks to steps step le goal shortest on found is) =
       let way = on_way roads (index_in roads.nodes at.node) (index_in roads.nodes to) 0 shortest.walk (λ step. leb now (at.free + step.seconds)) step shortest.walks (ap (find (λ step. leb now (at.free + step.seconds))) (sym shortest.told) ∙ found) in
       let l = step_named to way.0.before way.0.via way.0.there in
       let t : now ≤ at.free + step.seconds = leb-true now (at.free + step.seconds) way.1 in
-      subst (IsThere roads dwell now at []) (sym is) (record {
-        reached = tt;
+      subst (IsThere roads dwell now at stops) (sym is) (record {
+        reached = from_step stops way.0 l reached goal;
         named = subst (λ n. has_node roads.nodes n ≡ true) (sym way.0.node) (is_node_at roads.nodes way.0.via l);
         by = t;
         later = omega arith;
       })
-  reported_there (s ∷ stops) named later reached (IsReported.walks to steps step le goal shortest on found is) =
-      let e : s.node ≡ to = cc in
-      let way = on_way roads (index_in roads.nodes at.node) (index_in roads.nodes to) 0 shortest.walk (λ step. leb now (at.free + step.seconds)) step shortest.walks (ap (find (λ step. leb now (at.free + step.seconds))) (sym shortest.told) ∙ found) in
-      let l = step_named to way.0.before way.0.via way.0.there in
-      let t : now ≤ at.free + step.seconds = leb-true now (at.free + step.seconds) way.1 in
-      let index : index_in roads.nodes step.node ≡ way.0.via = ap (index_in roads.nodes) way.0.node ∙ index_at roads.nodes way.0.via net.distinct l in
-      let leads = reached.0 in
-      let leads_walk : IsWalk roads.arcs (index_in roads.nodes at.node) reached.0.least.walk (index_in roads.nodes to) = subst (λ n. IsWalk roads.arcs (index_in roads.nodes at.node) reached.0.least.walk (index_in roads.nodes n)) e reached.0.least.walks in
-      let short_walk : IsWalk roads.arcs (index_in roads.nodes at.node) shortest.walk (index_in roads.nodes s.node) = subst (λ n. IsWalk roads.arcs (index_in roads.nodes at.node) shortest.walk (index_in roads.nodes n)) (sym e) shortest.walks in
-      let a : walk_seconds shortest.walk ≤ walk_seconds reached.0.least.walk = shortest.least reached.0.least.walk leads_walk in
-      let b : reached.0.seconds ≤ walk_seconds shortest.walk = reached.0.least.least shortest.walk short_walk in
-      let takes : walk_seconds reached.0.least.walk ≡ reached.0.seconds = reached.0.least.takes in
-      let whole : walk_seconds way.0.before + walk_seconds way.0.rest ≡ walk_seconds shortest.walk = way.0.whole in
-      let gone : step.seconds ≡ 0 + walk_seconds way.0.before = way.0.seconds in
-      let second : s.second ≡ at.free + reached.0.seconds = reached.0.reached in
-      let short : reached.0.seconds < never = reached.0.short in
-      let rest : IsLeastTime roads.arcs way.0.via (index_in roads.nodes to) (walk_seconds way.0.rest) =
-      rest_is_least roads.arcs way.0.before way.0.rest (index_in roads.nodes at.node) way.0.via (index_in roads.nodes to) way.0.there way.0.onward (λ other walks. let o = shortest.least other walks in omega (arith, o, whole)) in
-      subst (IsThere roads dwell now at (s ∷ stops)) (sym is) (record {
-        reached = (
-          record {
-            seconds = walk_seconds way.0.rest;
-            least = subst (λ n. IsLeastTime roads.arcs (index_in roads.nodes step.node) (index_in roads.nodes n) (walk_seconds way.0.rest)) (sym e)
-                (subst (λ i. IsLeastTime roads.arcs i (index_in roads.nodes to) (walk_seconds way.0.rest)) (sym index) rest);
-            short = omega (arith, a, b, takes, whole, short);
-            reached = omega (arith, a, b, takes, whole, gone, second);
-          },
-          reached.1,
-        );
-        named = subst (λ n. has_node roads.nodes n ≡ true) (sym way.0.node) (is_node_at roads.nodes way.0.via l);
-        by = t;
-        later = omega arith;
-      })
+    where
+      from_step : (stops : List PlannedStop) → (way : IsOnWay roads (index_in roads.nodes at.node) (index_in roads.nodes to) 0 shortest.walk step) → way.via < length roads.nodes → AreReached roads dwell at.node at.free stops
+          → goal_of target stops ≡ Some to → AreReached roads dwell step.node (at.free + step.seconds) stops
+      from_step [] way l reached goal = tt
+      from_step (s ∷ stops) way l reached goal =
+          let e : s.node ≡ to = cc in
+          let index : index_in roads.nodes step.node ≡ way.via = ap (index_in roads.nodes) way.node ∙ index_at roads.nodes way.via net.distinct l in
+          let leads_walk : IsWalk roads.arcs (index_in roads.nodes at.node) reached.0.least.walk (index_in roads.nodes to) = subst (λ n. IsWalk roads.arcs (index_in roads.nodes at.node) reached.0.least.walk (index_in roads.nodes n)) e reached.0.least.walks in
+          let short_walk : IsWalk roads.arcs (index_in roads.nodes at.node) shortest.walk (index_in roads.nodes s.node) = subst (λ n. IsWalk roads.arcs (index_in roads.nodes at.node) shortest.walk (index_in roads.nodes n)) (sym e) shortest.walks in
+          let a : walk_seconds shortest.walk ≤ walk_seconds reached.0.least.walk = shortest.least reached.0.least.walk leads_walk in
+          let b : reached.0.seconds ≤ walk_seconds shortest.walk = reached.0.least.least shortest.walk short_walk in
+          let takes : walk_seconds reached.0.least.walk ≡ reached.0.seconds = reached.0.least.takes in
+          let whole : walk_seconds way.before + walk_seconds way.rest ≡ walk_seconds shortest.walk = way.whole in
+          let gone : step.seconds ≡ 0 + walk_seconds way.before = way.seconds in
+          let second : s.second ≡ at.free + reached.0.seconds = reached.0.reached in
+          let short : reached.0.seconds < never = reached.0.short in
+          let rest : IsLeastTime roads.arcs way.via (index_in roads.nodes to) (walk_seconds way.rest) =
+          rest_is_least roads.arcs way.before way.rest (index_in roads.nodes at.node) way.via (index_in roads.nodes to) way.there way.onward (λ other walks. let o = shortest.least other walks in omega (arith, o, whole)) in (
+            record {
+              seconds = walk_seconds way.rest;
+              least = subst (λ n. IsLeastTime roads.arcs (index_in roads.nodes step.node) (index_in roads.nodes n) (walk_seconds way.rest)) (sym e)
+                  (subst (λ i. IsLeastTime roads.arcs i (index_in roads.nodes to) (walk_seconds way.rest)) (sym index) rest);
+              short = omega (arith, a, b, takes, whole, short);
+              reached = omega (arith, a, b, takes, whole, gone, second);
+            },
+            reached.1,
+          )
   reported_there [] named later reached (IsReported.arrived to steps le goal shortest done is) =
       let l = step_named to shortest.walk (index_in roads.nodes to) shortest.walks in
       subst (IsThere roads dwell now at []) (sym is) (record { reached = tt; named = node_from_index roads.nodes to l; by = omega arith; later = omega arith })

@@ -1,6 +1,6 @@
 -- What a change of one rider's status, or of one vehicle, leaves.
 use Rattle.std.proofs.Common.{◌≡◌, ◌⊎◌, ℕ, ◌-◌, ◌≤◌, Bool, true, false, List, [], ◌∷◌, map, Option, Some, None, refl, sym, ap, ◌∙◌, subst, arith, inl, inr, option_map, MatchBool}
-use Rattle.route_drive.proofs.Common.{AllByRecursion, option_map_or, cases_Bool, cases_eq, MatchBool-at_true, MatchBool-at_false, persons_aboard, Vehicle, changed_at, with_status, find_rider, PlannedStop, BookRider, Status, Waiting, Promised, Aboard, Cancelled, Delivered, Expired, look_up-key, look_up-changed_here, look_up-changed_there, Settings, Roads, party_at, seats_after, HasSeatsFor, IsRightPickup, IsRightDropoff, IsRightStop, IsOfVehicle, is_stop_of, calls_of, HasCalls, IsServing}
+use Rattle.route_drive.proofs.Common.{AllByRecursion, option_map_or, cases_Bool, cases_eq, MatchBool-at_true, MatchBool-at_false, persons_aboard, Vehicle, changed_at, with_status, find_rider, PlannedStop, BookRider, Status, Promised, Aboard, look_up-key, look_up-changed_here, look_up-changed_there, Settings, Roads, party_at, seats_after, HasSeatsFor, IsRightPickup, IsRightDropoff, IsRightStop, IsOfVehicle, is_stop_of, calls_of, HasCalls, IsServing}
 use Rattle.std.proofs.lemmas.Bool.{eq-eqb, ne_eqb}
 use Rattle.route_drive.proofs.kept.Lists.{skips, takes, all_weaker}
 
@@ -71,21 +71,15 @@ no_stop x (stop ∷ stops) none = elim (cases_eq stop.rider x) [
 
 -- a status of no vehicle, or of another one
 pub of_one : (v w : ℕ) (status : Status) → IsOfVehicle v status → IsOfVehicle w status → v ≡ w
-of_one v w Waiting h k = absurd h
 of_one v w (Promised p) h k = sym h ∙ k
 of_one v w (Aboard u) h k = sym h ∙ k
-of_one v w Cancelled h k = absurd h
-of_one v w Delivered h k = absurd h
-of_one v w Expired h k = absurd h
+of_one v w status h k = absurd h
 
 -- without calls of their own a rider of another vehicle asks for none
 pub calls_of_others : (w : ℕ) (status : Status) (calls : List Bool) → (IsOfVehicle w status → ⊥) → HasCalls w status calls
-calls_of_others w Waiting calls not = tt
 calls_of_others w (Promised p) calls not = λ e. absurd (not e)
 calls_of_others w (Aboard u) calls not = λ e. absurd (not e)
-calls_of_others w Cancelled calls not = tt
-calls_of_others w Delivered calls not = tt
-calls_of_others w Expired calls not = tt
+calls_of_others w status calls not = tt
 
 -- a right stop is of a rider of the vehicle
 pub stop_of_vehicle : (settings : Settings) (roads : Roads) (riders : List BookRider) (w : ℕ) (stop : PlannedStop) → IsRightStop settings roads riders w stop
@@ -111,12 +105,9 @@ right_elsewhere settings roads riders others w stop same right = by stop.pick re
 
 -- a status is of the vehicle, or isn't
 pub cases_of : (w : ℕ) (status : Status) → IsOfVehicle w status ⊎ (IsOfVehicle w status → ⊥)
-cases_of w Waiting = inr (λ h. h)
 cases_of w (Promised p) = cases_eq p.vehicle w
 cases_of w (Aboard u) = cases_eq u w
-cases_of w Cancelled = inr (λ h. h)
-cases_of w Delivered = inr (λ h. h)
-cases_of w Expired = inr (λ h. h)
+cases_of w status = inr (λ h. h)
 
 -- a vehicle goes on serving where the riders of its stops are found as before, and nobody else is of the vehicle
 pub serves_elsewhere : (settings : Settings) (roads : Roads) (riders others : List BookRider) (w : Vehicle) (free : ℕ) (stops : List PlannedStop)

@@ -1,14 +1,13 @@
 -- Requests and seals: what they leave of the riders on a driven day, and whom the batch shows.
 use Rattle.std.proofs.Common.{◌≡◌, ◌⊎◌, ℕ, ◌+◌, ◌<◌, ◌≤◌, Bool, true, false, cond, leb, List, [], ◌∷◌, ◌++◌, map, Option, Some, None, refl, sym, ap, ◌∙◌, subst, arith, inl, inr, option_map, option_and_then}
-use Rattle.route_drive.proofs.Common.{AllByRecursion, cases_eq, Promise, Rider, Vehicle, IsConsistent, NamesNodes, look_up, by_key, KeysDiffer, with_status, shown, pool_promise, is_over, after_seal, batch_of, sealed_state, asking, find_rider, find_vehicle, step, Command, Submit, Seal, PlannedStop, Reply, BookRider, Status, Waiting, Promised, Aboard, Cancelled, Delivered, Expired, State, after_seal-id, step-consistent, step-named, look_up-key, look_up-map, look_up-push_there, look_up-push_here, look_up-push_found, look_up-filter_map, by_key-order, KeysDiffer-map, KeysDiffer-filter_map, Settings, Roads, IsOfVehicle, IsRightStop, IsServing, IsDayState, IsKept, HasCalls, calls_of}
+use Rattle.route_drive.proofs.Common.{AllByRecursion, cases_eq, Promise, Rider, Vehicle, look_up, by_key, KeysDiffer, with_status, shown, pool_promise, is_over, after_seal, batch_of, sealed_state, asking, find_rider, find_vehicle, step, Command, Submit, Seal, PlannedStop, Reply, BookRider, Status, Waiting, Promised, Aboard, Delivered, Expired, State, after_seal-id, look_up-key, look_up-map, look_up-push_there, look_up-push_here, look_up-push_found, look_up-filter_map, by_key-order, KeysDiffer-map, KeysDiffer-filter_map, Settings, Roads, IsOfVehicle, IsRightStop, IsServing, IsDayState, IsKept, HasCalls, calls_of, IsBoundBy, IsBound, KeepsBounds, LeavesAll, ShowsRiders}
 use Rattle.std.specs.List.{filter_map}
 use Rattle.std.proofs.lemmas.Bool.{le-ltb, le-leb}
 use Rattle.route_drive.proofs.kept.Lists.{both}
 use Rattle.route_drive.proofs.kept.Riders.{calls_own, calls_other, serves_elsewhere}
 use Rattle.route_drive.proofs.kept.Enter.{picked_up_right}
 use Rattle.route_drive.proofs.kept.Replies.{submit_is}
-use Rattle.route_drive.proofs.kept.States.{IsBoundBy, IsBound, KeepsBounds}
-pub use Rattle.route_drive.specs.work.Serving.{LeavesAll, ShowsRiders}
+use Rattle.route_drive.proofs.kept.States.{stepped}
 
 not_waiting : (w : ℕ) (status : Status) → status ≡ Waiting → IsOfVehicle w status → ⊥
 not_waiting w status e own = subst (IsOfVehicle w) e own
@@ -53,24 +52,18 @@ submit_done settings roads s rider origin destination time party day = by (submi
     by : ((step roads.nodes settings.wait s (Submit rider origin destination time party)).0 ≡ s)
         ⊎ ((find_rider rider s.riders ≡ None) × ((step roads.nodes settings.wait s (Submit rider origin destination time party)).0 ≡ record s { riders = s.riders ++ (record { id = rider; origin = origin; destination = destination; time = time; party = party; status = Waiting }) ∷ [] }))
         → LeavesAll settings roads s (step roads.nodes settings.wait s (Submit rider origin destination time party)).0
-    by (inl same) = subst (LeavesAll settings roads s) (sym same) (record { state = day; vehicles = refl; serve = λ id w free stops e serves. serves; bounds = λ x limit b. b; sealed = refl; last = refl })
+    by (inl same) = subst (LeavesAll settings roads s) (sym same) (record { state = day; vehicles = refl; serve = λ id w free stops e serves. serves; bounds = λ x limit b. b })
     by (inr two) =
         let new = two.0 in
         let next : State = record s { riders = s.riders ++ q ∷ [] } in
         let is = two.1 in
         subst (LeavesAll settings roads s) (sym is) (record {
-          state = record {
-            consistent = subst IsConsistent is (step-consistent roads.nodes settings.wait s (Submit rider origin destination time party) day.consistent);
-            named = subst (NamesNodes roads.nodes) is (step-named roads.nodes settings.wait s (Submit rider origin destination time party) day.consistent day.named);
-            promises = λ x r promise e t.
-                let was = day.promises x r promise (found_before settings roads s.riders q new refl x r e (λ h. let f : Promised promise ≡ Waiting = sym t ∙ h in absurd cc)) t in
-                record { last = was.last; sealed = was.sealed; asked = was.asked; vehicle = was.vehicle; at = was.at };
-          };
+          state = stepped settings roads s next (Submit rider origin destination time party) day is (λ x r promise e t.
+              let was = day.promises x r promise (found_before settings roads s.riders q new refl x r e (λ h. let f : Promised promise ≡ Waiting = sym t ∙ h in absurd cc)) t in
+              record { last = was.last; sealed = was.sealed; asked = was.asked; vehicle = was.vehicle; at = was.at });
           vehicles = refl;
           serve = λ id w free stops e serves. serve_still settings roads s.riders q new refl w free stops serves;
           bounds = λ x limit b. record { of = b.of; found = still_found settings roads s.riders q new refl x b.of b.found; bound = b.bound };
-          sealed = refl;
-          last = refl;
         })
 
 -- the first of a rider's calls
@@ -95,7 +88,6 @@ module _ (settings : Settings) (roads : Roads) (s : State) (stops : ℕ → List
       id = look_up-key (λ (v : Vehicle). v.id) w s.vehicles v at
 
       by : (t : Status) → r.status ≡ t → IsOfVehicle w t → after_seal settings.wait now r ≡ r
-      by Waiting f h = absurd h
       by (Promised p) f h =
           let calls = subst (λ t. HasCalls v.id t (calls_of x (stops w))) f (serves.calls x r e) in
           let first = first_call (λ stop. IsRightStop settings roads s.riders v.id stop × (now < stop.second)) x true (false ∷ []) (stops w) (calls (h ∙ sym id))
@@ -108,9 +100,7 @@ module _ (settings : Settings) (roads : Roads) (s : State) (stops : ℕ → List
           let late = first.3.1 in
           rw (f, le-ltb (r.time + settings.wait) now (omega (arith, time, in_time, late))) refl
       by (Aboard u) f h = rw f refl
-      by Cancelled f h = absurd h
-      by Delivered f h = absurd h
-      by Expired f h = absurd h
+      by status f h = absurd h
 
   abbrev after : List BookRider
   after = map (after_seal settings.wait now) s.riders
@@ -163,14 +153,10 @@ module _ (settings : Settings) (roads : Roads) (s : State) (stops : ℕ → List
   pub sealed_kept : (reply : Reply) → step roads.nodes settings.wait s (Seal now) ≡ (sealed_state settings.wait s now, reply) → IsKept settings roads (sealed_state settings.wait s now) stops
   unfolding sealed_state
   sealed_kept reply is = record {
-    state = record {
-      consistent = subst IsConsistent (ap (λ (p : State × Reply). p.0) is) (step-consistent roads.nodes settings.wait s (Seal now) kept.state.consistent);
-      named = subst (NamesNodes roads.nodes) (ap (λ (p : State × Reply). p.0) is) (step-named roads.nodes settings.wait s (Seal now) kept.state.consistent kept.state.named);
-      promises = λ x r promise e t.
-          let was = kept.state.promises x r promise (find_was x r e (λ h. let f : Promised promise ≡ Expired = sym t ∙ h in absurd cc)) t in
-          let on = after_time was.last was.sealed in
-          record { last = now; sealed = refl; asked = let a = was.asked in omega (arith, a, on); vehicle = was.vehicle; at = was.at };
-    };
+    state = stepped settings roads s (sealed_state settings.wait s now) (Seal now) kept.state (ap (λ (p : State × Reply). p.0) is) (λ x r promise e t.
+        let was = kept.state.promises x r promise (find_was x r e (λ h. let f : Promised promise ≡ Expired = sym t ∙ h in absurd cc)) t in
+        let on = after_time was.last was.sealed in
+        record { last = now; sealed = refl; asked = let a = was.asked in omega (arith, a, on); vehicle = was.vehicle; at = was.at });
     each = λ id v at. serves_elsewhere settings roads s.riders after v v.time (stops id)
         (λ x r e own. find_kept x r id v e at (subst (λ k. IsOfVehicle k r.status) (look_up-key (λ (v : Vehicle). v.id) id s.vehicles v at) own) ∙ sym e)
         (λ x r e own. find_was x r e (not_expired v.id r.status own))
@@ -182,14 +168,12 @@ module _ (settings : Settings) (roads : Roads) (s : State) (stops : ℕ → List
   sealed_bounds x limit was = by was.of.status refl was.bound
     where
       by : (t : Status) → was.of.status ≡ t → IsBoundBy limit t → IsBound (sealed_state settings.wait s now) x limit
-      by Waiting e b = absurd b
       by (Promised p) e b =
           let of = kept.state.promises x was.of p was.found e in
           record { of = was.of; found = find_kept x was.of p.vehicle of.vehicle was.found of.at (subst (IsOfVehicle p.vehicle) (sym e) refl); bound = was.bound }
       by (Aboard u) e b = record { of = was.of; found = find_after x ∙ ap (option_map (after_seal settings.wait now)) was.found ∙ ap Some (rw e refl); bound = was.bound }
-      by Cancelled e b = absurd b
       by Delivered e b = record { of = was.of; found = find_after x ∙ ap (option_map (after_seal settings.wait now)) was.found ∙ ap Some (rw e refl); bound = was.bound }
-      by Expired e b = absurd b
+      by status e b = absurd b
 
   pub sealed_shows : ShowsRiders (sealed_state settings.wait s now) (batch_of settings.wait s now)
   unfolding sealed_state batch_of

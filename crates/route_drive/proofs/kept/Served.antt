@@ -1,6 +1,6 @@
 -- At a seal the stops of a vehicle serve, by the batch's table, its passengers and the riders promised to it.
 use Rattle.std.proofs.Common.{◌≡◌, ◌⊎◌, ℕ, ◌+◌, ◌-◌, ◌*◌, ◌<◌, ◌≤◌, true, false, eqb, nat_eq, List, [], ◌∷◌, length, get_or, map, filter, max, min, Option, Some, None, refl, sym, ap, ◌∙◌, subst, arith, inl, inr, option_and_then, slice_get, Contains}
-use Rattle.route_drive.proofs.Common.{option_map_or, AllByRecursion, IsDistinct, range_with_len, cases_Bool, false≢true, get_or-map, length-map, get_or_default, filter_passes, slice_get_within, get_or_from_slice_get, slice_get-get_or, travel_time, Times, Batch, persons_aboard, Passenger, Promise, Rider, Vehicle, IsLegOf, request_at, ideal_second, no_request, promised_limit, is_promised_to, promised_to, kept_legs, kept_leg, IsPlaced, IsSettled, filter_range_has, promised_trip, seat_in, look_up, KeysDiffer, shown, passenger_of, find_rider, find_vehicle, find_passenger, PlannedStop, BookRider, Status, Waiting, Promised, Aboard, Cancelled, Delivered, Expired, State, increasing_from_rise, look_up-at, KeysDiffer-from_rise, All-look_up, Settings, Roads, index_in, has_node, Leg, Settled, Stop, Pick, Drop, Alight, Task, Visit, IsOrder, vehicle_at, rider_at, no_rider, vehicle_task, IsTrip, no_leg, leg_at, persons, visit_at, visits_of, free_seats, IsServable, soon_there, ServesFrom, boarding_of, AreTravelTimes, ideal_dropoff, IsDroppedInTime, party_at, IsRightStop, IsRightPickup, IsRightDropoff, IsOfVehicle, IsServing, IsKept, HasCalls, calls_of}
+use Rattle.route_drive.proofs.Common.{option_map_or, AllByRecursion, IsDistinct, range_with_len, cases_Bool, false≢true, get_or-map, length-map, get_or_default, filter_passes, slice_get_within, get_or_from_slice_get, slice_get-get_or, travel_time, Times, Batch, persons_aboard, Passenger, Promise, Rider, Vehicle, IsLegOf, request_at, ideal_second, no_request, promised_limit, is_promised_to, promised_to, kept_legs, kept_leg, IsPlaced, IsSettled, filter_range_has, promised_trip, seat_in, look_up, KeysDiffer, shown, passenger_of, find_rider, find_vehicle, find_passenger, PlannedStop, BookRider, Status, Promised, Aboard, State, look_up-at, KeysDiffer-from_rise, All-look_up, Settings, Roads, index_in, has_node, Leg, Settled, Stop, Pick, Drop, Alight, Task, Visit, IsOrder, vehicle_at, rider_at, no_rider, vehicle_task, IsTrip, no_leg, leg_at, persons, visit_at, visits_of, free_seats, IsServable, soon_there, ServesFrom, boarding_of, AreTravelTimes, ideal_dropoff, IsDroppedInTime, party_at, IsRightStop, IsRightPickup, IsRightDropoff, IsOfVehicle, IsServing, IsKept, HasCalls, calls_of, ShowsRiders}
 use Rattle.std.proofs.lemmas.Bool.{eq-eqb, eqb-true}
 use Rattle.std.proofs.lemmas.Simd.{map-map}
 use Rattle.stop_orders.specs.declared.settled_vehicle.SettledVehicle.{SettledVehicle}
@@ -9,10 +9,9 @@ use Rattle.route_drive.proofs.kept.Lists.{all_weaker, both, map_agrees, all_filt
 use Rattle.route_drive.proofs.kept.Walks.{has_index, name_at, is_node_at}
 use Rattle.route_drive.proofs.kept.Riders.{found_id}
 use Rattle.route_drive.proofs.kept.Enter.{picked_up_right, dropped_right}
-use Rattle.route_drive.proofs.kept.Sealing.{ShowsRiders}
 use Rattle.route_drive.proofs.kept.Numbers.{number_of, IsNumbered, number_picks, number_drops, number_alights, numbers_are_order, alights_only, passengers_order, order_length}
 use Rattle.route_drive.proofs.kept.Tables.{IsSeen, ideal_is, serves_by_table, sub_serves}
-use Rattle.route_drive.proofs.kept.Batches.{found_at, rising_far, distinct_from_rising, distinct_from_differ, same_persons, IsAsking, asking_is, promise_status, IsPromisedRider, IsRiderAboard, seat_is}
+use Rattle.route_drive.proofs.kept.Batches.{found_at, ids_distinct, distinct_from_differ, same_persons, IsAsking, asking_is, promise_status, IsPromisedRider, IsRiderAboard, seat_is}
 
 -- a leg's drop-off, as the stop that it is
 leg_drop : (settings : Settings) (roads : Roads) (points : List ℕ) (times : Times) → AreTravelTimes roads.arcs (map (index_in roads.nodes) points) times
@@ -129,20 +128,7 @@ module _ (settings : Settings) (roads : Roads) (s : State) (stops : ℕ → List
     passengers_length = length-map x.aboard.items (λ (p : Passenger). p.rider)
 
     names_distinct : IsDistinct nat_eq names
-    names_distinct = distinct_from_rising names (λ i j h l.
-        let e = names_length in
-        let li : i < length numbers = omega (arith, h, l, e) in
-        let lj : j < length numbers = omega (arith, l, e) in
-        let far : get_or numbers i 0 < get_or numbers j 0 = rising_far numbers trip.rising i j h lj in
-        let nj = number_within j lj in
-        let n = length-map b.riders (λ (r : Rider). r.id) in
-        let ids : get_or (map (λ (r : Rider). r.id) b.riders) (get_or numbers i 0) 0 < get_or (map (λ (r : Rider). r.id) b.riders) (get_or numbers j 0) 0 =
-        rising_far (map (λ (r : Rider). r.id) b.riders) (increasing_from_rise (λ (r : Rider). r.id) b.riders shows.rise) (get_or numbers i 0) (get_or numbers j 0) far (omega (arith, nj, n)) in
-        let a : get_or (map (λ (r : Rider). r.id) b.riders) (get_or numbers i 0) 0 ≡ (request_at b.riders (get_or numbers i 0)).id = get_or-map (λ (r : Rider). r.id) b.riders (get_or numbers i 0) no_request 0 (omega (arith, far, nj)) in
-        let c : get_or (map (λ (r : Rider). r.id) b.riders) (get_or numbers j 0) 0 ≡ (request_at b.riders (get_or numbers j 0)).id = get_or-map (λ (r : Rider). r.id) b.riders (get_or numbers j 0) no_request 0 nj in
-        let ni = name_is i li in
-        let nn = name_is j lj in
-        omega (arith, ids, a, c, ni, nn))
+    names_distinct = ids_distinct b.riders shows.rise (promised_to (vehicle_at settled k).id b.riders) trip
 
     pub passengers_differ : KeysDiffer (λ (p : Passenger). p.rider) x.aboard.items
     passengers_differ = All-look_up (λ (v : Vehicle). v.id) (λ (v : Vehicle). KeysDiffer (λ p. p.rider) v.aboard.items) x.id s.vehicles x kept.state.consistent.passengers vehicle_found
@@ -227,12 +213,9 @@ module _ (settings : Settings) (roads : Roads) (s : State) (stops : ℕ → List
     stops_numbered = all_weaker (IsRightStop settings roads s.riders x.id) (IsNumbered names passenger_names) (λ stop right. by stop right (cases_Bool stop.pick)) (stops x.id) serves.right
       where
         drop_by : (stop : PlannedStop) (r : BookRider) → stop.pick ≡ false → find_rider stop.rider s.riders ≡ Some r → (t : Status) → r.status ≡ t → IsOfVehicle x.id t → IsNumbered names passenger_names stop
-        drop_by stop r drop found Waiting e own = absurd own
         drop_by stop r drop found (Promised p) e own = let h = to_named stop.rider r p found e own in IsNumbered.drops drop h (names_apart stop.rider h)
         drop_by stop r drop found (Aboard u) e own = IsNumbered.alights drop (to_passenger stop.rider r found (e ∙ ap Aboard own))
-        drop_by stop r drop found Cancelled e own = absurd own
-        drop_by stop r drop found Delivered e own = absurd own
-        drop_by stop r drop found Expired e own = absurd own
+        drop_by stop r drop found status e own = absurd own
 
         by : (stop : PlannedStop) → IsRightStop settings roads s.riders x.id stop → (stop.pick ≡ true) ⊎ (stop.pick ≡ false) → IsNumbered names passenger_names stop
         by stop right (inl pick) =
@@ -287,7 +270,6 @@ module _ (settings : Settings) (roads : Roads) (s : State) (stops : ℕ → List
         let is : request_at b.riders (get_or numbers place.0 0) ≡ shown own.rider (Some (record { vehicle = x.id; pickup = stop.second })) =
         promised.is ∙ ap (λ r. shown r (Some promised.promise)) same ∙ ap (λ p. shown own.rider (Some p)) promise in
         let leg = (limits.riders (get_or numbers place.0 0) (request_at b.riders (get_or numbers place.0 0)) (slice_get-get_or b.riders (get_or numbers place.0 0) no_request h)).leg in
-        let plain : Leg = record (rider_at settled (get_or numbers place.0 0)).leg { latest_pickup = (request_at b.riders (get_or numbers place.0 0)).time + settings.wait } in
         let leg' : IsLegOf settings points (travel_time times) own.rider.origin own.rider.destination own.rider.time own.rider.party (record (rider_at settled (get_or numbers place.0 0)).leg { latest_pickup = (request_at b.riders (get_or numbers place.0 0)).time + settings.wait }) =
         subst (λ (q : Rider). IsLegOf settings points (travel_time times) q.origin q.destination q.time q.party (record (rider_at settled (get_or numbers place.0 0)).leg { latest_pickup = (request_at b.riders (get_or numbers place.0 0)).time + settings.wait })) is leg in
         let limit : promised_limit settings.wait (request_at b.riders (get_or numbers place.0 0)) ≡ min stop.second (own.rider.time + settings.wait) = ap (promised_limit settings.wait) is in
@@ -322,7 +304,6 @@ module _ (settings : Settings) (roads : Roads) (s : State) (stops : ℕ → List
     seen_alight : (stop : PlannedStop) → stop.pick ≡ false → has_node passenger_names stop.rider ≡ true → IsRightDropoff roads settings.delay s.riders x.id stop → IsSeen points s.riders stop (visit_at task (number_of names passenger_names stop))
     seen_alight stop drop has own =
         let there = passenger_at_name stop.rider has in
-        let j : ℕ = index_in passenger_names stop.rider in
         let aboard = there.1 in
         let one = aboard.found in
         let two = own.found in
@@ -378,17 +359,15 @@ module _ (settings : Settings) (roads : Roads) (s : State) (stops : ℕ → List
       where
         nobody : (stop : Stop) → alights_only stop ≡ true → boarding_of (visit_at task stop) ≡ 0
         nobody (Pick i) e = absurd (false≢true e)
-        nobody (Drop i) e = refl
-        nobody (Alight j) e = refl
+        nobody stop e = refl
 
         alone : map (visit_at task) (filter alights_only order) ≡ visits_of (vehicle_task settings.dwell (vehicle_at settled k) []) (filter alights_only order)
         alone = map_agrees (visit_at task) (visit_at (vehicle_task settings.dwell (vehicle_at settled k) [])) (λ stop. Unit {0} × (alights_only stop ≡ true)) (λ stop h. same stop h.1) (filter alights_only order)
             (all_filtered (λ stop. Unit {0}) alights_only order (all_from (λ stop. Unit {0}) (λ stop. tt) order))
           where
             same : (stop : Stop) → alights_only stop ≡ true → visit_at task stop ≡ visit_at (vehicle_task settings.dwell (vehicle_at settled k) []) stop
-            same (Pick i) e = absurd (false≢true e)
-            same (Drop i) e = absurd (false≢true e)
             same (Alight j) e = refl
+            same stop e = absurd (false≢true e)
 
     -- the vehicle is live for whoever is promised to it
     pub few_promised : length (promised_to (vehicle_at settled k).id b.riders) ≤ settings.trip

@@ -1,11 +1,10 @@
 -- What an entry of a driven day leaves of a state: a stop that is entered, a report, a request.
-use Rattle.std.proofs.Common.{◌≡◌, ℕ, ◌+◌, ◌-◌, ◌≤◌, true, false, List, ◌∷◌, map, Some, refl, sym, ap, ◌∙◌, subst, arith, inl, inr, option_map, option_and_then}
-use Rattle.route_drive.proofs.Common.{option_map_or, cases_eq, persons_aboard, HasSeats, Passenger, Promise, Vehicle, IsConsistent, NamesNodes, seat_in, KeysDiffer, with_status, passenger_of, find_rider, find_vehicle, find_passenger, step, rider_becomes, vehicle_becomes, stands_at, takes_in, lets_out, Command, Report, Pickup, Dropoff, PlannedStop, Reply, Placed, Picked, Dropped, BookRider, Status, Promised, Aboard, Delivered, State, step-consistent, step-named, look_up-key, look_up-changed_here, look_up-changed_there, All-look_up, map-changed_at, Settings, Roads, has_node, AreReached, party_at, IsOfVehicle, IsServing, IsPromiseKept, IsDayState}
+use Rattle.std.proofs.Common.{◌≡◌, ℕ, ◌+◌, ◌-◌, ◌≤◌, true, false, List, ◌∷◌, Some, refl, sym, ap, ◌∙◌, subst, arith, inl, inr, option_map, option_and_then}
+use Rattle.route_drive.proofs.Common.{option_map_or, cases_eq, persons_aboard, HasSeats, Passenger, Promise, Vehicle, IsConsistent, NamesNodes, seat_in, KeysDiffer, with_status, passenger_of, find_rider, find_vehicle, find_passenger, step, rider_becomes, vehicle_becomes, stands_at, takes_in, lets_out, Command, Report, Pickup, Dropoff, PlannedStop, Reply, Placed, Picked, Dropped, BookRider, Status, Promised, Aboard, Delivered, State, step-consistent, step-named, look_up-key, look_up-changed_here, look_up-changed_there, All-look_up, Settings, Roads, has_node, AreReached, party_at, IsOfVehicle, IsServing, IsPromiseKept, IsDayState, IsBoundBy, KeepsBounds, LeavesOthers, IsDone}
 use Rattle.std.proofs.lemmas.Bool.{eq-eqb}
 use Rattle.route_drive.proofs.kept.Riders.{changed, find_other, find_same, found_id, of_one}
 use Rattle.route_drive.proofs.kept.Enter.{others_serve, picked_up_right, dropped_right, serves_on_picked, dropped_is_aboard, serves_on_dropped}
 use Rattle.route_drive.proofs.kept.Replies.{pickup_is, dropoff_is, report_is}
-pub use Rattle.route_drive.specs.work.Serving.{IsBoundBy, IsBound, KeepsBounds, LeavesOthers, Then, IsDone}
 
 pub vehicle_id : (id : ℕ) (vehicles : List Vehicle) (v : Vehicle) → find_vehicle id vehicles ≡ Some v → v.id ≡ id
 vehicle_id id vehicles v e = look_up-key (λ (v : Vehicle). v.id) id vehicles v e
@@ -48,23 +47,23 @@ module _ (settings : Settings) (roads : Roads) (s : State) (day : IsDayState roa
     | inr ne ↦ record { of = was.of; found = find_other s.riders x status y ne ∙ was.found; bound = was.bound }
   ]
 
-  next_others : map (λ (v : Vehicle). v.id) next_state.vehicles ≡ map (λ (v : Vehicle). v.id) s.vehicles → LeavesOthers settings roads s next_state vehicle
-  next_others ids = record {
+  next_others : LeavesOthers settings roads s next_state vehicle
+  next_others = record {
     found = λ id w ne e. sym (vehicle_other id ne) ∙ e;
     serve = λ id w free stops ne e serves.
         let is : w.id ≡ id = vehicle_id id s.vehicles w (sym (vehicle_other id ne) ∙ e) in
         others_serve settings roads s.riders x r status w free stops found
         (λ h. ne (of_one vehicle w.id r.status own h ∙ is)) (λ h. ne (next w.id h ∙ is)) serves;
-    ids = ids;
-    sealed = refl;
-    last = refl;
   }
 
-stepped_consistent : (settings : Settings) (roads : Roads) (s t : State) (command : Command) (reply : Reply) → IsDayState roads s → step roads.nodes settings.wait s command ≡ (t, reply) → IsConsistent t
-stepped_consistent settings roads s t command reply day is = subst IsConsistent (ap (λ (p : State × Reply). p.0) is) (step-consistent roads.nodes settings.wait s command day.consistent)
-
-stepped_named : (settings : Settings) (roads : Roads) (s t : State) (command : Command) (reply : Reply) → IsDayState roads s → step roads.nodes settings.wait s command ≡ (t, reply) → NamesNodes roads.nodes t
-stepped_named settings roads s t command reply day is = subst (NamesNodes roads.nodes) (ap (λ (p : State × Reply). p.0) is) (step-named roads.nodes settings.wait s command day.consistent day.named)
+-- the state after a step, where its promises are kept
+pub stepped : (settings : Settings) (roads : Roads) (s t : State) (command : Command) → IsDayState roads s → (step roads.nodes settings.wait s command).0 ≡ t
+    → ((x : ℕ) (r : BookRider) (promise : Promise) → find_rider x t.riders ≡ Some r → r.status ≡ Promised promise → IsPromiseKept t r promise) → IsDayState roads t
+stepped settings roads s t command day is promises = record {
+  consistent = subst IsConsistent is (step-consistent roads.nodes settings.wait s command day.consistent);
+  named = subst (NamesNodes roads.nodes) is (step-named roads.nodes settings.wait s command day.consistent day.named);
+  promises = promises;
+}
 
 module _ (settings : Settings) (roads : Roads) (s : State) (day : IsDayState roads s) (v : Vehicle) (at : find_vehicle v.id s.vehicles ≡ Some v) where
   has_seats : HasSeats v
@@ -90,11 +89,8 @@ module _ (settings : Settings) (roads : Roads) (s : State) (day : IsDayState roa
       record {
         t = next;
         is = is;
-        state = record {
-          consistent = stepped_consistent settings roads s next (Pickup v.id stop.rider stop.second) Picked day is;
-          named = stepped_named settings roads s next (Pickup v.id stop.rider stop.second) Picked day is;
-          promises = next_promises settings roads s day stop.rider right.rider (Aboard v.id) v.id v (takes_in right.rider stop.second) right.found at (λ v. refl) held after (λ w h. h);
-        };
+        state = stepped settings roads s next (Pickup v.id stop.rider stop.second) day (ap (λ (p : State × Reply). p.0) is)
+            (next_promises settings roads s day stop.rider right.rider (Aboard v.id) v.id v (takes_in right.rider stop.second) right.found at (λ v. refl) held after (λ w h. h));
         own = record {
           v = takes_in right.rider stop.second v;
           at = vehicle_there settings roads s day stop.rider right.rider (Aboard v.id) v.id v (takes_in right.rider stop.second) right.found at (λ v. refl) held after (λ w h. h);
@@ -102,8 +98,7 @@ module _ (settings : Settings) (roads : Roads) (s : State) (day : IsDayState roa
           by = refl;
           serves = serves_on_picked settings roads s.riders v free stop stops right.rider pick right.found right.status right.node (omega arith) serves;
         };
-        others = next_others settings roads s day stop.rider right.rider (Aboard v.id) v.id v (takes_in right.rider stop.second) right.found at (λ v. refl) held after (λ w h. h)
-            (map-changed_at (λ (v : Vehicle). v.id) v.id (takes_in right.rider stop.second) (λ v. refl) s.vehicles);
+        others = next_others settings roads s day stop.rider right.rider (Aboard v.id) v.id v (takes_in right.rider stop.second) right.found at (λ v. refl) held after (λ w h. h);
         bounds = next_bounds settings roads s day stop.rider right.rider (Aboard v.id) v.id v (takes_in right.rider stop.second) right.found at (λ v. refl) held after (λ w h. h) (λ limit. tt);
       }
 
@@ -129,11 +124,8 @@ module _ (settings : Settings) (roads : Roads) (s : State) (day : IsDayState roa
       record {
         t = next;
         is = is;
-        state = record {
-          consistent = stepped_consistent settings roads s next (Dropoff v.id stop.rider stop.second) Dropped day is;
-          named = stepped_named settings roads s next (Dropoff v.id stop.rider stop.second) Dropped day is;
-          promises = next_promises settings roads s day stop.rider right.rider Delivered v.id v (lets_out right.rider stop.second) right.found at (λ v. refl) right.own after (λ w h. absurd h);
-        };
+        state = stepped settings roads s next (Dropoff v.id stop.rider stop.second) day (ap (λ (p : State × Reply). p.0) is)
+            (next_promises settings roads s day stop.rider right.rider Delivered v.id v (lets_out right.rider stop.second) right.found at (λ v. refl) right.own after (λ w h. absurd h));
         own = record {
           v = lets_out right.rider stop.second v;
           at = vehicle_there settings roads s day stop.rider right.rider Delivered v.id v (lets_out right.rider stop.second) right.found at (λ v. refl) right.own after (λ w h. absurd h);
@@ -141,8 +133,7 @@ module _ (settings : Settings) (roads : Roads) (s : State) (day : IsDayState roa
           by = refl;
           serves = serves_on_dropped settings roads s.riders v free stop stops right.rider (passenger_of right.rider) pick right.found id aboard.1 right.node differ (passenger_found stop.rider right.rider right.found aboard.0) refl (omega arith) serves;
         };
-        others = next_others settings roads s day stop.rider right.rider Delivered v.id v (lets_out right.rider stop.second) right.found at (λ v. refl) right.own after (λ w h. absurd h)
-            (map-changed_at (λ (v : Vehicle). v.id) v.id (lets_out right.rider stop.second) (λ v. refl) s.vehicles);
+        others = next_others settings roads s day stop.rider right.rider Delivered v.id v (lets_out right.rider stop.second) right.found at (λ v. refl) right.own after (λ w h. absurd h);
         bounds = next_bounds settings roads s day stop.rider right.rider Delivered v.id v (lets_out right.rider stop.second) right.found at (λ v. refl) right.own after (λ w h. absurd h) (λ limit. tt);
       }
 
@@ -157,17 +148,13 @@ module _ (settings : Settings) (roads : Roads) (s : State) (day : IsDayState roa
       record {
         t = next;
         is = is;
-        state = record {
-          consistent = stepped_consistent settings roads s next (Report v.id node time) Placed day is;
-          named = stepped_named settings roads s next (Report v.id node time) Placed day is;
-          promises = λ y q promise e t.
-              let was = day.promises y q promise e t in
-              let still : (u : Vehicle) × (find_vehicle promise.vehicle next.vehicles ≡ Some u) = elim (cases_eq v.id promise.vehicle) [
-                | inl same ↦ (stands_at node time v, subst (λ k. find_vehicle k next.vehicles ≡ Some (stands_at node time v)) same there)
-                | inr ne ↦ (was.vehicle, other promise.vehicle ne ∙ was.at)
-              ] in
-              record { last = was.last; sealed = was.sealed; asked = was.asked; vehicle = still.0; at = still.1 };
-        };
+        state = stepped settings roads s next (Report v.id node time) day (ap (λ (p : State × Reply). p.0) is) (λ y q promise e t.
+            let was = day.promises y q promise e t in
+            let still : (u : Vehicle) × (find_vehicle promise.vehicle next.vehicles ≡ Some u) = elim (cases_eq v.id promise.vehicle) [
+              | inl same ↦ (stands_at node time v, subst (λ k. find_vehicle k next.vehicles ≡ Some (stands_at node time v)) same there)
+              | inr ne ↦ (was.vehicle, other promise.vehicle ne ∙ was.at)
+            ] in
+            record { last = was.last; sealed = was.sealed; asked = was.asked; vehicle = still.0; at = still.1 });
         own = record {
           v = stands_at node time v;
           at = there;
@@ -175,12 +162,6 @@ module _ (settings : Settings) (roads : Roads) (s : State) (day : IsDayState roa
           by = refl;
           serves = record { reached = reached; seats = serves.seats; right = serves.right; calls = serves.calls; few = serves.few };
         };
-        others = record {
-          found = λ id w ne e. sym (other id ne) ∙ e;
-          serve = λ id w free stops ne e serves. serves;
-          ids = map-changed_at (λ (v : Vehicle). v.id) v.id (stands_at node time) (λ v. refl) s.vehicles;
-          sealed = refl;
-          last = refl;
-        };
+        others = record { found = λ id w ne e. sym (other id ne) ∙ e; serve = λ id w free stops ne e serves. serves };
         bounds = λ y limit was. record { of = was.of; found = was.found; bound = was.bound };
       }

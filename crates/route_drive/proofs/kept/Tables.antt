@@ -39,7 +39,6 @@ module _ (roads : Roads) (points : List ℕ) (times : Times) (table : AreTravelT
       → ServesFrom (travel_time times) dwell place free room (map vis stops)
   serves_by_table riders dwell vis [] place node free room at reached seats seen = tt
   serves_by_table riders dwell vis (stop ∷ stops) place node free room at reached seats seen =
-      let s = seen.0 in
       let leads = reached.0 in
       let short = leads.short in
       let tau : travel_time times place seen.0.place ≡ reached.0.seconds = time_is place seen.0.place node stop.node reached.0.seconds at seen.0.node (inl reached.0.least) in

@@ -33,7 +33,6 @@ module _ (roads : Roads) (points : List ℕ) (times : Times) (table : AreTravelT
       → ServesFrom (travel_time times) dwell place free room (map vis stops) → AreReached roads dwell node free (told_from place free stops)
   told_reached [] place node free room are at serves = tt
   told_reached (s ∷ stops) place node free room are at serves =
-      let second : ℕ = free + travel_time times place (place_of (vis s)) in
       let is : (told (s, free + travel_time times place (place_of (vis s)))).second ≡ free + travel_time times place (place_of (vis s)) = are.0.second (free + travel_time times place (place_of (vis s))) in
       let there = are.0.node (free + travel_time times place (place_of (vis s))) in
       let between = time_between roads points times table place (place_of (vis s)) node (told (s, free + travel_time times place (place_of (vis s)))).node at there in (
@@ -50,12 +49,11 @@ module _ (roads : Roads) (points : List ℕ) (times : Times) (table : AreTravelT
   pub told_seats : (stops : List Stop) (place free room : ℕ) → AllByRecursion (IsTold points riders vis told) stops
       → ServesFrom (travel_time times) dwell place free room (map vis stops) → HasSeatsFor riders room (told_from place free stops)
   told_seats [] place free room are serves = tt
-  told_seats (s ∷ stops) place free room are serves =
-      let second : ℕ = free + travel_time times place (place_of (vis s)) in (
-        λ pick. let e = are.0.boards (free + travel_time times place (place_of (vis s))) pick in let h = serves.2 in omega (arith, e, h),
-        subst (λ r. HasSeatsFor riders r (told_from (place_of (vis s)) (free + travel_time times place (place_of (vis s)) + dwell) stops)) (are.0.room (free + travel_time times place (place_of (vis s))) room)
-            (told_seats stops (place_of (vis s)) (free + travel_time times place (place_of (vis s)) + dwell) (room_after (vis s) room) are.1 serves.3),
-      )
+  told_seats (s ∷ stops) place free room are serves = (
+    λ pick. let e = are.0.boards (free + travel_time times place (place_of (vis s))) pick in let h = serves.2 in omega (arith, e, h),
+    subst (λ r. HasSeatsFor riders r (told_from (place_of (vis s)) (free + travel_time times place (place_of (vis s)) + dwell) stops)) (are.0.room (free + travel_time times place (place_of (vis s))) room)
+        (told_seats stops (place_of (vis s)) (free + travel_time times place (place_of (vis s)) + dwell) (room_after (vis s) room) are.1 serves.3),
+  )
 
   -- what holds of each stop that is told at a second in time holds of all that are told
   pub told_all : (P : Stop → Type 0) (Q : PlannedStop → Type 0) → ((s : Stop) (second : ℕ) → P s → second ≤ latest_of (vis s) → Q (told (s, second)))
@@ -75,7 +73,6 @@ module _ (roads : Roads) (points : List ℕ) (times : Times) (table : AreTravelT
       → (stops : List Stop) (place free : ℕ) → AllByRecursion P stops → calls_of x (told_from place free stops) ≡ map is_pick (filter test stops)
   told_calls x test P same kind [] place free all = refl
   told_calls x test P same kind (s ∷ stops) place free all =
-      let second : ℕ = free + travel_time times place (place_of (vis s)) in
       let ih = told_calls x test P same kind stops (place_of (vis s)) (free + travel_time times place (place_of (vis s)) + dwell) all.1 in
       let t = same s (free + travel_time times place (place_of (vis s))) all.0 in
       elim (cases_Bool (test s)) [

@@ -1,7 +1,8 @@
 -- Shortest walks: their seconds are one number, and what is left of one is one.
-use Rattle.std.proofs.Common.{◌≡◌, ℕ, zero, suc, ◌+◌, ◌<◌, ◌≤◌, Bool, true, false, eqb, List, [], ◌∷◌, ◌++◌, length, get_or, All, Contains, nat_eq, refl, sym, ◌∙◌, subst, arith, inl, inr}
-use Rattle.route_drive.proofs.Common.{IsDistinct, false≢true, All-contains, All-from_recursion, Contains-get_or, sum_by-append, passes_at_first, never, Arc, IsWalk, walk_seconds, IsLeastTime, IsTimeBetween, IsArcAmong, index_in, has_node}
+use Rattle.std.proofs.Common.{◌≡◌, ℕ, zero, suc, ◌+◌, ◌<◌, ◌≤◌, Bool, true, false, eqb, List, [], ◌∷◌, ◌++◌, length, get_or, Contains, nat_eq, refl, sym, ◌∙◌, subst, arith, inl, inr}
+use Rattle.route_drive.proofs.Common.{IsDistinct, false≢true, All-from_recursion, Contains-get_or, passes_at_first, never, Arc, IsWalk, walk_seconds, IsLeastTime, IsTimeBetween, index_in, has_node}
 use Rattle.std.proofs.lemmas.Bool.{eqb-true, eq-eqb, ne_eqb}
+use Rattle.travel_times.proofs.lemmas.WalkLemmas.{IsWalk-append, walk_seconds-append}
 
 pub least_unique : (arcs : List Arc) (a b s t : ℕ) → IsLeastTime arcs a b s → IsLeastTime arcs a b t → s ≡ t
 least_unique arcs a b s t one other =
@@ -22,19 +23,6 @@ pub least_between : (arcs : List Arc) (a b s : ℕ) → IsTimeBetween arcs a b s
 least_between arcs a b s (inl one) short = one
 least_between arcs a b s (inr one) short = absurd (let e : s ≡ never = one.1 in omega arith)
 
--- one walk after another
-joined : (arcs walk other : List Arc) (start via goal : ℕ) → IsWalk arcs start walk via → IsWalk arcs via other goal → IsWalk arcs start (walk ++ other) goal
-joined arcs [] other start via goal walks onward = subst (λ (s : ℕ). IsWalk arcs s other goal) (sym walks) onward
-joined arcs (first ∷ rest) other start via goal walks onward = (walks.0, walks.1, joined arcs rest other first.to via goal walks.2 onward)
-
-joined_seconds : (walk other : List Arc) → walk_seconds (walk ++ other) ≡ walk_seconds walk + walk_seconds other
-joined_seconds walk other = sum_by-append (λ (a : Arc). a.seconds) walk other
-
--- a walk ends at a node of the network
-pub ends_within : (arcs walk : List Arc) (n start goal : ℕ) → All (IsArcAmong n) arcs → IsWalk arcs start walk goal → start < n → goal < n
-ends_within arcs [] n start goal among walks within = subst (λ (g : ℕ). g < n) walks within
-ends_within arcs (first ∷ rest) n start goal among walks within = ends_within arcs rest n first.to goal among walks.2 ((All-contains (IsArcAmong n) arcs first among walks.0).1)
-
 -- what is left of a shortest walk is a shortest walk
 pub rest_is_least : (arcs before rest : List Arc) (start via goal : ℕ) → IsWalk arcs start before via → IsWalk arcs via rest goal
     → ((other : List Arc) → IsWalk arcs start other goal → walk_seconds before + walk_seconds rest ≤ walk_seconds other)
@@ -44,8 +32,8 @@ rest_is_least arcs before rest start via goal there onward least = record {
   walks = onward;
   takes = refl;
   least = λ other walks.
-      let h : walk_seconds before + walk_seconds rest ≤ walk_seconds (before ++ other) = least (before ++ other) (joined arcs before other start via goal there walks) in
-      let e : walk_seconds (before ++ other) ≡ walk_seconds before + walk_seconds other = joined_seconds before other in
+      let h : walk_seconds before + walk_seconds rest ≤ walk_seconds (before ++ other) = least (before ++ other) (IsWalk-append arcs before other start via goal there walks) in
+      let e : walk_seconds (before ++ other) ≡ walk_seconds before + walk_seconds other = walk_seconds-append before other in
       omega arith;
 }
 

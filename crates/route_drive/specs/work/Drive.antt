@@ -1,14 +1,15 @@
 -- A day under way.
-use Rattle.std.specs.Prelude.{◌≡◌, ◌≢◌, ℕ, List, [], ◌∷◌, ◌++◌, Some, All, length, map, Option, take, slice_index_or, None, ◌+◌, nat_le, find}
+use Rattle.std.specs.Prelude.{◌≡◌, ◌≢◌, ◌<◌, ◌≤◌, ℕ, List, [], ◌∷◌, ◌++◌, Some, All, length, map, Option, take, slice_index_or, None, ◌+◌, nat_le, find}
 use Rattle.std.specs.List.{Any}
 use Rattle.request_book.specs.Book.{BookView, next_position}
 use Rattle.request_book.specs.Replay.{state_after}
+use Rattle.request_book.specs.declared.command.Command.{Command}
 use Rattle.request_book.specs.declared.journal.Journal.{Journal}
 use Rattle.request_book.specs.declared.state.State.{State}
 use Rattle.rider_limits.specs.declared.settings.Settings.{Settings}
 use Rattle.road_network.specs.Roads.{Roads}
 use Rattle.script_rows.specs.Round.{NumberedLanes, lane_at, empty_round}
-use Rattle.dispatch_engine.specs.Run.{IsReady, IsRoundRun, position_after_run, state_after_run}
+use Rattle.dispatch_engine.specs.Run.{IsReady, IsRoundRun, IsRun, position_after_run, state_after_run}
 use Rattle.route_drive.specs.declared.course.Course.{Course}
 use Rattle.route_drive.specs.declared.day_run.DayRound.{DayRound}
 use Rattle.dispatch_report.specs.declared.day.DayCounts.{DayCounts}
@@ -19,9 +20,10 @@ use Rattle.route_drive.specs.declared.entering.Stopped.{Stopped}
 use Rattle.route_drive.specs.declared.entering.Stopped.TheVariants as stop
 use Rattle.route_drive.specs.Day.{seal_of, round_fault, latest_seal}
 use Rattle.route_drive.specs.Counts.{AreCounts, entries_of}
-use Rattle.route_drive.specs.Driven.{HasDriven, IsDrivenDay, IsDrivenRound, courses_after, courses_from, number_after}
+use Rattle.route_drive.specs.Driven.{AreDriven, first_courses, IsDrivenDay, IsDrivenRound, courses_after, courses_from, number_after}
 use Rattle.route_drive.specs.work.Counting.{AddsServed, AreServed}
-use Rattle.route_drive.specs.Entering.{EntersTooLate, IsInTime, IsTooLate, left_commands}
+use Rattle.pool_base.specs.TravelTime.{longest}
+use Rattle.route_drive.specs.Entering.{EntersTooLate, left_commands, second_of}
 use Rattle.route_drive.specs.declared.day.DayFault.{DayFault}
 use Rattle.batch_snapshot.specs.declared.vehicle.Vehicle.{Vehicle}
 use Rattle.route_drive.specs.declared.course.Stay.{Stay}
@@ -35,6 +37,10 @@ reported_place v = record { node = v.node; second = v.time; free = v.time }
 abbrev pub step_from : ℕ → ℕ → List WalkStep → Option WalkStep
 step_from now left steps = find (λ step. nat_le now (left + step.seconds)) steps
 
+-- a command has a second of at most 1,000,000,000
+abbrev pub IsInTime : Command → Type 0
+IsInTime command = second_of command ≤ longest
+
 -- nothing is on its way
 abbrev pub at_rest : Course
 at_rest = record { stops = record { items = [] }; target = None }
@@ -45,7 +51,10 @@ fault_at rounds k = round_fault (latest_seal (take k rounds)) (slice_index_or ro
 
 -- rounds of a day were driven from a state; the book and what is on its way are as they leave them
 pub record IsUnderWay (settings : Settings) (roads : Roads) (s : State) (rounds : List NumberedLanes) (book : BookView) (courses : List Course) (made : List DayRound) : Type 0 where
-  pub driven : HasDriven settings roads s rounds made
+  pub script : List NumberedLanes
+  pub driven : AreDriven settings roads (first_courses settings roads s) rounds script (map (λ r. r.journal) made)
+  pub numbers : map (λ r. r.number) made ≡ map (λ r. r.number) rounds
+  pub run : IsRun settings roads s 0 script (map (λ r. r.journal) made)
   pub ready : IsReady settings roads book
   pub entries : book.entries ≡ []
   pub base : book.base ≡ book.state
@@ -85,16 +94,9 @@ pub record IsRoundOn (settings : Settings) (roads : Roads) (round : NumberedLane
   pub driven : NumberedLanes
   pub is_driven : IsDrivenRound settings roads drive.book.state drive.courses.items round driven
   pub journal : Journal
-  pub run : IsRoundRun settings roads driven journal
-  pub base : journal.base ≡ drive.book.base
-  pub first : journal.first ≡ drive.book.first
+  pub taken : IsTaken settings roads driven drive.book drive'.book journal
   pub kept : Takes Before After (record { number = round.number; journal = journal })
   pub served : AddsServed journal.entries drive.served drive'.served
-  pub ready : IsReady settings roads drive'.book
-  pub entries : drive'.book.entries ≡ []
-  pub base_is : drive'.book.base ≡ drive'.book.state
-  pub state : drive'.book.state ≡ state_after roads.nodes settings.wait drive.book.base journal.entries
-  pub next : drive'.book.first ≡ next_position drive.book.first journal.entries
   pub courses_are : drive'.courses.items ≡ courses_after drive'.book.state round journal.entries drive.courses.items
 
 -- why a day stopped
@@ -102,11 +104,10 @@ abbrev pub IsStoppedAt : Stopped → ℕ → DriveFault → Type 0
 IsStoppedAt stop.TooLate number answer = answer ≡ fault.TooLate number
 IsStoppedAt stop.OutOfMemory number answer = answer ≡ fault.OutOfMemory
 
--- a round is too late
-abbrev pub IsRoundLate : Settings → Roads → NumberedLanes → Drive → (List DayRound → Type 0) → (List DayRound → Type 0) → DriveFault → Type 0
-IsRoundLate settings roads round drive Before After (fault.TooLate number) =
-    (number ≡ round.number) × Stays Before After × ((now : ℕ) × (seal_of round ≡ Some now) × EntersTooLate roads settings.dwell now drive.book.state.vehicles drive.courses.items)
-IsRoundLate settings roads round drive Before After fault.OutOfMemory = Unit {0}
+-- the round of a number is too late, as is said of it
+abbrev pub IsLateAt : ℕ → Type 0 → (List DayRound → Type 0) → (List DayRound → Type 0) → DriveFault → Type 0
+IsLateAt number Late Before After (fault.TooLate round) = (round ≡ number) × Stays Before After × Late
+IsLateAt number Late Before After fault.OutOfMemory = Unit {0}
 
 -- the last round was run, and leaves the day as this
 pub record IsLastOn (settings : Settings) (roads : Roads) (number : ℕ) (drive : Drive) (Before After : List DayRound → Type 0) (drive' : Drive) : Type 0 where
@@ -115,26 +116,15 @@ pub record IsLastOn (settings : Settings) (roads : Roads) (number : ℕ) (drive 
   pub others : (lane : ℕ) → lane ≢ 0 → lane_at driven lane ≡ []
   pub in_time : All IsInTime (left_commands drive.book.state.vehicles drive.courses.items)
   pub journal : Journal
-  pub run : IsRoundRun settings roads driven journal
-  pub base : journal.base ≡ drive.book.base
-  pub first : journal.first ≡ drive.book.first
+  pub taken : IsTaken settings roads driven drive.book drive'.book journal
   pub kept : Takes Before After (record { number = number; journal = journal })
   pub served : AddsServed journal.entries drive.served drive'.served
   pub nodes : drive'.book.nodes ≡ roads.nodes
-  pub state : drive'.book.state ≡ state_after roads.nodes settings.wait drive.book.base journal.entries
 
 -- a day whose rounds were driven came to its end: with its last round, unless it was empty
 abbrev pub HasEnded : Settings → Roads → List NumberedLanes → Drive → (List DayRound → Type 0) → (List DayRound → Type 0) → Drive → Type 0
 HasEnded settings roads [] drive Before After end = (end ≡ drive) × Stays Before After
 HasEnded settings roads rounds drive Before After end = IsLastOn settings roads (number_after rounds) drive Before After end
-
--- the last round is too late
-abbrev pub IsLastLate : ℕ → Drive → (List DayRound → Type 0) → (List DayRound → Type 0) → DriveFault → Type 0
-IsLastLate number drive Before After (fault.TooLate round) = (round ≡ number) × Stays Before After × Any IsTooLate (left_commands drive.book.state.vehicles drive.courses.items)
-IsLastLate number drive Before After fault.OutOfMemory = Unit {0}
-
-abbrev pub IsEndLate : List NumberedLanes → Drive → (List DayRound → Type 0) → (List DayRound → Type 0) → DriveFault → Type 0
-IsEndLate rounds drive Before After answer = IsLastLate (number_after rounds) drive Before After answer
 
 -- the rounds that were taken are those of a driven day, and these are its counts
 pub record IsCounted (Took : List DayRound → Type 0) (settings : Settings) (roads : Roads) (s : State) (rounds : List NumberedLanes) (run : DayCounts) : Type 0 where

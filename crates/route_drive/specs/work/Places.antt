@@ -1,6 +1,6 @@
 -- Where vehicles are at a seal, and what is entered of them.
 use Rattle.std.specs.Prelude.{ℕ, List, [], ◌∷◌, ◌++◌, map}
-use Rattle.std.specs.List.{AllZip}
+use Rattle.std.specs.List.{AllZip, flat_map, zip}
 use Rattle.batch_snapshot.specs.declared.vehicle.Vehicle.{Vehicle}
 use Rattle.request_book.specs.declared.command.Command.{Command}
 use Rattle.request_book.specs.declared.command.Command.TheVariants.{Report}
@@ -17,8 +17,7 @@ heading_of dwell now v c = record { from = standing_after dwell (reported_place 
 
 -- the same of all vehicles, one after the other
 abbrev pub headings_of : ℕ → ℕ → List Vehicle → List Course → List Heading
-headings_of dwell now (v ∷ vehicles) (c ∷ courses) = heading_of dwell now v c ∷ headings_of dwell now vehicles courses
-headings_of dwell now vehicles courses = []
+headings_of dwell now vehicles courses = map (λ p. heading_of dwell now p.0 p.1) (zip vehicles courses)
 
 -- a vehicle that heads so is reported there
 abbrev pub IsPlaced : Roads → ℕ → Heading → NodeAt → Type 0
@@ -34,5 +33,4 @@ told_of now vehicle course there = map (stop_command vehicle) (due now course.st
 
 -- what is entered of all vehicles
 abbrev pub told_by : ℕ → List Vehicle → List Course → List NodeAt → List Command
-told_by now (v ∷ vehicles) (c ∷ courses) (there ∷ places) = told_of now v.id c there ++ told_by now vehicles courses places
-told_by now vehicles courses places = []
+told_by now vehicles courses places = flat_map (λ p. told_of now p.0.0.id p.0.1 p.1) (zip (zip vehicles courses) places)

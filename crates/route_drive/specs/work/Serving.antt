@@ -10,7 +10,7 @@
 --   a seal keeps it: nobody promised is over, since a promised pickup is later than the seal and within the wait;
 --   the batch of a seal then has no late vehicle and no lapsed promise: the stops serve by the batch's table;
 --   a close with a good plan makes it anew from the chosen trips; after an overflow it stays.
-use Rattle.std.specs.Prelude.{◌≡◌, ◌==◌, ℕ, ◌+◌, ◌*◌, ◌-◌, ◌<◌, ◌≤◌, Bool, true, false, MatchBool, List, [], ◌∷◌, Some, map, filter, length, if◌then◌else◌}
+use Rattle.std.specs.Prelude.{◌≡◌, ◌==◌, ℕ, ◌+◌, ◌*◌, ◌-◌, ◌<◌, ◌≤◌, Bool, true, false, MatchBool, List, [], ◌∷◌, Option, None, Some, map, filter, length, if◌then◌else◌}
 use Rattle.std.specs.List.{AllByRecursion}
 use Rattle.std.specs.Option.{option_map_or}
 use Rattle.pool_base.specs.TravelTime.{never}
@@ -19,6 +19,7 @@ use Rattle.batch_snapshot.specs.Vehicle.{persons_aboard}
 use Rattle.batch_snapshot.specs.declared.promise.Promise.{Promise}
 use Rattle.batch_snapshot.specs.declared.rider.Rider.{Rider}
 use Rattle.batch_snapshot.specs.declared.vehicle.Vehicle.{Vehicle}
+use Rattle.request_book.specs.Closing.{after_answer}
 use Rattle.request_book.specs.Consistent.{IsConsistent, NamesNodes}
 use Rattle.request_book.specs.Keyed.{look_up, KeysRise}
 use Rattle.request_book.specs.Rider.{shown}
@@ -27,6 +28,7 @@ use Rattle.request_book.specs.State.{find_rider, find_vehicle}
 use Rattle.request_book.specs.Step.{step}
 use Rattle.request_book.specs.declared.command.Command.{Command}
 use Rattle.request_book.specs.declared.outcome.ChosenTrip.{ChosenTrip}
+use Rattle.request_book.specs.declared.outcome.Outcome.{Outcome}
 use Rattle.request_book.specs.declared.outcome.Planned.{Planned}
 use Rattle.request_book.specs.declared.outcome.PlannedStop.{PlannedStop}
 use Rattle.request_book.specs.declared.reply.Reply.{Reply}
@@ -38,6 +40,7 @@ use Rattle.rider_limits.specs.declared.settings.Settings.{Settings}
 use Rattle.road_network.specs.Roads.{Roads, index_in}
 use Rattle.road_network.specs.Walk.{IsLeastTime}
 use Rattle.route_drive.specs.Promises.{IsDroppedInTime}
+use Rattle.route_drive.specs.declared.course.Course.{Course}
 
 -- whoever leaves a node at a second reaches another at a second, by a shortest walk
 pub record Leads (roads : Roads) (from left to second : ℕ) : Type 0 where
@@ -154,9 +157,6 @@ pub record LeavesOthers (settings : Settings) (roads : Roads) (s t : State) (veh
   pub found : (id : ℕ) (w : Vehicle) → (vehicle ≡ id → ⊥) → find_vehicle id t.vehicles ≡ Some w → find_vehicle id s.vehicles ≡ Some w
   pub serve : (id : ℕ) (w : Vehicle) (free : ℕ) (stops : List PlannedStop) → (vehicle ≡ id → ⊥) → find_vehicle id t.vehicles ≡ Some w
       → IsServing settings roads s.riders w free stops → IsServing settings roads t.riders w free stops
-  pub ids : map (λ v. v.id) t.vehicles ≡ map (λ v. v.id) s.vehicles
-  pub sealed : t.sealed ≡ s.sealed
-  pub last : t.last_seal ≡ s.last_seal
 
 -- what a vehicle has after one of its commands
 pub record Then (settings : Settings) (roads : Roads) (t : State) (vehicle node time free : ℕ) (stops : List PlannedStop) : Type 0 where
@@ -181,8 +181,6 @@ pub record LeavesAll (settings : Settings) (roads : Roads) (s t : State) : Type 
   pub vehicles : t.vehicles ≡ s.vehicles
   pub serve : (id : ℕ) (w : Vehicle) (free : ℕ) (stops : List PlannedStop) → find_vehicle id s.vehicles ≡ Some w → IsServing settings roads s.riders w free stops → IsServing settings roads t.riders w free stops
   pub bounds : KeepsBounds s t
-  pub sealed : t.sealed ≡ s.sealed
-  pub last : t.last_seal ≡ s.last_seal
 
 -- a sealed batch that isn't closed yet, in a state: whom it shows
 pub record ShowsRiders (s : State) (b : Batch) : Type 0 where
@@ -195,3 +193,27 @@ pub record ShowsRiders (s : State) (b : Batch) : Type 0 where
 -- the stops that a plan gives a vehicle
 abbrev pub chosen_stops : Planned → ℕ → List PlannedStop
 chosen_stops planned id = option_map_or (λ (t : ChosenTrip). t.stops.items) (look_up (λ (t : ChosenTrip). t.vehicle) id planned.chosen) []
+
+-- what is on its way for the vehicle of an id
+abbrev pub course_of : List Vehicle → List Course → ℕ → Course
+course_of (v ∷ vehicles) (course ∷ courses) id = if v.id == id then course else course_of vehicles courses id
+course_of vehicles courses id = record { stops = record { items = [] }; target = None }
+
+-- a state before a seal: every vehicle is reported by its second or later, and serves stops that are all later
+pub record IsReadyForSeal (settings : Settings) (roads : Roads) (now : ℕ) (s : State) (stops : ℕ → List PlannedStop) : Type 0 where
+  pub kept : IsKept settings roads s stops
+  pub reported : (id : ℕ) (v : Vehicle) → find_vehicle id s.vehicles ≡ Some v → now ≤ v.time
+  pub later : (id : ℕ) (v : Vehicle) → find_vehicle id s.vehicles ≡ Some v → AllByRecursion (λ stop. now < stop.second) (stops id)
+
+-- every vehicle was reported at a batch's second or later
+abbrev pub AreReported : State → Batch → Type 0
+AreReported s b = (id : ℕ) (v : Vehicle) → find_vehicle id s.vehicles ≡ Some v → b.sealed_at ≤ v.time
+
+-- the state after the close of a batch
+abbrev pub closed : State → Batch → Outcome → State
+closed s b outcome = record s { riders = after_answer b.riders outcome.answer s.riders; sealed = None }
+
+-- the stops that are on their way: those of a plan, if there is one
+abbrev pub stops_with : Option Planned → (ℕ → List PlannedStop) → ℕ → List PlannedStop
+stops_with None stops = stops
+stops_with (Some planned) stops = chosen_stops planned

@@ -63,10 +63,6 @@ pub record IsGrowing (arcs : List Arc) (times : List ℕ) (start most count : �
   pub first : (found_at found 0).node ≡ start
   pub opened : (k : ℕ) → k < count → k < length found → IsOpened arcs times most seen (found_at found k).node
 
--- a search that is over: all that was found is opened
-abbrev pub IsFullTree : List Arc → List ℕ → ℕ → ℕ → List Bool → List Found → Type 0
-IsFullTree arcs times start most seen found = IsGrowing arcs times start most (length found) seen found
-
 -- steps of a walk to a node from another, on which the times rise by the arcs' seconds
 pub record IsWalkBack (roads : Roads) (times : List ℕ) (from to : ℕ) (steps : List WalkStep) : Type 0 where
   pub walk : List Arc

@@ -1,49 +1,21 @@
-use Rattle.std.proofs.Common.{◌≡◌, ℕ, false, not, ◌&&◌, eqb, nat_lt, List, Result, Ok, subst, arith}
-use Rattle.script_rows.proofs.Common.{not-false, field_at, refused_where, then_ok, refused_where-passed, Command, ScriptFault, Number, LaneRange, RoundBack, UnknownCommand, ExtraField, SealLane, Line, ScriptVersion, party_in, submit_in, three_in, command_in, leaves_empty, is_seal, line_in, IsBehind, MayStand}
+use Rattle.std.proofs.Common.{◌≡◌, ℕ, false, not, eqb, nat_lt, List, Ok, subst, arith}
+use Rattle.script_rows.proofs.Common.{field_at, refused_where, then_ok, refused_where-passed, Command, Number, LaneRange, RoundBack, UnknownCommand, ExtraField, SealLane, Line, ScriptVersion, submit_in, three_in, command_in, leaves_empty, line_in, IsBehind, MayStand}
 use Rattle.std.specs.Option.{ok_or}
-use Rattle.std.proofs.lemmas.Bool.{ltb-false, eqb-true}
+use Rattle.std.proofs.lemmas.Bool.{ltb-false}
+use Rattle.std.proofs.lemmas.Bool.Decides.{nat_tests}
 use Rattle.pool_base.specs.Numeral.{number_in, number_at}
 use Rattle.pool_base.proofs.lemmas.NumeralLemmas.{number_in-at, number_in-within}
-use Rattle.request_book.specs.declared.command.Command.TheVariants.{Submit as submit, Cancel as cancel, Report as report, Pickup as pickup, Dropoff as dropoff, Seal as seal}
+use Rattle.request_book.specs.declared.command.Command.TheVariants.{Seal as seal, Close as close}
 use Rattle.script_rows.specs.declared.word.Word.{Word}
-use Rattle.script_rows.specs.declared.word.Word.TheVariants.{Submit, Cancel, Report, Pickup, Dropoff, Seal}
+use Rattle.script_rows.specs.declared.word.Word.TheVariants.{Seal}
 use Rattle.script_rows.specs.Word.{word_of}
 
--- where a step answers with a command that stands, so does its answer
-stands_as : (lane : ℕ) (made command : Command) → ◌≡◌ {A = Result Command ScriptFault} (Ok made) (Ok command) → MayStand lane made → MayStand lane command
-stands_as lane made command is stands = let same : made ≡ command = cc in subst (MayStand lane) same stands
-
 -- a command by its word stands where its word may
-MayStand-command_in : (version : ScriptVersion) (row : ℕ) (fields : List (List ℕ)) (word : Word) (command : Command) (lane : ℕ) → command_in version row fields word ≡ Ok command → (is_seal word && not (eqb lane 0)) ≡ false → MayStand lane command
+MayStand-command_in : (version : ScriptVersion) (row : ℕ) (fields : List (List ℕ)) (word : Word) (command : Command) (lane : ℕ) → command_in version row fields word ≡ Ok command → (elim word [ Seal ↦ not (eqb lane 0) | _ ↦ false ]) ≡ false → MayStand lane command
 unfolding command_in submit_in three_in
-MayStand-command_in version row fields Submit command lane is stands =
-    then_ok (number_in Number row fields 3) _ command (MayStand lane command) is (λ rider _ is.
-    then_ok (number_in Number row fields 4) _ command (MayStand lane command) is (λ origin _ is.
-    then_ok (number_in Number row fields 5) _ command (MayStand lane command) is (λ destination _ is.
-    then_ok (number_in Number row fields 6) _ command (MayStand lane command) is (λ time _ is.
-    then_ok (party_in version row fields) _ command (MayStand lane command) is (λ party _ is.
-    stands_as lane (submit rider origin destination time party) command is tt)))))
-MayStand-command_in version row fields Cancel command lane is stands =
-    then_ok (number_in Number row fields 3) _ command (MayStand lane command) is (λ rider _ is.
-    stands_as lane (cancel rider) command is tt)
-MayStand-command_in version row fields Report command lane is stands =
-    then_ok (number_in Number row fields 3) _ command (MayStand lane command) is (λ vehicle _ is.
-    then_ok (number_in Number row fields 4) _ command (MayStand lane command) is (λ node _ is.
-    then_ok (number_in Number row fields 5) _ command (MayStand lane command) is (λ time _ is.
-    stands_as lane (report vehicle node time) command is tt)))
-MayStand-command_in version row fields Pickup command lane is stands =
-    then_ok (number_in Number row fields 3) _ command (MayStand lane command) is (λ vehicle _ is.
-    then_ok (number_in Number row fields 4) _ command (MayStand lane command) is (λ rider _ is.
-    then_ok (number_in Number row fields 5) _ command (MayStand lane command) is (λ time _ is.
-    stands_as lane (pickup vehicle rider time) command is tt)))
-MayStand-command_in version row fields Dropoff command lane is stands =
-    then_ok (number_in Number row fields 3) _ command (MayStand lane command) is (λ vehicle _ is.
-    then_ok (number_in Number row fields 4) _ command (MayStand lane command) is (λ rider _ is.
-    then_ok (number_in Number row fields 5) _ command (MayStand lane command) is (λ time _ is.
-    stands_as lane (dropoff vehicle rider time) command is tt)))
-MayStand-command_in version row fields Seal command lane is stands =
-    then_ok (number_in Number row fields 3) _ command (MayStand lane command) is (λ now _ is.
-    stands_as lane (seal now) command is (eqb-true lane 0 (not-false (eqb lane 0) stands)))
+MayStand-command_in version row fields word (seal now) lane is stands = grind (arith, nat_tests)
+MayStand-command_in version row fields word (close batch outcome) lane is stands = grind (arith, nat_tests)
+MayStand-command_in version row fields word _ lane is stands = tt
 
 -- what is known of a row that is read: it stands behind the row before, and its round is the number in its first column
 pub record IsRead (fields : List (List ℕ)) (last : ℕ) (line : Line) : Type 0 where
@@ -60,7 +32,7 @@ IsRead-line_in version row last fields line is =
     then_ok (ok_or (word_of (field_at fields 2)) (UnknownCommand row)) _ line (IsRead fields last line) is (λ word _ is.
     then_ok (command_in version row fields word) _ line (IsRead fields last line) is (λ command read is.
     then_ok (refused_where (not (leaves_empty version fields word)) (ExtraField row)) _ line (IsRead fields last line) is (λ w _ is.
-    then_ok (refused_where (is_seal word && not (eqb lane 0)) (SealLane row)) _ line (IsRead fields last line) is (λ x stands is.
+    then_ok (refused_where (elim word [ Seal ↦ not (eqb lane 0) | _ ↦ false ]) (SealLane row)) _ line (IsRead fields last line) is (λ x stands is.
     let same : record { round = round; lane = lane; command = command } ≡ line = cc in
     subst (IsRead fields last) same (record {
       named = number_in-at Number row fields 0 round numbered;
@@ -68,6 +40,6 @@ IsRead-line_in version row last fields line is =
         number = number_in-within Number row fields 0 round numbered;
         round = ltb-false round last (refused_where-passed (nat_lt round last) (RoundBack row) v forward);
         lane = (let most = ltb-false 15 lane (refused_where-passed (nat_lt 15 lane) (LaneRange row) u in_range) in omega arith);
-        stands = MayStand-command_in version row fields word command lane read (refused_where-passed (is_seal word && not (eqb lane 0)) (SealLane row) x stands);
+        stands = MayStand-command_in version row fields word command lane read (refused_where-passed (elim word [ Seal ↦ not (eqb lane 0) | _ ↦ false ]) (SealLane row) x stands);
       };
     })))))))))

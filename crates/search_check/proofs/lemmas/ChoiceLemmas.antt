@@ -71,10 +71,3 @@ choices_more g v h =
   where
     one_or_more : (n : ℕ) → 1 ≤ max 1 n
     one_or_more n = omega arith
-
--- the rows of a vehicle end at or after where they begin
-pub starts_rise : (g : Graph) (v s e : ℕ) → IsStartOf g v s → IsStartOf g (v + 1) e → s ≤ e
-starts_rise g v s e start end = ⊎_elim
-    (λ (less : e < s). let short = start.within in let low = start.below e less in let high = end.above e (omega arith) (omega (arith, less, short)) in absurd (omega (arith, low, high)))
-    (λ (ge : s ≤ e). ge)
-    (cases_lt e s)

@@ -1,5 +1,5 @@
 use Rattle.assignment_search.proofs.Common.{usable_of}
-use Rattle.assignment_search.specs.work.Marks.{IsOnlyOf}
+use Rattle.plan_rules.specs.lemmas.DeadEnd.{IsOnlyOf}
 use Rattle.assignment_search.proofs.branching.second_row.Given as goal
 
 abbrev pub invariant-loop-row : goal.invariant-loop-row

@@ -1,10 +1,7 @@
-use Rattle.std.proofs.Common.{◌≡◌, ℕ, ◌<◌, List, [], length, refl, sym, ap, subst, arith}
-use Rattle.batch_solver.proofs.Common.{point_count, travel_time, SettledVehicle, Stop, Task, Settled, trip_task, IsSound, IsTask, IsOrderOf, ReachesAll}
-use Rattle.batch_solver.proofs.TripLemmas.{no_trip, vehicle_read, passengers_few, late_order}
+use Rattle.std.proofs.Common.{List, refl, sym, ap, subst, arith}
+use Rattle.batch_solver.proofs.Common.{point_count, travel_time, SettledVehicle, Stop, Task, IsOrderOf, ReachesAll}
+use Rattle.batch_solver.proofs.lemmas.TripLemmas.{valid_task, vehicle_read, passengers_few, late_order}
 use Rattle.batch_solver.proofs.late.late_line.Goals as goal
-
-valid_task : (settled : Settled) (v points : ℕ) (tau : ℕ → ℕ → ℕ) (task : Task) → ((k : ℕ) × IsSound k points tau settled) → v < length settled.vehicles → task ≡ trip_task settled v [] → IsTask points task
-valid_task settled v points tau task sound within same = subst (IsTask points) (sym same) ((sound.1.each v within).tasks [] (no_trip (length settled.riders)) (omega arith))
 
 pub least_delay_unlimited-requires-clause-valid : goal.least_delay_unlimited-requires-clause-valid
 least_delay_unlimited-requires-clause-valid c =

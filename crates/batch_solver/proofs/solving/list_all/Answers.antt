@@ -1,4 +1,4 @@
-use Rattle.std.proofs.Common.{◌≡◌, ◌<◌, ◌≤◌, ℕ, List, length, map, All, sym, ap, ◌∙◌, subst, arith}
+use Rattle.std.proofs.Common.{◌<◌, ◌≤◌, ℕ, List, length, map, All, sym, ap, ◌∙◌, subst, arith}
 use Rattle.batch_solver.proofs.Common.{TripRow, travel_time, ChosenTrip, MoveLine, rider_id, rr_line, row_line, left_riders, AreTrips, AreLate, AreMoves, idle_vehicles}
 use Rattle.request_book.specs.declared.outcome.LateVehicle.{LateVehicle}
 use Rattle.batch_solver.proofs.GraphLemmas.{rows_of_riders, rows_are_few}

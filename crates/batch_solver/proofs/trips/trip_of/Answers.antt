@@ -1,7 +1,7 @@
 use Rattle.std.proofs.Common.{◌≡◌, ℕ, List, sym, ap, ◌∙◌, subst}
-use Rattle.batch_solver.proofs.Common.{travel_time, TripRow, riders_at, SettledVehicle, Stop, Task, trip_task, Serves, told_stops}
-use Rattle.batch_solver.proofs.TripLemmas.{vehicle_read}
-use Rattle.batch_solver.proofs.RowLemmas.{choice_read, row_read, chosen_long, served_row, trip_found}
+use Rattle.batch_solver.proofs.Common.{row_read, travel_time, TripRow, riders_at, SettledVehicle, Stop, Task, trip_task, Serves, told_stops}
+use Rattle.batch_solver.proofs.lemmas.TripLemmas.{vehicle_read}
+use Rattle.batch_solver.proofs.RowLemmas.{choice_read, chosen_long, served_row, trip_found}
 use Rattle.batch_solver.proofs.trips.trip_of.Goals as goal
 
 pub unreachable-requires-in_default-2 : goal.unreachable-requires-in_default-2
@@ -11,7 +11,7 @@ unreachable-requires-in_default-2 g c =
     let long = chosen_long c.requires.graph.0 tau settled graph chosen c.requires.graph.1 c.requires.lawful v c.requires.vehicle in
     let choice = sym (choice_read chosen v _ long) ∙ c.in-Some.is in
     let served = served_row c.requires.graph.0 tau settled graph chosen c.requires.graph.1 c.requires.lawful v number c.requires.vehicle choice in
-    let row_is = c.index-rows-number.is ∙ row_read graph c.rows.result.now number _ c.rows.ensures.value served.within in
+    let row_is = row_read graph c.rows.result.now number c.index-rows-number.result c.rows.ensures.value served.within c.index-rows-number.is in
     let riders_is : c.as_slice-riders.result.now ≡ riders_at graph number = c.as_slice-riders.ensures.value ∙ ap (λ (row : TripRow). row.riders.items) row_is in
     let task_is = c.task_of-task.ensures ∙ ap (trip_task settled v) riders_is in
     let none = rw c.in_default-2.is at c.in_ok-route.ensures.none in
@@ -24,7 +24,7 @@ returns g c =
     let long = chosen_long c.requires.graph.0 tau settled graph chosen c.requires.graph.1 c.requires.lawful v c.requires.vehicle in
     let choice = sym (choice_read chosen v _ long) ∙ c.in-Some.is in
     let served = served_row c.requires.graph.0 tau settled graph chosen c.requires.graph.1 c.requires.lawful v number c.requires.vehicle choice in
-    let row_is = c.index-rows-number.is ∙ row_read graph c.rows.result.now number _ c.rows.ensures.value served.within in
+    let row_is = row_read graph c.rows.result.now number c.index-rows-number.result c.rows.ensures.value served.within c.index-rows-number.is in
     let riders_is : c.as_slice-riders.result.now ≡ riders_at graph number = c.as_slice-riders.ensures.value ∙ ap (λ (row : TripRow). row.riders.items) row_is in
     let found = c.in_ok-route.ensures in
     trip_found c.args.points.now tau settled graph chosen v number c.task_of-task.result c.in-Some-2.route.stops.items c.in-Some-2.route.delay _

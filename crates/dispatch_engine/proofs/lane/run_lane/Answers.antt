@@ -2,7 +2,8 @@ use Rattle.std.proofs.Common.{◌≡◌, ◌+◌, ◌∷◌, ◌++◌, [], take,
 use Rattle.dispatch_engine.proofs.Common.{HasRun, HasBegun}
 use Rattle.std.proofs.lemmas.List.{take-append-drop}
 use Rattle.dispatch_engine.proofs.PassLemmas.{runs-none, runs-more, begun-after}
-use Rattle.dispatch_engine.proofs.RoundLemmas.{on-err, take_next}
+use Rattle.dispatch_engine.proofs.RoundLemmas.{on-err}
+use Rattle.dispatch_engine.proofs.lemmas.RunLemmas.{take_next}
 use Rattle.dispatch_engine.proofs.lane.run_lane.Goals as goal
 
 pub loop-command-init : goal.loop-command-init

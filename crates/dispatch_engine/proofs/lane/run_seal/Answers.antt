@@ -1,7 +1,8 @@
 use Rattle.std.proofs.Common.{◌≡◌, ◌∷◌, [], Some, None, refl, ap, subst, arith}
 use Rattle.dispatch_engine.proofs.Common.{on_ok_weaker, on_err_weaker, Seal, Close, HasCalled, with_snapshot, HasTaken}
 use Rattle.dispatch_engine.proofs.PassLemmas.{runs-refused, runs-sealed, begun-none, begun-sealed}
-use Rattle.dispatch_engine.proofs.RoundLemmas.{on-err, snapshot-known}
+use Rattle.dispatch_engine.proofs.RoundLemmas.{on-err}
+use Rattle.dispatch_engine.proofs.lemmas.RunLemmas.{snapshot-known}
 use Rattle.dispatch_engine.proofs.lane.run_seal.Goals as goal
 
 pub returns-in_default-clause-run : goal.returns-in_default-clause-run

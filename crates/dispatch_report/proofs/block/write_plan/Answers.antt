@@ -1,21 +1,16 @@
-use Rattle.dispatch_report.proofs.Common.{err_from_is_err_and}
-use Rattle.dispatch_report.proofs.LineLemmas.{fails, then}
+use Rattle.std.proofs.Common.{[], ◌∷◌, length}
+use Rattle.dispatch_report.specs.Block.{row_as_line, trip_as_line, late_as_line, tree_line}
+use Rattle.dispatch_report.specs.declared.block_line.BlockLine.TheVariants.{Lapsed, Alone, Shared, Out, Move, Cost, Bound, Nodes}
+use Rattle.dispatch_report.proofs.LineLemmas.{asked, block, kind, then_block}
 use Rattle.dispatch_report.proofs.block.write_plan.Goals as goal
 
-pub returns-in_err-write_list : goal.returns-in_err-write_list
-returns-in_err-write_list g c =
-    let p = err_from_is_err_and c.from_residual.result c.from_residual.ensures.1 in
-    rw (p.1, p.2) (fails _ (fails _ c.in_err-write_list.ensures))
-
-pub returns-in_err-write_list-2 : goal.returns-in_err-write_list-2
-returns-in_err-write_list-2 g c =
-    let p = err_from_is_err_and c.from_residual-in_err-write_list-2.result c.from_residual-in_err-write_list-2.ensures.1 in
-    rw (p.1, p.2) (fails _ (then c.in_ok-write_list.ensures c.in_err-write_list-2.ensures))
-
-pub returns-in_err-write_list-3 : goal.returns-in_err-write_list-3
-returns-in_err-write_list-3 g c =
-    let p = err_from_is_err_and c.from_residual-in_err-write_list-3.result c.from_residual-in_err-write_list-3.ensures.1 in
-    rw (p.1, p.2) (then (then c.in_ok-write_list.ensures c.in_ok-write_list-2.ensures) c.in_err-write_list-3.ensures)
-
 pub returns : goal.returns
-returns g c = (then (then c.in_ok-write_list.ensures c.in_ok-write_list-2.ensures) c.in_ok-write_list-3.ensures)
+returns g c =
+    let plan = c.args.plan.now in
+    let served = then_block (kind Lapsed c.write_list.ensures) (kind late_as_line c.write_list-2.ensures) in
+    let pairs = then_block (then_block served (kind Alone c.write_list-3.ensures)) (kind Shared c.write_list-4.ensures) in
+    let graphs = then_block pairs (kind row_as_line c.write_list-5.ensures) in
+    let choice = then_block (then_block (kind trip_as_line c.write_list-6.ensures) (kind Out c.write_list-7.ensures)) (kind Move c.write_list-8.ensures) in
+    let value = then_block (block (Cost plan.cost ∷ []) c.write_number.ensures) (block (Bound plan.bound ∷ []) c.write_item.ensures) in
+    let counts = then_block value (block (Nodes (length plan.tree) ∷ []) c.write_nodes.ensures) in
+    (then_block (then_block (then_block graphs choice) counts) (asked (tree_line plan.rows) c.args.proof c.write_tree.ensures)).texts

@@ -1,7 +1,7 @@
-use Rattle.std.proofs.Common.{Ok, map, take}
+use Rattle.std.proofs.Common.{map, take}
 use Rattle.dispatch_report.proofs.Common.{sink_seen, WritesLines}
 use Rattle.dispatch_report.proofs.lines.write_lines.Given as goal
 
 abbrev pub invariant-items : goal.invariant-items
 invariant-items g l =
-    WritesLines (sink_seen g.K.Sink.written g.K.Sink.faults l.initial.sink l.sink) l.initial.piece.items l.piece.items (map (g.L.Line.text l.kind) (take l.item-index l.items)) (Ok tt)
+    WritesLines (sink_seen g.K.Sink.written g.K.Sink.faults l.initial.sink l.sink) l.initial.piece.items l.piece.items l.initial.so_far l.so_far (map (g.L.Line.text l.kind) (take l.item-index l.items))

@@ -1,25 +1,11 @@
 use Rattle.std.proofs.Common.{◌<◌, ◌≤◌, ◌++◌, [], drop, length, suc, refl, sym, ap, ◌∙◌, append_assoc, append-nil, add-one, arith}
-use Rattle.dispatch_report.proofs.Common.{err_from_is_err_and, entries_lines, one_more}
+use Rattle.dispatch_report.proofs.Common.{entries_lines, one_more}
 use Rattle.dispatch_report.proofs.EntryLemmas.{entry_lines, entries_lines-at, entries_lines-end}
-use Rattle.dispatch_report.proofs.LineLemmas.{no_lines, then, fails, same_lines}
+use Rattle.dispatch_report.proofs.LineLemmas.{no_lines, then, same_lines}
 use Rattle.dispatch_report.proofs.round.write_entries.Goals as goal
 
 pub loop-entry-init : goal.loop-entry-init
-loop-entry-init g c = ([], no_lines _, refl)
-
-pub returns-in_err-write_entry : goal.returns-in_err-write_entry
-returns-in_err-write_entry g c =
-    let entries = c.args.entries.now in
-    let i = c.loop-entry.entry-index in
-    let within : i < length entries = omega arith in
-    let done = c.loop-entry.invariant in
-    let lines = entry_lines c.args.proof c.loop-entry.position c.entry-item.result in
-    let rest = entries_lines c.args.proof (one_more c.loop-entry.position) (drop (suc i) entries) in
-    let p = err_from_is_err_and c.from_residual.result c.from_residual.ensures.1 in
-    rw (p.1, p.2)
-    (same_lines ((done.0 ++ lines) ++ rest) (entries_lines c.args.proof c.args.first entries)
-    (append_assoc done.0 lines rest ∙ ap (λ ls. done.0 ++ ls) (entries_lines-at c.args.proof c.loop-entry.position entries i c.entry-item.result within c.entry-item.is) ∙ done.2)
-    (fails _ (then done.1 c.in_err-write_entry.ensures)))
+loop-entry-init g c = ([], no_lines _ _, refl)
 
 pub loop-entry-preserved : goal.loop-entry-preserved
 loop-entry-preserved g c =
@@ -30,7 +16,7 @@ loop-entry-preserved g c =
     let lines = entry_lines c.args.proof c.loop-entry.position c.entry-item.result in
     let rest = entries_lines c.args.proof (one_more c.loop-entry.position) (drop (suc i) entries) in
     let whole = append_assoc done.0 lines rest ∙ ap (λ ls. done.0 ++ ls) (entries_lines-at c.args.proof c.loop-entry.position entries i c.entry-item.result within c.entry-item.is) ∙ done.2 in
-    (done.0 ++ lines, then done.1 c.in_ok-write_entry.ensures, rw (add-one, c.saturating_add-position.ensures) whole)
+    (done.0 ++ lines, then done.1 c.write_entry.ensures, rw (add-one, c.saturating_add-position.ensures) whole)
 
 pub returns : goal.returns
 returns g c =

@@ -1,4 +1,4 @@
-use Rattle.std.proofs.Common.{Ok, take}
+use Rattle.std.proofs.Common.{take}
 use Rattle.dispatch_report.proofs.Common.{sink_seen, WritesLines}
 use Rattle.std.specs.List.{flat_map}
 use Rattle.dispatch_report.proofs.SummaryLemmas.{entry_summary}
@@ -6,4 +6,4 @@ use Rattle.dispatch_report.proofs.summary.write_batches.Given as goal
 
 abbrev pub invariant-loop-entry : goal.invariant-loop-entry
 invariant-loop-entry g l =
-    WritesLines (sink_seen g.K.Sink.written g.K.Sink.faults l.initial.sink l.sink) l.initial.piece.items l.piece.items (flat_map entry_summary (take l.entry-index l.entries)) (Ok tt)
+    WritesLines (sink_seen g.K.Sink.written g.K.Sink.faults l.initial.sink l.sink) l.initial.piece.items l.piece.items l.initial.so_far l.so_far (flat_map entry_summary (take l.entry-index l.entries))

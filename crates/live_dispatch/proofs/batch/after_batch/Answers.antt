@@ -3,30 +3,30 @@ use Rattle.live_dispatch.proofs.Common.{FaultsFrom, outputs_seen, notifiers_seen
 use Rattle.live_dispatch.proofs.EndLemmas.{batch-failed, batch-held, batch-last, batch-out, batch-unread}
 use Rattle.live_dispatch.proofs.batch.after_batch.Goals as goal
 
-pub returns-in-Held-clause-goes_on : goal.returns-in-Held-clause-goes_on
-returns-in-Held-clause-goes_on g c = λ start b reads from on.
+pub returns-in-Held-clause-went : goal.returns-in-Held-clause-went
+returns-in-Held-clause-went g c = λ start b reads from on.
     batch-held c.args.setup.now.settings.now c.args.setup.now.network.now start b c.args.round c.args.opened.book _ _ _ _ _ reads on c.cut_batch.new.book c.in-Ok.field-0 c.in-Held.row
     (g.L.RowSource.faults c.args.opened.lines) c.in-Ok.ensures c.in-Held.is from
 
-pub returns-in-Ended-clause-ended : goal.returns-in-Ended-clause-ended
-returns-in-Ended-clause-ended g c = λ start b reads from on.
+pub returns-in-Ended-clause-went : goal.returns-in-Ended-clause-went
+returns-in-Ended-clause-went g c = λ start b reads from on.
     batch-last c.args.setup.now.settings.now c.args.setup.now.network.now start b c.args.round c.args.opened.book _ _ _ _ _ reads on c.cut_batch.new.book c.in-Ok.field-0
     (g.L.RowSource.faults c.end.result.rows) _ c.end.result.ended c.in-Ok.ensures c.in-Ended.is
     (ap (notifiers_seen g.N.Notifier.told g.N.Notifier.faults g.N.Notifier.steady) c.end.ensures.notifiers) c.end.ensures.wrote
 
-pub returns-in-ReadFault-clause-ended : goal.returns-in-ReadFault-clause-ended
-returns-in-ReadFault-clause-ended g c = λ start b reads from on.
+pub returns-in-ReadFault-clause-went : goal.returns-in-ReadFault-clause-went
+returns-in-ReadFault-clause-went g c = λ start b reads from on.
     batch-unread c.args.setup.now.settings.now c.args.setup.now.network.now start b c.args.round c.args.opened.book _ _ _ _ _ reads on c.cut_batch.new.book c.in-Ok.field-0
     (g.L.RowSource.faults c.stop.result.rows) _ c.stop.result.ended c.in-Ok.ensures c.in-ReadFault.is (subst (λ r. FaultsFrom c.args.opened.stop reads (g.L.RowSource.faults r)) (sym c.stop.ensures.rows) from)
     c.stop.ensures.ended (λ i. outputs_seen g.K.Sink.written g.K.Sink.faults g.N.Notifier.told g.N.Notifier.faults g.N.Notifier.steady (c.stop.ensures.sink i) (c.stop.ensures.notifiers i))
 
-pub returns-in-OutOfMemory-clause-ended : goal.returns-in-OutOfMemory-clause-ended
-returns-in-OutOfMemory-clause-ended g c = λ start b reads from on.
+pub returns-in-OutOfMemory-clause-went : goal.returns-in-OutOfMemory-clause-went
+returns-in-OutOfMemory-clause-went g c = λ start b reads from on.
     batch-out c.args.setup.now.settings.now c.args.setup.now.network.now start b c.args.round c.args.opened.book _ _ _ _ _ reads on c.cut_batch.new.book c.in-Ok.field-0
     (g.L.RowSource.faults c.stop-in-OutOfMemory.result.rows) _ c.stop-in-OutOfMemory.result.ended c.in-Ok.ensures c.in-OutOfMemory.is
     c.stop-in-OutOfMemory.ensures.ended (λ i. outputs_seen g.K.Sink.written g.K.Sink.faults g.N.Notifier.told g.N.Notifier.faults g.N.Notifier.steady (c.stop-in-OutOfMemory.ensures.sink i) (c.stop-in-OutOfMemory.ensures.notifiers i))
 
-pub returns-in-Err-clause-ended : goal.returns-in-Err-clause-ended
-returns-in-Err-clause-ended g c = λ start b reads from on.
+pub returns-in-Err-clause-went : goal.returns-in-Err-clause-went
+returns-in-Err-clause-went g c = λ start b reads from on.
     batch-failed c.args.setup.now.settings.now c.args.setup.now.network.now start b c.args.round c.args.opened.book _ _ _ _ _ reads on c.cut_batch.new.book c.in-Err.fault
     (g.L.RowSource.faults c.args.opened.lines) (Err c.in-Err.fault) c.in-Err.ensures refl

@@ -1,15 +1,15 @@
 use Rattle.std.proofs.Common.{refl}
-use Rattle.live_dispatch.proofs.EndLemmas.{if-err, if-ok, opened-ended}
+use Rattle.live_dispatch.proofs.EndLemmas.{opened-ended}
 use Rattle.live_dispatch.proofs.batch.run_batch.Goals as goal
 
-pub returns-in-Err-clause-ended : goal.returns-in-Err-clause-ended
-returns-in-Err-clause-ended g c = λ start row is opens.
+pub returns-in-Err-clause-went : goal.returns-in-Err-clause-went
+returns-in-Err-clause-went g c = λ start row is opens.
     opened-ended c.args.setup.now.settings.now c.args.setup.now.network.now start row c.args.snapshot.now _ opens
     (g.L.RowSource.faults c.args.run.rows) _ _ refl refl
 
-pub returns-in-Ok-run_open-clause-goes_on : goal.returns-in-Ok-run_open-clause-goes_on
-returns-in-Ok-run_open-clause-goes_on g c =
-    if-ok _ _ c.after_batch.result (λ r went start row is opens. went start c.args.snapshot.now (g.L.RowSource.faults c.args.run.rows) c.in-Ok-run_open.ensures.faults (record {
+pub returns-in-Ok-run_open-clause-went : goal.returns-in-Ok-run_open-clause-went
+returns-in-Ok-run_open-clause-went g c = λ start row is opens.
+    c.after_batch.ensures.went start c.args.snapshot.now (g.L.RowSource.faults c.args.run.rows) c.in-Ok-run_open.ensures.faults (record {
       row = row;
       number = is;
       sealed = _;
@@ -18,23 +18,10 @@ returns-in-Ok-run_open-clause-goes_on g c =
       fresh = c.take_round.new.self;
       fresh_is = c.in-Ok.ensures.next;
       ran = c.in-Ok-run_open.ensures.run;
-    })) c.after_batch.ensures.goes_on
+    })
 
-pub returns-in-Ok-run_open-clause-ended : goal.returns-in-Ok-run_open-clause-ended
-returns-in-Ok-run_open-clause-ended g c =
-    if-err _ _ c.after_batch.result (λ d went start row is opens. went start c.args.snapshot.now (g.L.RowSource.faults c.args.run.rows) c.in-Ok-run_open.ensures.faults (record {
-      row = row;
-      number = is;
-      sealed = _;
-      opens = opens;
-      reads_were = refl;
-      fresh = c.take_round.new.self;
-      fresh_is = c.in-Ok.ensures.next;
-      ran = c.in-Ok-run_open.ensures.run;
-    })) c.after_batch.ensures.ended
-
-pub returns-in-Err-run_open-clause-ended : goal.returns-in-Err-run_open-clause-ended
-returns-in-Err-run_open-clause-ended g c = λ start row is opens.
+pub returns-in-Err-run_open-clause-went : goal.returns-in-Err-run_open-clause-went
+returns-in-Err-run_open-clause-went g c = λ start row is opens.
     opened-ended c.args.setup.now.settings.now c.args.setup.now.network.now start row c.args.snapshot.now _ opens
     (g.L.RowSource.faults c.in-Err-run_open.field-0.lines) _ _ refl
     (λ i. record { sink = record { written = c.in-Err-run_open.ensures.kept.0 i; faults = c.in-Err-run_open.ensures.kept.1 i }; notifiers = c.in-Err-run_open.ensures.kept.3 i })

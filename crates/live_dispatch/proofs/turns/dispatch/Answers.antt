@@ -16,31 +16,21 @@ run_next-requires-clause-ready g c κs within = c.loop.invariant.stands.ready
 pub run_next-requires-clause-awaits : goal.run_next-requires-clause-awaits
 run_next-requires-clause-awaits g c κs within = (c.loop.invariant.awaits, c.loop.invariant.proof_is)
 
-pub returns-in-Err-clause-run : goal.returns-in-Err-clause-run
-returns-in-Err-clause-run g c = (c.in-Err.ensures.ended _ c.loop.invariant.stands).run
-
-pub returns-in-Err-clause-write_fault : goal.returns-in-Err-clause-write_fault
-returns-in-Err-clause-write_fault g c = (c.in-Err.ensures.ended _ c.loop.invariant.stands).write_fault
-
-pub returns-in-Err-clause-read_fault : goal.returns-in-Err-clause-read_fault
-returns-in-Err-clause-read_fault g c = (c.in-Err.ensures.ended _ c.loop.invariant.stands).read_fault
-
-pub returns-in-Err-clause-never_falls : goal.returns-in-Err-clause-never_falls
-returns-in-Err-clause-never_falls g c = (c.in-Err.ensures.ended _ c.loop.invariant.stands).writes
+pub returns-in-Err : goal.returns-in-Err
+returns-in-Err g c =
+    let e = c.in-Err.ensures.went _ c.loop.invariant.stands in
+    record { run = e.run; write_fault = e.write_fault; read_fault = e.read_fault; never_falls = e.writes }
 
 pub loop-preserved : goal.loop-preserved
 loop-preserved g c = record {
-  stands = c.in-Ok.ensures.goes_on _ c.loop.invariant.stands;
+  stands = c.in-Ok.ensures.went _ c.loop.invariant.stands;
   awaits = c.in-Ok.ensures.awaits.0;
   proof_is = c.in-Ok.ensures.awaits.1;
 }
 
-pub returns-clause-run : goal.returns-clause-run
-returns-clause-run g c =
-    (counted-ended _ _ _ _ c.loop.held c.loop.invariant.stands (g.L.RowSource.faults c.stop.result.rows) _ c.stop.result.ended c.stop.ensures.ended
-    (λ i. outputs_seen g.K.Sink.written g.K.Sink.faults g.N.Notifier.told g.N.Notifier.faults g.N.Notifier.steady (c.stop.ensures.sink i) (c.stop.ensures.notifiers i))).run
-
-pub returns-clause-never_falls : goal.returns-clause-never_falls
-returns-clause-never_falls g c =
-    (counted-ended _ _ _ _ c.loop.held c.loop.invariant.stands (g.L.RowSource.faults c.stop.result.rows) _ c.stop.result.ended c.stop.ensures.ended
-    (λ i. outputs_seen g.K.Sink.written g.K.Sink.faults g.N.Notifier.told g.N.Notifier.faults g.N.Notifier.steady (c.stop.ensures.sink i) (c.stop.ensures.notifiers i))).writes
+pub returns : goal.returns
+returns g c =
+    let e =
+    counted-ended _ _ _ _ c.loop.held c.loop.invariant.stands (g.L.RowSource.faults c.stop.result.rows) _ c.stop.result.ended c.stop.ensures.ended
+    (λ i. outputs_seen g.K.Sink.written g.K.Sink.faults g.N.Notifier.told g.N.Notifier.faults g.N.Notifier.steady (c.stop.ensures.sink i) (c.stop.ensures.notifiers i)) in
+    record { run = e.run; write_fault = e.write_fault; read_fault = e.read_fault; never_falls = e.writes }

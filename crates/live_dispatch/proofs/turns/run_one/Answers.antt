@@ -1,38 +1,31 @@
 use Rattle.std.proofs.Common.{Some, refl, subst}
-use Rattle.live_dispatch.proofs.Common.{HasTaken, moment, row_text, Appends, outputs_seen}
-use Rattle.live_dispatch.proofs.EndLemmas.{if-err, if-ok}
-use Rattle.live_dispatch.proofs.StepLemmas.{row-stands, sealed-known}
+use Rattle.live_dispatch.proofs.Common.{HasTaken, moment, row_text, snapshot-known, Appends, outputs_seen}
+use Rattle.live_dispatch.proofs.StepLemmas.{row-stands}
 use Rattle.live_dispatch.proofs.TurnLemmas.{row-ended, row-opens}
 use Rattle.live_dispatch.proofs.turns.run_one.Goals as goal
 
 pub run_batch-requires-clause-nodes : goal.run_batch-requires-clause-nodes
 run_batch-requires-clause-nodes g c κs within =
-    sealed-known c.args.setup.now.settings.now c.args.setup.now.network.now c.args.run.book c.run_row.new.book c.args.row.lane c.args.row.command c.in-Ok-Some.snapshot (subst (λ o. HasTaken c.args.run.book c.args.row.lane c.args.row.command o c.run_row.new.book) c.in-Ok-Some.field-0-is c.in-Ok-Some.ensures.taken) c.requires.ready.nodes
+    let taken = subst (λ o. HasTaken c.args.run.book c.args.row.lane c.args.row.command o c.run_row.new.book) c.in-Ok-Some.field-0-is c.in-Ok-Some.ensures.taken in
+    snapshot-known c.args.run.book.nodes c.args.setup.now.network.now.nodes c.args.row.command taken.reply c.in-Ok-Some.snapshot c.requires.ready.nodes taken.fits
 
-pub returns-in-Ok-None-clause-goes_on : goal.returns-in-Ok-None-clause-goes_on
-returns-in-Ok-None-clause-goes_on g c = λ start stands.
+pub returns-in-Ok-None-clause-went : goal.returns-in-Ok-None-clause-went
+returns-in-Ok-None-clause-went g c = λ start stands.
     row-stands c.args.setup.now.settings.now c.args.setup.now.network.now start _ c.args.row stands c.requires.behind.0
     (moment c.run_row.new.book (Some c.args.row.round) (g.L.RowSource.to_come c.args.run.rows) (g.L.RowSource.faults c.args.run.rows) (outputs_seen g.K.Sink.written g.K.Sink.faults g.N.Notifier.told g.N.Notifier.faults g.N.Notifier.steady c.run_row.new.sink c.args.run.notifiers.items))
     (subst (λ o. HasTaken c.args.run.book c.args.row.lane c.args.row.command o c.run_row.new.book) c.in-Ok-None.field-0-is c.in-Ok-None.ensures.taken) refl
     (subst (λ p. Appends (g.K.Sink.written c.args.run.sink) (g.K.Sink.written c.run_row.new.sink) (row_text p c.args.run.round c.args.run.book c.args.row)) c.requires.behind.2 c.in-Ok-None.ensures.wrote.bytes)
     refl refl c.in-Ok-None.ensures.wrote.never_falls refl
 
-pub returns-in-Ok-Some-clause-goes_on : goal.returns-in-Ok-Some-clause-goes_on
-returns-in-Ok-Some-clause-goes_on g c =
-    if-ok _ _ c.run_batch.result (λ r went start stands. went start c.args.row refl
+pub returns-in-Ok-Some-clause-went : goal.returns-in-Ok-Some-clause-went
+returns-in-Ok-Some-clause-went g c = λ start stands.
+    c.run_batch.ensures.went start c.args.row refl
     (row-opens c.args.setup.now.settings.now c.args.setup.now.network.now start _ c.args.row stands c.requires.behind.0 c.args.run.proof c.requires.behind.2 c.in-Ok-Some.snapshot
     (moment c.run_row.new.book c.args.run.round (g.L.RowSource.to_come c.args.run.rows) (g.L.RowSource.faults c.args.run.rows) (outputs_seen g.K.Sink.written g.K.Sink.faults g.N.Notifier.told g.N.Notifier.faults g.N.Notifier.steady c.run_row.new.sink c.args.run.notifiers.items)) _ _
-    (subst (λ o. HasTaken c.args.run.book c.args.row.lane c.args.row.command o c.run_row.new.book) c.in-Ok-Some.field-0-is c.in-Ok-Some.ensures.taken) c.in-Ok-Some.ensures.wrote refl refl refl)) c.run_batch.ensures.goes_on
+    (subst (λ o. HasTaken c.args.run.book c.args.row.lane c.args.row.command o c.run_row.new.book) c.in-Ok-Some.field-0-is c.in-Ok-Some.ensures.taken) c.in-Ok-Some.ensures.wrote refl refl refl)
 
-pub returns-in-Ok-Some-clause-ended : goal.returns-in-Ok-Some-clause-ended
-returns-in-Ok-Some-clause-ended g c =
-    if-err _ _ c.run_batch.result (λ d went start stands. went start c.args.row refl
-    (row-opens c.args.setup.now.settings.now c.args.setup.now.network.now start _ c.args.row stands c.requires.behind.0 c.args.run.proof c.requires.behind.2 c.in-Ok-Some.snapshot
-    (moment c.run_row.new.book c.args.run.round (g.L.RowSource.to_come c.args.run.rows) (g.L.RowSource.faults c.args.run.rows) (outputs_seen g.K.Sink.written g.K.Sink.faults g.N.Notifier.told g.N.Notifier.faults g.N.Notifier.steady c.run_row.new.sink c.args.run.notifiers.items)) _ _
-    (subst (λ o. HasTaken c.args.run.book c.args.row.lane c.args.row.command o c.run_row.new.book) c.in-Ok-Some.field-0-is c.in-Ok-Some.ensures.taken) c.in-Ok-Some.ensures.wrote refl refl refl)) c.run_batch.ensures.ended
-
-pub returns-in-Err-clause-ended : goal.returns-in-Err-clause-ended
-returns-in-Err-clause-ended g c = λ start stands.
+pub returns-in-Err-clause-went : goal.returns-in-Err-clause-went
+returns-in-Err-clause-went g c = λ start stands.
     row-ended c.args.setup.now.settings.now c.args.setup.now.network.now start _ c.args.row stands c.requires.behind.0 c.args.run.proof c.requires.behind.2 _ c.in-Err.fault _ c.in-Err.ensures.wrote
     (g.L.RowSource.faults c.stop.result.rows) _ c.fault_of_text.result c.stop.result.ended c.stop.ensures.ended c.fault_of_text.ensures
     (λ i. outputs_seen g.K.Sink.written g.K.Sink.faults g.N.Notifier.told g.N.Notifier.faults g.N.Notifier.steady (c.stop.ensures.sink i) (c.stop.ensures.notifiers i))

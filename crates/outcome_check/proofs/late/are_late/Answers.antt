@@ -1,8 +1,8 @@
 use Rattle.std.proofs.Common.{◌≡◌, ◌<◌, ℕ, false, true, List, length, get_or, All, rules, sym, ◌∙◌, subst, arith}
-use Rattle.outcome_check.proofs.Common.{AllZip, both_ways, get_or_default, travel_time, LateVehicle, vehicle_at, IsLate}
+use Rattle.outcome_check.proofs.Common.{kept_below, AllZip, both_ways, get_or_default, travel_time, LateVehicle, vehicle_at, IsLate}
 use borrow.Author.Count.{below_more}
 use Rattle.outcome_check.proofs.lemmas.LateLemmas.{no_late}
-use Rattle.outcome_check.proofs.lemmas.TripLemmas.{all_zip_from, all_zip_long, all_zip_at, kept_below}
+use Rattle.outcome_check.proofs.lemmas.TripLemmas.{all_zip_from, all_zip_long, all_zip_at}
 use Rattle.outcome_check.proofs.late.are_late.Goals as goal
 
 pub returns-then-len-late : goal.returns-then-len-late

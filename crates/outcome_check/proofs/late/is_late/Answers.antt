@@ -1,8 +1,7 @@
 use Rattle.std.proofs.Common.{◌≡◌, true, false, List, refl, ap, ◌∙◌, subst}
-use Rattle.outcome_check.proofs.Common.{point_count, travel_time, Stop, Task, SettledVehicle, IsOrderOf, ReachesAll, IsLateOrder, HasNoOrder}
+use Rattle.outcome_check.proofs.Common.{valid_task, vehicle_read, point_count, travel_time, Stop, Task, SettledVehicle, IsOrderOf, ReachesAll, IsLateOrder, HasNoOrder}
 use Rattle.std.proofs.lemmas.Bool.{eq-eqb, eqb-true}
-use Rattle.outcome_check.proofs.lemmas.LateLemmas.{same_id, valid_task, late_order_of, late_reaches, one_late_delay}
-use Rattle.outcome_check.proofs.lemmas.OrderLemmas.{vehicle_read}
+use Rattle.outcome_check.proofs.lemmas.LateLemmas.{same_id, late_order_of, late_reaches, one_late_delay}
 use Rattle.outcome_check.proofs.late.is_late.Goals as goal
 
 pub least_delay_unlimited-requires-clause-valid : goal.least_delay_unlimited-requires-clause-valid

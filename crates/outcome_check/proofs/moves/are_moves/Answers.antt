@@ -1,9 +1,9 @@
 use Rattle.std.proofs.Common.{◌≡◌, ◌==◌, ◌<◌, ◌≤◌, ℕ, List, [], All, length, sym, ap, ◌∙◌, subst, arith}
-use Rattle.outcome_check.proofs.Common.{IsStrictlyIncreasing, nil_from_length, IfOk-weaker, point_count, travel_time, MoveLine, AreMoves, idle_vehicles, is_idle, no_moves}
+use Rattle.outcome_check.proofs.Common.{kept_below, kept_few, IsStrictlyIncreasing, nil_from_length, IfOk-weaker, point_count, travel_time, MoveLine, AreMoves, idle_vehicles, is_idle, no_moves}
 use Rattle.std.proofs.lemmas.Bool.{eq-eqb, eqb-true}
 use Rattle.plan_rules.specs.lemmas.Plan.{times_chosen}
-use Rattle.outcome_check.proofs.lemmas.IdleLemmas.{own_places, kept_few, none_move}
-use Rattle.outcome_check.proofs.lemmas.TripLemmas.{kept_below, kept_rises}
+use Rattle.outcome_check.proofs.lemmas.IdleLemmas.{own_places, none_move}
+use Rattle.outcome_check.proofs.lemmas.TripLemmas.{kept_rises}
 use Rattle.outcome_check.proofs.moves.are_moves.Goals as goal
 
 pub returns-then-is_empty : goal.returns-then-is_empty

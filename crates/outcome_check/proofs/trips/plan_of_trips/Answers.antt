@@ -1,6 +1,6 @@
 use Rattle.std.proofs.Common.{◌≡◌, ◌<◌, ℕ, not, List, All, length, get_or, Some, None, Contains, sym, ap, ◌∙◌, subst, arith}
-use Rattle.outcome_check.proofs.Common.{IsStrictlyIncreasing, choice_at, travel_time, vehicle_at, HasNoRowFor, GiveRows}
-use Rattle.outcome_check.proofs.lemmas.TripLemmas.{kept_below, kept_rises, no_plan_short, no_plan, plan_given}
+use Rattle.outcome_check.proofs.Common.{kept_below, IsStrictlyIncreasing, choice_at, travel_time, vehicle_at, HasNoRowFor, GiveRows}
+use Rattle.outcome_check.proofs.lemmas.TripLemmas.{kept_rises, no_plan_short, no_plan, plan_given}
 use Rattle.outcome_check.proofs.trips.plan_of_trips.Goals as goal
 
 pub returns-then-len-trips : goal.returns-then-len-trips

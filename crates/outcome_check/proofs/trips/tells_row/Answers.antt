@@ -1,17 +1,16 @@
 use Rattle.std.proofs.Common.{◌≡◌, true, false, List, sym, ap, ◌∙◌, subst}
-use Rattle.outcome_check.proofs.Common.{both_ways, TripRow, riders_at, travel_time, SettledVehicle, Stop, ReachesAll, Serves, order_delay}
+use Rattle.outcome_check.proofs.Common.{row_read, vehicle_read, both_ways, TripRow, riders_at, travel_time, SettledVehicle, Stop, ReachesAll, Serves, order_delay}
 use Rattle.std.proofs.lemmas.Bool.{eq-eqb, eqb-true}
 use Rattle.stop_orders.proofs.lemmas.PlainLemmas.{ReachesAll-from_serves}
 use Rattle.outcome_check.proofs.lemmas.LateLemmas.{same_id}
-use Rattle.outcome_check.proofs.lemmas.OrderLemmas.{vehicle_read}
-use Rattle.outcome_check.proofs.lemmas.TellsLemmas.{row_read, tells_serves, tells_delay, tells_told, tells_from}
+use Rattle.outcome_check.proofs.lemmas.TellsLemmas.{tells_serves, tells_delay, tells_told, tells_from}
 use Rattle.outcome_check.proofs.trips.tells_row.Goals as goal
 
 pub returns-in_default : goal.returns-in_default
 returns-in_default c =
     let points = c.args.points.now in let tau = travel_time c.args.times.now in let settled = c.args.settled.now in let graph = c.args.graph.now in
     let v = c.args.vehicle in let row = c.args.row in let trip = c.args.trip.now in let riders = c.as_slice-riders.result.now in let task = c.task_of-task.result in
-    let row_is = c.index-rows-row.is ∙ row_read graph c.rows.result.now row _ c.rows.ensures.value c.requires.row.within in
+    let row_is = row_read graph c.rows.result.now row c.index-rows-row.result c.rows.ensures.value c.requires.row.within c.index-rows-row.is in
     let riders_are : riders ≡ riders_at graph row = c.as_slice-riders.ensures.value ∙ ap (λ (one : TripRow). one.riders.items) row_is in (
       λ no. absurd (let f : false ≡ true = no in cc),
       λ tells.
@@ -24,7 +23,7 @@ pub returns-then-not-serves : goal.returns-then-not-serves
 returns-then-not-serves c =
     let points = c.args.points.now in let tau = travel_time c.args.times.now in let settled = c.args.settled.now in let graph = c.args.graph.now in
     let v = c.args.vehicle in let row = c.args.row in let trip = c.args.trip.now in let riders = c.as_slice-riders.result.now in let task = c.task_of-task.result in
-    let row_is = c.index-rows-row.is ∙ row_read graph c.rows.result.now row _ c.rows.ensures.value c.requires.row.within in
+    let row_is = row_read graph c.rows.result.now row c.index-rows-row.result c.rows.ensures.value c.requires.row.within c.index-rows-row.is in
     let riders_are : riders ≡ riders_at graph row = c.as_slice-riders.ensures.value ∙ ap (λ (one : TripRow). one.riders.items) row_is in (
       λ no. absurd (let f : false ≡ true = no in cc),
       λ tells.
@@ -45,7 +44,7 @@ pub returns : goal.returns
 returns c =
     let points = c.args.points.now in let tau = travel_time c.args.times.now in let settled = c.args.settled.now in let graph = c.args.graph.now in
     let v = c.args.vehicle in let row = c.args.row in let trip = c.args.trip.now in let riders = c.as_slice-riders.result.now in let task = c.task_of-task.result in
-    let row_is = c.index-rows-row.is ∙ row_read graph c.rows.result.now row _ c.rows.ensures.value c.requires.row.within in
+    let row_is = row_read graph c.rows.result.now row c.index-rows-row.result c.rows.ensures.value c.requires.row.within c.index-rows-row.is in
     let riders_are : riders ≡ riders_at graph row = c.as_slice-riders.ensures.value ∙ ap (λ (one : TripRow). one.riders.items) row_is in
     let has = c.in-Some-delay_of.ensures.1 in (
       λ is. tells_from points tau settled graph v row trip riders task riders_are c.task_of-task.ensures c.in-Some.order.items

@@ -1,6 +1,5 @@
 use Rattle.std.proofs.Common.{◌≡◌, ℕ, ◌<◌, true, false, List, [], ◌∷◌, ◌++◌, length, sym, ap, ◌∙◌, subst}
-use Rattle.outcome_check.proofs.Common.{filter_range_skips, filter_range_takes, SettledVehicle, vehicle_at}
-use Rattle.outcome_check.proofs.lemmas.OrderLemmas.{vehicle_read}
+use Rattle.outcome_check.proofs.Common.{vehicle_read, filter_range_skips, filter_range_takes, SettledVehicle, vehicle_at}
 use Rattle.outcome_check.proofs.vehicles.late_vehicles.Goals as goal
 
 pub loop-vehicle-preserved-then-not-vehicles-vehicle : goal.loop-vehicle-preserved-then-not-vehicles-vehicle

@@ -1,7 +1,8 @@
 use Rattle.std.proofs.Common.{◌≡◌, ◌||◌, ◌==◌, ℕ, ◌+◌, List, true, false, length, get_or, refl, sym, ap, ◌∙◌, subst, arith}
 use Rattle.plan_rules.proofs.Common.{list_any, false≢true, row_at, riders_at, usable_of, TripRow, MarksSole}
 use Rattle.plan_rules.proofs.lemmas.GraphLemmas.{row_read}
-use Rattle.plan_rules.proofs.DeadEndLemmas.{AddsRow, sole_more, sole_kept, clash_from, no_clash}
+use Rattle.plan_rules.proofs.lemmas.MarkLemmas.{IsMarking}
+use Rattle.plan_rules.proofs.DeadEndLemmas.{sole_more, sole_kept, clash_from, no_clash}
 use Rattle.plan_rules.proofs.dead_end.has_clash.Goals.{in-Some+else-is_any_marked, in-None}
 use Rattle.plan_rules.proofs.dead_end.has_clash.Goals as goal
 
@@ -33,7 +34,7 @@ loop-vehicle-preserved c =
           let read : x ≡ row_at g k = sym w.index-rows-row.is ∙ row_read g c.rows-rows.result.now k w.index-rows-row.result c.rows-rows.ensures.value sole.row.row.within w.index-rows-row.is in
           let riders : w.as_slice-riders.result.now ≡ riders_at g k = w.as_slice-riders.ensures.value ∙ ap (λ (r : TripRow). r.riders.items) read in
           let none : list_any (λ q. get_or old q false) (riders_at g k) ≡ false = ap (list_any (λ q. get_or old q false)) (sym riders) ∙ sym w.is_any_marked.ensures ∙ w.if-is_any_marked.false in
-          let adds : AddsRow g k old w.mark_riders.new.marks = record {
+          let adds : IsMarking old w.mark_riders.new.marks (riders_at g k) = record {
             sized = w.mark_riders.ensures.len;
             marked = λ r l. w.mark_riders.ensures.marked r l ∙ ap (λ (xs : List ℕ). get_or old r false || list_any (λ y. y == r) xs) riders;
           } in

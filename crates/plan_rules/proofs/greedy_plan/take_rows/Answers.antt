@@ -3,13 +3,6 @@ use Rattle.plan_rules.proofs.Common.{cases_eq, get_or_default, IsTaken, IsTriedB
 use Rattle.plan_rules.proofs.lemmas.GreedyLemmas.{settled_more, greedy_from}
 use Rattle.plan_rules.proofs.greedy_plan.take_rows.Goals as goal
 
-pub loop-rank-init : goal.loop-rank-init
-loop-rank-init c = record {
-  selection = c.requires.selection;
-  earlier = λ j i low taken a b. absurd (c.requires.none j taken);
-  settled = λ i l. absurd (omega (arith, l));
-}
-
 pub loop-rank-preserved : goal.loop-rank-preserved
 loop-rank-preserved c =
     let g = c.args.graph.now in

@@ -1,10 +1,7 @@
-use Rattle.std.proofs.Common.{ℕ, Option, MatchOption, arith, eq-eqb, eqb-true, subst, sym}
+use Rattle.std.proofs.Common.{ℕ, Option, MatchOption, eq-eqb, eqb-true, subst, sym}
 use Rattle.plan_rules.proofs.Common.{HasNoRow, IsRowOf, IsStartOf}
 use Rattle.plan_rules.proofs.lemmas.GraphLemmas.{no_row_between, starts_meet}
 use Rattle.plan_rules.proofs.rules.is_own_choice.Goals as goal
-
-pub overflow_add-vehicle : goal.overflow_add-vehicle
-overflow_add-vehicle c = omega (arith, c.vehicle_count-count.ensures.value, c.vehicle_count-count.ensures.within)
 
 pub returns-in-None : goal.returns-in-None
 returns-in-None c =

@@ -1,5 +1,5 @@
-use Rattle.std.proofs.Common.{◌≡◌, ◌==◌, ◌||◌, ◌+◌, ◌<◌, ℕ, true, false, List, length, get_or, Option, Some, refl, sym, ap, ◌∙◌, subst, arith}
-use Rattle.plan_rules.proofs.Common.{list_any, false≢true, row_at, riders_at, choice_at, is_in, IsServedOnce, MarksServed, TripRow}
+use Rattle.std.proofs.Common.{◌≡◌, ◌==◌, ◌||◌, ◌+◌, ◌<◌, ℕ, true, false, List, length, get_or, Option, Some, sym, ap, ◌∙◌, subst, arith}
+use Rattle.plan_rules.proofs.Common.{list_any, false≢true, row_at, riders_at, choice_at, is_in, MarksServed, TripRow}
 use Rattle.plan_rules.proofs.lemmas.GraphLemmas.{row_read}
 use Rattle.plan_rules.proofs.lemmas.PlanLemmas.{plan_rows}
 use Rattle.plan_rules.proofs.lemmas.ServedLemmas.{once_at_first, served_more, served_kept, once_kept, once_apart, served_twice}
@@ -22,9 +22,6 @@ returns-then-is_any_marked-clause-value c =
       λ e. absurd (false≢true e),
       λ once. absurd (served_twice g c.args.chosen.now n k c.loop-choice.served c.loop-choice.invariant.marked (omega (arith, c.loop-choice-test.true, c.requires.plan.sized)) choice (c.rows-rows.ensures.good.rows k within) some once),
     )
-
-pub returns-clause-value : goal.returns-clause-value
-returns-clause-value c = (λ _. subst (IsServedOnce c.args.graph.now c.args.chosen.now) (omega (arith)) c.loop-choice.invariant.once, λ _. refl)
 
 pub loop-choice-preserved : goal.loop-choice-preserved
 loop-choice-preserved c =

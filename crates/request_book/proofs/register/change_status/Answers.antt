@@ -1,25 +1,15 @@
-use Rattle.std.proofs.Common.{◌≡◌, get_or, set, Some, None, sym, ap, ◌∙◌}
+use Rattle.std.proofs.Common.{refl}
 use Rattle.request_book.proofs.Common.{with_status}
-use Rattle.request_book.proofs.lemmas.KeyedLemmas.{set-changed_at, changed_at-absent}
-use Rattle.request_book.proofs.lemmas.RegisterLemmas.{found_by_keys, named_by_keys, eqb_comm}
+use Rattle.request_book.proofs.lemmas.RegisterLemmas.{write_found, write_none, eqb_comm}
 use Rattle.request_book.proofs.register.change_status.Goals as goal
 
 pub returns-in-Some-clause-changed : goal.returns-in-Some-clause-changed
 returns-in-Some-clause-changed c =
-    let xs = c.args.riders.now.items in
-    let k = c.args.rider in
-    let at = c.in-Some.at in
     let e = c.in-Some.ensures in
-    let found = found_by_keys (λ r. r.id) k _ (eqb_comm k) xs c.requires.differ c.args.ids.now.keys (Some at) c.requires.ids e.index e.found in
-    let named = named_by_keys (λ r. r.id) k _ (eqb_comm k) xs c.requires.differ c.args.ids.now.keys at c.requires.ids e.index in
     let x = c.index_mut.result.now in
-    let is : x ≡ get_or xs at x = c.index_mut.ensures.value in
-    ap (λ y. set xs at (with_status c.args.status y)) is ∙ set-changed_at (λ r. r.id) (with_status c.args.status) k at xs x c.requires.differ found.0 (named x)
+    write_found (λ r. r.id) c.args.rider _ (eqb_comm c.args.rider) c.args.riders.now.items c.requires.differ (with_status c.args.status) c.args.ids.now.keys c.in-Some.at x (with_status c.args.status x) c.requires.ids e.index c.index_mut.ensures.value refl
 
 pub returns-in_default-clause-changed : goal.returns-in_default-clause-changed
 returns-in_default-clause-changed c =
-    let xs = c.args.riders.now.items in
-    let k = c.args.rider in
     let e = c.in_default.ensures in
-    let none = found_by_keys (λ r. r.id) k _ (eqb_comm k) xs c.requires.differ c.args.ids.now.keys None c.requires.ids e.index e.found in
-    sym (changed_at-absent (λ r. r.id) k (with_status c.args.status) xs none)
+    write_none (λ r. r.id) c.args.rider _ (eqb_comm c.args.rider) c.args.riders.now.items c.requires.differ (with_status c.args.status) c.args.ids.now.keys c.requires.ids e.index e.found

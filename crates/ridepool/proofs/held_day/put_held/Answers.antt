@@ -1,4 +1,4 @@
-use Rattle.std.proofs.Common.{Err, ap, refl, sym, subst, length, map, ◌∙◌}
+use Rattle.std.proofs.Common.{Err, ap, refl, ◌∙◌}
 use Rattle.ridepool.proofs.Common.{length-map, notices, IsUnput, added_by}
 use Rattle.ridepool.proofs.HeldLemmas.{heard_held}
 use Rattle.ridepool.proofs.WriteLemmas.{text_unwritten}

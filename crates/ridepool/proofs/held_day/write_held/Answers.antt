@@ -1,6 +1,7 @@
-use Rattle.std.proofs.Common.{◌<◌, ◌≤◌, ◌≡◌, ◌+◌, ◌-◌, ◌^◌, min, length, refl, sym, subst, ◌∙◌, ap, arith, ℕ}
+use Rattle.std.proofs.Common.{◌<◌, ◌≡◌, ◌+◌, ◌-◌, ◌^◌, min, length, refl, ◌∙◌, ap, arith, ℕ}
 use Rattle.ridepool.proofs.Common.{err_from_is_err_and, next_position, HoldsRound}
-use Rattle.ridepool.proofs.HeldLemmas.{zip-at, zip-size}
+use Rattle.ridepool.proofs.HeldLemmas.{zip-at}
+use Rattle.std.proofs.lemmas.Slice.Zip.{AllZip-long}
 use Rattle.ridepool.proofs.WriteLemmas.{put_none, put_next, put_whole, position_next, stops_next}
 use Rattle.ridepool.proofs.held_day.write_held.Goals as goal
 
@@ -46,6 +47,6 @@ pub returns-clause-rounds : goal.returns-clause-rounds
 returns-clause-rounds g c = λ settings roads told made holds none.
     let i = c.loop-round.round-index in
     let before = c.loop-round.invariant.put settings roads told made holds none in
-    let size = zip-size (HoldsRound settings roads told) made c.args.rounds.now holds in
+    let size = AllZip-long (HoldsRound settings roads told) made c.args.rounds.now holds in
     let end : c.loop-round.round-index ≡ length made = omega (arith, size) in
     put_whole settings roads made i (g.K.Sink.written c.args.out.now) (g.K.Sink.written c.loop-round.out) _ _ c.loop-round.position end before.0 before.1

@@ -1,5 +1,5 @@
 use Rattle.std.proofs.Common.{map, inl, refl}
-use Rattle.ridepool.proofs.Common.{LiveCall, words_of_run, source_seen}
+use Rattle.ridepool.proofs.Common.{words_of_run, source_seen}
 use Rattle.std.specs.String.{string_bytes}
 use Rattle.ridepool.proofs.LiveLemmas.{fleet-stops, network-stops, stop-limited, words-hide, words-stop}
 use Rattle.ridepool.proofs.ExitLemmas.{untouched_within}
@@ -10,23 +10,11 @@ use Rattle.ridepool.proofs.live_call.live_inputs.Goals as goal
 
 pub returns-in-Err-clause-got : goal.returns-in-Err-clause-got
 returns-in-Err-clause-got g c rest silent =
-    let call : LiveCall = record {
-      words = map string_bytes c.args.words.now;
-      network = source_seen g.R.Source.left g.R.Source.taken g.R.Source.faults c.args.network.now c.args.network.now;
-      fleet = source_seen g.F.Source.left g.F.Source.taken g.F.Source.faults c.args.fleet.now c.args.fleet.now;
-      rest = rest;
-    } in
-    words-stop call silent c.in-Err.status refl refl c.in-Err.ensures
+    words-stop _ silent c.in-Err.status refl refl c.in-Err.ensures
 
 pub returns-in-Err-network_from-clause-got : goal.returns-in-Err-network_from-clause-got
 returns-in-Err-network_from-clause-got g c rest silent =
-    let call : LiveCall = record {
-      words = map string_bytes c.args.words.now;
-      network = source_seen g.R.Source.left g.R.Source.taken g.R.Source.faults c.args.network.now c.network_from.new.source;
-      fleet = source_seen g.F.Source.left g.F.Source.taken g.F.Source.faults c.args.fleet.now c.args.fleet.now;
-      rest = rest;
-    } in
-    network-stops call silent c.in-Ok.settings c.in-Err-network_from.status c.in-Ok.ensures refl c.in-Err-network_from.ensures
+    network-stops _ silent c.in-Ok.settings c.in-Err-network_from.status c.in-Ok.ensures refl c.in-Err-network_from.ensures
 
 pub returns-in-Ok-fleet_from-clause-got : goal.returns-in-Ok-fleet_from-clause-got
 returns-in-Ok-fleet_from-clause-got g c rest = record { words = c.in-Ok.ensures; network = c.in-Ok-network_from.ensures; fleet = c.in-Ok-fleet_from.ensures.read }
@@ -36,13 +24,7 @@ returns-in-Ok-fleet_from-clause-named g c = c.in-Ok-fleet_from.ensures.named
 
 pub returns-in-Err-fleet_from-clause-got : goal.returns-in-Err-fleet_from-clause-got
 returns-in-Err-fleet_from-clause-got g c rest silent =
-    let call : LiveCall = record {
-      words = map string_bytes c.args.words.now;
-      network = source_seen g.R.Source.left g.R.Source.taken g.R.Source.faults c.args.network.now c.network_from.new.source;
-      fleet = source_seen g.F.Source.left g.F.Source.taken g.F.Source.faults c.args.fleet.now c.fleet_from.new.source;
-      rest = rest;
-    } in
-    fleet-stops call silent c.in-Ok.settings c.in-Ok-network_from.network c.in-Err-fleet_from.status c.in-Ok.ensures c.in-Ok-network_from.ensures c.in-Err-fleet_from.ensures.read
+    fleet-stops _ silent c.in-Ok.settings c.in-Ok-network_from.network c.in-Err-fleet_from.status c.in-Ok.ensures c.in-Ok-network_from.ensures c.in-Err-fleet_from.ensures.read
 
 pub returns-in-Err-clause-limited : goal.returns-in-Err-clause-limited
 returns-in-Err-clause-limited g c = (

@@ -1,17 +1,13 @@
 use Rattle.std.proofs.Common.{Err, inl, refl, ap, arith}
-use Rattle.ridepool.proofs.Common.{sink_seen, EndsLive, LiveInputs, LiveSeen}
+use Rattle.ridepool.proofs.Common.{sink_seen, EndsLive, LiveInputs}
+use Rattle.ridepool.specs.work.Live.{live_seen}
 use Rattle.ridepool.proofs.LiveLemmas.{head-stops, start-stops}
 use Rattle.ridepool.proofs.live_call.start_live.Goals as goal
 
 pub returns-in-Err-clause-stopped : goal.returns-in-Err-clause-stopped
 returns-in-Err-clause-stopped g c told =
     let i : LiveInputs = record { settings = c.args.setup.now.settings.now; roads = c.args.setup.now.network.now; vehicles = c.args.fleet.now } in
-    let seen : LiveSeen = record {
-      script = c.args.lines.now.to_come;
-      reads = record { before = c.args.lines.now.faults; after = c.read_start.new.lines.faults };
-      out = sink_seen g.K.Sink.written g.K.Sink.faults c.args.out.now c.args.out.now;
-      notifiers = record { before = told; after = told };
-    } in
+    let seen = live_seen c.args.lines.now.to_come c.args.lines.now.faults c.read_start.new.lines.faults (sink_seen g.K.Sink.written g.K.Sink.faults c.args.out.now c.args.out.now) told told in
     start-stops i seen c.in-Err.fault c.start_status.result c.start_status.ensures (record { out = refl; notifiers = refl })
     (λ fields is. c.in-Err.ensures.other fields (ap (λ f. Err f) is)) (λ is. c.in-Err.ensures.fault (ap (λ f. Err f) is))
 
@@ -37,12 +33,7 @@ returns-in-Ok-write_head-clause-never_falls g c = (c.write_head.ensures.never_fa
 pub returns-in-Err-write_head-clause-stopped : goal.returns-in-Err-write_head-clause-stopped
 returns-in-Err-write_head-clause-stopped g c told =
     let i : LiveInputs = record { settings = c.args.setup.now.settings.now; roads = c.args.setup.now.network.now; vehicles = c.args.fleet.now } in
-    let seen : LiveSeen = record {
-      script = c.args.lines.now.to_come;
-      reads = record { before = c.args.lines.now.faults; after = c.read_start.new.lines.faults };
-      out = sink_seen g.K.Sink.written g.K.Sink.faults c.args.out.now c.write_head.new.sink;
-      notifiers = record { before = told; after = told };
-    } in
+    let seen = live_seen c.args.lines.now.to_come c.args.lines.now.faults c.read_start.new.lines.faults (sink_seen g.K.Sink.written g.K.Sink.faults c.args.out.now c.write_head.new.sink) told told in
     head-stops i seen c.in-Ok.version c.read_start.new.lines.to_come c.in-Err-write_head.fault c.status_of.result c.status_of.ensures c.in-Ok.ensures.started refl c.in-Err-write_head.ensures
 
 pub returns-in-Err-write_head-clause-never_falls : goal.returns-in-Err-write_head-clause-never_falls

@@ -12,27 +12,27 @@ returns-in-Err-inputs_from g c =
     input_answer _ c.in-Ok.settings c.in-Err-inputs_from.status (record { faultless = c.in-Ok.ensures.accepted.0; given = c.in-Ok.ensures.accepted.1 })
     (c.in-Err-inputs_from.ensures.got _ refl) refl (record { out = refl; notifiers = refl })
 
-pub returns-in-Ok-write_audit : goal.returns-in-Ok-write_audit
-returns-in-Ok-write_audit g c =
+pub returns-in-Ok-audited : goal.returns-in-Ok-audited
+returns-in-Ok-audited g c =
     yes_answer _ c.in-Ok.settings c.in-Ok-inputs_from.inputs (record { faultless = c.in-Ok.ensures.accepted.0; given = c.in-Ok.ensures.accepted.1 }) c.in-Audit.is
-    (c.in-Ok-inputs_from.ensures.got _ refl) refl c.in-Ok-write_audit.ensures.audited
+    (c.in-Ok-inputs_from.ensures.got _ refl) refl c.in-Ok-audited.ensures.audited
 
-pub returns-in-Err-write_audit : goal.returns-in-Err-write_audit
-returns-in-Err-write_audit g c =
+pub returns-in-Err-audited : goal.returns-in-Err-audited
+returns-in-Err-audited g c =
     no_answer _ c.in-Ok.settings c.in-Ok-inputs_from.inputs (record { faultless = c.in-Ok.ensures.accepted.0; given = c.in-Ok.ensures.accepted.1 }) c.in-Audit.is
-    (c.in-Ok-inputs_from.ensures.got _ refl) refl c.in-Err-write_audit.status c.in-Err-write_audit.ensures.audited
+    (c.in-Ok-inputs_from.ensures.got _ refl) refl c.in-Err-audited.status c.in-Err-audited.ensures.audited
 
-pub returns-in-Ok-write_report : goal.returns-in-Ok-write_report
-returns-in-Ok-write_report g c =
+pub returns-in-Ok-written : goal.returns-in-Ok-written
+returns-in-Ok-written g c =
     done_answer _ c.in-Ok.settings c.in-Ok-inputs_from.inputs (record { faultless = c.in-Ok.ensures.accepted.0; given = c.in-Ok.ensures.accepted.1 })
-    (c.in-Ok-inputs_from.ensures.got _ refl) c.in_default.not-Audit refl c.in-Ok-write_report.ensures.report
+    (c.in-Ok-inputs_from.ensures.got _ refl) c.in_default.not-Audit refl c.in-Ok-written.ensures.report
 
-pub returns-in-Err-write_report : goal.returns-in-Err-write_report
-returns-in-Err-write_report g c =
+pub returns-in-Err-written : goal.returns-in-Err-written
+returns-in-Err-written g c =
     written_answer _ c.in-Ok.settings c.in-Ok-inputs_from.inputs (record { faultless = c.in-Ok.ensures.accepted.0; given = c.in-Ok.ensures.accepted.1 })
-    (c.in-Ok-inputs_from.ensures.got _ refl) c.in_default.not-Audit refl c.in-Err-write_report.status c.in-Err-write_report.ensures.report
+    (c.in-Ok-inputs_from.ensures.got _ refl) c.in_default.not-Audit refl c.in-Err-written.status c.in-Err-written.ensures.report
 
-pub write_report-requires-clause-day : goal.write_report-requires-clause-day
-write_report-requires-clause-day g c κs within =
+pub write_report-written-requires-clause-day : goal.write_report-written-requires-clause-day
+write_report-written-requires-clause-day g c κs within =
     got_is_day c.in-Ok.settings _ c.in-Ok-inputs_from.inputs
     (c.in-Ok-inputs_from.ensures.got (source_seen g.A.Source.left g.A.Source.taken g.A.Source.faults c.args.report.now c.args.report.now) refl)

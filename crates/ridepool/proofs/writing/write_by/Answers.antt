@@ -1,4 +1,4 @@
-use Rattle.std.proofs.Common.{◌≡◌, arith, ap, length, refl, subst, sym, ◌∙◌}
+use Rattle.std.proofs.Common.{◌≡◌, arith, ap, length, refl, subst, ◌∙◌}
 use Rattle.ridepool.proofs.Common.{Inputs, IsDayFor, BeginsRounds, EndsRounds, RunsAll, RunsFirst, day_ending}
 use Rattle.ridepool.proofs.WriteLemmas.{nothing_written, report_from, run_serves, day_serves, new_book, ready_book, nobody_told, day_fault}
 use Rattle.ridepool.proofs.writing.write_by.Goals as goal

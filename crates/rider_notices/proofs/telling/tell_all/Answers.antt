@@ -5,7 +5,7 @@ use Rattle.rider_notices.proofs.ToldLemmas.{heard-none, told-kept, told-gone, to
 use Rattle.rider_notices.proofs.telling.tell_all.Goals as goal
 
 pub loop-at-init : goal.loop-at-init
-loop-at-init g c = record { heard = heard-none _ _; within = omega arith; fewer = omega arith }
+loop-at-init g c = record { heard = heard-none _ _ _; within = omega arith; fewer = omega arith }
 
 pub loop-at-preserved-in-Ok : goal.loop-at-preserved-in-Ok
 loop-at-preserved-in-Ok g c =

@@ -1,13 +1,10 @@
 use Rattle.std.proofs.Common.{◌-◌, ◌≤◌, length}
-use Rattle.rider_notices.specs.Seen.{notifiers_seen}
 use Rattle.rider_notices.proofs.ToldLemmas.{HaveHeardUpTo}
 use Rattle.rider_notices.proofs.telling.tell_all.Given as goal
 
 abbrev pub invariant-loop-at : goal.invariant-loop-at
 invariant-loop-at g l = record {
-  heard : HaveHeardUpTo l.notices l.at
-      (notifiers_seen g.N.Notifier.told g.N.Notifier.faults g.N.Notifier.steady l.initial.notifiers.items)
-      (notifiers_seen g.N.Notifier.told g.N.Notifier.faults g.N.Notifier.steady l.notifiers.items);
+  heard : HaveHeardUpTo (λ n. record { told = g.N.Notifier.told n; faults = g.N.Notifier.faults n; steady = g.N.Notifier.steady n }) l.notices l.at l.initial.notifiers.items l.notifiers.items;
   within : l.at ≤ length l.notifiers.items;
   fewer : length l.notifiers.items ≤ length l.initial.notifiers.items;
 }

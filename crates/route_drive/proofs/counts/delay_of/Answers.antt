@@ -1,17 +1,16 @@
-use Rattle.std.proofs.Common.{◌≡◌, ◌-◌, refl, sym, subst, arith, ℕ, Option, Some, None, MatchOption}
-use Rattle.route_drive.proofs.Common.{IsNode, BookRider, index_in, IsTimeBetween, ideal_dropoff}
-use Rattle.route_drive.proofs.EntryLemmas.{found_rider}
+use Rattle.std.proofs.Common.{◌≡◌, ◌-◌, refl, sym, subst, arith, ℕ, Option, MatchOption}
+use Rattle.route_drive.proofs.Common.{All-look_up, IsNode, BookRider, index_in, IsTimeBetween, ideal_dropoff}
 use Rattle.route_drive.proofs.counts.delay_of.Goals as goal
 
 pub seconds_between-requires-clause-from : goal.seconds_between-requires-clause-from
 seconds_between-requires-clause-from c =
     let nodes = c.args.arcs.now.network.now.nodes in
-    (found_rider (λ (r : BookRider). IsNode nodes r.origin × IsNode nodes r.destination) c.args.book.now.state.riders c.args.served.rider c.in-Some.found c.requires.named (sym c.in-Some.ensures)).0
+    (All-look_up (λ (r : BookRider). r.id) (λ (r : BookRider). IsNode nodes r.origin × IsNode nodes r.destination) c.args.served.rider c.args.book.now.state.riders c.in-Some.found c.requires.named (sym c.in-Some.ensures)).0
 
 pub seconds_between-requires-clause-to : goal.seconds_between-requires-clause-to
 seconds_between-requires-clause-to c =
     let nodes = c.args.arcs.now.network.now.nodes in
-    (found_rider (λ (r : BookRider). IsNode nodes r.origin × IsNode nodes r.destination) c.args.book.now.state.riders c.args.served.rider c.in-Some.found c.requires.named (sym c.in-Some.ensures)).1
+    (All-look_up (λ (r : BookRider). r.id) (λ (r : BookRider). IsNode nodes r.origin × IsNode nodes r.destination) c.args.served.rider c.args.book.now.state.riders c.in-Some.found c.requires.named (sym c.in-Some.ensures)).1
 
 pub returns-in_ok-seconds-in-Some : goal.returns-in_ok-seconds-in-Some
 returns-in_ok-seconds-in-Some c =

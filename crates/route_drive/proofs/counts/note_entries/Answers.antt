@@ -1,6 +1,6 @@
 use Rattle.std.proofs.Common.{◌<◌, ◌≤◌, length, subst, arith, List}
 use Rattle.route_drive.proofs.Common.{Entry, AddsServed}
-use Rattle.route_drive.proofs.EnterLemmas.{take_all}
+use Rattle.std.proofs.lemmas.List.{take_all}
 use Rattle.route_drive.proofs.EntryLemmas.{adds_none, adds_more}
 use Rattle.route_drive.proofs.counts.note_entries.Goals as goal
 
@@ -16,4 +16,4 @@ loop-entry-preserved c =
 pub returns : goal.returns
 returns c =
     let all : length c.args.entries.now ≤ c.loop-entry.entry-index = omega arith in
-    subst (λ (es : List Entry). AddsServed es c.args.served.now c.loop-entry.served) (take_all c.args.entries.now c.loop-entry.entry-index all) c.loop-entry.invariant
+    subst (λ (es : List Entry). AddsServed es c.args.served.now c.loop-entry.served) (take_all c.loop-entry.entry-index c.args.entries.now all) c.loop-entry.invariant

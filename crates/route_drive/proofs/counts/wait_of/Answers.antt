@@ -1,4 +1,4 @@
-use Rattle.std.proofs.Common.{◌≡◌, ◌-◌, ap, sym, ◌∙◌, arith, Option}
+use Rattle.std.proofs.Common.{◌≡◌, ◌-◌, ap, sym, arith, Option}
 use Rattle.route_drive.proofs.Common.{option_map_or, BookRider, waited}
 use Rattle.route_drive.proofs.counts.wait_of.Goals as goal
 

@@ -1,6 +1,6 @@
-use Rattle.std.proofs.Common.{◌≡◌, ◌<◌, ◌≤◌, max, length, map, take, sym, ap, ◌∙◌, arith, List, ℕ}
+use Rattle.std.proofs.Common.{◌≡◌, ◌<◌, ◌≤◌, max, length, map, ap, ◌∙◌, arith, List}
 use Rattle.route_drive.proofs.Common.{greatest, ServedRider, waited}
-use Rattle.route_drive.proofs.EnterLemmas.{take_all}
+use Rattle.std.proofs.lemmas.List.{take_all}
 use Rattle.route_drive.proofs.EntryLemmas.{greatest_more}
 use Rattle.route_drive.proofs.counts.worst_wait.Goals as goal
 
@@ -13,4 +13,4 @@ loop-served-preserved c =
 pub returns : goal.returns
 returns c =
     let all : length c.args.picked.now ≤ c.loop-served.served-index = omega arith in
-    c.loop-served.invariant ∙ ap (λ (l : List ServedRider). greatest (map (waited c.args.book.now.state.riders) l)) (take_all c.args.picked.now c.loop-served.served-index all)
+    c.loop-served.invariant ∙ ap (λ (l : List ServedRider). greatest (map (waited c.args.book.now.state.riders) l)) (take_all c.loop-served.served-index c.args.picked.now all)

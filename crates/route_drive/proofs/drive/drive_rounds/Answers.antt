@@ -1,6 +1,6 @@
 use Rattle.std.proofs.Common.{◌≡◌, ◌<◌, ◌≤◌, ◌∷◌, [], ◌++◌, length, take, drop, suc, ◌+◌, sym, ap, ◌∙◌, subst, arith, List}
 use Rattle.route_drive.proofs.Common.{take_more, NumberedLanes, HasCome}
-use Rattle.route_drive.proofs.EnterLemmas.{take_all}
+use Rattle.std.proofs.lemmas.List.{take_all}
 use Rattle.route_drive.proofs.DriveLemmas.{come_none, come_more, round_late, rounds_at}
 use Rattle.route_drive.proofs.drive.drive_rounds.Goals as goal
 
@@ -32,4 +32,4 @@ pub returns-clause-run : goal.returns-clause-run
 returns-clause-run g c =
     let all : length c.args.rounds.now ≤ c.loop-round.round-index = omega arith in
     subst (λ (rs : List NumberedLanes). HasCome (g.K.RoundKeeper.took c.args.keeper.now c.loop-round.keeper) c.args.setup.now.settings.now c.args.setup.now.network.now c.args.book.state rs c.loop-round.drive)
-    (take_all c.args.rounds.now c.loop-round.round-index all) c.loop-round.invariant
+    (take_all c.loop-round.round-index c.args.rounds.now all) c.loop-round.invariant

@@ -1,6 +1,7 @@
 use Rattle.std.proofs.Common.{List, subst}
+use Rattle.route_drive.proofs.EnterLemmas.{if_ok_map}
 use Rattle.route_drive.proofs.Common.{NumberedLanes, IsLateAnswer, IsCounted}
-use Rattle.route_drive.proofs.DriveLemmas.{day_ends, end_late, if_ok_map}
+use Rattle.route_drive.proofs.DriveLemmas.{day_ends, end_late}
 use Rattle.route_drive.proofs.drive.driven_day.Goals as goal
 
 pub returns-in-Ok-drive_end-clause-run : goal.returns-in-Ok-drive_end-clause-run

@@ -1,5 +1,5 @@
 use Rattle.route_drive.proofs.Common.{told_by}
-use Rattle.route_drive.proofs.EnterLemmas.{on_ok_both, placed_entered, placed_late, placed-size}
+use Rattle.route_drive.proofs.EnterLemmas.{if_ok_and, if_ok_map, placed_entered, placed_late, placed-size}
 use Rattle.route_drive.proofs.entering.enter_all.Goals as goal
 
 pub enter_places-requires-clause-each : goal.enter_places-requires-clause-each
@@ -12,12 +12,12 @@ returns-in-Ok-clause-entered g c =
     let vehicles = c.args.vehicles.now in
     let courses = c.args.courses.now in
     let places = c.in-Ok.places.items in
-    on_ok_both c.enter_places.result _ _ _ (rw c.deref.ensures.value at c.enter_places.ensures.entered) (rw c.deref.ensures.value at c.enter_places.ensures.in_time)
-    (λ adds in_time. (
+    if_ok_map c.enter_places.result _ _ (if_ok_and c.enter_places.result _ _ (rw c.deref.ensures.value at c.enter_places.ensures.entered) (rw c.deref.ensures.value at c.enter_places.ensures.in_time))
+    (λ done told. (
       told_by c.args.now vehicles courses places,
       placed_entered c.args.setup.now.network.now c.args.setup.now.settings.now.dwell c.args.now vehicles courses places c.requires.same c.in-Ok.ensures,
-      in_time,
-      adds,
+      told.1,
+      told.0,
     ))
 
 pub returns-in-Ok-clause-late : goal.returns-in-Ok-clause-late

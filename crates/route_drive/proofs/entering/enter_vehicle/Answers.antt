@@ -1,4 +1,4 @@
-use Rattle.std.proofs.Common.{◌≡◌, inl, inr, refl, arith}
+use Rattle.std.proofs.Common.{◌≡◌, inl, inr, refl}
 use Rattle.route_drive.proofs.Common.{cases_lt, false≢true, longest}
 use Rattle.route_drive.proofs.EnterLemmas.{told_in_time}
 use Rattle.route_drive.proofs.entering.enter_vehicle.Goals as goal

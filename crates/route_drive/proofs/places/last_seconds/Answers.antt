@@ -1,6 +1,7 @@
 use Rattle.std.proofs.Common.{◌≤◌, ◌<◌, length, get_or, take, sym, ap, ◌∙◌, arith}
 use Rattle.route_drive.proofs.Common.{take_more, WalkStep, walk_end}
-use Rattle.route_drive.proofs.EnterLemmas.{take_all, walk_end-push}
+use Rattle.route_drive.proofs.EnterLemmas.{walk_end-push}
+use Rattle.std.proofs.lemmas.List.{take_all}
 use Rattle.route_drive.proofs.places.last_seconds.Goals as goal
 
 pub loop-step-preserved : goal.loop-step-preserved
@@ -13,4 +14,4 @@ loop-step-preserved c =
 pub returns : goal.returns
 returns c =
     let all : length c.args.steps.now ≤ c.loop-step.step-index = omega arith in
-    c.loop-step.invariant ∙ ap walk_end (take_all c.args.steps.now c.loop-step.step-index all)
+    c.loop-step.invariant ∙ ap walk_end (take_all c.loop-step.step-index c.args.steps.now all)

@@ -1,7 +1,7 @@
 use Rattle.std.proofs.Common.{◌≡◌, ◌<◌, ◌+◌, length, get_or, leb, true, false, take, sym, ap, ◌∙◌, arith}
 use Rattle.route_drive.proofs.Common.{PlannedStop, Stay, due, standing_after, reported_place}
-use Rattle.std.proofs.lemmas.Bool.{le-leb}
-use Rattle.route_drive.proofs.EnterLemmas.{filter_more, filter_same, lt-leb, standing-push}
+use Rattle.std.proofs.lemmas.Bool.{le-leb, lt-leb}
+use Rattle.route_drive.proofs.EnterLemmas.{filter_skips, filter_takes, standing-push}
 use Rattle.route_drive.proofs.places.standing.Goals.{then-stop-now, else-stop-now}
 use Rattle.route_drive.proofs.places.standing.Goals as goal
 
@@ -17,7 +17,7 @@ loop-stop-preserved c =
     elim c.if-stop-now.branch [
       | then-stop-now w ↦
           let kept : leb (get_or c.args.stops.now c.loop-stop.stop-index c.stop-item.result).second c.get-now.result ≡ true = rw same (le-leb stop.second now w.if-stop-now.true) in
-          let more : due c.get-now.result (take (i + 1) stops) ≡ _ = filter_more p stops i stop within kept in
+          let more : due c.get-now.result (take (i + 1) stops) ≡ _ = filter_takes p stops i stop within kept in
           let small = c.get-now.ensures.within in
           let value = c.get-now.ensures.value in
           let early = w.if-stop-now.true in
@@ -28,7 +28,7 @@ loop-stop-preserved c =
           }
       | else-stop-now w ↦
           let left : leb (get_or c.args.stops.now c.loop-stop.stop-index c.stop-item.result).second c.get-now.result ≡ false = rw same (lt-leb stop.second now w.if-stop-now.false) in
-          let none : due c.get-now.result (take (i + 1) stops) ≡ _ = filter_same p stops i stop within left in
+          let none : due c.get-now.result (take (i + 1) stops) ≡ _ = filter_skips p stops i stop within left in
           record {
             after = rw w.at-is (c.loop-stop.invariant.after ∙ sym (ap (standing_after c.args.dwell (reported_place c.args.vehicle.now)) none));
             short = rw w.at-is c.loop-stop.invariant.short;

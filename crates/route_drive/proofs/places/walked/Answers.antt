@@ -1,5 +1,4 @@
 use Rattle.std.proofs.Common.{ap, ◌∙◌, IfOk}
-use Rattle.route_drive.proofs.Common.{AllZip}
 use Rattle.rayon.proofs.ListFacts.{AllZip-weaken}
 use Rattle.rayon.proofs.ToStd.{slice-AllZip}
 use Rattle.pool_base.specs.declared.memory.OutOfMemory.{OutOfMemory}

@@ -1,6 +1,6 @@
 use Rattle.std.proofs.Common.{subst, All}
+use Rattle.route_drive.proofs.EnterLemmas.{if_ok_map}
 use Rattle.route_drive.proofs.Common.{IsRound, entries_of, EntriesKeep}
-use Rattle.route_drive.proofs.DriveLemmas.{if_ok_map}
 use Rattle.route_drive.proofs.WorstLemmas.{day_in_time}
 use Rattle.route_drive.proofs.kept.Promised.{new_book_keeps}
 use Rattle.route_drive.proofs.promised.drive_day.Goals as goal

@@ -1,5 +1,5 @@
 use Rattle.std.proofs.Common.{◌<◌, length, inl, inr, arith}
-use Rattle.route_drive.proofs.Common.{cases_lt, false≢true, longest, IsTooLate, stop_command}
+use Rattle.route_drive.proofs.Common.{cases_lt, false≢true, longest, stop_command, second_of, Command}
 use Rattle.route_drive.proofs.EnterLemmas.{any_mapped, late_stop}
 use Rattle.route_drive.proofs.rounds.enter_left.Goals as goal
 
@@ -10,4 +10,4 @@ returns-in_default-clause-late c = λ _.
       | inl h ↦ h
       | inr le ↦ absurd (false≢true (c.in_default.ensures.valid.1 le))
     ] in
-    any_mapped IsTooLate (stop_command c.args.vehicle) c.args.stops.now c.loop-stop.stop-index c.stop-item.result within c.stop-item.is (late_stop c.args.vehicle c.stop-item.result late)
+    any_mapped (λ (c : Command). longest < second_of c) (stop_command c.args.vehicle) c.args.stops.now c.loop-stop.stop-index c.stop-item.result within c.stop-item.is (late_stop c.args.vehicle c.stop-item.result late)

@@ -1,5 +1,5 @@
 use Rattle.std.proofs.Common.{◌≡◌, ◌<◌, Err, length, map, take, ap, arith}
-use Rattle.route_drive.proofs.Common.{All-append, IsInTime, IsTooLate, left_commands, stop_command}
+use Rattle.route_drive.proofs.Common.{All-append, IsInTime, left_commands, stop_command, second_of, longest, Command}
 use Rattle.route_drive.specs.declared.entering.Stopped.TheVariants.{TooLate}
 use Rattle.route_drive.proofs.EnterLemmas.{Adds-trans, left_late, left-more}
 use Rattle.route_drive.proofs.rounds.last_round.Goals as goal
@@ -8,7 +8,7 @@ pub returns-in-Err-clause-late : goal.returns-in-Err-clause-late
 returns-in-Err-clause-late c = λ is.
     let size = c.requires.same in
     let within : c.loop-k.k < length c.args.vehicles.now = omega arith in
-    left_late IsTooLate c.args.vehicles.now c.args.courses.now c.loop-k.k c.index-vehicles-k.result c.index-courses-k.result within (omega (arith, within, size))
+    left_late (λ (c : Command). longest < second_of c) c.args.vehicles.now c.args.courses.now c.loop-k.k c.index-vehicles-k.result c.index-courses-k.result within (omega (arith, within, size))
     c.index-vehicles-k.is c.index-courses-k.is (let late : c.in-Err.stopped ≡ TooLate = cc in rw c.as_slice.ensures.value at (c.in-Err.ensures.late (ap Err late)))
 
 pub loop-k-preserved : goal.loop-k-preserved

@@ -1,4 +1,5 @@
-use Rattle.search_check.proofs.lemmas.ChoiceLemmas.{rows_counted, starts_rise}
+use Rattle.plan_rules.proofs.lemmas.ValueLemmas.{starts_rise}
+use Rattle.search_check.proofs.lemmas.ChoiceLemmas.{rows_counted}
 use Rattle.search_check.proofs.choices.choices_of.Goals as goal
 
 pub overflow_sub-rows : goal.overflow_sub-rows

@@ -1,5 +1,5 @@
-use Rattle.stop_orders.proofs.DeletionLemmas.{rider_left_out}
+use Rattle.stop_orders.proofs.lemmas.DeletionLemmas.{rider_left_out}
 use Rattle.stop_orders.proofs.laws.riders_can_be_left_out.Goals as goal
 
 pub returns : goal.returns
-returns c = λ points tau task stops i t valid within serves. rider_left_out points tau t task valid i within stops serves
+returns c = λ points tau task stops i t valid within serves. rider_left_out points task valid i within tau t stops serves

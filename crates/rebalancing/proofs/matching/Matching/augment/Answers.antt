@@ -10,8 +10,8 @@ loop-position-preserved c =
     let position = c.loop-position.position in
     let between = c.loop-position.invariant.0 in
     let within : c.loop-position.position < length c.args.tree.now.vehicles.items = between.position_within in
-    let c_within : c.loop-position.position < length c.args.tree.now.riders.items = let e : length c.args.tree.now.riders.items ≡ length c.args.tree.now.vehicles.items = between.c_length in omega arith in
-    let parent_within : c.loop-position.position < length c.args.tree.now.parents.items = let e : length c.args.tree.now.parents.items ≡ length c.args.tree.now.vehicles.items = between.parent_length in omega arith in
+    let c_within : c.loop-position.position < length c.args.tree.now.riders.items = let e : length c.args.tree.now.riders.items ≡ length c.args.tree.now.vehicles.items = between.tree.c_length in omega arith in
+    let parent_within : c.loop-position.position < length c.args.tree.now.parents.items = let e : length c.args.tree.now.parents.items ≡ length c.args.tree.now.vehicles.items = between.tree.parent_length in omega arith in
     let vehicle : slice_index t.vehicles.items position ≡ c.index.result.now = sym (get_or_read t.vehicles.items position c.index.result.now within c.index.ensures 0) in
     let rider : slice_index t.riders.items position ≡ c.index-rider.result.now = sym (get_or_read t.riders.items position c.index-rider.result.now c_within c.index-rider.ensures 0) in
     let parent : c.index-position.result.now ≡ slice_index t.parents.items position = get_or_read t.parents.items position c.index-position.result.now parent_within c.index-position.ensures 0 in (

@@ -11,8 +11,8 @@ relax-requires-clause-covers c = λ j h.
     let ev : slice_index s.vehicle_of.items c.args.rider ≡ v = sym (get_or_read s.vehicle_of.items c.args.rider v (rw priced.p_length c.requires.within) c.index-vehicle.ensures 0) in
     let hv : c.index-vehicle.result.now < c.args.self.now.vehicles = rw ev at c.requires.matched in
     let hj : j < c.args.self.now.riders = rw c.row.ensures.length at h in
-    let price : c.index-2.result.now ≡ slice_index s.vehicle_price.items v = get_or_read s.vehicle_price.items v c.index-2.result.now (rw priced.a_length hv) c.index-2.ensures 0 in
-    let cover : weight_in c.args.self.now c.index-vehicle.result.now j ≤ slice_index c.args.self.now.vehicle_price.items c.index-vehicle.result.now + slice_index c.args.self.now.rider_price.items j = priced.covers v j hv hj in
+    let price : c.index-2.result.now ≡ slice_index s.vehicle_price.items v = get_or_read s.vehicle_price.items v c.index-2.result.now (rw priced.prices.a_length hv) c.index-2.ensures 0 in
+    let cover : weight_in c.args.self.now c.index-vehicle.result.now j ≤ slice_index c.args.self.now.vehicle_price.items c.index-vehicle.result.now + slice_index c.args.self.now.rider_price.items j = priced.prices.covers v j hv hj in
     rw (c.row.ensures.weights j hj, c.deref-4.ensures.value, price) (omega (arith, cover))
 
 pub relax-requires-clause-fits : goal.relax-requires-clause-fits
@@ -24,7 +24,7 @@ relax-requires-clause-fits c = λ j h.
     let ev : slice_index s.vehicle_of.items c.args.rider ≡ v = sym (get_or_read s.vehicle_of.items c.args.rider v (rw priced.p_length c.requires.within) c.index-vehicle.ensures 0) in
     let hv : c.index-vehicle.result.now < c.args.self.now.vehicles = rw ev at c.requires.matched in
     let hj : j < c.args.self.now.riders = rw c.row.ensures.length at h in
-    let price : c.index-2.result.now ≡ slice_index s.vehicle_price.items v = get_or_read s.vehicle_price.items v c.index-2.result.now (rw priced.a_length hv) c.index-2.ensures 0 in
+    let price : c.index-2.result.now ≡ slice_index s.vehicle_price.items v = get_or_read s.vehicle_price.items v c.index-2.result.now (rw priced.prices.a_length hv) c.index-2.ensures 0 in
     let fits : slice_index c.args.self.now.vehicle_price.items c.index-vehicle.result.now + c.args.tree.now.lowered + slice_index c.args.self.now.rider_price.items j < 2000000000000 = offset_fits priced t.grown t.reached t.cheapest c.requires.within c.requires.outside c.requires.tight c.requires.matched ev j hj in
     rw (c.deref-4.ensures.value, price) (omega (arith, fits))
 
@@ -39,7 +39,7 @@ returns-clause-tree c =
     let v = c.index-vehicle.result.now in
     let ev : slice_index s.vehicle_of.items j ≡ v = sym (get_or_read s.vehicle_of.items j v (rw priced.p_length c.requires.within) c.index-vehicle.ensures 0) in
     let hv : c.index-vehicle.result.now < c.args.self.now.vehicles = rw ev at c.requires.matched in
-    let price : c.index-2.result.now ≡ slice_index s.vehicle_price.items v = get_or_read s.vehicle_price.items v c.index-2.result.now (rw priced.a_length hv) c.index-2.ensures 0 in
+    let price : c.index-2.result.now ≡ slice_index s.vehicle_price.items v = get_or_read s.vehicle_price.items v c.index-2.result.now (rw priced.prices.a_length hv) c.index-2.ensures 0 in
     let position : c.len-position.result ≡ length r = c.len-position.ensures ∙ t.vehicles.ok.0 in
     let reached_from : c.index.result.now ≡ slice_index t.parent_of.items j = get_or_read t.parent_of.items j c.index.result.now (rw tree.reached.of_length c.requires.within) c.index.ensures 0 in
     let vehicles : c.push.new.self.items ≡ r ++ v ∷ [] = c.in_ok-push.ensures.items in
@@ -73,7 +73,7 @@ overflow_add-index c =
     let v = c.index-vehicle.result.now in
     let ev : slice_index s.vehicle_of.items c.args.rider ≡ v = sym (get_or_read s.vehicle_of.items c.args.rider v (rw priced.p_length c.requires.within) c.index-vehicle.ensures 0) in
     let hv : c.index-vehicle.result.now < c.args.self.now.vehicles = rw ev at c.requires.matched in
-    let price : c.index-2.result.now ≡ slice_index c.args.self.now.vehicle_price.items c.index-vehicle.result.now = get_or_read s.vehicle_price.items v c.index-2.result.now (rw priced.a_length hv) c.index-2.ensures 0 in
+    let price : c.index-2.result.now ≡ slice_index c.args.self.now.vehicle_price.items c.index-vehicle.result.now = get_or_read s.vehicle_price.items v c.index-2.result.now (rw priced.prices.a_length hv) c.index-2.ensures 0 in
     let fits : slice_index c.args.self.now.vehicle_price.items c.index-vehicle.result.now + c.args.tree.now.lowered + slice_index c.args.self.now.rider_price.items c.args.rider < 2000000000000 = offset_fits priced t.grown t.reached t.cheapest c.requires.within c.requires.outside c.requires.tight c.requires.matched ev c.args.rider c.requires.within in
     omega (arith, price, fits)
 

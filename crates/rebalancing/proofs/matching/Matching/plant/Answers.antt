@@ -15,7 +15,7 @@ returns-clause-tree c =
     let parents : c.push-3.new.self.items ≡ 0 ∷ [] = rw c.clear.ensures.parents at c.in_ok-push-3.ensures.items in
     let place : c.clear.new.self.place.items ≡ replicate s.riders 0 = rw c.requires.room.place at c.clear.ensures.place in
     let far : c.clear.new.self.tight_at.items ≡ replicate s.riders 18446744073709551615 = rw c.requires.room.tight_at at c.clear.ensures.tight_at in
-    let price : c.index.result.now ≡ slice_index s.vehicle_price.items k = get_or_read s.vehicle_price.items k c.index.result.now (rw priced.a_length hk) c.index.ensures 0 in
+    let price : c.index.result.now ≡ slice_index s.vehicle_price.items k = get_or_read s.vehicle_price.items k c.index.result.now (rw priced.prices.a_length hk) c.index.ensures 0 in
     let relaxes : Relaxes c.row.result.now s.rider_price.items c.clear.new.self.place.items (slice_index s.vehicle_price.items k) 0 c.clear.new.self.tight_at.items c.clear.new.self.parent_of.items c.relax.new.tight_at c.relax.new.parent_of =
     rw (price, c.deref_mut.ensures.value, c.deref_mut-2.ensures.value, c.deref.ensures.value, c.deref-2.ensures.value) at c.relax.ensures.relaxes in
     let tight_length : length c.relax.new.tight_at ≡ c.clear.new.self.tight_at.len = omega (arith, relaxes.tight_length, c.clear.new.self.tight_at.ok.0) in
@@ -34,7 +34,7 @@ relax-requires-clause-fits c = λ j h.
     let s = c.args.self.now in
     let priced = c.requires.priced in
     let hj : j < c.args.self.now.riders = rw c.row.ensures.length at h in
-    let price : c.index.result.now ≡ slice_index c.args.self.now.vehicle_price.items c.args.vehicle = get_or_read s.vehicle_price.items c.args.vehicle c.index.result.now (rw priced.a_length c.requires.within) c.index.ensures 0 in
-    let most : slice_index c.args.self.now.vehicle_price.items c.args.vehicle ≤ pair_worth = priced.a_most c.args.vehicle c.requires.within in
+    let price : c.index.result.now ≡ slice_index c.args.self.now.vehicle_price.items c.args.vehicle = get_or_read s.vehicle_price.items c.args.vehicle c.index.result.now (rw priced.prices.a_length c.requires.within) c.index.ensures 0 in
+    let most : slice_index c.args.self.now.vehicle_price.items c.args.vehicle ≤ pair_worth = priced.prices.a_most c.args.vehicle c.requires.within in
     let rider_most : slice_index c.args.self.now.rider_price.items j ≤ pair_worth = b_most priced j hj in
     rw c.deref-2.ensures.value (omega (arith, price, most, rider_most))

@@ -4,7 +4,7 @@ use Rattle.rebalancing.proofs.Shifting.{vehicles_differ, IsPriced-shifted, IsGro
 use Rattle.rebalancing.proofs.matching.Matching.shift.Goals as goal
 
 pub lower-requires-clause-distinct : goal.lower-requires-clause-distinct
-lower-requires-clause-distinct c = rw c.deref.ensures.value (vehicles_differ c.requires.priced c.requires.tree.grown)
+lower-requires-clause-distinct c = rw c.deref.ensures.value (vehicles_differ c.requires.tree.grown.tree)
 
 pub returns-clause-priced : goal.returns-clause-priced
 returns-clause-priced c =

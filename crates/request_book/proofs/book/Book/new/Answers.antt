@@ -1,5 +1,5 @@
 use Rattle.std.proofs.Common.{◌≡◌, [], sym, subst, IfOk}
-use Rattle.request_book.proofs.Common.{Vehicle, BookView, opening, IsNode}
+use Rattle.request_book.proofs.Common.{Vehicle, opening, IsNode}
 use Rattle.std.specs.List.{All}
 use Rattle.request_book.proofs.book.Book.new.Goals as goal
 

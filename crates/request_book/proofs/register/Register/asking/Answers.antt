@@ -1,26 +1,16 @@
-use Rattle.std.proofs.Common.{◌≡◌, ℕ, ◌++◌, Option, get_or, take, sym, ap, ◌∙◌, arith, option_and_then}
+use Rattle.std.proofs.Common.{ℕ, Option, ap, ◌∙◌, arith, option_and_then}
 use Rattle.request_book.proofs.Common.{Rider, after_seal, asking, find_rider}
 use Rattle.std.specs.List.{filter_map}
-use Rattle.std.specs.Option.{option_to_list}
 use Rattle.std.proofs.lemmas.List.{take_all}
-use Rattle.request_book.proofs.lemmas.SealLemmas.{filter_map-more}
+use Rattle.request_book.proofs.lemmas.SealLemmas.{made-more}
 use Rattle.request_book.proofs.register.Register.asking.Goals as goal
 
 pub loop-id-preserved : goal.loop-id-preserved
 loop-id-preserved c =
-    let riders = c.args.self.now.riders.items in
-    let made : ℕ → Option Rider = λ id. option_and_then (λ r. asking c.args.second (after_seal c.args.wait c.args.second r)) (find_rider id riders) in
-    let xs = c.deref-id-items.result.now in
-    let i = c.loop-id.id-index in
-    let x = c.id-item.result in
-    let h : option_and_then (λ r. asking c.args.second (after_seal c.args.wait c.args.second r)) c.rider.result ≡ made (get_or xs i x) =
-    ap (option_and_then (λ r. asking c.args.second (after_seal c.args.wait c.args.second r))) c.rider.ensures ∙ ap made c.id-item.is in
-    c.in_ok-show.ensures ∙ ap (λ ys. ys ++ option_to_list (option_and_then (λ r. asking c.args.second (after_seal c.args.wait c.args.second r)) c.rider.result)) c.loop-id.invariant
-    ∙ ap (λ o. filter_map made (take i xs) ++ option_to_list o) h ∙ sym (filter_map-more made xs i x c.loop-id-test.true)
+    let made : ℕ → Option Rider = λ id. option_and_then (λ r. asking c.args.second (after_seal c.args.wait c.args.second r)) (find_rider id c.args.self.now.riders.items) in
+    made-more made c.deref-id-items.result.now c.loop-id.id-index c.id-item.result (option_and_then (λ r. asking c.args.second (after_seal c.args.wait c.args.second r)) c.rider.result) _ _ c.loop-id-test.true c.id-item.is (ap (option_and_then (λ r. asking c.args.second (after_seal c.args.wait c.args.second r))) c.rider.ensures) c.loop-id.invariant c.in_ok-show.ensures
 
 pub returns : goal.returns
 returns c =
-    let riders = c.args.self.now.riders.items in
-    let made : ℕ → Option Rider = λ id. option_and_then (λ r. asking c.args.second (after_seal c.args.wait c.args.second r)) (find_rider id riders) in
-    let xs = c.deref-id-items.result.now in
-    c.loop-id.invariant ∙ ap (filter_map made) (take_all c.loop-id.id-index xs (omega arith) ∙ c.deref-id-items.ensures.value)
+    let made : ℕ → Option Rider = λ id. option_and_then (λ r. asking c.args.second (after_seal c.args.wait c.args.second r)) (find_rider id c.args.self.now.riders.items) in
+    c.loop-id.invariant ∙ ap (filter_map made) (take_all c.loop-id.id-index c.deref-id-items.result.now (omega arith) ∙ c.deref-id-items.ensures.value)

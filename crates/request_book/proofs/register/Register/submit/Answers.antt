@@ -55,6 +55,6 @@ returns-in-None-clause-indexed c =
       riders = subst (KeysDiffer (λ x. x.id)) (sym c.add.ensures.items) (KeysDiffer-push (λ x. x.id) r rs h.riders fits.0);
       vehicles = h.vehicles;
       pool_rise = subst (KeysRise (λ id. id)) (sym c.join.ensures.items) (KeysRise-placed (λ id. id) r.id g.pool.items h.pool_rise none);
-      pool = IsPool-same _ _ _ _ c.join.ensures.items c.add.ensures.items (IsPool-placed g.pool.items rs r (ap is_active c.requires.waits) fits.0 h.pool);
+      pool = IsPool-same _ _ _ _ c.join.ensures.items c.add.ensures.items (IsPool-placed g.pool.items rs r fits.0 h.pool (ap is_active c.requires.waits));
       pool_room = omega (arith, h.pool_room, c.join.ensures.room);
     }

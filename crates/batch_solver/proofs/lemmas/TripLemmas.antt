@@ -1,5 +1,5 @@
-use Rattle.std.proofs.Common.{◌≡◌, ℕ, ◌<◌, ◌≤◌, List, [], ◌∷◌, ◌++◌, length, get_or, ap, ◌∙◌, subst, arith}
-use Rattle.batch_solver.proofs.Common.{get_or_default, AllZip, PlannedStop, Settled, Stop, Task, SettledVehicle, IsTrip, no_vehicle, trip_task, vehicle_at, IsTask, IsOrderOf, ReachesAll, order_delay, told_stops, IsLateOrder}
+use Rattle.std.proofs.Common.{◌≡◌, ℕ, ◌<◌, ◌≤◌, List, [], ◌∷◌, ◌++◌, length, get_or, ap, ◌∙◌, sym, subst, arith}
+use Rattle.batch_solver.proofs.Common.{IsSound, get_or_default, AllZip, PlannedStop, Settled, Stop, Task, SettledVehicle, IsTrip, no_vehicle, trip_task, vehicle_at, IsTask, IsOrderOf, ReachesAll, order_delay, told_stops, IsLateOrder}
 use Rattle.stop_orders.proofs.lemmas.DoneLemmas.{length-IsOrder}
 
 pub all_zip_push : {A B : Type 0} (R : A → B → Type 0) (xs : List A) (ys : List B) (x : A) (y : B) → AllZip R xs ys → R x y → AllZip R (xs ++ x ∷ []) (ys ++ y ∷ [])
@@ -8,8 +8,12 @@ all_zip_push R [] (b ∷ ys) x y h r = absurd h
 all_zip_push R (a ∷ xs) [] x y h r = absurd h
 all_zip_push R (a ∷ xs) (b ∷ ys) x y h r = (h.0, all_zip_push R xs ys x y h.1 r)
 
+-- a trip of nobody
 pub no_trip : (riders : ℕ) → IsTrip riders []
 no_trip riders = record { rising = λ i lt. absurd (omega arith); within = λ i d lt. absurd (omega arith) }
+
+pub valid_task : (settled : Settled) (v points : ℕ) (tau : ℕ → ℕ → ℕ) (task : Task) → ((k : ℕ) × IsSound k points tau settled) → v < length settled.vehicles → task ≡ trip_task settled v [] → IsTask points task
+valid_task settled v points tau task sound within same = subst (IsTask points) (sym same) ((sound.1.each v within).tasks [] (no_trip (length settled.riders)) (omega arith))
 
 -- what is read of a vehicle is what stands at its number
 pub vehicle_read : (settled : Settled) (vehicles : List SettledVehicle) (v : ℕ) (x : SettledVehicle) → vehicles ≡ settled.vehicles → v < length settled.vehicles → get_or vehicles v x ≡ vehicle_at settled v

@@ -24,10 +24,10 @@ unfolding leaving_of held_after
 room_without (Pickup place latest party) room held more b l h = omega arith
 room_without (Dropoff place latest ideal party) room held more b l h = omega arith
 
-skips : {X : Type 0} (p : X → Bool) (x : X) (xs : List X) → p x ≡ false → filter p (x ∷ xs) ≡ filter p xs
+pub skips : {X : Type 0} (p : X → Bool) (x : X) (xs : List X) → p x ≡ false → filter p (x ∷ xs) ≡ filter p xs
 skips p x xs e = cond-false (p x) (x ∷ filter p xs) (filter p xs) e
 
-takes : {X : Type 0} (p : X → Bool) (x : X) (xs : List X) → p x ≡ true → filter p (x ∷ xs) ≡ x ∷ filter p xs
+pub takes : {X : Type 0} (p : X → Bool) (x : X) (xs : List X) → p x ≡ true → filter p (x ∷ xs) ≡ x ∷ filter p xs
 takes p x xs e = cond-true (p x) (x ∷ filter p xs) (filter p xs) e
 
 -- the test of the others
@@ -84,7 +84,7 @@ filter_renumbered p q g mine same apart (s ∷ stops) = elim (cases_Bool (mine s
 ]
 
 -- the others are seen as before
-visits_renumbered : (vis old : Stop → Visit) (g : Stop → Stop) (mine : Stop → Bool) → ((s : Stop) → mine s ≡ false → vis (g s) ≡ old s) → (stops : List Stop) → map vis (map g (filter (others mine) stops)) ≡ map old (filter (others mine) stops)
+pub visits_renumbered : (vis old : Stop → Visit) (g : Stop → Stop) (mine : Stop → Bool) → ((s : Stop) → mine s ≡ false → vis (g s) ≡ old s) → (stops : List Stop) → map vis (map g (filter (others mine) stops)) ≡ map old (filter (others mine) stops)
 visits_renumbered vis old g mine same [] = refl
 visits_renumbered vis old g mine same (s ∷ stops) = elim (cases_Bool (mine s)) [
   | inl e ↦ subst (λ ss. map vis (map g ss) ≡ map old ss) (sym (skips (others mine) s stops (not_from_true (mine s) e))) (visits_renumbered vis old g mine same stops)
@@ -100,10 +100,10 @@ known_renumbered P Q g mine move (s ∷ stops) known = elim (cases_Bool (mine s)
 ]
 
 -- the number that has a new number
-old_number : ℕ → ℕ → ℕ
+pub old_number : ℕ → ℕ → ℕ
 old_number i k = cond (ltb k i) k (k + 1)
 
-not_same : (a b : ℕ) → eqb a b ≡ false → a ≡ b → ⊥
+pub not_same : (a b : ℕ) → eqb a b ≡ false → a ≡ b → ⊥
 not_same a b e h = false≢true (sym e ∙ eq-eqb a b h)
 
 number_above : (i k : ℕ) → i < k → number_without i k ≡ k - 1
@@ -113,7 +113,7 @@ number_below : (i k : ℕ) → k ≤ i → number_without i k ≡ k
 number_below i k h = rw (le-ltb i k h) refl
 
 -- a number other than the one left out has the new number j exactly where it is j's old one
-renumbered : (i j k : ℕ) → (k ≡ i → ⊥) → eqb (number_without i k) j ≡ eqb k (old_number i j)
+pub renumbered : (i j k : ℕ) → (k ≡ i → ⊥) → eqb (number_without i k) j ≡ eqb k (old_number i j)
 unfolding old_number
 renumbered i j k ne = elim (cases_lt i k) [
   | inl above ↦ ap (λ n. eqb n j) (number_above i k above) ∙ elim (cases_lt j i) [
@@ -129,35 +129,35 @@ renumbered i j k ne = elim (cases_lt i k) [
   ]
 ]
 
-renumbered_back : (i j : ℕ) → number_without i (old_number i j) ≡ j
+pub renumbered_back : (i j : ℕ) → number_without i (old_number i j) ≡ j
 unfolding old_number
 renumbered_back i j = elim (cases_lt j i) [
   | inl low ↦ rw (lt-ltb j i low) (number_below i j (omega arith))
   | inr high ↦ rw (le-ltb j i high) (number_above i (j + 1) (omega arith) ∙ omega arith)
 ]
 
-old_number-ne : (i j : ℕ) → eqb i (old_number i j) ≡ false
+pub old_number-ne : (i j : ℕ) → eqb i (old_number i j) ≡ false
 unfolding old_number
 old_number-ne i j = elim (cases_lt j i) [
   | inl low ↦ rw (lt-ltb j i low) (ne_eqb i j (λ q. omega arith))
   | inr high ↦ rw (le-ltb j i high) (ne_eqb i (j + 1) (λ q. omega arith))
 ]
 
-old_number-lt : (i j n m : ℕ) → i < n → m + 1 ≡ n → j < m → old_number i j < n
+pub old_number-lt : (i j n m : ℕ) → i < n → m + 1 ≡ n → j < m → old_number i j < n
 unfolding old_number
 old_number-lt i j n m h e l = elim (cases_lt j i) [
   | inl low ↦ rw (lt-ltb j i low) (omega arith)
   | inr high ↦ rw (le-ltb j i high) (omega arith)
 ]
 
-number_without-lt : (i k n m : ℕ) → i < n → m + 1 ≡ n → (k ≡ i → ⊥) → k < n → number_without i k < m
+pub number_without-lt : (i k n m : ℕ) → i < n → m + 1 ≡ n → (k ≡ i → ⊥) → k < n → number_without i k < m
 number_without-lt i k n m h e ne l = elim (cases_lt i k) [
   | inl above ↦ rw (lt-ltb i k above) (omega arith)
   | inr below ↦ rw (le-ltb i k below) (omega arith)
 ]
 
 -- the leg of a new number is that of the old one
-leg_without : (legs : List Leg) (i k : ℕ) → i < length legs → (k ≡ i → ⊥) → leg_at (remove legs i) (number_without i k) ≡ leg_at legs k
+pub leg_without : (legs : List Leg) (i k : ℕ) → i < length legs → (k ≡ i → ⊥) → leg_at (remove legs i) (number_without i k) ≡ leg_at legs k
 leg_without legs i k h ne = elim (cases_lt i k) [
   | inl above ↦
       let e : k - 1 + 1 ≡ k = omega arith in
@@ -165,10 +165,10 @@ leg_without legs i k h ne = elim (cases_lt i k) [
   | inr below ↦ ap (λ n. leg_at (remove legs i) n) (number_below i k below) ∙ get_or-remove_below legs i no_leg k (omega arith) h
 ]
 
-All-remove : {X : Type 0} (P : X → Type 0) (xs : List X) (i : ℕ) → All P xs → All P (remove xs i)
+pub All-remove : {X : Type 0} (P : X → Type 0) (xs : List X) (i : ℕ) → All P xs → All P (remove xs i)
 All-remove P xs i all = All-append P (take i xs) (drop (suc i) xs) (All-take P i xs all) (All-drop P (suc i) xs all)
 
-module _ (points : ℕ) (tau : ℕ → ℕ → ℕ) (t : IsTravelTime points tau) (task : Task) (valid : IsTask points task) where
+module _ (points : ℕ) (task : Task) (valid : IsTask points task) where
   module _ (i : ℕ) (within : i < length task.riders.items) where
     fewer : length (remove task.riders.items i) + 1 ≡ length task.riders.items
     fewer = length-remove task.riders.items i within
@@ -203,13 +203,11 @@ module _ (points : ℕ) (tau : ℕ → ℕ → ℕ) (t : IsTravelTime points tau
 
     passenger_tests : (j : ℕ) (s : Stop) → is_of_rider i s ≡ false → is_of_passenger j (stop_without_rider i s) ≡ is_of_passenger j s
     passenger_tests j (Pick k) e = refl
-    passenger_tests j (Drop k) e = refl
-    passenger_tests j (Alight k) e = refl
+    passenger_tests j _ e = refl
 
     passenger_apart : (j : ℕ) (s : Stop) → is_of_rider i s ≡ true → is_of_passenger j s ≡ false
-    passenger_apart j (Pick k) e = refl
-    passenger_apart j (Drop k) e = refl
     passenger_apart j (Alight k) e = absurd (false≢true e)
+    passenger_apart j _ e = refl
 
     rider_known : (s : Stop) → is_of_rider i s ≡ false → IsKnown (length task.riders.items) (length task.aboard.items) s → IsKnown (length (remove task.riders.items i)) (length task.aboard.items) (stop_without_rider i s)
     rider_known (Pick k) e h = number_without-lt i k (length task.riders.items) (length (remove task.riders.items i)) within fewer (not_same k i e) h
@@ -230,8 +228,8 @@ module _ (points : ℕ) (tau : ℕ → ℕ → ℕ) (t : IsTravelTime points tau
     unfolding leaving_of held_after
     rider_holds = (omega arith, (omega arith, tt))
 
-    pub rider_left_out : (stops : List Stop) → Serves tau task stops → StillServes points tau task (without_rider i task) stops (stops_without_rider i stops)
-    rider_left_out stops serves =
+    pub rider_left_out : (tau : ℕ → ℕ → ℕ) → IsTravelTime points tau → (stops : List Stop) → Serves tau task stops → StillServes points tau task (without_rider i task) stops (stops_without_rider i stops)
+    rider_left_out tau t stops serves =
         let seen = visits_renumbered (visit_at (without_rider i task)) (visit_at task) (stop_without_rider i) (is_of_rider i) visit_without_rider stops in
         let holds = subst (λ ss. Holds (visit_at task) 0 ss) (sym (serves.order.rides i within)) rider_holds in
         let rest = served_without points tau task.dwell t (visit_at task) (is_of_rider i) stops task.start task.ready (free_seats task) task.start task.ready (free_seats task) 0
@@ -249,10 +247,10 @@ module _ (points : ℕ) (tau : ℕ → ℕ → ℕ) (t : IsTravelTime points tau
     fewer_aboard : length (remove task.aboard.items j) + 1 ≡ length task.aboard.items
     fewer_aboard = length-remove task.aboard.items j within
 
-    persons_without : persons (remove task.aboard.items j) + (leg_at task.aboard.items j).party ≡ persons task.aboard.items
+    pub persons_without : persons (remove task.aboard.items j) + (leg_at task.aboard.items j).party ≡ persons task.aboard.items
     persons_without = sum_by-remove (λ leg. leg.party) task.aboard.items j no_leg within
 
-    valid_without_passenger : IsTask points (without_passenger j task)
+    pub valid_without_passenger : IsTask points (without_passenger j task)
     valid_without_passenger = record {
       start = valid.start;
       ready = valid.ready;
@@ -265,37 +263,31 @@ module _ (points : ℕ) (tau : ℕ → ℕ → ℕ) (t : IsTravelTime points tau
       riders = valid.riders;
     }
 
-    visit_without_passenger : (s : Stop) → is_of_passenger j s ≡ false → visit_at (without_passenger j task) (stop_without_passenger j s) ≡ visit_at task s
-    visit_without_passenger (Pick k) e = refl
-    visit_without_passenger (Drop k) e = refl
+    pub visit_without_passenger : (s : Stop) → is_of_passenger j s ≡ false → visit_at (without_passenger j task) (stop_without_passenger j s) ≡ visit_at task s
     visit_without_passenger (Alight k) e = ap (λ leg. Dropoff leg.destination leg.latest_dropoff leg.ideal leg.party) (leg_without task.aboard.items j k within (not_same k j e))
+    visit_without_passenger _ e = refl
 
     out_tests : (k : ℕ) (s : Stop) → is_of_passenger j s ≡ false → is_of_passenger k (stop_without_passenger j s) ≡ is_of_passenger (old_number j k) s
-    out_tests k (Pick n) e = refl
-    out_tests k (Drop n) e = refl
     out_tests k (Alight n) e = renumbered j k n (not_same n j e)
+    out_tests k _ e = refl
 
     out_apart : (k : ℕ) (s : Stop) → is_of_passenger j s ≡ true → is_of_passenger (old_number j k) s ≡ false
-    out_apart k (Pick n) e = refl
-    out_apart k (Drop n) e = refl
     out_apart k (Alight n) e = subst (λ m. eqb m (old_number j k) ≡ false) (sym (eqb-true n j e)) (old_number-ne j k)
+    out_apart k _ e = refl
 
     in_tests : (k : ℕ) (s : Stop) → is_of_passenger j s ≡ false → is_of_rider k (stop_without_passenger j s) ≡ is_of_rider k s
     in_tests k (Pick n) e = refl
-    in_tests k (Drop n) e = refl
-    in_tests k (Alight n) e = refl
+    in_tests k _ e = refl
 
     in_apart : (k : ℕ) (s : Stop) → is_of_passenger j s ≡ true → is_of_rider k s ≡ false
-    in_apart k (Pick n) e = absurd (false≢true e)
-    in_apart k (Drop n) e = absurd (false≢true e)
     in_apart k (Alight n) e = refl
+    in_apart k _ e = absurd (false≢true e)
 
     out_known : (s : Stop) → is_of_passenger j s ≡ false → IsKnown (length task.riders.items) (length task.aboard.items) s → IsKnown (length task.riders.items) (length (remove task.aboard.items j)) (stop_without_passenger j s)
-    out_known (Pick k) e h = h
-    out_known (Drop k) e h = h
     out_known (Alight k) e h = number_without-lt j k (length task.aboard.items) (length (remove task.aboard.items j)) within fewer_aboard (not_same k j e) h
+    out_known _ e h = h
 
-    order_without_passenger : (stops : List Stop) → IsOrderOf task stops → IsOrderOf (without_passenger j task) (stops_without_passenger j stops)
+    pub order_without_passenger : (stops : List Stop) → IsOrderOf task stops → IsOrderOf (without_passenger j task) (stops_without_passenger j stops)
     order_without_passenger stops order = record {
       rides = λ k h. filter_renumbered (is_of_rider k) (is_of_rider k) (stop_without_passenger j) (is_of_passenger j) (in_tests k) (in_apart k) stops
           ∙ ap (λ ss. map (stop_without_passenger j) ss) (order.rides k h);
@@ -309,8 +301,8 @@ module _ (points : ℕ) (tau : ℕ → ℕ → ℕ) (t : IsTravelTime points tau
     unfolding leaving_of held_after
     passenger_holds = (omega arith, tt)
 
-    pub passenger_left_out : (stops : List Stop) → Serves tau task stops → StillServes points tau task (without_passenger j task) stops (stops_without_passenger j stops)
-    passenger_left_out stops serves =
+    pub passenger_left_out : (tau : ℕ → ℕ → ℕ) → IsTravelTime points tau → (stops : List Stop) → Serves tau task stops → StillServes points tau task (without_passenger j task) stops (stops_without_passenger j stops)
+    passenger_left_out tau t stops serves =
         let seen = visits_renumbered (visit_at (without_passenger j task)) (visit_at task) (stop_without_passenger j) (is_of_passenger j) visit_without_passenger stops in
         let holds = subst (λ ss. Holds (visit_at task) (leg_at task.aboard.items j).party ss) (sym (serves.order.alights j within)) passenger_holds in
         let seats : free_seats task + (leg_at task.aboard.items j).party ≤ free_seats (without_passenger j task) = omega (arith, persons_without, valid.seated) in
