@@ -1,6 +1,6 @@
 -- The searches of one node, put together.
 use Rattle.std.proofs.Common.{◌≡◌, ◌≢◌, ℕ, ◌<◌, ◌≤◌, ◌⊎◌, List, [], length, get_or, slice_index, All, Contains, sym, ap, ◌∙◌, subst, inl, inr, ⊎_elim, arith}
-use Rattle.hub_labels.proofs.Common.{get_or_default, never, longest, Arc, Hop, IsArcAmong, HasWalkOf, Hub, AreNodeHops, IsLabelBelow, AreLabelsBelow, IsRankedHub, IsPruned, IsSpread, HasSpread, GainsHub, HandsOver, AddsHub}
+use Rattle.hub_labels.proofs.Cited.{get_or_default, never, longest, Arc, Hop, IsArcAmong, HasWalkOf, Hub, AreNodeHops, IsLabelBelow, AreLabelsBelow, IsRankedHub, IsPruned, IsSpread, HasSpread, GainsHub, HandsOver, AddsHub}
 use Rattle.hub_labels.proofs.Times.{times_of, start_within}
 use Rattle.hub_labels.proofs.Turned.{own_label}
 use Rattle.hub_labels.proofs.Added.{hubs_added}

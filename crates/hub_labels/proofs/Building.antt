@@ -1,6 +1,6 @@
 -- One node after the other becomes a hub, in both directions.
 use Rattle.std.proofs.Common.{◌≡◌, ℕ, ◌+◌, ◌<◌, ◌≤◌, true, List, ◌++◌, length, slice_index, take, drop, map, All, sym, ap, ◌∙◌, subst, arith}
-use Rattle.hub_labels.proofs.Common.{Arc, Hop, Roads, IsNetwork, IsArcAmong, Hub, turned, AreNodeHops, key_of, IsNodeOrder, IsRanking, AreLabelsBelow, AreHopsBothWays, AddsHub}
+use Rattle.hub_labels.proofs.Cited.{Arc, Hop, Roads, IsNetwork, IsArcAmong, Hub, turned, AreNodeHops, key_of, IsNodeOrder, IsRanking, AreLabelsBelow, AreHopsBothWays, AddsHub}
 use Rattle.std.proofs.lemmas.List.{take_at}
 use Rattle.hub_labels.proofs.Turned.{turn_there, turn_back, among_directed}
 use Rattle.hub_labels.proofs.Order.{ranking}

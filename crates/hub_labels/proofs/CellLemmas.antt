@@ -1,6 +1,6 @@
 -- Cells of a table, row by row.
 use Rattle.std.proofs.Common.{◌≡◌, ℕ, ◌+◌, ◌*◌, ◌/◌, ◌%◌, ◌<◌, ◌≤◌, List, length, slice_index, ap, ◌∙◌, subst, ⊎_elim, arith}
-use Rattle.hub_labels.proofs.Common.{cases_lt, Arc, IsTimeBetween, AreCells}
+use Rattle.hub_labels.proofs.Cited.{cases_lt, Arc, IsTimeBetween, AreCells}
 use Rattle.std.proofs.Math.Nat.{mul-le-mul_right, div-mul-le_self}
 use Rattle.std.proofs.lemmas.Nat.{mul-add-lt, div-mul-add, mod-mul-add}
 

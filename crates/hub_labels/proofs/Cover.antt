@@ -1,6 +1,6 @@
 -- Two nodes that a node of low rank joins have a common hub that joins them as well (canonical labels cover).
 use Rattle.std.proofs.Common.{◌≡◌, ◌≢◌, ℕ, zero, suc, ◌+◌, ◌<◌, ◌≤◌, ◌⊎◌, inl, inr, ⊎_elim, arith}
-use Rattle.hub_labels.proofs.Common.{cases_eq, cases_lt, never, longest}
+use Rattle.hub_labels.proofs.Cited.{cases_eq, cases_lt, never, longest}
 use Rattle.hub_labels.proofs.Times.{IsMetric}
 
 -- no node of a rank below the bound lies on a shortest way

@@ -1,6 +1,6 @@
 -- Degrees, counted node by node.
 use Rattle.std.proofs.Common.{◌≡◌, ℕ, ◌+◌, ◌<◌, ◌≤◌, ◌&&◌, Bool, true, false, cond, eqb, ltb, List, [], ◌∷◌, length, map, count_by, All, refl, arith}
-use Rattle.hub_labels.proofs.Common.{nat_tests, All-head, All-tail, sum_by-cons, length-filter, count_by-le-length, Arc, Hop, IsArcAmong, hop_of, leaving, degree, reaching_before}
+use Rattle.hub_labels.proofs.Cited.{nat_tests, All-head, All-tail, sum_by-cons, length-filter, count_by-le-length, Arc, Hop, IsArcAmong, hop_of, leaving, degree, reaching_before}
 use Rattle.std.proofs.lemmas.Bool.{lt-ltb, le-ltb}
 
 -- 1 where a test passes

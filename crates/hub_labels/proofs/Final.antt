@@ -1,6 +1,6 @@
 -- When every node had its searches, the labels are those of the network.
 use Rattle.std.proofs.Common.{◌≡◌, ℕ, ◌+◌, ◌<◌, ◌≤◌, true, List, [], length, get_or, slice_index, map, All, subst, arith}
-use Rattle.hub_labels.proofs.Common.{get_or_default, longest, Arc, IsLeastTime, Roads, IsNetwork, IsArcAmong, goal_within, Hub, IsForwardHub, IsBackwardHub, IsLabel, AreLabelsOf, turned, IsRanking, IsRankedHub, IsLabelBelow, AreLabelsBelow, IsRising}
+use Rattle.hub_labels.proofs.Cited.{get_or_default, longest, Arc, IsLeastTime, Roads, IsNetwork, IsArcAmong, goal_within, Hub, IsForwardHub, IsBackwardHub, IsLabel, AreLabelsOf, turned, IsRanking, IsRankedHub, IsLabelBelow, AreLabelsBelow, IsRising}
 use Rattle.hub_labels.proofs.Times.{times_of, start_within, time_is}
 use Rattle.hub_labels.proofs.Turned.{turn_there, turn_back, IsLeastTime-turned, among_directed}
 

@@ -1,6 +1,6 @@
 -- Hops of a network's arcs, ahead and back.
 use Rattle.std.proofs.Common.{◌≡◌, ◌≢◌, ℕ, ◌+◌, ◌<◌, ◌≤◌, ◌⊎◌, List, [], ◌∷◌, ◌++◌, length, get_or, set, map, All, Contains, sym, ap, ◌∙◌, subst, inl, inr, ⊎_elim, arith}
-use Rattle.hub_labels.proofs.Common.{cases_eq, cases_lt, get_or_default, All-contains, Contains-get_or, Contains-append_left, Contains-push, Contains-push_cases, Arc, Hop, IsArcAmong, hop_of, leaving, arc_of_hop, hop_of_arc, hops_among, turned, arc_from, AreHopsOf, AreNodeHops, TurnsHops, AreTurnedBefore}
+use Rattle.hub_labels.proofs.Cited.{cases_eq, cases_lt, get_or_default, All-contains, Contains-get_or, Contains-append_left, Contains-push, Contains-push_cases, Arc, Hop, IsArcAmong, hop_of, leaving, arc_of_hop, hop_of_arc, hops_among, turned, arc_from, AreHopsOf, AreNodeHops, TurnsHops, AreTurnedBefore}
 use Rattle.std.proofs.lemmas.List.{length-set, get_or-set_same, get_or-set_other}
 use Rattle.hub_labels.proofs.Turned.{turn_there, turn_back}
 

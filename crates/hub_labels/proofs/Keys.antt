@@ -1,6 +1,6 @@
 -- Rank as a number.
 use Rattle.std.proofs.Common.{◌≡◌, ◌≢◌, ℕ, ◌+◌, ◌-◌, ◌*◌, ◌<◌, ◌≤◌, ◌↔◌, eqb, List, length, count_by, ap, inl, inr, ⊎_elim, arith}
-use Rattle.hub_labels.proofs.Common.{cases_eq, cases_lt, count_by-le-length, Arc, degree, IsOfLowerRank, key_of}
+use Rattle.hub_labels.proofs.Cited.{cases_eq, cases_lt, count_by-le-length, Arc, degree, IsOfLowerRank, key_of}
 use Rattle.std.proofs.Math.Nat.{mul-le-mul_right}
 
 -- no degree is above twice the number of arcs

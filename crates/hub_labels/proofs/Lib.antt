@@ -15,4 +15,4 @@ pub mod Adding
 pub mod Building
 pub mod Unique
 pub mod CellLemmas
-pub mod Common
+pub mod Cited

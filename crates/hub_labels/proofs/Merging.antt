@@ -1,6 +1,6 @@
 -- A merge of two labels by rank.
 use Rattle.std.proofs.Common.{◌≡◌, ◌≢◌, ℕ, ◌+◌, ◌<◌, ◌≤◌, ◌⊎◌, min, List, length, get_or, slice_index, ap, subst, inl, inr, ⊎_elim, arith}
-use Rattle.hub_labels.proofs.Common.{cases_eq, cases_lt, get_or_default, never, Hub, IsRising, IsLeastInCommon}
+use Rattle.hub_labels.proofs.Cited.{cases_eq, cases_lt, get_or_default, never, Hub, IsRising, IsLeastInCommon}
 
 abbrev pub no_hub : Hub
 no_hub = record { node = 0; seconds = 0 }

@@ -1,6 +1,6 @@
 -- What two labels have in common is the travel time.
 use Rattle.std.proofs.Common.{◌≡◌, ℕ, suc, ◌+◌, ◌<◌, ◌≤◌, ◌⊎◌, List, ◌++◌, length, get_or, All, sym, ap, ◌∙◌, inl, inr, ⊎_elim, arith}
-use Rattle.hub_labels.proofs.Common.{get_or_default, Contains-get_or, never, longest, Arc, IsWalk, walk_seconds, IsLeastTime, IsTimeBetween, HasNoWalk, Roads, IsNetwork, IsArcAmong, IsWalk-append, walk_seconds-append, short_walk, goal_within, Hub, IsForwardHub, IsBackwardHub, IsLabel, NodeLabels, AreLabelsOf, label_at, key_of, IsLeastInCommon}
+use Rattle.hub_labels.proofs.Cited.{get_or_default, Contains-get_or, never, longest, Arc, IsWalk, walk_seconds, IsLeastTime, IsTimeBetween, HasNoWalk, Roads, IsNetwork, IsArcAmong, IsWalk-append, walk_seconds-append, short_walk, goal_within, Hub, IsForwardHub, IsBackwardHub, IsLabel, NodeLabels, AreLabelsOf, label_at, key_of, IsLeastInCommon}
 use Rattle.hub_labels.proofs.Times.{AreTimes, times_of, metric_of, time_is, least_is}
 use Rattle.hub_labels.proofs.Cover.{IsClear, cover}
 use Rattle.hub_labels.proofs.Keys.{key_lower}

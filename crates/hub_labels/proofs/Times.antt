@@ -1,6 +1,6 @@
 -- Travel times exist: a search that ends gives them. So a lemma may speak of the travel time between any two nodes.
 use Rattle.std.proofs.Common.{◌≡◌, ℕ, zero, suc, ◌+◌, ◌<◌, ◌≤◌, ◌⊎◌, Bool, true, false, List, [], ◌∷◌, ◌++◌, length, get_or, slice_index, set, replicate, map, count_by, All, refl, sym, subst, inl, inr, ⊎_elim, arith}
-use Rattle.hub_labels.proofs.Common.{cases_lt, All-contains, get_or_default, get_or-replicate, length-replicate, never, longest, Arc, Hop, IsWalk, walk_seconds, IsLeastTime, IsTimeBetween, IsArcAmong, hop_of, leaving, waits, work_left, IsNextTaken, RelaxesHops, IsSearching, IsWalk-append, walk_seconds-append, short_walk, RelaxesHops-take, RelaxesHops-skip, IsSearching-start, IsSearching-step, IsNextTaken-set, IsTimeBetween-settled, hops_among, none_waits}
+use Rattle.hub_labels.proofs.Cited.{cases_lt, All-contains, get_or_default, get_or-replicate, length-replicate, never, longest, Arc, Hop, IsWalk, walk_seconds, IsLeastTime, IsTimeBetween, IsArcAmong, hop_of, leaving, waits, work_left, IsNextTaken, RelaxesHops, IsSearching, IsWalk-append, walk_seconds-append, short_walk, RelaxesHops-take, RelaxesHops-skip, IsSearching-start, IsSearching-step, IsNextTaken-set, IsTimeBetween-settled, hops_among, none_waits}
 use Rattle.std.proofs.lemmas.List.{length-set}
 
 -- a node waits, or none does

@@ -1,5 +1,5 @@
 use Rattle.std.proofs.Common.{◌≡◌, length, refl, ◌∙◌, arith}
-use Rattle.hub_labels.proofs.Common.{same_lists, get_or_default}
+use Rattle.hub_labels.proofs.Cited.{same_lists, get_or_default}
 use Rattle.hub_labels.proofs.Merging.{no_hub}
 use Rattle.hub_labels.proofs.checked.are_same.Goals as goal
 

@@ -1,5 +1,5 @@
 use Rattle.std.proofs.Common.{◌≡◌, [], length, ◌∙◌, arith}
-use Rattle.hub_labels.proofs.Common.{same_lists, get_or_default}
+use Rattle.hub_labels.proofs.Cited.{same_lists, get_or_default}
 use Rattle.hub_labels.proofs.checked.first_difference.Goals as goal
 
 pub returns-clause-none : goal.returns-clause-none

@@ -1,5 +1,5 @@
 use Rattle.std.proofs.Common.{◌≡◌, get_or, inl, inr}
-use Rattle.hub_labels.proofs.Common.{get_or_read}
+use Rattle.hub_labels.proofs.Cited.{get_or_read}
 use Rattle.hub_labels.proofs.Merging.{no_hub, merge_ahead, merge_back, merge_both, merged}
 use Rattle.hub_labels.proofs.common.least_in_common.Goals as goal
 

@@ -1,5 +1,5 @@
 use Rattle.std.proofs.Common.{◌<◌, All, length}
-use Rattle.hub_labels.proofs.Common.{Hub, HandsOver}
+use Rattle.hub_labels.proofs.Cited.{Hub, HandsOver}
 use Rattle.hub_labels.proofs.draft.hand_over.Given as goal
 
 abbrev pub invariant-loop-node : goal.invariant-loop-node

@@ -1,5 +1,5 @@
 use Rattle.std.proofs.Common.{◌≡◌, ℕ, ◌<◌, [], length, get_or, map}
-use Rattle.hub_labels.proofs.Common.{IsNetwork, hop_of, leaving}
+use Rattle.hub_labels.proofs.Cited.{IsNetwork, hop_of, leaving}
 use Rattle.hub_labels.proofs.hops.hops_ahead.Given as goal
 
 abbrev pub invariant-loop-node : goal.invariant-loop-node

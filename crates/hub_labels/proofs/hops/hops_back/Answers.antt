@@ -1,5 +1,5 @@
 use Rattle.std.proofs.Common.{◌≡◌, [], length, arith}
-use Rattle.hub_labels.proofs.Common.{hops_among}
+use Rattle.hub_labels.proofs.Cited.{hops_among}
 use Rattle.hub_labels.proofs.HopLemmas.{turned_more, all_turned}
 use Rattle.hub_labels.proofs.hops.hops_back.Goals as goal
 

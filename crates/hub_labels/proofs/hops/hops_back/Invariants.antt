@@ -1,5 +1,5 @@
 use Rattle.std.proofs.Common.{length}
-use Rattle.hub_labels.proofs.Common.{IsNetwork, AreTurnedBefore}
+use Rattle.hub_labels.proofs.Cited.{IsNetwork, AreTurnedBefore}
 use Rattle.hub_labels.proofs.hops.hops_back.Given as goal
 
 abbrev pub invariant-loop-node : goal.invariant-loop-node

@@ -1,4 +1,4 @@
-use Rattle.hub_labels.proofs.Common.{TurnsHops}
+use Rattle.hub_labels.proofs.Cited.{TurnsHops}
 use Rattle.hub_labels.proofs.hops.turn.Given as goal
 
 abbrev pub invariant-loop-hop : goal.invariant-loop-hop

@@ -1,5 +1,5 @@
 use Rattle.std.proofs.Common.{◌≡◌, ℕ, ◌+◌, ◌<◌, eqb, take, count_by, length, slice_index}
-use Rattle.hub_labels.proofs.Common.{Hop}
+use Rattle.hub_labels.proofs.Cited.{Hop}
 use Rattle.hub_labels.proofs.rank.count_reaching.Given as goal
 
 abbrev pub invariant-loop-hop : goal.invariant-loop-hop

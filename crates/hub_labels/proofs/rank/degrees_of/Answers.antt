@@ -1,5 +1,5 @@
 use Rattle.std.proofs.Common.{◌≡◌, ◌<◌, length, drop, ap, ◌∙◌, arith}
-use Rattle.hub_labels.proofs.Common.{length-map, get_or_default, hop_of, leaving, hops_among}
+use Rattle.hub_labels.proofs.Cited.{length-map, get_or_default, hop_of, leaving, hops_among}
 use Rattle.std.proofs.lemmas.List.{take_at}
 use Rattle.hub_labels.proofs.Degrees.{leaving_few, reaching_few, reaching_none, reaching_more, degree_is}
 use Rattle.hub_labels.proofs.rank.degrees_of.Goals as goal

@@ -1,5 +1,5 @@
 use Rattle.std.proofs.Common.{◌≡◌, ℕ, ◌+◌, ◌<◌, length, slice_index}
-use Rattle.hub_labels.proofs.Common.{IsNetwork, leaving, reaching_before}
+use Rattle.hub_labels.proofs.Cited.{IsNetwork, leaving, reaching_before}
 use Rattle.hub_labels.proofs.rank.degrees_of.Given as goal
 
 abbrev pub invariant-loop-node : goal.invariant-loop-node

@@ -1,5 +1,5 @@
 use Rattle.std.proofs.Common.{length, ap, ◌∙◌, arith}
-use Rattle.hub_labels.proofs.Common.{length-map, hop_of, leaving}
+use Rattle.hub_labels.proofs.Cited.{length-map, hop_of, leaving}
 use Rattle.hub_labels.proofs.Degrees.{leaving_few}
 use Rattle.hub_labels.proofs.rank.leaving_counts.Goals as goal
 

@@ -1,5 +1,5 @@
 use Rattle.std.proofs.Common.{◌≡◌, ℕ, ◌-◌, ◌<◌, length, get_or, map, ap, sym, ◌∙◌, subst, List, arith}
-use Rattle.hub_labels.proofs.Common.{get_or_default, degree, IsNodeOrder}
+use Rattle.hub_labels.proofs.Cited.{get_or_default, degree, IsNodeOrder}
 use Rattle.hub_labels.proofs.Keys.{degree_most}
 use Rattle.hub_labels.proofs.Order.{pair_order}
 use Rattle.hub_labels.proofs.rank.nodes_by_rank.Goals as goal

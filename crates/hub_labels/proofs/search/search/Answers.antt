@@ -1,5 +1,5 @@
 use Rattle.std.proofs.Common.{◌≡◌, ℕ, ◌<◌, [], List, length, get_or, slice_index, subst, ◌∙◌, arith}
-use Rattle.hub_labels.proofs.Common.{get_or_read, All-push, IsNextTaken, RelaxesHops, Hub, IsTold, none_waits_near}
+use Rattle.hub_labels.proofs.Cited.{get_or_read, All-push, IsNextTaken, RelaxesHops, Hub, IsTold, none_waits_near}
 use Rattle.hub_labels.proofs.Searching.{hops_within, prune_step, relax_step}
 use Rattle.hub_labels.proofs.search.search.Goals as goal
 

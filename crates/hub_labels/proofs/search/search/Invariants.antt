@@ -1,5 +1,5 @@
 use Rattle.std.proofs.Common.{◌≡◌, ◌<◌, List, All, length}
-use Rattle.hub_labels.proofs.Common.{Arc, IsArcAmong, work_left, AreNodeHops, IsPruning}
+use Rattle.hub_labels.proofs.Cited.{Arc, IsArcAmong, work_left, AreNodeHops, IsPruning}
 use Rattle.hub_labels.proofs.search.search.Given as goal
 
 abbrev pub invariant-loop-node : goal.invariant-loop-node

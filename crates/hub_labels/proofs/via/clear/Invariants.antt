@@ -1,5 +1,5 @@
 use Rattle.std.proofs.Common.{ℕ, ◌<◌, length}
-use Rattle.hub_labels.proofs.Common.{IsAmongHubs}
+use Rattle.hub_labels.proofs.Cited.{IsAmongHubs}
 use Rattle.hub_labels.proofs.via.clear.Given as goal
 
 abbrev pub invariant-loop-hub : goal.invariant-loop-hub

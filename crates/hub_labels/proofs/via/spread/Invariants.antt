@@ -1,4 +1,4 @@
-use Rattle.hub_labels.proofs.Common.{HasSpread}
+use Rattle.hub_labels.proofs.Cited.{HasSpread}
 use Rattle.hub_labels.proofs.via.spread.Given as goal
 
 abbrev pub invariant-loop-hub : goal.invariant-loop-hub

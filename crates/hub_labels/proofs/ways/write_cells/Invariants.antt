@@ -1,5 +1,5 @@
 use Rattle.std.proofs.Common.{◌≡◌, ℕ, ◌+◌, ◌/◌, ◌%◌, ◌<◌, length, slice_index}
-use Rattle.hub_labels.proofs.Common.{Roads, IsTimeBetween, AreLabelsOf}
+use Rattle.hub_labels.proofs.Cited.{Roads, IsTimeBetween, AreLabelsOf}
 use Rattle.hub_labels.proofs.ways.write_cells.Given as goal
 
 abbrev pub invariant-loop-place : goal.invariant-loop-place

@@ -1,5 +1,5 @@
 use Rattle.std.proofs.Common.{ℕ, ◌+◌, ◌/◌, ◌%◌, length, slice_index, subst, arith}
-use Rattle.hub_labels.proofs.Common.{IsTimeBetween}
+use Rattle.hub_labels.proofs.Cited.{IsTimeBetween}
 use Rattle.hub_labels.proofs.ways.write_table.Goals as goal
 
 pub par_chunks_mut_for_each-requires-clause-accepts : goal.par_chunks_mut_for_each-requires-clause-accepts

@@ -1,5 +1,5 @@
 use Rattle.std.proofs.Common.{◌≡◌, ℕ, ◌+◌, ◌<◌, ◌≤◌, true, List, length, get_or, slice_index, map, sym, ap, ◌∙◌, arith}
-use Rattle.hub_labels.proofs.Common.{turned, AreLabelsBelow, AddsHub}
+use Rattle.hub_labels.proofs.Cited.{turned, AreLabelsBelow, AddsHub}
 use Rattle.hub_labels.proofs.Adding.{labels_within}
 use Rattle.hub_labels.proofs.Building.{held, order_apart, ahead_both_ways, back_both_ways, one_way, rank_facts, rank_below}
 use Rattle.hub_labels.proofs.Final.{labels_of_network, labels_rise}

@@ -1,5 +1,5 @@
 use Rattle.std.proofs.Common.{true, false, length}
-use Rattle.hub_labels.proofs.Common.{IsNetwork, IsClean, directed, AreLabelsBelow}
+use Rattle.hub_labels.proofs.Cited.{IsNetwork, IsClean, directed, AreLabelsBelow}
 use Rattle.hub_labels.proofs.labels.Labels.build_watched.Given as goal
 
 abbrev pub invariant-loop-node : goal.invariant-loop-node

@@ -1,5 +1,5 @@
 use Rattle.std.proofs.Common.{◌≡◌, ◌<◌, ℕ, List, length, subst, sym, arith, ◌∙◌}
-use Rattle.hub_labels.proofs.Common.{Hub, IsForwardHub, IsBackwardHub, IsForwardAt, IsFirstDifference}
+use Rattle.hub_labels.proofs.Cited.{Hub, IsForwardHub, IsBackwardHub, IsForwardAt, IsFirstDifference}
 use Rattle.hub_labels.proofs.Unique.{first_wrong}
 use Rattle.hub_labels.proofs.labels.Labels.checked.Goals as goal
 

@@ -1,5 +1,5 @@
 use Rattle.std.proofs.Common.{◌≡◌, List, [], length, subst, sym, ap, ◌∙◌, arith}
-use Rattle.hub_labels.proofs.Common.{get_or_read, Hub, NodeLabels, label_at, IsRising, IsLeastInCommon}
+use Rattle.hub_labels.proofs.Cited.{get_or_read, Hub, NodeLabels, label_at, IsRising, IsLeastInCommon}
 use Rattle.hub_labels.proofs.Query.{time_by_labels}
 use Rattle.hub_labels.proofs.labels.Labels.time.Goals as goal
 

@@ -1,5 +1,5 @@
 use Rattle.std.proofs.Common.{All, Contains, sym, subst}
-use Rattle.hub_labels.proofs.Common.{Roads}
+use Rattle.hub_labels.proofs.Cited.{Roads}
 use Rattle.hub_labels.proofs.CellLemmas.{times_of_cells}
 use Rattle.hub_labels.proofs.ways.LabelWaysWays.table.Goals as goal
 
