@@ -1,6 +1,6 @@
 -- A round of a driven day, from its last entry to its first.
 use Rattle.std.proofs.Common.{◌≡◌, ◌⊎◌, ℕ, ◌≤◌, List, [], ◌∷◌, ◌++◌, length, map, filter, Option, Some, None, refl, sym, ap, ◌∙◌, subst, arith, inl, inr, option_and_then}
-use Rattle.route_drive.proofs.Common.{AllByRecursion, option_or, recursion_from_All, Batch, Vehicle, IsGoodOutcome, one_more, KeysDiffer, RepliesAreSteps, state_after, batch_of, sealed_state, find_rider, find_vehicle, step, Command, Submit, Seal, Close, Entry, Answer, Planned, PlannedStop, Reply, Closed, Sealed, BookRider, Promised, Waiting, State, KeysDiffer-from_rise, look_up-at, Settings, Roads, IsNetwork, sealed_by, ClosesAreGood, IsCloseOf, IsGoodClose, Course, plan_in, planned_in, AreEntered, to_come, IsClosedInTime, AreReported, IsReadyForSeal, closed, course_of, IsDayState, IsKept, KeepsBounds, LeavesAll, ShowsRiders, stops_with, IsServing, left_commands, IsEntered, closed_outcome, stop_command}
+use Rattle.route_drive.proofs.Common.{AllByRecursion, option_or, recursion_from_All, Batch, Vehicle, IsGoodOutcome, one_more, KeysDiffer, RepliesAreSteps, state_after, batch_of, sealed_state, find_rider, find_vehicle, step, Command, Submit, Seal, Close, Entry, Answer, PlannedStop, Reply, Closed, Sealed, BookRider, Promised, Waiting, State, KeysDiffer-from_rise, look_up-at, Settings, Roads, IsNetwork, sealed_by, ClosesAreGood, IsCloseOf, IsGoodClose, Course, plan_in, planned_in, AreEntered, to_come, IsClosedInTime, AreReported, IsReadyForSeal, closed, course_of, IsDayState, IsKept, KeepsBounds, LeavesAll, ShowsRiders, stops_with, IsServing, left_commands, IsEntered, closed_outcome, stop_command}
 use Rattle.std.proofs.lemmas.List.{append-nil}
 use Rattle.dispatch_engine.proofs.lemmas.LaneLemmas.{IsQuiet, plain-quiet}
 use Rattle.dispatch_engine.specs.lemmas.Lanes.{IsPlain}
