@@ -1,6 +1,6 @@
 -- What a search finds.
 use Rattle.std.proofs.Common.{◌≡◌, ℕ, suc, ◌+◌, ◌*◌, ◌<◌, ◌≤◌, Bool, true, List, [], ◌∷◌, ◌++◌, length, get_or, set, take, drop, Option, Result, Ok, Err, ℤ, pos, ◌≤ℤ◌, ◌<ℤ◌, to_z, of_z, All, refl, sym, ap, ◌∙◌, subst, arith}
-use Rattle.assignment_search.proofs.Common.{w128, ints, Graph, IsGoodGraph, IsBound, IsLawful, cost_of, IsGreedy, Usable, usable_of, leaf_value, first_fit_value, every_row, only_row, without_row, CanBranch, IsDeadEnd, Place, rounded_up, places, places_read, ReadsTo, Node, Branch, Leaf, Dead, held_is_lawful, within_every_row, dead_end_holds_none, tree_value_bounds, Agree, agree_back, leaf_value_agrees, first_fit_value_agrees, dead_end_agrees, may_use_agrees, can_branch_agrees, both_ways, IsSmallSum, IsWorthBranching, IsGoodLeaf, IsGoodNode, IsGrown, HasUsable, IsFixed, IsSolePlan, IsLowest, HasLeaf, IsNewEnd, IsJudged, choice_count, IsBestNear, IsFairNode, IsSearchAnswer, IsTreeSoFar, IsParting, IsPartedAt}
+use Rattle.assignment_search.proofs.Common.{w128, ints, Graph, IsGoodGraph, IsBound, IsLawful, cost_of, IsGreedy, Usable, usable_of, leaf_value, first_fit_value, every_row, only_row, without_row, CanBranch, IsDeadEnd, Place, rounded_up, places, places_read, ReadsTo, Node, Branch, Leaf, Dead, within_every_row, dead_end_holds_none, tree_value_bounds, Agree, agree_back, leaf_value_agrees, first_fit_value_agrees, dead_end_agrees, may_use_agrees, can_branch_agrees, both_ways, IsSmallSum, IsWorthBranching, IsGoodLeaf, IsGoodNode, IsGrown, HasUsable, IsFixed, IsSolePlan, IsLowest, HasLeaf, IsNewEnd, IsJudged, choice_count, IsBestNear, IsFairNode, IsSearchAnswer, IsTreeSoFar, IsParting, IsPartedAt}
 use Rattle.std.specs.Result.{IfOk}
 use Rattle.std.proofs.lemmas.List.Elements.{All-from_recursion}
 use Rattle.plan_rules.proofs.lemmas.SearchTreeLemmas.{tree_of_reads, places_are, value_is_read}
@@ -57,7 +57,7 @@ root_is_good g allowed ms value good all sized fitted judged small =
       judged = judged ∙ leaf_value_agrees g (usable_of allowed) every_row ms agree;
       first_fit = omega (arith, ints);
       floor = omega (arith, ints);
-      alive = λ dead. both_ways _ (dead_end_holds_none g every_row g.held good (held_is_lawful g good) dead) (within_every_row g g.held);
+      alive = λ dead. both_ways _ (dead_end_holds_none g every_row g.held good good.held dead) (within_every_row g g.held);
       small = small;
     }
 
@@ -182,7 +182,7 @@ module _ (g : Graph) (limit place : ℕ) (nodes : List Node) (values : List ℤ)
 -- a plan that costs no more than a bound is the best near it
 best_from_least : (g : Graph) (plan : List (Option ℕ)) (low : ℤ) → IsGoodGraph g → pos (cost_of g plan) ≤ℤ low → IsBound g low → IsBestNear g plan
 best_from_least g plan low good most bound =
-    record { held = least g.held (held_is_lawful g good); greedy = λ chosen is fair. least chosen fair; change = λ v other fair. least (set plan v other) fair }
+    record { held = least g.held good.held; greedy = λ chosen is fair. least chosen fair; change = λ v other fair. least (set plan v other) fair }
   where
     least : (chosen : List (Option ℕ)) → IsLawful g chosen → cost_of g plan ≤ cost_of g chosen
     least chosen fair =

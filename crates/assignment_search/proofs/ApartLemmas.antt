@@ -1,6 +1,6 @@
 -- Leaf values where the usable rows of one vehicle alone changed.
 use Rattle.std.proofs.Common.{◌≡◌, ◌≢◌, ◌==◌, ◌&&◌, ◌||◌, not, ℕ, zero, suc, ◌<◌, Bool, true, false, List, length, Option, ℤ, pos, negsuc, ◌+ℤ◌, ◌-ℤ◌, FitsSigned, to_z, of_z, refl, sym, ap, ◌∙◌, ⊎_elim, arith, ne_eqb, unwrap_or}
-use Rattle.assignment_search.proofs.Common.{w128, ints, cases_eq, and_left, false≢true, int_sum_below, Graph, row_vehicle, Usable, is_usable_by, reduced_cost, vehicle_term, leaf_value, IsSmall, IsSmallSum, only_row, without_row, int_sum_same, least_below_agrees}
+use Rattle.assignment_search.proofs.Common.{w128, ints, cases_eq, and_left, false≢true, int_sum_below, Graph, row_vehicle, Usable, is_usable_by, reduced_cost, vehicle_term, leaf_value, IsSmall, IsSmallSum, only_row, without_row, int_sum_same, least_below_agrees, nat_tests}
 use Rattle.std.proofs.lemmas.Int.{to_z-of_z}
 use Rattle.assignment_search.specs.work.Apart.{AgreeApart}
 
@@ -62,14 +62,10 @@ computed z old new h ho hn =
 -- ---- the two ends of a branch
 
 kept_only : (a b c : Bool) → b ≡ false → a ≡ (a && (not b || c))
-kept_only false b c e = refl
-kept_only true false c e = refl
-kept_only true true c e = absurd (false≢true (sym e))
+kept_only a b c e = grind (arith, nat_tests)
 
 kept_without : (a b : Bool) → b ≡ false → a ≡ (a && not b)
-kept_without false b e = refl
-kept_without true false e = refl
-kept_without true true e = absurd (false≢true (sym e))
+kept_without a b e = grind (arith, nat_tests)
 
 pub only_apart : (g : Graph) (u : Usable) (v k : ℕ) → AgreeApart g v u (only_row g u v k)
 only_apart g u v k j l other = kept_only (u j) (row_vehicle g j == v) (j == k) (ne_eqb (row_vehicle g j) v other)

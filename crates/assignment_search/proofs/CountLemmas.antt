@@ -1,6 +1,6 @@
 -- How many choices there are, and how long a tree can be.
 use Rattle.std.proofs.Common.{◌≡◌, ◌==◌, ◌&&◌, ◌||◌, not, ℕ, zero, suc, ◌+◌, ◌*◌, ◌<◌, ◌≤◌, max, Bool, true, false, List, [], ◌∷◌, length, take, drop, get_or, ℤ, refl, sym, ap, ◌∙◌, subst, ⊎_elim, arith, eq-eqb, eqb-true, ne_eqb}
-use Rattle.assignment_search.proofs.Common.{cases_eq, and_from, or_right, count_below, Graph, IsRowOf, row_vehicle, Usable, is_usable_by, every_row, only_row, without_row, CanBranch, coming_after, ReadsTo, Node, Branch, Leaf, Dead, flag, sum_below_same, sum_below_plus, count_below_same, count_below_some, product_below, choice_count, IsGrown}
+use Rattle.assignment_search.proofs.Common.{cases_eq, and_from, or_right, count_below, Graph, IsRowOf, row_vehicle, Usable, is_usable_by, every_row, only_row, without_row, CanBranch, coming_after, ReadsTo, Node, Branch, Leaf, Dead, flag, sum_below_same, sum_below_plus, count_below_same, count_below_some, product_below, choice_count, IsGrown, nat_tests}
 use Rattle.std.proofs.Math.Nat.{add-mul, mul-add, le-max_left, le-max_right, max-le}
 use Rattle.assignment_search.proofs.GrowthLemmas.{IsSplit, grown_reads}
 
@@ -18,9 +18,8 @@ product_some zero f e = omega arith
 product_some (suc n) f e = some (product_below n f) (f n) (product_some n f e) (e n)
   where
     some : (a b : ℕ) → 1 ≤ a → 1 ≤ b → 1 ≤ a * b
-    some zero b la lb = absurd (omega (arith, la))
-    some (suc a) zero la lb = absurd (omega (arith, lb))
     some (suc a) (suc b) la lb = omega arith
+    some a b la lb = absurd (omega (arith, la, lb))
 
 -- where one factor is a sum, so is the product
 product_split : (n : ℕ) (f a b : ℕ → ℕ) (v : ℕ) → v < n → ((w : ℕ) → (w ≡ v → ⊥) → f w ≡ a w) → ((w : ℕ) → (w ≡ v → ⊥) → f w ≡ b w) → f v ≡ a v + b v → product_below n f ≡ product_below n a + product_below n b
@@ -52,22 +51,13 @@ max_one n l =
     omega (arith, low, high)
 
 flag_parts : (a b c : Bool) → flag (a && b) ≡ flag (a && (b && (not a || c))) + flag (a && (b && not c))
-flag_parts false b c = refl
-flag_parts true false c = refl
-flag_parts true true false = refl
-flag_parts true true true = refl
+flag_parts a b c = grind (arith, nat_tests)
 
 other_only : (a b q c : Bool) → (a ≡ true → q ≡ true → ⊥) → (a && b) ≡ (a && (b && (not q || c)))
-other_only false b q c apart = refl
-other_only true false q c apart = refl
-other_only true true false c apart = refl
-other_only true true true c apart = absurd (apart refl refl)
+other_only a b q c apart = grind (arith, nat_tests)
 
 other_without : (a b c : Bool) → (a ≡ true → c ≡ true → ⊥) → (a && b) ≡ (a && (b && not c))
-other_without false b c apart = refl
-other_without true false c apart = refl
-other_without true true false apart = refl
-other_without true true true apart = absurd (apart refl refl)
+other_without a b c apart = grind (arith, nat_tests)
 
 -- how many rows the vehicle may use
 abbrev usable_count : Graph → Usable → ℕ → ℕ
@@ -92,16 +82,12 @@ count_without_other g u v k w row other =
 count_only_some : (g : Graph) (u : Usable) (v k : ℕ) → CanBranch g u v k → 1 ≤ usable_count g (only_row g u v k) v
 count_only_some g u v k can =
     let may = can.row in
-    count_below_some (length g.rows) (is_usable_by g (only_row g u v k) v) k may.row.within
-    (and_from (row_vehicle g k == v) (only_row g u v k k) (eq-eqb (row_vehicle g k) v may.row.own)
-    (and_from (u k) (not (row_vehicle g k == v) || k == k) may.usable_row (or_right (not (row_vehicle g k == v)) (k == k) (eq-eqb k k refl))))
+    count_below_some (length g.rows) (is_usable_by g (only_row g u v k) v) k may.row.within (grind (arith, nat_tests, may.row.own, may.usable_row))
 
 count_without_some : (g : Graph) (u : Usable) (v k : ℕ) → CanBranch g u v k → 1 ≤ usable_count g (without_row u k) v
 count_without_some g u v k can =
     let may = can.other_row in
-    count_below_some (length g.rows) (is_usable_by g (without_row u k) v) can.other may.row.within
-    (and_from (row_vehicle g can.other == v) (without_row u k can.other) (eq-eqb (row_vehicle g can.other) v may.row.own)
-    (and_from (u can.other) (not (can.other == k)) may.usable_row (ap not (ne_eqb can.other k can.differs))))
+    count_below_some (length g.rows) (is_usable_by g (without_row u k) v) can.other may.row.within (grind (arith, nat_tests, may.row.own, may.usable_row, can.differs))
 
 pub choices_some : (g : Graph) (u : Usable) → 1 ≤ choice_count g u
 unfolding choice_count
@@ -138,14 +124,11 @@ reads_short g exist [] coming rest h =
     let sizes : length coming ≡ length rest = ap (λ (c : List Usable). length c) h in
     omega (arith, sums, sizes)
 reads_short g exist (n ∷ nodes) [] rest h = absurd h
-reads_short g exist (Leaf ms ∷ nodes) (u ∷ us) rest h =
-    omega (arith, reads_short g exist nodes us rest (h.1), choices_some g u)
-reads_short g exist (Dead ∷ nodes) (u ∷ us) rest h =
-    omega (arith, reads_short g exist nodes us rest (h.1), choices_some g u)
 reads_short g exist (Branch v k ∷ nodes) (u ∷ us) rest h =
     let can = h.0 in
     let low : v < g.vehicles = subst (λ (w : ℕ). w < g.vehicles) can.row.row.own (exist k can.row.row.within) in
     omega (arith, reads_short g exist nodes (only_row g u v k ∷ without_row u k ∷ us) rest (h.1), choices_split g u v k low can)
+reads_short g exist (n ∷ nodes) (u ∷ us) rest h = omega (arith, reads_short g exist nodes us rest (h.1), choices_some g u)
 
 drop_length : (xs : List Node) (i : ℕ) → i < length xs → length (take i xs) + 1 + length (drop (suc i) xs) ≡ length xs
 drop_length [] i l = absurd (omega (arith, l))

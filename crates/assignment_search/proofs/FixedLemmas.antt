@@ -1,6 +1,6 @@
 -- A leaf where no vehicle has a choice holds one plan, whose cost is the first-fit value.
-use Rattle.std.proofs.Common.{◌≡◌, ◌==◌, ◌&&◌, ℕ, zero, suc, ◌+◌, ◌*◌, ◌/◌, ◌<◌, ◌≤◌, Bool, true, false, ltb, List, [], ◌∷◌, length, Option, Some, None, MatchOption, ℤ, pos, ◌+ℤ◌, ◌-ℤ◌, ◌≤ℤ◌, refl, sym, ap, ◌∙◌, subst, inl, inr, ⊎_elim, arith, eq-eqb, eqb-true, ne_eqb, lt-ltb, le-ltb, unwrap_or}
-use Rattle.assignment_search.proofs.Common.{same_Some, none-some, ints, cases_eq, cases_lt, cases_Bool, and_from, and_parts, cond-true, cond-false, get_or_push, get_or_append_left, sum_below, count_below, int_sum_below, least_below, lesser, Graph, IsRowOf, HasNoRow, riders_at, row_vehicle, has_rider, choice_at, is_in, must_be_served, IsGoodGraph, IsPlan, IsLawful, choice_cost, cost_of, times_chosen, left_out, Usable, multiplier_at, multiplier_sum, is_usable_by, reduced_cost, vehicle_term, rider_term, leaf_value, room_at, first_fit_of, first_fit_below, first_fit, first_fit_value, MayUse, IsSoleRow, IsDeadEnd, rounded_up, flag, flag-true, flag-false, part, int_sum_same, int_sum_le, int_sum_zero, least_below_some, least_below_none, least_below_found, count_below_found, times_served_as_count, times_served_some, in_choice, has_choice, HasUsable, IsFixed, IsSolePlan}
+use Rattle.std.proofs.Common.{◌≡◌, ◌==◌, ◌&&◌, ℕ, zero, suc, ◌+◌, ◌*◌, ◌/◌, ◌<◌, ◌≤◌, Bool, true, false, ltb, List, [], ◌∷◌, length, Option, Some, None, MatchOption, ℤ, pos, ◌+ℤ◌, ◌-ℤ◌, ◌≤ℤ◌, refl, sym, ap, ◌∙◌, subst, ⊎_elim, arith, eq-eqb, eqb-true, ne_eqb, lt-ltb, le-ltb, unwrap_or}
+use Rattle.assignment_search.proofs.Common.{same_Some, none-some, ints, cases_eq, cases_lt, cases_Bool, and_from, and_parts, cond-true, cond-false, get_or_push, get_or_append_left, sum_below, count_below, int_sum_below, least_below, lesser, Graph, IsRowOf, HasNoRow, riders_at, row_vehicle, has_rider, choice_at, is_in, must_be_served, IsGoodGraph, IsPlan, IsLawful, choice_cost, cost_of, times_chosen, left_out, Usable, multiplier_at, multiplier_sum, is_usable_by, reduced_cost, vehicle_term, rider_term, leaf_value, room_at, first_fit_of, first_fit_below, first_fit, first_fit_value, MayUse, IsSoleRow, IsDeadEnd, Clash, Stranded, rounded_up, flag, flag-true, flag-false, part, int_sum_same, int_sum_le, int_sum_zero, least_below_some, least_below_none, least_below_found, count_below_found, times_served_as_count, times_served_some, in_choice, has_choice, HasUsable, IsFixed, IsSolePlan, false_from_ne_true}
 use Rattle.plan_rules.proofs.lemmas.DualityLemmas.{choices_sum, multiplier_sum_is, prices_sum, riders_give, served_give}
 use Rattle.plan_rules.proofs.lemmas.TreeLemmas.{rounded_up_mono}
 use Rattle.dual_bound.proofs.lemmas.FirstFitLemmas.{length-first_fit}
@@ -50,18 +50,7 @@ module _ (g : Graph) (u : Usable) (chosen : List (Option ℕ)) (good : IsGoodGra
       let k = in_choice g (choice_at chosen (w.1)) r (w.5) in
       let before : w.0 < w.1 = w.2 in
       let last : w.1 < g.vehicles = w.3 in
-      absurd (alive (inl (record {
-        first = w.0;
-        second = w.1;
-        first_row = j.0;
-        second_row = k.0;
-        rider = r;
-        differ = λ (e : w.0 ≡ w.1). omega (arith, before, e);
-        first_sole = only_choice (w.0) (j.0) (may_choice (w.0) (j.0) (omega (arith, before, last)) (j.1));
-        second_sole = only_choice (w.1) (k.0) (may_choice (w.1) (k.0) last (k.1));
-        in_first = j.2;
-        in_second = k.2;
-      }))))
+      absurd (alive (Clash (w.0) (w.1) (j.0) (k.0) r (λ (e : w.0 ≡ w.1). omega (arith, before, e)) (only_choice (w.0) (j.0) (may_choice (w.0) (j.0) (omega (arith, before, last)) (j.1))) (only_choice (w.1) (k.0) (may_choice (w.1) (k.0) last (k.1))) (j.2) (k.2))))
       (cases_lt (times_chosen g chosen r) 2)
 
   -- who stands in a usable row is served
@@ -78,13 +67,9 @@ module _ (g : Graph) (u : Usable) (chosen : List (Option ℕ)) (good : IsGoodGra
   sole_keeps r must =
       ⊎_elim
       (λ (none : times_chosen g chosen r ≡ 0).
-      absurd (alive (inr (record { rider = r; must = must; nowhere = λ k l may. not_in none k l may (has_rider g k r) refl }))))
+      absurd (alive (Stranded r must (λ k l may. false_from_ne_true (has_rider g k r) (λ e. omega (arith, none, sole_serves r k l may e))))))
       (λ (some : times_chosen g chosen r ≡ 0 → ⊥). omega (arith, some, sole_once r))
       (cases_eq (times_chosen g chosen r) 0)
-    where
-      not_in : times_chosen g chosen r ≡ 0 → (k : ℕ) → k < length g.rows → u k ≡ true → (b : Bool) → has_rider g k r ≡ b → has_rider g k r ≡ false
-      not_in none k l may false e = e
-      not_in none k l may true e = absurd (omega (arith, none, sole_serves r k l may e))
 
   pub sole_is_lawful : IsLawful g chosen
   sole_is_lawful = record { plan = sole_is_plan; once = sole_once; kept = sole_keeps }
@@ -94,7 +79,7 @@ module _ (g : Graph) (u : Usable) (chosen : List (Option ℕ)) (good : IsGoodGra
   term_is : (ms : List ℤ) (v : ℕ) → v < g.vehicles → (c : Option ℕ) → choice_at chosen v ≡ c → vehicle_term g u ms v ≡ (pos (1024 * choice_cost g c) -ℤ riders_give g ms c)
   term_is ms v l None e =
       let none : least_below (length g.rows) (is_usable_by g u v) (reduced_cost g ms) ≡ None =
-      least_below_none (length g.rows) (is_usable_by g u v) (reduced_cost g ms) (λ k low. foreign k low (is_usable_by g u v k) refl) in
+      least_below_none (length g.rows) (is_usable_by g u v) (reduced_cost g ms) foreign in
       let term : vehicle_term g u ms v ≡ pos 0 = ap (λ (p : Option ℤ). unwrap_or p (pos 0)) none in
       let nobody : int_sum_below g.riders (λ r. pos 0) ≡ pos 0 = int_sum_zero g.riders in
       omega (arith, ints)
@@ -103,11 +88,10 @@ module _ (g : Graph) (u : Usable) (chosen : List (Option ℕ)) (good : IsGoodGra
       unfit None h e = h
       unfit (Some k) h e = absurd (none-some k (sym e))
 
-      foreign : (k : ℕ) → k < length g.rows → (b : Bool) → is_usable_by g u v k ≡ b → is_usable_by g u v k ≡ false
-      foreign k low false is = is
-      foreign k low true is =
+      foreign : (k : ℕ) → k < length g.rows → is_usable_by g u v k ≡ false
+      foreign k low = false_from_ne_true (is_usable_by g u v k) (λ is.
           let parts = and_parts (row_vehicle g k == v) (u k) is in
-          absurd (unfit (choice_at chosen v) (sole v l) e k (record { row = record { within = low; own = eqb-true (row_vehicle g k) v (parts.0) }; usable_row = parts.1 }))
+          unfit (choice_at chosen v) (sole v l) e k (record { row = record { within = low; own = eqb-true (row_vehicle g k) v (parts.0) }; usable_row = parts.1 }))
   term_is ms v l (Some k) e =
       let may : MayUse g u v k = may_choice v k l e in
       let passes : is_usable_by g u v k ≡ true = and_from (row_vehicle g k == v) (u k) (eq-eqb (row_vehicle g k) v may.row.own) may.usable_row in
@@ -119,7 +103,7 @@ module _ (g : Graph) (u : Usable) (chosen : List (Option ℕ)) (good : IsGoodGra
       let term : vehicle_term g u ms v ≡ w.0 = ap (λ (p : Option ℤ). unwrap_or p (pos 0)) (w.1) in
       let row = good.rows k may.row.within in
       let riders : multiplier_sum ms (riders_at g k) ≡ int_sum_below g.riders (λ r. part (has_rider g k r) (multiplier_at ms r)) =
-      multiplier_sum_is ms g.riders (riders_at g k) row.members.rising row.members.below in
+      multiplier_sum_is ms g.riders (riders_at g k) row.rising row.below in
       omega (arith, ints)
 
   vehicles_are : (ms : List ℤ) → int_sum_below g.vehicles (vehicle_term g u ms) ≡ (pos (1024 * sum_below g.vehicles (λ v. choice_cost g (choice_at chosen v))) -ℤ served_give g ms chosen)
@@ -171,11 +155,10 @@ first_fit_left : (g : Graph) (u : Usable) (r : ℕ) → r < g.riders → ((k : �
 first_fit_left g u r l nowhere =
     first_fit_read g u g.riders r l
     ∙ ap (λ (o : Option ℤ). lesser o (pos (1024 * g.penalty)))
-    (least_below_none (length g.rows) (λ k. u k && has_rider g k r) (room_at g u (first_fit_below g u r)) (λ k low. not_both k low (u k && has_rider g k r) refl))
+    (least_below_none (length g.rows) (λ k. u k && has_rider g k r) (room_at g u (first_fit_below g u r)) not_both)
   where
-    not_both : (k : ℕ) → k < length g.rows → (b : Bool) → (u k && has_rider g k r) ≡ b → (u k && has_rider g k r) ≡ false
-    not_both k low false e = e
-    not_both k low true e = let parts = and_parts (u k) (has_rider g k r) e in absurd (nowhere k low (parts.0) (parts.1))
+    not_both : (k : ℕ) → k < length g.rows → (u k && has_rider g k r) ≡ false
+    not_both k low = false_from_ne_true (u k && has_rider g k r) (λ e. let parts = and_parts (u k) (has_rider g k r) e in nowhere k low (parts.0) (parts.1))
 
 -- ---- together
 

@@ -1,6 +1,6 @@
 -- Trees that grow.
 use Rattle.std.proofs.Common.{◌≡◌, ◌==◌, ◌||◌, not, ℕ, zero, suc, ◌<◌, ◌≤◌, true, List, [], ◌∷◌, ◌++◌, length, get_or, take, drop, Option, Some, None, ℤ, pos, ◌≤ℤ◌, ◌<ℤ◌, refl, sym, ap, ◌∙◌, subst, ⊎_elim, arith, eq-eqb, ne_eqb, unwrap_or}
-use Rattle.assignment_search.proofs.Common.{none-some, same_Some, ints, int_min_is, cases_eq, and_from, or_left, or_right, lesser, Graph, IsRowOf, row_vehicle, Usable, leaf_value, first_fit_value, every_row, only_row, without_row, CanBranch, rounded_up, least_leaf, IsSoundNode, coming_after, ReadsTo, places_from, value_read, IsLawful, cost_of, IsGreedy, Node, Branch, Leaf, Dead, IsWorthBranching, IsGoodLeaf, IsGoodNode, IsGrown, HasUsable, IsLowest, IsNewEnd, IsFairNode}
+use Rattle.assignment_search.proofs.Common.{none-some, same_Some, ints, int_min_is, cases_eq, and_from, or_left, or_right, lesser, Graph, IsRowOf, row_vehicle, Usable, leaf_value, first_fit_value, every_row, only_row, without_row, CanBranch, rounded_up, least_leaf, IsSoundNode, coming_after, ReadsTo, places_from, value_read, IsLawful, cost_of, IsGreedy, Node, Branch, Leaf, Dead, IsWorthBranching, IsGoodLeaf, IsGoodNode, IsGrown, HasUsable, IsLowest, IsNewEnd, IsFairNode, nat_tests}
 use Rattle.std.specs.List.{AllByRecursion as ByRecursion}
 use Rattle.plan_rules.proofs.lemmas.TreeLemmas.{rounded_up_mono}
 
@@ -13,17 +13,13 @@ good_sound g low limit u (Branch v k) z h = h.0
 
 pub grown_reads : (g : Graph) (low : ℤ) (limit : ℕ) (nodes : List Node) (values : List ℤ) (coming rest : List Usable) → IsGrown g low limit coming nodes values rest → ReadsTo g coming nodes rest
 grown_reads g low limit [] [] coming rest h = h
-grown_reads g low limit [] (z ∷ values) coming rest h = absurd h
-grown_reads g low limit (n ∷ nodes) [] coming rest h = absurd h
-grown_reads g low limit (n ∷ nodes) (z ∷ values) [] rest h = absurd h
 grown_reads g low limit (n ∷ nodes) (z ∷ values) (u ∷ us) rest h = (good_sound g low limit u n z (h.0), grown_reads g low limit nodes values (coming_after g u n us) rest (h.1))
+grown_reads g low limit nodes values coming rest h = absurd h
 
 pub grown_length : (g : Graph) (low : ℤ) (limit : ℕ) (nodes : List Node) (values : List ℤ) (coming rest : List Usable) → IsGrown g low limit coming nodes values rest → length values ≡ length nodes
 grown_length g low limit [] [] coming rest h = refl
-grown_length g low limit [] (z ∷ values) coming rest h = absurd h
-grown_length g low limit (n ∷ nodes) [] coming rest h = absurd h
-grown_length g low limit (n ∷ nodes) (z ∷ values) [] rest h = absurd h
 grown_length g low limit (n ∷ nodes) (z ∷ values) (u ∷ us) rest h = ap suc (grown_length g low limit nodes values (coming_after g u n us) rest (h.1))
+grown_length g low limit nodes values coming rest h = absurd h
 
 -- ---- a node of a grown tree, with what is before and after it
 
@@ -36,19 +32,16 @@ pub record IsSplit (g : Graph) (low : ℤ) (limit : ℕ) (coming : List Usable) 
 
 pub grown_split : (g : Graph) (low : ℤ) (limit : ℕ) (nodes : List Node) (values : List ℤ) (coming rest : List Usable) (i : ℕ) → IsGrown g low limit coming nodes values rest → i < length nodes → IsSplit g low limit coming nodes values rest i
 grown_split g low limit [] values coming rest i h l = absurd (omega (arith, l))
-grown_split g low limit (n ∷ nodes) [] coming rest i h l = absurd h
-grown_split g low limit (n ∷ nodes) (z ∷ values) [] rest i h l = absurd h
 grown_split g low limit (n ∷ nodes) (z ∷ values) (u ∷ us) rest zero h l = record { usable = u; later = us; before = refl; here = h.0; after = h.1 }
 grown_split g low limit (n ∷ nodes) (z ∷ values) (u ∷ us) rest (suc i) h l =
     let s = grown_split g low limit nodes values (coming_after g u n us) rest i (h.1) (omega (arith, l)) in
     record { usable = s.usable; later = s.later; before = (h.0, s.before); here = s.here; after = s.after }
+grown_split g low limit nodes values coming rest i h l = absurd h
 
 pub grown_join : (g : Graph) (low : ℤ) (limit : ℕ) (xs : List Node) (zs : List ℤ) (ys : List Node) (ws : List ℤ) (a b d : List Usable) → IsGrown g low limit a xs zs b → IsGrown g low limit b ys ws d → IsGrown g low limit a (xs ++ ys) (zs ++ ws) d
 grown_join g low limit [] [] ys ws a b d first second = subst (λ (c : List Usable). IsGrown g low limit c ys ws d) (sym first) second
-grown_join g low limit [] (z ∷ zs) ys ws a b d first second = absurd first
-grown_join g low limit (n ∷ xs) [] ys ws a b d first second = absurd first
-grown_join g low limit (n ∷ xs) (z ∷ zs) ys ws [] b d first second = absurd first
 grown_join g low limit (n ∷ xs) (z ∷ zs) ys ws (u ∷ us) b d first second = (first.0, grown_join g low limit xs zs ys ws (coming_after g u n us) b d (first.1) second)
+grown_join g low limit xs zs ys ws a b d first second = absurd first
 
 -- ---- a leaf becomes a branch
 
@@ -61,9 +54,8 @@ new_end_good g low limit u parent Dead z floor mono h = h.0
 new_end_good g low limit u parent (Branch v k) z floor mono h = absurd h
 
 new_end_ends : (g : Graph) (u w : Usable) (parent : List ℤ) (n : Node) (z : ℤ) (c : List Usable) → IsNewEnd g w parent n z → coming_after g u n c ≡ c
-new_end_ends g u w parent (Leaf ms) z c h = refl
-new_end_ends g u w parent Dead z c h = refl
 new_end_ends g u w parent (Branch v k) z c h = absurd h
+new_end_ends g u w parent n z c h = refl
 
 -- the tree with the leaf at i made a branch with these ends
 pub branched : (g : Graph) (low : ℤ) (limit : ℕ) (nodes : List Node) (values : List ℤ) (i v k : ℕ) (parent : List ℤ) (first second : Node) (a b x : ℤ) → IsGrown g low limit (every_row ∷ []) nodes values [] → i < length nodes → get_or nodes i Dead ≡ Leaf parent
@@ -100,13 +92,11 @@ raise_node g low new limit u (Branch v k) z up floor h =
 
 pub raised : (g : Graph) (low new : ℤ) (limit : ℕ) (nodes : List Node) (values : List ℤ) (coming rest : List Usable) → low ≤ℤ new → LeavesAbove new nodes values → IsGrown g low limit coming nodes values rest → IsGrown g new limit coming nodes values rest
 raised g low new limit [] [] coming rest up above h = h
-raised g low new limit [] (z ∷ values) coming rest up above h = h
-raised g low new limit (n ∷ nodes) [] coming rest up above h = h
-raised g low new limit (n ∷ nodes) (z ∷ values) [] rest up above h = h
 raised g low new limit (n ∷ nodes) (z ∷ values) (u ∷ us) rest up above h = (
   raise_node g low new limit u n z up (λ ms e. above 0 ms (omega arith) e) (h.0),
   raised g low new limit nodes values (coming_after g u n us) rest up (λ k ms l e. above (suc k) ms (omega (arith, l)) e) (h.1),
 )
+raised g low new limit nodes values coming rest up above h = absurd h
 
 -- no leaf is below the lowest
 pub lowest_above : (nodes : List Node) (values : List ℤ) (i : ℕ) → IsLowest nodes values i → LeavesAbove (rounded_up (get_or values i (pos 0))) nodes values
@@ -123,9 +113,6 @@ lowest_floor g low limit nodes values i grown lowest =
 
 least_low : (g : Graph) (low : ℤ) (limit : ℕ) (nodes : List Node) (values : List ℤ) (coming rest : List Usable) → IsGrown g low limit coming nodes values rest → (z : ℤ) → least_leaf g (places_from g coming nodes) ≡ Some z → low ≤ℤ z
 least_low g low limit [] [] coming rest h z e = absurd (none-some z e)
-least_low g low limit [] (w ∷ values) coming rest h z e = absurd h
-least_low g low limit (n ∷ nodes) [] coming rest h z e = absurd h
-least_low g low limit (n ∷ nodes) (w ∷ values) [] rest h z e = absurd h
 least_low g low limit (Leaf ms ∷ nodes) (w ∷ values) (u ∷ us) rest h z e =
     let leaf = h.0 in
     let floor : low ≤ℤ rounded_up (leaf_value g u ms) = subst (λ (y : ℤ). low ≤ℤ rounded_up y) leaf.judged leaf.floor in
@@ -136,14 +123,12 @@ least_low g low limit (Leaf ms ∷ nodes) (w ∷ values) (u ∷ us) rest h z e =
     both (Some y) before here is =
         let old : low ≤ℤ y = before y refl in
         omega (arith, ints, int_min_is y (rounded_up (leaf_value g u ms)))
-least_low g low limit (Dead ∷ nodes) (w ∷ values) (u ∷ us) rest h z e = least_low g low limit nodes values us rest (h.1) z e
-least_low g low limit (Branch v k ∷ nodes) (w ∷ values) (u ∷ us) rest h z e = least_low g low limit nodes values (only_row g u v k ∷ without_row u k ∷ us) rest (h.1) z e
+least_low g low limit (n ∷ nodes) (w ∷ values) (u ∷ us) rest h z e = least_low g low limit nodes values (coming_after g u n us) rest (h.1) z e
+least_low g low limit nodes values coming rest h z e = absurd h
 
 -- a leaf's value is not below the least
 least_high : (g : Graph) (low : ℤ) (limit : ℕ) (nodes : List Node) (values : List ℤ) (coming rest : List Usable) (i : ℕ) (ms : List ℤ) → IsGrown g low limit coming nodes values rest → i < length nodes → get_or nodes i Dead ≡ Leaf ms → (z : ℤ) × (least_leaf g (places_from g coming nodes) ≡ Some z) × (z ≤ℤ rounded_up (get_or values i (pos 0)))
 least_high g low limit [] values coming rest i ms h l e = absurd (omega (arith, l))
-least_high g low limit (n ∷ nodes) [] coming rest i ms h l e = absurd h
-least_high g low limit (n ∷ nodes) (w ∷ values) [] rest i ms h l e = absurd h
 least_high g low limit (Leaf ns ∷ nodes) (w ∷ values) (u ∷ us) rest zero ms h l e =
     let leaf = h.0 in
     let same : rounded_up (leaf_value g u ns) ≡ rounded_up w = ap rounded_up (sym leaf.judged) in
@@ -158,16 +143,12 @@ least_high g low limit (Leaf ns ∷ nodes) (w ∷ values) (u ∷ us) rest (suc i
     let old : before.0 ≤ℤ rounded_up (get_or values i (pos 0)) = before.2 in
     let all : lesser (least_leaf g (places_from g us nodes)) (rounded_up (leaf_value g u ns)) ≤ℤ rounded_up (get_or values i (pos 0)) = omega (arith, ints, int_min_is (before.0) (rounded_up (leaf_value g u ns))) in
     (lesser (least_leaf g (places_from g us nodes)) (rounded_up (leaf_value g u ns)), refl, all)
-least_high g low limit (Dead ∷ nodes) (w ∷ values) (u ∷ us) rest zero ms h l e = absurd (differ e)
+least_high g low limit (n ∷ nodes) (w ∷ values) (u ∷ us) rest zero ms h l e = absurd (differ e)
   where
-    differ : Dead ≡ Leaf ms → ⊥
+    differ : n ≡ Leaf ms → ⊥
     differ e = cc
-least_high g low limit (Dead ∷ nodes) (w ∷ values) (u ∷ us) rest (suc i) ms h l e = least_high g low limit nodes values us rest i ms (h.1) (omega (arith, l)) e
-least_high g low limit (Branch v k ∷ nodes) (w ∷ values) (u ∷ us) rest zero ms h l e = absurd (differ e)
-  where
-    differ : Branch v k ≡ Leaf ms → ⊥
-    differ e = cc
-least_high g low limit (Branch v k ∷ nodes) (w ∷ values) (u ∷ us) rest (suc i) ms h l e = least_high g low limit nodes values (only_row g u v k ∷ without_row u k ∷ us) rest i ms (h.1) (omega (arith, l)) e
+least_high g low limit (n ∷ nodes) (w ∷ values) (u ∷ us) rest (suc i) ms h l e = least_high g low limit nodes values (coming_after g u n us) rest i ms (h.1) (omega (arith, l)) e
+least_high g low limit nodes values coming rest i ms h l e = absurd h
 
 -- the tree's value is that of its lowest leaf
 pub value_is : (g : Graph) (limit : ℕ) (nodes : List Node) (values : List ℤ) (i : ℕ) → IsGrown g (rounded_up (get_or values i (pos 0))) limit (every_row ∷ []) nodes values [] → IsLowest nodes values i → value_read g nodes ≡ rounded_up (get_or values i (pos 0))
@@ -184,9 +165,6 @@ value_is g limit nodes values i grown lowest =
 pub nodes_fair : (g : Graph) (low : ℤ) (limit : ℕ) → limit ≤ cost_of g g.held → ((chosen : List (Option ℕ)) → IsGreedy g chosen → IsLawful g chosen → limit ≤ cost_of g chosen)
     → (nodes : List Node) (values : List ℤ) (coming rest : List Usable) → IsGrown g low limit coming nodes values rest → ByRecursion (λ p. IsFairNode g low p.usable p.node) (places_from g coming nodes)
 nodes_fair g low limit held greedy [] [] coming rest h = tt
-nodes_fair g low limit held greedy [] (z ∷ values) coming rest h = absurd h
-nodes_fair g low limit held greedy (n ∷ nodes) [] coming rest h = absurd h
-nodes_fair g low limit held greedy (n ∷ nodes) (z ∷ values) [] rest h = absurd h
 nodes_fair g low limit held greedy (n ∷ nodes) (z ∷ values) (u ∷ us) rest h = (fair n (h.0), nodes_fair g low limit held greedy nodes values (coming_after g u n us) rest (h.1))
   where
     fair : (m : Node) → IsGoodNode g low limit u m z → IsFairNode g low u m
@@ -200,43 +178,27 @@ nodes_fair g low limit held greedy (n ∷ nodes) (z ∷ values) (u ∷ us) rest 
           below_held = omega (arith, ints);
           below_greedy = λ chosen is lawful. let least : limit ≤ cost_of g chosen = greedy chosen is lawful in omega (arith, ints);
         }
+nodes_fair g low limit held greedy nodes values coming rest h = absurd h
 
 -- ---- vehicles keep a usable row
 
 pub usable_only : (g : Graph) (u : Usable) (v k : ℕ) → CanBranch g u v k → HasUsable g u → HasUsable g (only_row g u v k)
 usable_only g u v k can has w i row =
     ⊎_elim
-    (λ (here : w ≡ v). (
-      k,
-      record {
-        row = subst (λ (q : ℕ). IsRowOf g q k) (sym here) can.row.row;
-        usable_row = and_from (u k) (not (row_vehicle g k == v) || k == k) can.row.usable_row (or_right (not (row_vehicle g k == v)) (k == k) (eq-eqb k k refl));
-      },
-    ))
+    (λ (here : w ≡ v). (k, record { row = subst (λ (q : ℕ). IsRowOf g q k) (sym here) can.row.row; usable_row = grind (arith, nat_tests, can.row.usable_row) }))
     (λ (other : w ≡ v → ⊥).
     let j = has w i row in
-    let own = (j.1).row in
-    let apart : not (row_vehicle g (j.0) == v) ≡ true = ap not (ne_eqb (row_vehicle g (j.0)) v (λ (e : row_vehicle g (j.0) ≡ v). other (sym own.own ∙ e))) in (
-      j.0,
-      record { row = own; usable_row = and_from (u (j.0)) (not (row_vehicle g (j.0) == v) || (j.0) == k) (j.1).usable_row (or_left (not (row_vehicle g (j.0) == v)) ((j.0) == k) apart) },
-    ))
+    (j.0, record { row = (j.1).row; usable_row = grind (arith, nat_tests, (j.1).usable_row, (j.1).row.own, other) }))
     (cases_eq w v)
 
 pub usable_without : (g : Graph) (u : Usable) (v k : ℕ) → CanBranch g u v k → HasUsable g u → HasUsable g (without_row u k)
 usable_without g u v k can has w i row =
     ⊎_elim
-    (λ (here : w ≡ v). (
-      can.other,
-      record {
-        row = subst (λ (q : ℕ). IsRowOf g q can.other) (sym here) can.other_row.row;
-        usable_row = and_from (u can.other) (not (can.other == k)) can.other_row.usable_row (ap not (ne_eqb can.other k can.differs));
-      },
-    ))
+    (λ (here : w ≡ v). (can.other, record { row = subst (λ (q : ℕ). IsRowOf g q can.other) (sym here) can.other_row.row; usable_row = grind (arith, nat_tests, can.other_row.usable_row, can.differs) }))
     (λ (other : w ≡ v → ⊥).
     let j = has w i row in
-    let own = (j.1).row in
-    let apart : not ((j.0) == k) ≡ true = ap not (ne_eqb (j.0) k (λ (e : j.0 ≡ k). other (sym own.own ∙ ap (row_vehicle g) e ∙ can.row.row.own))) in
-    (j.0, record { row = own; usable_row = and_from (u (j.0)) (not ((j.0) == k)) (j.1).usable_row apart }))
+    let apart : j.0 ≡ k → ⊥ = λ e. other (sym (j.1).row.own ∙ ap (row_vehicle g) e ∙ can.row.row.own) in
+    (j.0, record { row = (j.1).row; usable_row = grind (arith, nat_tests, (j.1).usable_row, apart) }))
     (cases_eq w v)
 
 -- each of these leaves each vehicle a row
@@ -247,10 +209,9 @@ AllUsable g (u ∷ us) = HasUsable g u × AllUsable g us
 usable_along : (g : Graph) (nodes : List Node) (coming rest : List Usable) → ReadsTo g coming nodes rest → AllUsable g coming → AllUsable g rest
 usable_along g [] coming rest h all = subst (AllUsable g) h all
 usable_along g (n ∷ nodes) [] rest h all = absurd h
-usable_along g (Leaf ms ∷ nodes) (u ∷ us) rest h all = usable_along g nodes us rest (h.1) (all.1)
-usable_along g (Dead ∷ nodes) (u ∷ us) rest h all = usable_along g nodes us rest (h.1) (all.1)
 usable_along g (Branch v k ∷ nodes) (u ∷ us) rest h all =
     usable_along g nodes (only_row g u v k ∷ without_row u k ∷ us) rest (h.1) (usable_only g u v k (h.0) (all.0), (usable_without g u v k (h.0) (all.0), all.1))
+usable_along g (n ∷ nodes) (u ∷ us) rest h all = usable_along g nodes us rest (h.1) (all.1)
 
 every_usable : (g : Graph) → HasUsable g every_row
 every_usable g v k row = (k, record { row = row; usable_row = refl })

@@ -1,6 +1,6 @@
 -- The heap of a tree's open leaves.
 use Rattle.std.proofs.Common.{◌≡◌, ◌==◌, ℕ, zero, suc, ◌+◌, ◌<◌, ◌≤◌, Bool, true, false, cond, List, [], ◌∷◌, ◌++◌, length, take, drop, get_or, ℤ, pos, ◌≤ℤ◌, refl, sym, ap, ◌∙◌, subst, ⊎_elim, arith, eq-eqb, eqb-true, int_lt}
-use Rattle.assignment_search.proofs.Common.{AllByRecursion, IsHeap, Reverse, ints, cases_eq, both_ways, sum_by-cons, sum_by_popped, Graph, IsGoodGraph, Node, Branch, Leaf, Dead, IsLowest, HasLeaf, IsTreeSoFar, OpenLeaf, leaf_cmp, leaf_sum, AreOpen}
+use Rattle.assignment_search.proofs.Common.{AllByRecursion, IsHeap, Reverse, ints, cases_eq, both_ways, sum_by-cons, sum_by_popped, Graph, IsGoodGraph, Node, Branch, Leaf, Dead, IsLowest, HasLeaf, IsTreeSoFar, OpenLeaf, leaf_cmp, leaf_sum, AreOpen, nat_tests}
 use Rattle.std.specs.List.{sum_by}
 use Rattle.std.specs.List.Sorted.{IsPermutation}
 use Rattle.std.specs.Ordering.{ordering_then, int_cmp, is_lt}
@@ -15,17 +15,12 @@ use Rattle.assignment_search.proofs.EditLemmas.{edit_length, edit_origin, moved}
 
 leaf_cons : (f : ℕ → ℤ → ℕ) (q : ℕ) (n : Node) (z : ℤ) (numbers : List ℕ) (nodes : List Node) (values : List ℤ) → leaf_sum f (q ∷ numbers) (n ∷ nodes) (z ∷ values) ≡ leaf_sum f (q ∷ []) (n ∷ []) (z ∷ []) + leaf_sum f numbers nodes values
 leaf_cons f q (Leaf ms) z numbers nodes values = omega arith
-leaf_cons f q Dead z numbers nodes values = omega arith
-leaf_cons f q (Branch v k) z numbers nodes values = omega arith
+leaf_cons f q n z numbers nodes values = omega arith
 
 -- the leaf at i goes, and its ends come
 sum_edit : (f : ℕ → ℤ → ℕ) (numbers : List ℕ) (nodes : List Node) (values : List ℤ) (i p q v k : ℕ) (first second : Node) (a b : ℤ) (ms : List ℤ) → i < length nodes → length numbers ≡ length nodes → length values ≡ length nodes → get_or nodes i Dead ≡ Leaf ms
     → leaf_sum f (take i numbers ++ (get_or numbers i 0 ∷ p ∷ q ∷ drop (suc i) numbers)) (take i nodes ++ (Branch v k ∷ first ∷ second ∷ drop (suc i) nodes)) (take i values ++ (get_or values i (pos 0) ∷ a ∷ b ∷ drop (suc i) values)) + f (get_or numbers i 0) (get_or values i (pos 0))
     ≡ leaf_sum f (q ∷ []) (second ∷ []) (b ∷ []) + (leaf_sum f (p ∷ []) (first ∷ []) (a ∷ []) + leaf_sum f numbers nodes values)
-sum_edit f [] [] values i p q v k first second a b ms l same long is = absurd (omega (arith, l))
-sum_edit f (x ∷ numbers) [] values i p q v k first second a b ms l same long is = absurd (omega (arith, l))
-sum_edit f [] (n ∷ nodes) values i p q v k first second a b ms l same long is = absurd (omega (arith, same))
-sum_edit f (x ∷ numbers) (n ∷ nodes) [] i p q v k first second a b ms l same long is = absurd (omega (arith, long))
 sum_edit f (x ∷ numbers) (n ∷ nodes) (z ∷ values) zero p q v k first second a b ms l same long is =
     let one = leaf_cons f p first a (q ∷ numbers) (second ∷ nodes) (b ∷ values) in
     let two = leaf_cons f q second b numbers nodes values in
@@ -36,20 +31,18 @@ sum_edit f (x ∷ numbers) (n ∷ nodes) (z ∷ values) (suc i) p q v k first se
     let new = leaf_cons f x n z (take i numbers ++ (get_or numbers i 0 ∷ p ∷ q ∷ drop (suc i) numbers)) (take i nodes ++ (Branch v k ∷ first ∷ second ∷ drop (suc i) nodes)) (take i values ++ (get_or values i (pos 0) ∷ a ∷ b ∷ drop (suc i) values)) in
     let old = leaf_cons f x n z numbers nodes values in
     omega (arith, rest, new, old)
+sum_edit f numbers nodes values i p q v k first second a b ms l same long is = absurd (omega (arith, l, same, long))
 
 -- a leaf counts in the sum
 sum_at : (f : ℕ → ℤ → ℕ) (numbers : List ℕ) (nodes : List Node) (values : List ℤ) (i : ℕ) (ms : List ℤ) → i < length nodes → length numbers ≡ length nodes → length values ≡ length nodes → get_or nodes i Dead ≡ Leaf ms
     → f (get_or numbers i 0) (get_or values i (pos 0)) ≤ leaf_sum f numbers nodes values
-sum_at f [] [] values i ms l same long is = absurd (omega (arith, l))
-sum_at f (x ∷ numbers) [] values i ms l same long is = absurd (omega (arith, l))
-sum_at f [] (n ∷ nodes) values i ms l same long is = absurd (omega (arith, same))
-sum_at f (x ∷ numbers) (n ∷ nodes) [] i ms l same long is = absurd (omega (arith, long))
 sum_at f (x ∷ numbers) (n ∷ nodes) (z ∷ values) zero ms l same long is =
     let old : leaf_sum f (x ∷ numbers) (n ∷ nodes) (z ∷ values) ≡ f x z + leaf_sum f numbers nodes values = ap (λ (m : Node). leaf_sum f (x ∷ numbers) (m ∷ nodes) (z ∷ values)) is in
     omega (arith, old)
 sum_at f (x ∷ numbers) (n ∷ nodes) (z ∷ values) (suc i) ms l same long is =
     let rest = sum_at f numbers nodes values i ms (omega (arith, l)) (omega (arith, same)) (omega (arith, long)) is in
     omega (arith, rest, leaf_cons f x n z numbers nodes values)
+sum_at f numbers nodes values i ms l same long is = absurd (omega (arith, l, same, long))
 
 -- what counts in the sum is a leaf
 record IsCounted (f : ℕ → ℤ → ℕ) (numbers : List ℕ) (nodes : List Node) (values : List ℤ) : Type 0 where
@@ -63,20 +56,13 @@ counted_later : (f : ℕ → ℤ → ℕ) (q : ℕ) (n : Node) (z : ℤ) (number
 counted_later f q n z numbers nodes values h = record { place = suc h.place; multipliers = h.multipliers; within = omega (arith, h.within); leaf = h.leaf; counts = h.counts }
 
 counted : (f : ℕ → ℤ → ℕ) (numbers : List ℕ) (nodes : List Node) (values : List ℤ) → 1 ≤ leaf_sum f numbers nodes values → IsCounted f numbers nodes values
-counted f [] nodes values some = absurd (omega (arith, some))
-counted f (q ∷ numbers) [] values some = absurd (omega (arith, some))
-counted f (q ∷ numbers) (n ∷ nodes) [] some = absurd (omega (arith, some))
-counted f (q ∷ numbers) (Dead ∷ nodes) (z ∷ values) some = counted_later f q Dead z numbers nodes values (counted f numbers nodes values some)
-counted f (q ∷ numbers) (Branch v k ∷ nodes) (z ∷ values) some = counted_later f q (Branch v k) z numbers nodes values (counted f numbers nodes values some)
 counted f (q ∷ numbers) (Leaf ms ∷ nodes) (z ∷ values) some =
     ⊎_elim
     (λ (none : f q z ≡ 0). counted_later f q (Leaf ms) z numbers nodes values (counted f numbers nodes values (omega (arith, some, none))))
-    (λ (here : f q z ≡ 0 → ⊥). record { place = 0; multipliers = ms; within = omega arith; leaf = refl; counts = positive (f q z) here })
+    (λ (here : f q z ≡ 0 → ⊥). record { place = 0; multipliers = ms; within = omega arith; leaf = refl; counts = omega (arith, here) })
     (cases_eq (f q z) 0)
-  where
-    positive : (n : ℕ) → (n ≡ 0 → ⊥) → 1 ≤ n
-    positive zero h = absurd (h refl)
-    positive (suc n) h = omega arith
+counted f (q ∷ numbers) (n ∷ nodes) (z ∷ values) some = counted_later f q n z numbers nodes values (counted f numbers nodes values some)
+counted f numbers nodes values some = absurd (omega (arith, some))
 
 -- ---- weights
 
@@ -89,30 +75,16 @@ abbrev equal : ℕ → ℤ → ℕ → ℤ → ℕ
 equal p v q z = cond (int_lt z v) 0 (cond (int_lt v z) 0 (cond (q == p) 1 0))
 
 less_none : (v z : ℤ) (q : ℕ) → less v q z ≡ 0 → v ≤ℤ z
-less_none v z q e = by (int_lt z v) refl e
-  where
-    by : (t : Bool) → int_lt z v ≡ t → ◌≡◌ {A = ℕ} (cond t 1 0) 0 → v ≤ℤ z
-    by true e none = absurd (omega (arith, none))
-    by false e none = omega (arith, ints)
+less_none v z q e = grind (arith, ints)
 
 less_zero : (v z : ℤ) (q : ℕ) → int_lt z v ≡ false → less v q z ≡ 0
 less_zero v z q e = ap (λ (t : Bool). cond t 1 0) e
 
 equal_some : (p : ℕ) (v : ℤ) (q : ℕ) (z : ℤ) → 1 ≤ equal p v q z → (q ≡ p) × (z ≡ v)
-equal_some p v q z some = by (int_lt z v) (int_lt v z) (q == p) refl refl refl some
-  where
-    by : (s t u : Bool) → int_lt z v ≡ s → int_lt v z ≡ t → (q == p) ≡ u → 1 ≤ cond s 0 (cond t 0 (cond u 1 0)) → (q ≡ p) × (z ≡ v)
-    by true t u es et eu some = absurd (omega (arith, some))
-    by false true u es et eu some = absurd (omega (arith, some))
-    by false false false es et eu some = absurd (omega (arith, some))
-    by false false true es et eu some = (eqb-true q p eu, omega (arith, ints))
+equal_some p v q z some = (grind (arith, ints, nat_tests), grind (arith, ints, nat_tests))
 
 equal_same : (p : ℕ) (v : ℤ) → equal p v p v ≡ 1
-equal_same p v = by (int_lt v v) refl
-  where
-    by : (t : Bool) → int_lt v v ≡ t → ◌≡◌ {A = ℕ} (cond t 0 (cond t 0 (cond (p == p) 1 0))) 1
-    by true e = absurd (omega (arith, ints))
-    by false e = ap (λ (u : Bool). cond u 1 0) (eq-eqb p p refl)
+equal_same p v = grind (arith, ints, nat_tests)
 
 -- ---- the heap's order
 

@@ -4,27 +4,6 @@ use Rattle.assignment_search.proofs.Common.{cases_eq, get_or_push, get_or_append
 use Rattle.plan_rules.specs.declared.path.Decision.{Decision}
 use Rattle.plan_rules.proofs.lemmas.PathLemmas.{standing_start, standing_push}
 
--- what is to come at the first subtree of a branch
-pub coming_entered : (g : Graph) (old new : List Decision) (v k : ℕ) → new ≡ old ++ record { vehicle = v; row = k; alone = true } ∷ [] → (standing_of g new).usable ∷ (standing_of g new).coming ≡ coming_after g (standing_of g old).usable (Branch v k) (standing_of g old).coming
-coming_entered g old new v k e =
-    ap (λ (p : List Decision). (standing_of g p).usable ∷ (standing_of g p).coming) e
-    ∙ ap (λ (s : Standing). s.usable ∷ s.coming) (standing_push g old (record { vehicle = v; row = k; alone = true }))
-
-pub path_push : (g : Graph) (path : List Decision) (e : Decision) → IsPathOf g path → (e.vehicle < g.vehicles) × IsRowOf g e.vehicle e.row → IsPathOf g (path ++ e ∷ [])
-path_push g path e before here k d l =
-    ⊎_elim
-    (λ (last : k ≡ length path). subst (λ (q : Decision). (q.vehicle < g.vehicles) × IsRowOf g q.vehicle q.row) (sym (get_or_push path e d k (sym last))) here)
-    (λ (other : k ≡ length path → ⊥).
-    let low : k < length path = omega (arith, l, length_push path e) in
-    subst (λ (q : Decision). (q.vehicle < g.vehicles) × IsRowOf g q.vehicle q.row) (sym (get_or_append_left path (e ∷ []) d k low)) (before k d low))
-    (cases_eq k (length path))
-
-pub path_none : (g : Graph) (path : List Decision) → path ≡ [] → IsPathOf g path
-path_none g path e = subst (IsPathOf g) (sym e) (λ k d l. absurd (omega (arith, l)))
-
-pub coming_start : (g : Graph) (path : List Decision) → path ≡ [] → (every_row ∷ []) ≡ (standing_of g path).usable ∷ (standing_of g path).coming
-coming_start g path e = sym (ap (λ (p : List Decision). (standing_of g p).usable ∷ (standing_of g p).coming) e ∙ ap (λ (s : Standing). s.usable ∷ s.coming) (standing_start g))
-
 -- ---- a tree that ends later goes on here
 
 pub record IsNextOf (g : Graph) (first : List Usable) (nodes : List Node) (k : ℕ) (coming : List Usable) : Type 0 where

@@ -1,10 +1,9 @@
-use Rattle.std.specs.Prelude.{◌≡◌, ℕ, ◌+◌, ◌*◌, ◌<◌, ◌≤◌, List, length, ℤ, pos, ◌≤ℤ◌, ◌<ℤ◌, Option, All}
+use Rattle.std.specs.Prelude.{◌≡◌, ℕ, ◌+◌, ◌*◌, ◌<◌, ◌≤◌, List, length, slice_set, ℤ, pos, ◌≤ℤ◌, ◌<ℤ◌, Option, All}
 use Rattle.plan_rules.specs.Graph.{Graph}
-use Rattle.plan_rules.specs.Plan.{IsBound, IsLawful, cost_of}
+use Rattle.plan_rules.specs.Plan.{IsLawful, cost_of}
 use Rattle.plan_rules.specs.Greedy.{IsGreedy}
 use Rattle.plan_rules.specs.Multipliers.{Usable, leaf_value, first_fit_value}
 use Rattle.plan_rules.specs.Tree.{every_row, SearchTree, IsTreeOf, IsTreeOfValue, places_within, rounded_up}
-use Rattle.assignment_search.specs.Change.{HasNoBetterChange}
 use Rattle.assignment_search.specs.Growth.{choice_count}
 use Rattle.assignment_search.specs.declared.found.Found.{Found}
 use Rattle.plan_rules.specs.declared.node.Node.{Node}
@@ -27,7 +26,7 @@ IsFairNode g bound usable Dead = Unit {0}
 pub record ShowsBound (g : Graph) (budget : ℕ) (bound : ℤ) (nodes : List Node) : Type 0 where
   pub few : length nodes ≤ budget
   pub tree : IsTreeOfValue g nodes bound
-  pub least : IsBound g bound
+  pub least : (chosen : List (Option ℕ)) → IsLawful g chosen → bound ≤ℤ pos (cost_of g chosen)
 
 -- the bound is the plan's cost unless the budget was spent, and no worse than the first-fit multipliers show at once
 pub record IsClose (g : Graph) (budget cost : ℕ) (bound : ℤ) (nodes : List Node) : Type 0 where
@@ -46,7 +45,7 @@ pub record IsFair (g : Graph) (bound : ℤ) (nodes : List Node) : Type 0 where
 pub record IsBestNear (g : Graph) (chosen : List (Option ℕ)) : Type 0 where
   pub held : cost_of g chosen ≤ cost_of g g.held
   pub greedy : (other : List (Option ℕ)) → IsGreedy g other → IsLawful g other → cost_of g chosen ≤ cost_of g other
-  pub change : HasNoBetterChange g chosen
+  pub change : (v : ℕ) (other : Option ℕ) → IsLawful g (slice_set chosen v other) → cost_of g chosen ≤ cost_of g (slice_set chosen v other)
 
 -- what a search finds with this budget: a lawful plan, and a bound of which each point holds
 pub record IsSearchAnswer (g : Graph) (budget : ℕ) (found : Found) : Type 0 where

@@ -3,7 +3,7 @@ ghost use Rattle.std.specs.Prelude.{◌≡◌, ◌≤◌, ℕ, IfOk, List, Optio
 ghost use Rattle.plan_rules.specs.Plan.{IsLawful, cost_of};
 ghost use Rattle.plan_rules.specs.Greedy.{IsGreedy};
 ghost use Rattle.plan_rules.specs.Tree.{every_row, rounded_up};
-ghost use Rattle.plan_rules.specs.Graph.{IsGoodGraph};
+ghost use Rattle.plan_rules.specs.GoodGraph.{IsGoodGraph};
 ghost use Rattle.assignment_search.specs.work.Lookups.{AreLookupsOf};
 ghost use Rattle.assignment_search.specs.Found.{IsSearchAnswer};
 ghost use Rattle.assignment_search.specs.work.Growth.{IsGoodLeaf};

@@ -1,7 +1,7 @@
 //! The two ends that a leaf becomes on a row.
 ghost use Rattle.std.specs.Prelude.{◌≡◌, ◌<◌, ◌≤◌, ℕ, IfOk, length};
 ghost use Rattle.plan_rules.specs.Multipliers.{usable_of};
-ghost use Rattle.plan_rules.specs.Graph.{IsGoodGraph};
+ghost use Rattle.plan_rules.specs.GoodGraph.{IsGoodGraph};
 ghost use Rattle.plan_rules.specs.Tree.{CanBranch};
 ghost use Rattle.plan_rules.specs.Path.{standing_of, IsPathOf};
 ghost use Rattle.assignment_search.specs.work.Lookups.{AreLookupsOf};

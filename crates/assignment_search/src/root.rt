@@ -1,6 +1,6 @@
 //! The tree that a search starts from.
 ghost use Rattle.std.specs.Prelude.{IfOk};
-ghost use Rattle.plan_rules.specs.Graph.{IsGoodGraph};
+ghost use Rattle.plan_rules.specs.GoodGraph.{IsGoodGraph};
 ghost use Rattle.plan_rules.specs.Tree.{every_row, rounded_up};
 ghost use Rattle.assignment_search.specs.work.Lookups.{AreLookupsOf};
 ghost use Rattle.assignment_search.specs.work.Growth.{IsGoodLeaf};

@@ -1,6 +1,7 @@
 //! Where a node of a tree stands.
 ghost use Rattle.std.specs.Prelude.{◌≡◌, ◌<◌, List, IfOk, OnOk, length, take, [], ◌∷◌};
-ghost use Rattle.plan_rules.specs.Graph.{Graph, IsGoodGraph};
+ghost use Rattle.plan_rules.specs.Graph.{Graph};
+ghost use Rattle.plan_rules.specs.GoodGraph.{IsGoodGraph};
 ghost use Rattle.plan_rules.specs.Tree.{every_row};
 ghost use Rattle.plan_rules.specs.Reading.{ReadsTo, IsSoundNode, coming_after};
 ghost use Rattle.plan_rules.specs.lemmas.Tree.{IsWholeTree};

@@ -9,7 +9,9 @@ pub use Rattle.batch_solver.specs.Told.{left_riders, rider_id, row_line, rr_line
 pub use Rattle.batch_solver.specs.Trips.{AreLate, AreTrips, IsLate, IsLateOrder, IsTripOf}
 pub use Rattle.batch_solver.specs.work.Lists.{AreLists}
 pub use Rattle.plan_rules.proofs.lemmas.GraphLemmas.{row_read}
-pub use Rattle.plan_rules.specs.Graph.{Graph, HasNoRow, IsGoodGraph, IsGraphRow, IsRowOf, choice_at, cost_at, is_in, no_row, riders_at, row_at}
+pub use Rattle.plan_rules.specs.Graph.{Graph, IsGraphRow, IsRowOf, choice_at, cost_at, no_row, riders_at, row_at}
+pub use Rattle.plan_rules.specs.lemmas.Graph.{HasNoRow, is_in}
+pub use Rattle.plan_rules.specs.GoodGraph.{IsGoodGraph}
 pub use Rattle.plan_rules.specs.declared.row.TripRow.{TripRow}
 pub use Rattle.plan_rules.specs.lemmas.Plan.{MarksServed, times_chosen}
 pub use Rattle.pool_base.specs.Times.{point_count, travel_time}

@@ -8,9 +8,9 @@ row_is g good k d below = subst (λ (row : TripRow). IsGraphRow g.vehicles g.rid
 
 pub rows_of_riders : (g : Graph) (riders : ℕ) → IsGoodGraph g → g.riders ≡ riders → All (λ row. All (λ r. r < riders) row.riders.items) g.rows
 rows_of_riders g riders good total k d below j e within =
-    let members = (row_is g good k d below).members in
+    let row = row_is g good k d below in
     subst (λ (n : ℕ). get_or (get_or g.rows k d).riders.items j e < n) total
-    (subst (λ (r : ℕ). r < g.riders) (get_or_default (get_or g.rows k d).riders.items j 0 e within) (members.below j within))
+    (subst (λ (r : ℕ). r < g.riders) (get_or_default (get_or g.rows k d).riders.items j 0 e within) (row.below j within))
 
 pub rows_are_few : (g : Graph) → IsGoodGraph g → All (λ row. length row.riders.items ≤ 6) g.rows
 rows_are_few g good k d below = (row_is g good k d below).few

@@ -3,7 +3,8 @@ use Rattle.std.proofs.Common.{◌≡◌, ◌==◌, ℕ, zero, suc, ◌+◌, ◌<
 use Rattle.block_audit.proofs.Common.{position_or_len, cases_lt, get_or-map, length-map, position_or_len_is, All-append, All-cons, All-map, All-from_get_or, slice_get-get_or, slice_get-map, Batch, IsKept, Vehicle, AnswersWith, HasGraphsWith, IsGoodOutcome, IsGoodPlan, HasTrips, number_among, Node, Answer, Outcome, Planned, RowLine, Settings, Roads}
 use Rattle.std.specs.List.Sorted.{IsStrictlyIncreasing}
 use Rattle.batch_solver.specs.Told.{vehicle_id, rider_id, row_line}
-use Rattle.plan_rules.specs.Graph.{Graph, IsGoodGraph, IsRowOf, row_at, row_vehicle, no_row}
+use Rattle.plan_rules.specs.Graph.{Graph, IsRowOf, row_at, row_vehicle, no_row}
+use Rattle.plan_rules.specs.GoodGraph.{IsGoodGraph}
 use Rattle.plan_rules.specs.Multipliers.{Usable}
 use Rattle.plan_rules.specs.Tree.{SearchTree, IsSoundTree, every_row, only_row, without_row}
 use Rattle.plan_rules.specs.lemmas.Tree.{preorder}

@@ -13,17 +13,19 @@ pub use Rattle.plan_rules.proofs.lemmas.PathLemmas.{along_alone, along_without, 
 pub use Rattle.plan_rules.proofs.lemmas.ReadLemmas.{least_leaf_push, places_push, reads_push}
 pub use Rattle.plan_rules.proofs.lemmas.SumLemmas.{int_sum_more, int_sum_same, least_below_more}
 pub use Rattle.plan_rules.proofs.lemmas.UsableLemmas.{Agree, agree_back, can_branch_agrees, dead_end_agrees, leaf_value_agrees}
-pub use Rattle.plan_rules.specs.Graph.{Graph, IsGoodGraph, IsRowOf, choice_at, has_rider, must_be_served, riders_at, row_at, row_vehicle}
+pub use Rattle.plan_rules.specs.Graph.{Graph, IsRowOf, choice_at, has_rider, must_be_served, riders_at, row_at, row_vehicle}
+pub use Rattle.plan_rules.specs.GoodGraph.{IsGoodGraph}
 unfoldable pub use Rattle.plan_rules.specs.Multipliers.{leaf_value}
-pub use Rattle.plan_rules.specs.Multipliers.{Usable, is_usable_by, multiplier_at, multiplier_sum, reduced_cost, rider_term, usable_of, vehicle_term}
+pub use Rattle.plan_rules.specs.Multipliers.{Usable, is_usable_by, multiplier_at, multiplier_sum, reduced_cost, usable_of}
+pub use Rattle.plan_rules.specs.Terms.{rider_term, vehicle_term}
 pub use Rattle.plan_rules.specs.Path.{IsPathOf, Standing, decided, standing_of}
 pub use Rattle.plan_rules.specs.Reading.{ReadsTo}
 pub use Rattle.plan_rules.specs.Size.{IsSmall, IsSmallSum}
 pub use Rattle.plan_rules.specs.Sums.{int_sum_below, least_below, lesser}
-pub use Rattle.plan_rules.specs.Tree.{IsClash, IsDeadEnd, IsSoleRow, IsStranded, IsTreeOfValue, every_row, least_leaf, only_row, rounded_up, with_leaf, without_row}
+pub use Rattle.plan_rules.specs.Tree.{Clash, IsDeadEnd, IsSoleRow, IsTreeOfValue, every_row, least_leaf, only_row, rounded_up, with_leaf, without_row}
+pub use Rattle.plan_rules.specs.lemmas.DeadEnd.{IsClash, IsStranded, IsOnlyOf, StandsInNone, StandsInSome}
 pub use Rattle.plan_rules.specs.declared.node.Node.{Node}
 pub use Rattle.plan_rules.specs.declared.path.Decision.{Decision}
 pub use Rattle.plan_rules.specs.declared.row.TripRow.{TripRow}
-pub use Rattle.plan_rules.specs.lemmas.DeadEnd.{IsOnlyOf, StandsInNone, StandsInSome}
 pub use Rattle.plan_rules.specs.lemmas.Tree.{IsWholeTree, places_read, value_read}
 pub use mir.Syntax.{w128}

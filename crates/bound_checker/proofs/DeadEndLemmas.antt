@@ -1,6 +1,6 @@
 -- Sole rows of vehicles, and riders who stand in usable rows.
-use Rattle.std.proofs.Common.{◌≡◌, ◌↔◌, ℕ, ◌<◌, ◌≤◌, Bool, true, false, IsTrue, MatchBool, MatchOption, List, length, get_or, Option, Some, None, sym, ap, ◌∙◌, subst, inr, ⊎_elim, arith}
-use Rattle.bound_checker.proofs.Common.{same_Some, none-some, false≢true, cases_eq, cases_lt, both_ways, get_or_past, Graph, riders_at, row_vehicle, has_rider, choice_at, must_be_served, IsGoodGraph, Usable, IsSoleRow, IsClash, IsStranded, IsDeadEnd, AreSoleRows, ShareARider, IsApart, StandsInSome, StandsInNone, MarksStanding}
+use Rattle.std.proofs.Common.{◌≡◌, ℕ, ◌<◌, ◌≤◌, Bool, true, false, MatchBool, MatchOption, List, length, get_or, Option, Some, None, sym, ap, ◌∙◌, subst, ⊎_elim, arith}
+use Rattle.bound_checker.proofs.Common.{same_Some, none-some, false≢true, cases_eq, cases_lt, both_ways, get_or_past, Graph, riders_at, row_vehicle, has_rider, choice_at, must_be_served, IsGoodGraph, Usable, IsSoleRow, IsClash, IsStranded, IsDeadEnd, Clash, AreSoleRows, ShareARider, IsApart, StandsInSome, StandsInNone, MarksStanding}
 use Rattle.plan_rules.proofs.lemmas.PlanLemmas.{must_below}
 
 pub when_true : (b : Bool) (A B : Type 0) → b ≡ true → MatchBool b A B → A
@@ -27,26 +27,16 @@ sole_found g usable v k (Some j) is sole = ap Some (sole.sole j is.row)
 
 -- ---- clashes
 
-pub clash_of : (g : Graph) (usable : Usable) (n : ℕ) (sole : List (Option ℕ)) (v w : ℕ) → AreSoleRows g usable n sole → v < w → ShareARider g sole v w → IsClash g usable
-clash_of g usable n sole v w are below share = record {
-  first = v;
-  second = w;
-  first_row = share.one;
-  second_row = share.other;
-  rider = share.rider;
-  differ = λ (e : v ≡ w). omega (arith, below, e);
-  first_sole = sole_at g usable n sole v share.one are share.first;
-  second_sole = sole_at g usable n sole w share.other are share.second;
-  in_first = share.in_first;
-  in_second = share.in_second;
-}
+pub clash_of : (g : Graph) (usable : Usable) (n : ℕ) (sole : List (Option ℕ)) (v w : ℕ) → AreSoleRows g usable n sole → v < w → ShareARider g sole v w → IsDeadEnd g usable
+clash_of g usable n sole v w are below share =
+    Clash v w share.one share.other share.rider (λ (e : v ≡ w). omega (arith, below, e)) (sole_at g usable n sole v share.one are share.first) (sole_at g usable n sole w share.other are share.second) share.in_first share.in_second
 
 pub no_clash : (g : Graph) (usable : Usable) (sole : List (Option ℕ)) → IsGoodGraph g → AreSoleRows g usable g.vehicles sole → ((v w : ℕ) → v < w → ShareARider g sole v w → ⊥) → IsClash g usable → ⊥
 no_clash g usable sole good are apart c =
     ⊎_elim
     (λ (below : c.first < c.second). apart c.first c.second below (record { one = c.first_row; other = c.second_row; rider = c.rider; first = first; second = second; in_first = c.in_first; in_second = c.in_second }))
     (λ (above : c.second ≤ c.first).
-    let below : c.second < c.first = strictly c.first c.second c.differ above in
+    let below : c.second < c.first = omega (arith, above, c.differ) in
     apart c.second c.first below (record { one = c.second_row; other = c.first_row; rider = c.rider; first = second; second = first; in_first = c.in_second; in_second = c.in_first }))
     (cases_lt c.first c.second)
   where
@@ -55,9 +45,6 @@ no_clash g usable sole good are apart c =
         let below : row_vehicle g k < g.vehicles = (good.rows k sole.row.row.within).vehicle in
         let own : row_vehicle g k ≡ v = sole.row.row.own in
         omega arith
-
-    strictly : (v w : ℕ) → (v ≡ w → ⊥) → w ≤ v → w < v
-    strictly v w differ l = ⊎_elim (λ (same : v ≡ w). absurd (differ same)) (λ (other : v ≡ w → ⊥). omega arith) (cases_eq v w)
 
     first : choice_at sole c.first ≡ Some c.first_row
     first = sole_found g usable c.first c.first_row (choice_at sole c.first) (are.each c.first (low c.first c.first_row c.first_sole)) c.first_sole
@@ -82,7 +69,3 @@ not_stranded g usable marks good all are s =
     let some : StandsInSome g usable (length g.rows) s.rider =
     subst (λ (b : Bool). MatchBool b (StandsInSome g usable (length g.rows) s.rider) (StandsInNone g usable (length g.rows) s.rider)) (all s.rider low s.must) (are.each s.rider low) in
     both_ways _ (s.nowhere (some.0) (some.1) (some.2)) (some.3)
-
--- without a clash a dead end is one where a rider is stranded
-pub dead_where_stranded : (g : Graph) (usable : Usable) (b : Bool) → (IsClash g usable → ⊥) → IsTrue b ↔ IsStranded g usable → IsTrue b ↔ IsDeadEnd g usable
-dead_where_stranded g usable b none stranded = (λ e. inr (stranded.0 e), λ d. ⊎_elim (λ (c : IsClash g usable). absurd (none c)) (λ (s : IsStranded g usable). stranded.1 s) d)

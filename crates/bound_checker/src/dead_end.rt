@@ -1,9 +1,10 @@
 //! Whether no lawful plan is left where a walk stands, as is seen at once.
 ghost use Rattle.std.specs.Prelude.{◌≡◌, ◌==◌, ◌||◌, ◌<◌, ◌↔◌, ℕ, false, IsTrue, All, IfOk, IfSome, IfNone, MatchBool, length, slice_index_or};
 ghost use Rattle.std.specs.List.{list_any};
-ghost use Rattle.plan_rules.specs.Graph.{IsGoodGraph};
+ghost use Rattle.plan_rules.specs.GoodGraph.{IsGoodGraph};
 ghost use Rattle.plan_rules.specs.Multipliers.{Usable, usable_of};
-ghost use Rattle.plan_rules.specs.Tree.{IsSoleRow, IsStranded, IsDeadEnd};
+ghost use Rattle.plan_rules.specs.Tree.{IsSoleRow, IsDeadEnd};
+ghost use Rattle.plan_rules.specs.lemmas.DeadEnd.{IsStranded};
 ghost use Rattle.plan_rules.specs.lemmas.Graph.{ChoosesRows};
 ghost use Rattle.bound_checker.specs.work.DeadEnd.{AreSoleRows, ShareARider, MarksStanding, IsInBoth, IsApart};
 

@@ -1,7 +1,8 @@
 //! What a leaf shows.
 ghost use Rattle.std.specs.Prelude.{◌≡◌, ◌*◌, ◌<◌, ◌≤◌, ℕ, All, IfOk, IfSome, Some, None, length, pos, ◌-ℤ◌, slice_index_or, slice_set, unwrap_or};
 ghost use Rattle.plan_rules.specs.Sums.{int_sum_below, lesser};
-ghost use Rattle.plan_rules.specs.Multipliers.{usable_of, leaf_value, rider_term, multiplier_sum};
+ghost use Rattle.plan_rules.specs.Multipliers.{usable_of, leaf_value, multiplier_sum};
+ghost use Rattle.plan_rules.specs.Terms.{rider_term};
 ghost use Rattle.plan_rules.specs.Tree.{rounded_up};
 ghost use Rattle.plan_rules.specs.Size.{IsSmall, IsSmallSum};
 ghost use Rattle.bound_checker.specs.work.Leaf.{AreLeast};

@@ -16,7 +16,7 @@ room_fits g u k z good l may is i d low =
     let roomy = first_fit_leaves_room g u good in
     let room : pos 0 ≤ℤ room_at g u (first_fit g u) k = roomy.room k l may in
     let row = good.rows k l in (
-      subst (λ (r : ℕ). r < g.riders) (get_or_default (riders_at g k) i 0 d low) (row.members.below i low),
+      subst (λ (r : ℕ). r < g.riders) (get_or_default (riders_at g k) i 0 d low) (row.below i low),
       each_fits (first_fit g u) (riders_at g k) z roomy.positive (omega (arith, ints, room, is)) i d low,
     )
 
@@ -24,7 +24,7 @@ room_fits g u k z good l may is i d low =
 pub ceilings_first : (g : Graph) (u : Usable) (rooms : List ℤ) → IsGoodGraph g → length rooms ≡ g.riders → All (λ z. z ≡ pos (1024 * g.penalty)) rooms → AreCeilings g u rooms
 ceilings_first g u rooms good sized all =
     let roomy = first_fit_leaves_room g u good in
-    let limit = good.limits.penalty in
+    let limit = good.penalty in
     record {
       sized = sized;
       above = λ r. let most = roomy.most r in

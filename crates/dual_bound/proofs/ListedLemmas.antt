@@ -1,6 +1,6 @@
 -- The first-fit pass over a list of the rider's rows.
 use Rattle.std.proofs.Common.{◌≡◌, ◌==◌, ◌⊎◌, ◌&&◌, ◌||◌, ℕ, suc, ◌+◌, ◌<◌, ◌≤◌, Bool, true, false, List, [], ◌∷◌, length, get_or, Option, Some, None, ℤ, ◌≤ℤ◌, refl, sym, ap, ◌∙◌, subst, ⊎_elim, inl, inr, arith, eqb-true}
-use Rattle.dual_bound.proofs.Common.{same_Some, none-some, int_min, ints, cases_eq, cases_Bool, both_ways, and_parts, least_below, lesser, Graph, riders_at, has_rider, Usable, room_at, least_below_some, least_below_found, lesser-le_right, lesser-le_left, list_start, list_end, IsListed, IsIndexOf}
+use Rattle.dual_bound.proofs.Common.{same_Some, none-some, int_min, ints, cases_eq, cases_Bool, both_ways, and_parts, least_below, lesser, Graph, riders_at, has_rider, Usable, room_at, least_below_some, least_below_found, lesser-le_right, lesser-le_left, list_start, list_end, IsListed, IsIndexOf, or_cases}
 use Rattle.std.specs.List.{list_any}
 use Rattle.plan_rules.proofs.lemmas.SumLemmas.{int_min_cases}
 use Rattle.dual_bound.specs.declared.rider_index.RiderIndex.{RiderIndex}
@@ -74,14 +74,9 @@ pub at_of : (P : ℕ → Type 0) (xs : List ℕ) (r : ℕ) → ((i : ℕ) → i 
 at_of P [] r all e = absurd (both_ways false refl e)
 at_of P (x ∷ xs) r all e =
     ⊎_elim
-    (λ (same : x ≡ r). subst P same (all 0 (omega arith)))
-    (λ (other : x ≡ r → ⊥).
-    at_of P xs r (λ i l. all (suc i) (omega (arith, l)))
-    (⊎_elim
-    (λ (yes : (x == r) ≡ true). absurd (other (eqb-true x r yes)))
-    (λ (no : (x == r) ≡ false). sym (ap (λ (b : Bool). b || list_any (λ y. y == r) xs) no) ∙ e)
-    (cases_Bool (x == r))))
-    (cases_eq x r)
+    (λ (here : (x == r) ≡ true). subst P (eqb-true x r here) (all 0 (omega arith)))
+    (λ (later : list_any (λ y. y == r) xs ≡ true). at_of P xs r (λ i l. all (suc i) (omega (arith, l))) later)
+    (or_cases (x == r) (list_any (λ y. y == r) xs) e)
 
 -- the least over a rider's list is the least over all rows
 pub listed_done : (g : Graph) (usable : Usable) (ms : List ℤ) (index : RiderIndex) (r to : ℕ) (o : Option ℤ) → IsIndexOf g index → list_end index r ≤ to

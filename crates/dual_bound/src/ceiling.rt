@@ -1,7 +1,8 @@
 //! A number that the first-fit multipliers' value doesn't exceed, in one pass over the rows.
 ghost use Rattle.std.specs.Prelude.{◌≡◌, ◌≤◌, ◌<◌, ◌*◌, ℕ, true, All, IfOk, length, slice_index_or, ℤ, pos, neg_ℤ, ◌≤ℤ◌, ◌-ℤ◌, ◌*ℤ◌};
 ghost use Rattle.plan_rules.specs.Sums.{int_sum_below};
-ghost use Rattle.plan_rules.specs.Multipliers.{usable_of, multiplier_at, first_fit, first_fit_value};
+ghost use Rattle.plan_rules.specs.Multipliers.{usable_of, multiplier_at, first_fit_value};
+ghost use Rattle.plan_rules.specs.Terms.{first_fit};
 ghost use Rattle.plan_rules.specs.Graph.{riders_at};
 ghost use Rattle.dual_bound.specs.Cheapest.{AreCheapestOf};
 ghost use Rattle.dual_bound.specs.work.Size.{HasLeastCosts, IsCost, IsModest};

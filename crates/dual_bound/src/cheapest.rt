@@ -2,7 +2,8 @@
 ghost use Rattle.std.specs.Prelude.{◌≡◌, ◌<◌, ◌≤◌, ℕ, true, IfOk, IfSome, length, slice_index_or, pos};
 ghost use Rattle.plan_rules.specs.Sums.{lesser};
 ghost use Rattle.plan_rules.specs.Graph.{Graph, cost_at};
-ghost use Rattle.plan_rules.specs.Multipliers.{usable_of, least_cost};
+ghost use Rattle.plan_rules.specs.Multipliers.{usable_of};
+ghost use Rattle.plan_rules.specs.Terms.{least_cost};
 ghost use Rattle.plan_rules.specs.Tree.{MayUse};
 ghost use Rattle.dual_bound.specs.Cheapest.{IsNoCheaper, AreCheapest, AreCheapestOf};
 ghost use Rattle.dual_bound.specs.work.Size.{HasLeastCosts, IsCost};

@@ -1,7 +1,8 @@
 //! The first-fit multipliers: one pass over the riders.
 ghost use Rattle.std.specs.Prelude.{◌≡◌, ◌*◌, ◌<◌, ◌≤◌, ◌&&◌, ℕ, false, All, IfOk, IfSome, IfNone, length, slice_index_or, ℤ, pos, neg_ℤ, ◌≤ℤ◌, ◌+ℤ◌, ◌-ℤ◌, ◌*ℤ◌};
 ghost use Rattle.plan_rules.specs.Sums.{lesser, least_below, int_sum_below};
-ghost use Rattle.plan_rules.specs.Multipliers.{usable_of, leaf_value, least_cost, first_fit, first_fit_of, room_at, multiplier_at, multiplier_sum};
+ghost use Rattle.plan_rules.specs.Multipliers.{usable_of, leaf_value, first_fit_of, room_at, multiplier_at, multiplier_sum};
+ghost use Rattle.plan_rules.specs.Terms.{least_cost, first_fit};
 ghost use Rattle.plan_rules.specs.Graph.{has_rider};
 ghost use Rattle.dual_bound.specs.work.Size.{IsCost, IsModest, HasLeastCosts};
 ghost use Rattle.dual_bound.specs.Index.{IsIndexOf};

@@ -1,8 +1,10 @@
 //! Laws of the first-fit multipliers: each is a call with no code, whose clause is the law.
 ghost use Rattle.std.specs.Prelude.{◌≡◌, ◌*◌, ℕ, ℤ, pos, ◌+ℤ◌, ◌*ℤ◌, ◌≤ℤ◌};
 ghost use Rattle.plan_rules.specs.Sums.{int_sum_below};
-ghost use Rattle.plan_rules.specs.Graph.{Graph, IsGoodGraph};
-ghost use Rattle.plan_rules.specs.Multipliers.{Usable, multiplier_at, least_cost, first_fit, first_fit_value};
+ghost use Rattle.plan_rules.specs.Graph.{Graph};
+ghost use Rattle.plan_rules.specs.GoodGraph.{IsGoodGraph};
+ghost use Rattle.plan_rules.specs.Multipliers.{Usable, multiplier_at, first_fit_value};
+ghost use Rattle.plan_rules.specs.Terms.{least_cost, first_fit};
 
 /// A first-fit multiplier is never negative, and at most the penalty.
 pub fn first_fit_is_between_zero_and_the_penalty()

@@ -31,7 +31,8 @@ pub use Rattle.pair_graph.specs.RrGraph.{IsRrGraph}
 pub use Rattle.pair_graph.specs.RvGraph.{IsRvGraph}
 pub use Rattle.pair_graph.specs.declared.rv_edge.RvEdge.{RvEdge}
 pub use Rattle.plan_rules.proofs.lemmas.GraphLemmas.{row_read}
-pub use Rattle.plan_rules.specs.Graph.{Graph, HasNoRow, IsRowOf, choice_at, cost_at, no_row, riders_at}
+pub use Rattle.plan_rules.specs.Graph.{Graph, IsRowOf, choice_at, cost_at, no_row, riders_at}
+pub use Rattle.plan_rules.specs.lemmas.Graph.{HasNoRow}
 pub use Rattle.plan_rules.specs.declared.row.TripRow.{TripRow}
 pub use Rattle.pool_base.specs.Times.{point_count, travel_time}
 pub use Rattle.promise_check.proofs.lemmas.Promises.{filter_range_skips, filter_range_takes}

@@ -11,30 +11,35 @@ pub use Rattle.std.specs.List.{list_any}
 pub use Rattle.std.specs.List.Sorted.{IsStrictlyIncreasing}
 pub use Rattle.std.specs.Ordering.{ordering_index, ordering_then}
 unfoldable pub use Rattle.plan_rules.specs.Graph.{times_served}
-pub use Rattle.plan_rules.specs.Graph.{AreRisingBelow, Graph, HasNoRow, HoldsRightly, IsGoodGraph, IsGraphRow, IsInOrder, IsRowOf, IsStartOf, choice_at, cost_at, has_rider, is_in, must_be_served, no_row, riders_at, row_at, row_cmp, row_vehicle}
-pub use Rattle.plan_rules.specs.Greedy.{IsApart, IsGreedy, IsTaken, IsTriedBefore}
+pub use Rattle.plan_rules.specs.Graph.{Graph, IsGraphRow, IsRowOf, IsStartOf, choice_at, cost_at, has_rider, must_be_served, no_row, riders_at, row_at, row_cmp, row_vehicle}
+pub use Rattle.plan_rules.specs.work.Graph.{AreRisingBelow}
+pub use Rattle.plan_rules.specs.lemmas.Graph.{HasNoRow, is_in}
+pub use Rattle.plan_rules.specs.GraphFault.{HoldsRightly, IsInOrder}
+pub use Rattle.plan_rules.specs.GoodGraph.{IsGoodGraph}
+pub use Rattle.plan_rules.specs.Greedy.{IsGreedy, IsTaken, IsTriedBefore}
+pub use Rattle.plan_rules.specs.work.Rank.{IsApart, AreRanks, IsInTheWay, IsSelection, parts_of, row_of}
 unfoldable pub use Rattle.plan_rules.specs.Multipliers.{first_fit_below, leaf_value}
-pub use Rattle.plan_rules.specs.Multipliers.{Usable, first_fit, first_fit_of, first_fit_value, is_usable_by, least_cost, multiplier_at, multiplier_sum, reduced_cost, rider_term, room_at, usable_of, vehicle_term}
+pub use Rattle.plan_rules.specs.Multipliers.{Usable, first_fit_of, first_fit_value, is_usable_by, multiplier_at, multiplier_sum, reduced_cost, room_at, usable_of}
+pub use Rattle.plan_rules.specs.Terms.{first_fit, least_cost, rider_term, vehicle_term}
 pub use Rattle.plan_rules.specs.Parts.{graph_of}
 unfoldable pub use Rattle.plan_rules.specs.Path.{standing_of}
 pub use Rattle.plan_rules.specs.Path.{Standing, decided, root}
 unfoldable pub use Rattle.plan_rules.specs.Plan.{cost_of}
-pub use Rattle.plan_rules.specs.Plan.{IsBound, IsLawful, IsPlan, choice_cost}
+pub use Rattle.plan_rules.specs.Plan.{IsBound, IsLawful, IsPlan}
+pub use Rattle.plan_rules.specs.lemmas.Plan.{choice_cost, MarksServed, choice_size, left_out, times_chosen}
 pub use Rattle.plan_rules.specs.Reading.{IsSoundNode, ReadsTo, coming_after, places_from}
 pub use Rattle.plan_rules.specs.Size.{IsSmall, IsSmallSum}
 pub use Rattle.plan_rules.specs.Sums.{all_below, count_below, int_sum_below, least_below, lesser, sum_below}
 unfoldable pub use Rattle.plan_rules.specs.Tree.{is_within}
-pub use Rattle.plan_rules.specs.Tree.{Bounded, CanBranch, Closed, IsClash, IsDeadEnd, IsSoleRow, IsSoundTree, IsStranded, IsTreeOf, IsTreeOfValue, MayUse, Parted, Place, SearchTree, belongs_to_dead_end, belongs_to_end, every_row, is_choice_usable, least_leaf, only_row, places_within, rounded_up, tree_value, with_leaf, without_row}
+pub use Rattle.plan_rules.specs.Tree.{Bounded, CanBranch, Clash, Closed, IsDeadEnd, Stranded, IsSoleRow, IsSoundTree, IsTreeOf, IsTreeOfValue, MayUse, Parted, Place, SearchTree, belongs_to_dead_end, belongs_to_end, every_row, is_choice_usable, least_leaf, only_row, places_within, rounded_up, tree_value, with_leaf, without_row}
+pub use Rattle.plan_rules.specs.lemmas.DeadEnd.{IsClash, IsStranded, IsOnlyOf, StandsInNone, StandsInSome}
 pub use Rattle.plan_rules.specs.declared.node.Node.{Node}
 pub use Rattle.plan_rules.specs.declared.node.Node.TheVariants.{Branch, Dead, Leaf}
 pub use Rattle.plan_rules.specs.declared.path.Decision.{Decision}
 pub use Rattle.plan_rules.specs.declared.row.TripRow.{TripRow}
-pub use Rattle.plan_rules.specs.lemmas.Plan.{MarksServed, choice_size, left_out, times_chosen}
 unfoldable pub use Rattle.plan_rules.specs.lemmas.Rank.{rank_value}
 pub use Rattle.plan_rules.specs.lemmas.Rank.{rank_of}
 pub use Rattle.plan_rules.specs.lemmas.Tree.{IsWholeTree, places, places_read, preorder, value_read}
-pub use Rattle.plan_rules.specs.lemmas.DeadEnd.{IsOnlyOf, StandsInNone, StandsInSome}
 pub use Rattle.plan_rules.specs.work.DeadEnd.{MarksSole, MarksSomeUsable}
 pub use Rattle.plan_rules.specs.work.Plan.{IsServedOnce}
-pub use Rattle.plan_rules.specs.work.Rank.{AreRanks, IsInTheWay, IsSelection, parts_of, row_of}
 pub use mir.Syntax.{w128}

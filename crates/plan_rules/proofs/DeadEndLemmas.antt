@@ -7,17 +7,10 @@ use Rattle.plan_rules.proofs.lemmas.MarkLemmas.{IsMarking, any_marked, marked_on
 
 pub marks_from : (g : Graph) (k : ℕ) (old new : List Bool) (r : ℕ) → IsMarking old new (riders_at g k) → get_or new r false ≡ true → (get_or old r false ≡ true) ⊎ (has_rider g k r ≡ true)
 marks_from g k old new r adds e =
-    ⊎_elim
-    (λ (low : r < length old). or_cases (get_or old r false) (has_rider g k r) (sym (adds.marked r low) ∙ e))
-    (λ (high : length old ≤ r). absurd (both_ways false refl (sym (get_or_past new r false (omega (arith, adds.sized, high))) ∙ e)))
-    (cases_lt r (length old))
+    or_cases (get_or old r false) (has_rider g k r) (grind (arith, adds.marked r, get_or_past new r false, adds.sized))
 
 pub marks_old : (g : Graph) (k : ℕ) (old new : List Bool) (r : ℕ) → IsMarking old new (riders_at g k) → get_or old r false ≡ true → get_or new r false ≡ true
-marks_old g k old new r adds e =
-    ⊎_elim
-    (λ (low : r < length old). adds.marked r low ∙ or_left (get_or old r false) (has_rider g k r) e)
-    (λ (high : length old ≤ r). absurd (both_ways false refl (sym (get_or_past old r false high) ∙ e)))
-    (cases_lt r (length old))
+marks_old g k old new r adds e = grind (arith, adds.marked r, get_or_past old r false)
 
 pub marks_new : (g : Graph) (k : ℕ) (old new : List Bool) (r : ℕ) → IsMarking old new (riders_at g k) → length old ≡ g.riders → IsGraphRow g.vehicles g.riders (row_at g k) → has_rider g k r ≡ true → get_or new r false ≡ true
 marks_new g k old new r adds sized row e =

@@ -1,4 +1,5 @@
 pub mod DualityLemmas
+pub mod ClashLemmas
 pub mod GraphLemmas
 pub mod GreedyLemmas
 pub mod HeldLemmas

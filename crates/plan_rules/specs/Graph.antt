@@ -1,10 +1,10 @@
-use Rattle.std.specs.Prelude.{◌≡◌, ◌==◌, ℕ, suc, ◌<◌, ◌≤◌, Bool, false, IsTrue, nat_lt, List, length, slice_index, slice_index_or, Option, Some, None, MatchOption, []}
+use Rattle.std.specs.Prelude.{◌≡◌, ◌==◌, ℕ, ◌<◌, ◌≤◌, Bool, false, nat_lt, List, length, slice_index, slice_index_or, Option, None, []}
 use Rattle.std.specs.List.{list_any}
+use Rattle.std.specs.Option.{option_map_or}
 use Rattle.std.specs.List.Sorted.{IsStrictlyIncreasing}
 use Rattle.std.specs.Ordering.{nat_cmp, ordering_then}
 use Rattle.std.specs.Cmp.Lexicographic.{slice_cmp}
 use Rattle.std.specs.declared.cmp.Ordering.{Ordering}
-use Rattle.std.specs.declared.cmp.Ordering.TheVariants.{Less}
 use Rattle.plan_rules.specs.declared.row.TripRow.{TripRow}
 use Rattle.plan_rules.specs.Sums.{count_below}
 
@@ -48,36 +48,23 @@ pub record IsRowOf (g : Graph) (v k : ℕ) : Type 0 where
   pub within : k < length g.rows
   pub own : row_vehicle g k ≡ v
 
--- the vehicle has no row
-abbrev pub HasNoRow : Graph → ℕ → Type 0
-HasNoRow g v = (k : ℕ) → IsRowOf g v k → ⊥
-
 -- what a list of rows, one or none for each vehicle, gives this vehicle
 abbrev pub choice_at : List (Option ℕ) → ℕ → Option ℕ
 choice_at chosen v = slice_index_or chosen v None
 
--- whether this rider is in the trip of a chosen row; in none there is nobody
-abbrev pub is_in : Graph → Option ℕ → ℕ → Bool
-is_in g None r = false
-is_in g (Some k) r = has_rider g k r
-
 -- how many of the rows that the first n vehicles are given have this rider
 unfoldable pub times_served : Graph → List (Option ℕ) → ℕ → ℕ → ℕ
-times_served g chosen n r = count_below n (λ v. is_in g (choice_at chosen v) r)
+times_served g chosen n r = count_below n (λ v. option_map_or (λ k. has_rider g k r) (choice_at chosen v) false)
 
 -- a rider in a held row must be served
 abbrev pub must_be_served : Graph → ℕ → Bool
 must_be_served g r = nat_lt 0 (times_served g g.held g.vehicles r)
 
--- the riders rise and are all below this number
-pub record AreRisingBelow (riders : ℕ) (members : List ℕ) : Type 0 where
-  pub below : (i : ℕ) → i < length members → slice_index members i < riders
-  pub rising : IsStrictlyIncreasing members
-
 -- a row's vehicle and riders exist, its riders rise, they are at most six, and it costs at most 1,000,000,000
 pub record IsGraphRow (vehicles riders : ℕ) (row : TripRow) : Type 0 where
   pub vehicle : row.vehicle < vehicles
-  pub members : AreRisingBelow riders row.riders.items
+  pub below : (i : ℕ) → i < length row.riders.items → slice_index row.riders.items i < riders
+  pub rising : IsStrictlyIncreasing row.riders.items
   pub few : length row.riders.items ≤ 6
   pub cheap : row.cost ≤ 1000000000
 
@@ -87,30 +74,12 @@ row_cmp a b =
     ordering_then (nat_cmp a.vehicle b.vehicle)
     (ordering_then (nat_cmp (length a.riders.items) (length b.riders.items)) (slice_cmp nat_cmp a.riders.items b.riders.items))
 
--- the row of this number is above the one before it
-abbrev pub IsInOrder : Graph → ℕ → Type 0
-IsInOrder g k = row_cmp (row_at g k) (row_at g (suc k)) ≡ Less
-
--- a vehicle with rows holds one of its own, whose riders no earlier vehicle holds; one without holds none
-abbrev pub HoldsRightly : Graph → ℕ → Type 0
-HoldsRightly g v =
-    MatchOption (slice_index_or g.held v None) (HasNoRow g v)
-    (λ k. IsRowOf g v k × ((r : ℕ) → IsTrue (has_rider g k r) → times_served g g.held v r ≡ 0))
-
 -- how large a graph may be
 pub record IsWithinLimits (g : Graph) : Type 0 where
   pub vehicles : g.vehicles ≤ 500
   pub riders : g.riders ≤ 1000
   pub penalty : g.penalty ≤ 1000000000
   pub rows : length g.rows ≤ 2000000
-
--- a graph is good where its rows are, each is above the one before it, and each vehicle holds rightly
-pub record IsGoodGraph (g : Graph) : Type 0 where
-  pub limits : IsWithinLimits g
-  pub rows : (k : ℕ) → k < length g.rows → IsGraphRow g.vehicles g.riders (row_at g k)
-  pub order : (k : ℕ) → suc k < length g.rows → IsInOrder g k
-  pub sized : length g.held ≡ g.vehicles
-  pub holds : (v : ℕ) → v < g.vehicles → HoldsRightly g v
 
 -- the rows before this one are those of the vehicles before this one
 pub record IsStartOf (g : Graph) (v start : ℕ) : Type 0 where

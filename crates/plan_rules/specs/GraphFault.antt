@@ -1,7 +1,18 @@
-use Rattle.std.specs.Prelude.{◌≡◌, ◌≢◌, ◌⊎◌, ℕ, suc, ◌<◌, length, min}
-use Rattle.plan_rules.specs.Graph.{Graph, row_at, IsGraphRow, IsInOrder, HoldsRightly}
+use Rattle.std.specs.Prelude.{◌≡◌, ◌≢◌, ◌⊎◌, ℕ, suc, ◌<◌, IsTrue, length, min, MatchOption}
+use Rattle.std.specs.declared.cmp.Ordering.TheVariants.{Less}
+use Rattle.plan_rules.specs.Graph.{Graph, row_at, row_cmp, has_rider, choice_at, times_served, IsRowOf, IsGraphRow}
 use Rattle.plan_rules.specs.declared.fault.GraphFault.{GraphFault}
 use Rattle.plan_rules.specs.declared.fault.GraphFault.TheVariants.{Range, Order, Held, OutOfMemory}
+
+-- the row of this number is above the one before it
+abbrev pub IsInOrder : Graph → ℕ → Type 0
+IsInOrder g k = row_cmp (row_at g k) (row_at g (suc k)) ≡ Less
+
+-- a vehicle with rows holds one of its own, whose riders no earlier vehicle holds; one without holds none
+abbrev pub HoldsRightly : Graph → ℕ → Type 0
+HoldsRightly g v =
+    MatchOption (choice_at g.held v) ((k : ℕ) → IsRowOf g v k → ⊥)
+    (λ k. IsRowOf g v k × ((r : ℕ) → IsTrue (has_rider g k r) → times_served g g.held v r ≡ 0))
 
 -- all rows' vehicles, riders and costs are in range
 abbrev pub HasGoodRows : Graph → Type 0

@@ -3,8 +3,10 @@ pub mod Graph
 pub mod GraphFault
 pub mod Parts
 pub mod Plan
+pub mod GoodGraph
 pub mod Greedy
 pub mod Multipliers
+pub mod Terms
 pub mod Tree
 pub mod Reading
 pub mod Path

@@ -28,25 +28,20 @@ reduced_cost g ms k = pos (1024 * cost_at g k) -ℤ multiplier_sum ms (riders_at
 abbrev pub is_usable_by : Graph → Usable → ℕ → ℕ → Bool
 is_usable_by g usable v k = (row_vehicle g k == v) && usable k
 
--- the least reduced cost of the vehicle's usable rows, 0 where it has none
-abbrev pub vehicle_term : Graph → Usable → List ℤ → ℕ → ℤ
-vehicle_term g usable ms v = unwrap_or (least_below (length g.rows) (is_usable_by g usable v) (reduced_cost g ms)) (pos 0)
+-- the least of f over the vehicle's usable rows, 0 where it has none
+abbrev pub least_of : Graph → Usable → ℕ → (ℕ → ℤ) → ℤ
+least_of g usable v f = unwrap_or (least_below (length g.rows) (is_usable_by g usable v) f) (pos 0)
 
--- the rider's multiplier, and at most the penalty where she may be left out
-abbrev pub rider_term : Graph → List ℤ → ℕ → ℤ
-rider_term g ms r = if must_be_served g r then multiplier_at ms r else int_min (multiplier_at ms r) (pos (1024 * g.penalty))
-
--- what the multipliers show of every plan of usable rows, in 1/1024 second
+-- what the multipliers show of every plan of usable rows, in 1/1024 second: the vehicles' least reduced costs, and the riders'
+-- multipliers, each at most the penalty where the rider may be left out
 unfoldable pub leaf_value : Graph → Usable → List ℤ → ℤ
-leaf_value g usable ms = int_sum_below g.vehicles (vehicle_term g usable ms) +ℤ int_sum_below g.riders (rider_term g ms)
-
--- the least cost of the vehicle's usable rows, 0 where it has none
-abbrev pub least_cost : Graph → Usable → ℕ → ℤ
-least_cost g usable v = unwrap_or (least_below (length g.rows) (is_usable_by g usable v) (λ k. pos (cost_at g k))) (pos 0)
+leaf_value g usable ms =
+    int_sum_below g.vehicles (λ v. least_of g usable v (reduced_cost g ms))
+    +ℤ int_sum_below g.riders (λ r. if must_be_served g r then multiplier_at ms r else int_min (multiplier_at ms r) (pos (1024 * g.penalty)))
 
 -- what the row costs above its vehicle's cheapest one, less the multipliers that its riders have so far
 abbrev pub room_at : Graph → Usable → List ℤ → ℕ → ℤ
-room_at g usable ms k = pos 1024 *ℤ (pos (cost_at g k) -ℤ least_cost g usable (row_vehicle g k)) -ℤ multiplier_sum ms (riders_at g k)
+room_at g usable ms k = pos 1024 *ℤ (pos (cost_at g k) -ℤ least_of g usable (row_vehicle g k) (λ j. pos (cost_at g j))) -ℤ multiplier_sum ms (riders_at g k)
 
 -- the next rider's first-fit multiplier: the least of the penalty and of the room of the usable rows that have her
 abbrev pub first_fit_of : Graph → Usable → List ℤ → ℕ → ℤ
@@ -58,10 +53,6 @@ unfoldable pub first_fit_below : Graph → Usable → ℕ → List ℤ
 first_fit_below g usable zero = []
 first_fit_below g usable (suc n) = first_fit_below g usable n ++ first_fit_of g usable (first_fit_below g usable n) n ∷ []
 
--- the first-fit multipliers
-abbrev pub first_fit : Graph → Usable → List ℤ
-first_fit g usable = first_fit_below g usable g.riders
-
 -- the leaf value of the first-fit multipliers
 abbrev pub first_fit_value : Graph → Usable → ℤ
-first_fit_value g usable = leaf_value g usable (first_fit g usable)
+first_fit_value g usable = leaf_value g usable (first_fit_below g usable g.riders)

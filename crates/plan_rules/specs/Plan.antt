@@ -1,11 +1,12 @@
-use Rattle.std.specs.Prelude.{◌≡◌, ◌==◌, ℕ, ◌+◌, ◌*◌, ◌<◌, ◌≤◌, IsTrue, List, length, Option, Some, None, MatchOption, ℤ, pos, ◌≤ℤ◌}
+use Rattle.std.specs.Prelude.{◌≡◌, ◌==◌, ℕ, ◌+◌, ◌*◌, ◌<◌, ◌≤◌, IsTrue, List, length, Option, MatchOption, ℤ, pos, ◌≤ℤ◌}
+use Rattle.std.specs.Option.{option_map_or}
 use Rattle.plan_rules.specs.Sums.{sum_below, count_below}
-use Rattle.plan_rules.specs.Graph.{Graph, IsRowOf, HasNoRow, choice_at, cost_at, times_served, must_be_served}
+use Rattle.plan_rules.specs.Graph.{Graph, IsRowOf, choice_at, cost_at, times_served, must_be_served}
 
 -- each vehicle that has rows is given one of its own, and the others none
 pub record IsPlan (g : Graph) (chosen : List (Option ℕ)) : Type 0 where
   pub sized : length chosen ≡ g.vehicles
-  pub own : (v : ℕ) → v < g.vehicles → MatchOption (choice_at chosen v) (HasNoRow g v) (IsRowOf g v)
+  pub own : (v : ℕ) → v < g.vehicles → MatchOption (choice_at chosen v) ((k : ℕ) → IsRowOf g v k → ⊥) (IsRowOf g v)
 
 -- a plan is lawful where no rider is in two chosen rows and each rider who must be served is in one
 pub record IsLawful (g : Graph) (chosen : List (Option ℕ)) : Type 0 where
@@ -13,15 +14,10 @@ pub record IsLawful (g : Graph) (chosen : List (Option ℕ)) : Type 0 where
   pub once : (r : ℕ) → times_served g chosen g.vehicles r ≤ 1
   pub kept : (r : ℕ) → IsTrue (must_be_served g r) → times_served g chosen g.vehicles r ≡ 1
 
--- what the chosen row costs; no row costs nothing
-abbrev pub choice_cost : Graph → Option ℕ → ℕ
-choice_cost g None = 0
-choice_cost g (Some k) = cost_at g k
-
 -- a plan costs what its rows cost, and the penalty for each rider in none
 unfoldable pub cost_of : Graph → List (Option ℕ) → ℕ
 cost_of g chosen =
-    sum_below g.vehicles (λ v. choice_cost g (choice_at chosen v))
+    sum_below g.vehicles (λ v. option_map_or (cost_at g) (choice_at chosen v) 0)
     + g.penalty * count_below g.riders (λ r. times_served g chosen g.vehicles r == 0)
 
 -- no lawful plan costs less

@@ -1,4 +1,4 @@
-use Rattle.std.specs.Prelude.{◌≡◌, ◌≢◌, ◌==◌, ◌&&◌, ◌||◌, not, ◌⊎◌, ℕ, suc, ◌+◌, ◌/◌, ◌<◌, Bool, true, false, IsTrue, List, [], ◌∷◌, ◌++◌, length, map, Option, Some, None, unwrap_or, ℤ, pos, negsuc, neg_ℤ}
+use Rattle.std.specs.Prelude.{◌≡◌, ◌≢◌, ◌==◌, ◌&&◌, ◌||◌, not, ℕ, suc, ◌+◌, ◌/◌, ◌<◌, Bool, true, false, IsTrue, List, [], ◌∷◌, ◌++◌, length, map, Option, Some, None, unwrap_or, ℤ, pos, negsuc, neg_ℤ}
 use Rattle.plan_rules.specs.Sums.{all_below, lesser}
 use Rattle.plan_rules.specs.Graph.{Graph, IsRowOf, row_vehicle, has_rider, must_be_served, choice_at}
 use Rattle.plan_rules.specs.Multipliers.{Usable, leaf_value}
@@ -34,28 +34,13 @@ pub record IsSoleRow (g : Graph) (usable : Usable) (v k : ℕ) : Type 0 where
   pub row : MayUse g usable v k
   pub sole : (j : ℕ) → MayUse g usable v j → j ≡ k
 
--- a rider stands in the sole usable rows of two vehicles
-pub record IsClash (g : Graph) (usable : Usable) : Type 0 where
-  pub first : ℕ
-  pub second : ℕ
-  pub first_row : ℕ
-  pub second_row : ℕ
-  pub rider : ℕ
-  pub differ : first ≢ second
-  pub first_sole : IsSoleRow g usable first first_row
-  pub second_sole : IsSoleRow g usable second second_row
-  pub in_first : IsTrue (has_rider g first_row rider)
-  pub in_second : IsTrue (has_rider g second_row rider)
-
--- a rider who must be served stands in no usable row
-pub record IsStranded (g : Graph) (usable : Usable) : Type 0 where
-  pub rider : ℕ
-  pub must : IsTrue (must_be_served g rider)
-  pub nowhere : (k : ℕ) → k < length g.rows → IsTrue (usable k) → has_rider g k rider ≡ false
-
 -- no lawful plan is made of usable rows alone, as is seen at once
-abbrev pub IsDeadEnd : Graph → Usable → Type 0
-IsDeadEnd g usable = IsClash g usable ⊎ IsStranded g usable
+pub data IsDeadEnd (g : Graph) (usable : Usable) : Type 0 where
+  -- rider r stands in row j and row k, which are all that vehicles v and w may use
+  Clash : (v w j k r : ℕ) → v ≢ w → IsSoleRow g usable v j → IsSoleRow g usable w k → IsTrue (has_rider g j r) → IsTrue (has_rider g k r)
+      → IsDeadEnd g usable
+  -- rider r must be served and stands in no usable row
+  Stranded : (r : ℕ) → IsTrue (must_be_served g r) → ((k : ℕ) → k < length g.rows → IsTrue (usable k) → has_rider g k r ≡ false) → IsDeadEnd g usable
 
 -- a search tree: where it parts, a vehicle takes a row in the first part and another of its rows in the second; a part
 -- that is not parted has multipliers, or holds no lawful plan

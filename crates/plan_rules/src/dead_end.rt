@@ -1,8 +1,8 @@
 //! Whether no lawful plan is left at a place in a tree, as is seen at once.
 ghost use Rattle.std.specs.Prelude.{◌≡◌, ◌+◌, ◌<◌, ◌≤◌, ◌↔◌, ℕ, IsTrue, IfSome, IfNone, MatchBool, length, slice_index_or, false, true};
 ghost use Rattle.plan_rules.specs.Multipliers.{usable_of};
-ghost use Rattle.plan_rules.specs.Tree.{IsSoleRow, IsClash, IsStranded, IsDeadEnd};
-ghost use Rattle.plan_rules.specs.lemmas.DeadEnd.{StandsInSome, StandsInNone};
+ghost use Rattle.plan_rules.specs.Tree.{IsSoleRow, IsDeadEnd};
+ghost use Rattle.plan_rules.specs.lemmas.DeadEnd.{IsClash, IsStranded, StandsInSome, StandsInNone};
 ghost use Rattle.plan_rules.specs.work.DeadEnd.{MarksSomeUsable};
 
 use crate::graph::TripGraph;

@@ -1,5 +1,6 @@
 ghost use Rattle.std.specs.Prelude.{◌≡◌, ◌+◌, ◌<◌, ◌≤◌, IsTrue, IfOk, IfErr, length, slice_index, slice_index_or};
-ghost use Rattle.plan_rules.specs.Graph.{Graph, IsGoodGraph, IsStartOf, IsWithinLimits, must_be_served};
+ghost use Rattle.plan_rules.specs.Graph.{Graph, IsStartOf, IsWithinLimits, must_be_served};
+ghost use Rattle.plan_rules.specs.GoodGraph.{IsGoodGraph};
 ghost use Rattle.plan_rules.specs.GraphFault.{IsGraphFault};
 
 use crate::fault::GraphFault;

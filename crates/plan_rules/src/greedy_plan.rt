@@ -1,6 +1,7 @@
 //! The greedy plan: row after row, the larger, cheaper and lesser first.
 ghost use Rattle.std.specs.Prelude.{◌≡◌, ◌↔◌, ◌⊎◌, ℕ, ◌<◌, IsTrue, IfOk, length, replicate};
-ghost use Rattle.plan_rules.specs.Graph.{IsGoodGraph, choice_at};
+ghost use Rattle.plan_rules.specs.Graph.{choice_at};
+ghost use Rattle.plan_rules.specs.GoodGraph.{IsGoodGraph};
 ghost use Rattle.plan_rules.specs.Greedy.{IsGreedy, IsTaken};
 ghost use Rattle.plan_rules.specs.work.Rank.{AreRanks, IsRanking, IsSelection, IsInTheWay};
 

@@ -2,9 +2,9 @@
 ghost use Rattle.std.specs.Prelude.{◌≡◌, ◌+◌, ◌<◌, ◌≤◌, ◌↔◌, ℕ, IsTrue, IfOk, IfErr, OnOk, length, slice_index, slice_index_or, false, nat_lt, Option};
 ghost use Rattle.plan_rules.specs.work.Graph.{IsRowIndex};
 ghost use Rattle.plan_rules.specs.lemmas.Plan.{MarksServed};
-ghost use Rattle.plan_rules.specs.Graph.{HoldsRightly, IsWithinLimits};
-ghost use Rattle.plan_rules.specs.GraphFault.{HasGoodRows, HasRowsInOrder, IsGraphFault};
-ghost use Rattle.plan_rules.specs.lemmas.GraphFault.{HasHeldRows};
+ghost use Rattle.plan_rules.specs.Graph.{IsWithinLimits};
+ghost use Rattle.plan_rules.specs.GraphFault.{HoldsRightly, HasGoodRows, HasRowsInOrder, IsGraphFault};
+ghost use Rattle.plan_rules.specs.Plan.{IsLawful};
 ghost use Rattle.plan_rules.specs.Parts.{graph_of};
 
 use crate::fault::GraphFault;
@@ -48,7 +48,7 @@ pub fn mark_held(alloc: Global, parts: &Parts, starts: &[u32]) -> Result<Vec<boo
     requires order { HasRowsInOrder (graph_of parts.now) }
     requires starts { IsRowIndex (graph_of parts.now) starts.now }
     ensures marks { IfOk result (λ marks. MarksServed (graph_of parts.now) parts.now.held.items parts.now.vehicles marks.items) }
-    ensures held { OnOk result (HasHeldRows (graph_of parts.now)) }
+    ensures held { OnOk result (IsLawful (graph_of parts.now) parts.now.held.items) }
     ensures fault { IfErr result (IsGraphFault (graph_of parts.now)) }
 {
     let mut marks = vec![in alloc; false; parts.riders]?;

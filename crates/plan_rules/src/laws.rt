@@ -1,6 +1,7 @@
 //! Laws of plans, multipliers and trees: each is a call with no code, whose clause is the law.
 ghost use Rattle.std.specs.Prelude.{◌≡◌, ◌*◌, ℕ, ℤ, pos, ◌≤ℤ◌, IsTrue, List, Option, count_by};
-ghost use Rattle.plan_rules.specs.Graph.{Graph, IsGoodGraph};
+ghost use Rattle.plan_rules.specs.Graph.{Graph};
+ghost use Rattle.plan_rules.specs.GoodGraph.{IsGoodGraph};
 ghost use Rattle.plan_rules.specs.Plan.{IsPlan, IsLawful, IsBound, cost_of};
 ghost use Rattle.plan_rules.specs.Multipliers.{Usable, leaf_value};
 ghost use Rattle.plan_rules.specs.Tree.{SearchTree, every_row, IsSoundTree, places_within, tree_value, is_within, belongs_to_end, belongs_to_dead_end};

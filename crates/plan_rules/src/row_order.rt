@@ -2,10 +2,10 @@
 ghost use Rattle.std.specs.Prelude.{◌≡◌, ◌+◌, ◌<◌, ◌≤◌, ◌↔◌, ℕ, suc, IsTrue, IfSome, IfNone, length, slice_index};
 ghost use Rattle.std.specs.List.Sorted.{IsStrictlyIncreasing};
 ghost use Rattle.std.specs.declared.cmp.Ordering.TheVariants.{Less};
-ghost use Rattle.plan_rules.specs.Graph.{IsGraphRow, row_cmp, row_at, IsInOrder};
-ghost use Rattle.plan_rules.specs.GraphFault.{HasGoodRows, HasRowsInOrder, IsFirstOutOfRange, IsFirstUnordered};
+ghost use Rattle.plan_rules.specs.Graph.{IsGraphRow, row_cmp, row_at};
+ghost use Rattle.plan_rules.specs.GraphFault.{IsInOrder, HasGoodRows, HasRowsInOrder, IsFirstOutOfRange, IsFirstUnordered};
 ghost use Rattle.plan_rules.specs.Parts.{graph_of};
-ghost use Rattle.plan_rules.specs.Graph.{AreRisingBelow};
+ghost use Rattle.plan_rules.specs.work.Graph.{AreRisingBelow};
 
 use crate::parts::Parts;
 use crate::row::TripRow;

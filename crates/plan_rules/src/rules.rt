@@ -1,9 +1,9 @@
 //! Which plans are lawful and what they cost. No call but `held_plan` takes memory.
 ghost use Rattle.std.specs.Prelude.{◌≡◌, ◌==◌, ◌+◌, ◌*◌, ◌<◌, ◌≤◌, ◌↔◌, ℕ, IsTrue, IfOk, length, MatchOption, Option};
-ghost use Rattle.plan_rules.specs.Graph.{IsRowOf, HasNoRow, times_served, is_in, choice_at};
-ghost use Rattle.plan_rules.specs.lemmas.Graph.{ChoosesRows};
-ghost use Rattle.plan_rules.specs.Plan.{IsPlan, IsLawful, cost_of, choice_cost};
-ghost use Rattle.plan_rules.specs.lemmas.Plan.{left_out, MarksServed};
+ghost use Rattle.plan_rules.specs.Graph.{IsRowOf, times_served, choice_at};
+ghost use Rattle.plan_rules.specs.lemmas.Graph.{HasNoRow, is_in, ChoosesRows};
+ghost use Rattle.plan_rules.specs.Plan.{IsPlan, IsLawful, cost_of};
+ghost use Rattle.plan_rules.specs.lemmas.Plan.{choice_cost, left_out, MarksServed};
 ghost use Rattle.plan_rules.specs.work.Plan.{IsServedOnce};
 ghost use Rattle.plan_rules.specs.Sums.{sum_below};
 

@@ -2,7 +2,8 @@
 ghost use Rattle.std.specs.Prelude.{◌≡◌, ◌+◌, ◌*◌, ◌<◌, ◌≤◌, ℕ, All, IfSome, length, ℤ, pos, neg_ℤ, ◌≤ℤ◌, Option};
 ghost use Rattle.plan_rules.specs.Sums.{int_sum_below, lesser};
 ghost use Rattle.plan_rules.specs.Graph.{IsGraphRow};
-ghost use Rattle.plan_rules.specs.Multipliers.{usable_of, leaf_value, vehicle_term, rider_term, multiplier_sum};
+ghost use Rattle.plan_rules.specs.Multipliers.{usable_of, leaf_value, multiplier_sum};
+ghost use Rattle.plan_rules.specs.Terms.{vehicle_term, rider_term};
 ghost use Rattle.plan_rules.specs.Tree.{rounded_up};
 ghost use Rattle.plan_rules.specs.Size.{IsSmall, IsSmallSum};
 ghost use Rattle.plan_rules.specs.work.Size.{reduced_cost_of};

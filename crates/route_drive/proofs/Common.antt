@@ -25,7 +25,8 @@ pub use Rattle.dispatch_engine.specs.Lane.{IsCloseOf, IsGoodClose, IsLaneRun, Is
 pub use Rattle.dispatch_engine.specs.Run.{IsReady, IsRoundRun, IsRun, IsSameRun, journal_of, position_after_run, state_after_run}
 pub use Rattle.dispatch_report.specs.declared.day.DayCounts.{DayCounts}
 pub use Rattle.plan_rules.proofs.lemmas.GraphLemmas.{in_choice, times_served_as_count, times_served_found, times_served_some}
-pub use Rattle.plan_rules.specs.Graph.{IsRowOf, choice_at, is_in, must_be_served, no_row, riders_at}
+pub use Rattle.plan_rules.specs.Graph.{IsRowOf, choice_at, must_be_served, no_row, riders_at}
+pub use Rattle.plan_rules.specs.lemmas.Graph.{is_in}
 pub use Rattle.plan_rules.specs.lemmas.Plan.{times_chosen}
 pub use Rattle.pool_base.proofs.lemmas.InOrderLemmas.{first_fault-each, first_fault-none, first_fault-some}
 pub use Rattle.pool_base.specs.InOrder.{first_fault}

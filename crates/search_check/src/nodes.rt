@@ -2,7 +2,8 @@
 ghost use Rattle.std.specs.Prelude.{◌≡◌, ◌↔◌, IfOk, IsTrue, OnOk, false, length};
 ghost use Rattle.bound_checker.specs.lemmas.Visit.{coming_of};
 ghost use Rattle.dual_bound.specs.Index.{IsIndexOf};
-ghost use Rattle.plan_rules.specs.Graph.{Graph, IsGoodGraph};
+ghost use Rattle.plan_rules.specs.Graph.{Graph};
+ghost use Rattle.plan_rules.specs.GoodGraph.{IsGoodGraph};
 ghost use Rattle.plan_rules.specs.Multipliers.{usable_of};
 ghost use Rattle.plan_rules.specs.Path.{IsPathOf, standing_of};
 ghost use Rattle.plan_rules.specs.Reading.{IsSoundNode, coming_after};

@@ -7,7 +7,9 @@ pub use Rattle.std.proofs.lemmas.List.Sums.{sum_by-cons, sum_by-take-le, sum_by_
 pub use Rattle.std.specs.List.{list_any}
 pub use Rattle.pair_graph.specs.RvGraph.{IsRvGraph, no_edge}
 pub use Rattle.pair_graph.specs.declared.rv_edge.RvEdge.{RvEdge}
-pub use Rattle.plan_rules.specs.Graph.{Graph, HoldsRightly, IsGoodGraph, choice_at, has_rider, no_row, riders_at, row_cmp, times_served}
+pub use Rattle.plan_rules.specs.Graph.{Graph, choice_at, has_rider, no_row, riders_at, row_cmp, times_served}
+pub use Rattle.plan_rules.specs.GraphFault.{HoldsRightly}
+pub use Rattle.plan_rules.specs.GoodGraph.{IsGoodGraph}
 pub use Rattle.plan_rules.specs.declared.row.TripRow.{TripRow}
 pub use Rattle.pool_base.specs.Times.{point_count, travel_time}
 pub use Rattle.pool_base.specs.TravelTime.{IsTravelTime}

@@ -5,7 +5,8 @@ use Rattle.stop_orders.specs.Settled.{CanServe, IsRow, vehicle_at}
 use Rattle.pair_graph.specs.RvGraph.{IsRvGraph}
 use Rattle.pair_graph.specs.RrGraph.{IsRrGraph}
 use Rattle.plan_rules.specs.declared.row.TripRow.{TripRow}
-use Rattle.plan_rules.specs.Graph.{Graph, IsGoodGraph, no_row, choice_at, row_cmp}
+use Rattle.plan_rules.specs.Graph.{Graph, no_row, choice_at, row_cmp}
+use Rattle.plan_rules.specs.GoodGraph.{IsGoodGraph}
 use Rattle.rider_limits.specs.declared.settings.Settings.{Settings}
 use Rattle.trip_graph.specs.declared.answer.GraphAnswer.{GraphAnswer}
 use Rattle.trip_graph.specs.declared.answer.GraphAnswer.TheVariants.{Graph as Grown, Overflow}

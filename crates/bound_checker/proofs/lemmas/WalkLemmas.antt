@@ -11,27 +11,6 @@ pub coming_left : (g : Graph) (b : Bool) (old new : List Decision) → MatchBool
 coming_left g true old new h = sym h
 coming_left g false old new h = sym h
 
--- what is to come at the first subtree of a branch
-pub coming_entered : (g : Graph) (old new : List Decision) (v k : ℕ) → new ≡ old ++ record { vehicle = v; row = k; alone = true } ∷ [] → (standing_of g new).usable ∷ (standing_of g new).coming ≡ (decided g (standing_of g old) (record { vehicle = v; row = k; alone = true })).usable ∷ (decided g (standing_of g old) (record { vehicle = v; row = k; alone = true })).coming
-coming_entered g old new v k e =
-    ap (λ (p : List Decision). (standing_of g p).usable ∷ (standing_of g p).coming) e
-    ∙ ap (λ (s : Standing). s.usable ∷ s.coming) (standing_push g old (record { vehicle = v; row = k; alone = true }))
-
-pub path_push : (g : Graph) (path : List Decision) (e : Decision) → IsPathOf g path → (e.vehicle < g.vehicles) × IsRowOf g e.vehicle e.row → IsPathOf g (path ++ e ∷ [])
-path_push g path e before here k d l =
-    ⊎_elim
-    (λ (last : k ≡ length path). subst (λ (q : Decision). (q.vehicle < g.vehicles) × IsRowOf g q.vehicle q.row) (sym (get_or_push path e d k (sym last))) here)
-    (λ (other : k ≡ length path → ⊥).
-    let low : k < length path = omega (arith, l, length_push path e) in
-    subst (λ (q : Decision). (q.vehicle < g.vehicles) × IsRowOf g q.vehicle q.row) (sym (get_or_append_left path (e ∷ []) d k low)) (before k d low))
-    (cases_eq k (length path))
-
-pub path_none : (g : Graph) (path : List Decision) → path ≡ [] → IsPathOf g path
-path_none g path e = subst (IsPathOf g) (sym e) (λ k d l. absurd (omega (arith, l)))
-
-pub coming_start : (g : Graph) (path : List Decision) → path ≡ [] → (every_row ∷ []) ≡ coming_of g false path
-coming_start g path e = sym (ap (λ (p : List Decision). (standing_of g p).usable ∷ (standing_of g p).coming) e ∙ ap (λ (s : Standing). s.usable ∷ s.coming) (standing_start g))
-
 -- a fault of the node where the walk stands is one of the tree
 pub fault_here : (g : Graph) (nodes : List Node) (i : ℕ) (usable : Usable) (later : List Usable) (node : Node) (f : CheckFault) → ReadsTo g (every_row ∷ []) (take i nodes) (usable ∷ later) → i < length nodes → slice_get nodes i ≡ Some node → IsNodeFault usable g node i f → IsTreeFault g nodes f
 fault_here g nodes i usable later node (BadBranch j) reads within here h =

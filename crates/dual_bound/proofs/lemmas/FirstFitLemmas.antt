@@ -1,5 +1,5 @@
 -- The first-fit pass.
-use Rattle.std.proofs.Common.{◌≡◌, ◌&&◌, ℕ, zero, suc, ◌+◌, ◌*◌, ◌<◌, ◌≤◌, List, [], ◌∷◌, ◌++◌, length, get_or, set, ℤ, pos, ◌-ℤ◌, ◌*ℤ◌, refl, sym, ap, ◌∙◌, subst, ⊎_elim, arith, add-one}
+use Rattle.std.proofs.Common.{◌≡◌, ◌&&◌, ℕ, zero, suc, ◌+◌, ◌*◌, ◌<◌, ◌≤◌, List, [], ◌∷◌, ◌++◌, length, get_or, set, ℤ, pos, ◌-ℤ◌, ◌*ℤ◌, refl, sym, ap, ◌∙◌, subst, ⊎_elim, arith, add-one, ◌+ℤ◌}
 use Rattle.dual_bound.proofs.Common.{ints, cases_eq, cases_lt, get_or_push, get_or_append_left, get_or_past, length_push, least_below, lesser, Graph, row_at, has_rider, Usable, multiplier_at, multiplier_sum, least_cost, room_at, first_fit_of, first_fit_below, TripRow, IsModest}
 use Rattle.std.proofs.lemmas.List.{get_or-set_same, get_or-set_other, ext_get_or}
 
@@ -22,10 +22,7 @@ room_from g usable ms k x least value read cheapest is =
 
 pub multiplier_sum_same : (aa bb : List ℤ) → ((r : ℕ) → multiplier_at aa r ≡ multiplier_at bb r) → (xs : List ℕ) → multiplier_sum aa xs ≡ multiplier_sum bb xs
 multiplier_sum_same aa bb e [] = refl
-multiplier_sum_same aa bb e (x ∷ xs) =
-    let first : multiplier_at aa x ≡ multiplier_at bb x = e x in
-    let rest : multiplier_sum aa xs ≡ multiplier_sum bb xs = multiplier_sum_same aa bb e xs in
-    cc
+multiplier_sum_same aa bb e (x ∷ xs) = λ i. e x i +ℤ multiplier_sum_same aa bb e xs i
 
 pub first_fit_of_same : (g : Graph) (usable : Usable) (aa bb : List ℤ) (r : ℕ) → ((q : ℕ) → multiplier_at aa q ≡ multiplier_at bb q) → first_fit_of g usable aa r ≡ first_fit_of g usable bb r
 first_fit_of_same g usable aa bb r e =

@@ -1,6 +1,6 @@
 -- What the first-fit multipliers are worth: none is negative, and the cheapest usable rows stay the cheapest.
 use Rattle.std.proofs.Common.{◌≡◌, ◌==◌, ◌&&◌, ℕ, zero, suc, ◌*◌, ◌<◌, ◌≤◌, Bool, true, false, List, [], ◌∷◌, ◌++◌, length, Option, Some, None, ℤ, pos, ◌+ℤ◌, ◌*ℤ◌, ◌≤ℤ◌, refl, sym, ap, ◌∙◌, subst, ⊎_elim, arith, eq-eqb, eqb-true, ne_eqb, unwrap_or}
-use Rattle.dual_bound.proofs.Common.{none-some, int_min, ints, int_min_is, cases_eq, cases_lt, cases_Bool, and_from, and_parts, cond-true, cond-false, get_or_push, get_or_append_left, get_or_past, length_push, int_sum_below, least_below, lesser, Graph, riders_at, row_vehicle, cost_at, has_rider, must_be_served, IsGoodGraph, Usable, multiplier_at, multiplier_sum, is_usable_by, reduced_cost, vehicle_term, rider_term, leaf_value, least_cost, room_at, first_fit_of, first_fit_below, first_fit, first_fit_value, part, int_sum_same, int_sum_plus, int_sum_single, least_below_some, least_below_none, least_below_found, lesser-le_right, lesser-le_left}
+use Rattle.dual_bound.proofs.Common.{none-some, int_min, ints, int_min_is, cases_eq, cases_lt, cases_Bool, and_from, and_parts, cond-true, cond-false, get_or_push, get_or_append_left, get_or_past, length_push, int_sum_below, least_below, lesser, Graph, riders_at, row_vehicle, cost_at, has_rider, must_be_served, IsGoodGraph, Usable, multiplier_at, multiplier_sum, is_usable_by, reduced_cost, vehicle_term, rider_term, leaf_value, least_cost, room_at, first_fit_of, first_fit_below, first_fit, first_fit_value, part, int_sum_same, int_sum_plus, int_sum_single, least_below_some, least_below_none, least_below_found, lesser-le_right, lesser-le_left, nat_tests, false_from_ne_true}
 use Rattle.plan_rules.proofs.lemmas.DualityLemmas.{multiplier_sum_is}
 use Rattle.dual_bound.proofs.lemmas.FirstFitLemmas.{length-first_fit}
 
@@ -14,9 +14,7 @@ pub record LeavesRoom (g : Graph) (u : Usable) (ms : List ℤ) : Type 0 where
 
 none_sum : (xs : List ℕ) → multiplier_sum [] xs ≡ pos 0
 none_sum [] = refl
-none_sum (x ∷ xs) =
-    let rest : multiplier_sum [] xs ≡ pos 0 = none_sum xs in
-    omega (arith, ints)
+none_sum (x ∷ xs) = omega (arith, ints, none_sum xs)
 
 least_cost_le : (g : Graph) (u : Usable) (k : ℕ) → k < length g.rows → u k ≡ true → least_cost g u (row_vehicle g k) ≤ℤ pos (cost_at g k)
 least_cost_le g u k l may =
@@ -56,9 +54,7 @@ pushed_at ms n m r long =
     (cases_eq n r)
 
 part_of_sum : (a b : Bool) (x m : ℤ) → part a (x +ℤ part b m) ≡ part a x +ℤ part b (part a m)
-part_of_sum true b x m = refl
-part_of_sum false true x m = omega (arith, ints)
-part_of_sum false false x m = omega (arith, ints)
+part_of_sum a b x m = grind (arith, ints)
 
 pushed_sum : (g : Graph) (k : ℕ) (ms : List ℤ) (n : ℕ) (m : ℤ) → IsGoodGraph g → k < length g.rows → n < g.riders → length ms ≡ n
     → multiplier_sum (ms ++ m ∷ []) (riders_at g k) ≡ multiplier_sum ms (riders_at g k) +ℤ part (has_rider g k n) m
@@ -66,9 +62,9 @@ pushed_sum g k ms n m good l low long =
     let row = good.rows k l in
     let more = ms ++ m ∷ [] in
     let before : multiplier_sum ms (riders_at g k) ≡ int_sum_below g.riders (λ r. part (has_rider g k r) (multiplier_at ms r)) =
-    multiplier_sum_is ms g.riders (riders_at g k) row.members.rising row.members.below in
+    multiplier_sum_is ms g.riders (riders_at g k) row.rising row.below in
     let after : multiplier_sum more (riders_at g k) ≡ int_sum_below g.riders (λ r. part (has_rider g k r) (multiplier_at more r)) =
-    multiplier_sum_is more g.riders (riders_at g k) row.members.rising row.members.below in
+    multiplier_sum_is more g.riders (riders_at g k) row.rising row.below in
     let each : int_sum_below g.riders (λ r. part (has_rider g k r) (multiplier_at more r)) ≡ int_sum_below g.riders (λ r. part (has_rider g k r) (multiplier_at ms r) +ℤ part (n == r) (part (has_rider g k r) m)) =
     int_sum_same g.riders (λ r. part (has_rider g k r) (multiplier_at more r)) (λ r. part (has_rider g k r) (multiplier_at ms r) +ℤ part (n == r) (part (has_rider g k r) m))
     (λ r _. ap (part (has_rider g k r)) (pushed_at ms n m r long) ∙ part_of_sum (has_rider g k r) (n == r) (multiplier_at ms r) m) in
@@ -102,29 +98,11 @@ room_next g u n ms good low long before =
     subst (λ (z : ℤ). pos 0 ≤ℤ z) (sym (w.3)) (before.room (w.0) (w.1) may)) in
     let most : m ≤ℤ pos (1024 * g.penalty) = lesser-le_right least (pos (1024 * g.penalty)) in
     record {
-      positive = λ r. pushed positive before.positive r (n == r) refl;
-      most = λ r. bounded most before.most r (n == r) refl;
+      positive = λ r. grind (arith, ints, nat_tests, pushed_at ms n m r long, before.positive r, positive);
+      most = λ r. grind (arith, ints, nat_tests, pushed_at ms n m r long, before.most r, most, get_or_past ms r (pos 0), long);
       room = λ k l may. roomy positive k l may (has_rider g k n) refl;
     }
   where
-    pushed : pos 0 ≤ℤ first_fit_of g u ms n → ((r : ℕ) → pos 0 ≤ℤ multiplier_at ms r) → (r : ℕ) (b : Bool) → (n == r) ≡ b → pos 0 ≤ℤ multiplier_at (ms ++ first_fit_of g u ms n ∷ []) r
-    pushed positive old r b e =
-        let is : multiplier_at (ms ++ first_fit_of g u ms n ∷ []) r ≡ multiplier_at ms r +ℤ part b (first_fit_of g u ms n) =
-        pushed_at ms n (first_fit_of g u ms n) r long ∙ ap (λ (c : Bool). multiplier_at ms r +ℤ part c (first_fit_of g u ms n)) e in
-        elim b as (λ c. multiplier_at (ms ++ first_fit_of g u ms n ∷ []) r ≡ multiplier_at ms r +ℤ part c (first_fit_of g u ms n) → pos 0 ≤ℤ multiplier_at (ms ++ first_fit_of g u ms n ∷ []) r) [
-          | true ↦ λ i. omega (arith, ints, i, old r, positive)
-          | false ↦ λ i. omega (arith, ints, i, old r)
-        ] is
-
-    bounded : first_fit_of g u ms n ≤ℤ pos (1024 * g.penalty) → ((r : ℕ) → multiplier_at ms r ≤ℤ pos (1024 * g.penalty)) → (r : ℕ) (b : Bool) → (n == r) ≡ b → multiplier_at (ms ++ first_fit_of g u ms n ∷ []) r ≤ℤ pos (1024 * g.penalty)
-    bounded most old r true e =
-        let here : n ≡ r = eqb-true n r e in
-        subst (λ (z : ℤ). z ≤ℤ pos (1024 * g.penalty)) (sym (get_or_push ms (first_fit_of g u ms n) (pos 0) r (long ∙ here))) most
-    bounded most old r false e =
-        let is : multiplier_at (ms ++ first_fit_of g u ms n ∷ []) r ≡ multiplier_at ms r +ℤ pos 0 =
-        pushed_at ms n (first_fit_of g u ms n) r long ∙ ap (λ (c : Bool). multiplier_at ms r +ℤ part c (first_fit_of g u ms n)) e in
-        omega (arith, ints, is, old r)
-
     roomy : pos 0 ≤ℤ first_fit_of g u ms n → (k : ℕ) → k < length g.rows → u k ≡ true → (b : Bool) → has_rider g k n ≡ b → pos 0 ≤ℤ room_at g u (ms ++ first_fit_of g u ms n ∷ []) k
     roomy positive k l may true e =
         let m = first_fit_of g u ms n in
@@ -132,14 +110,12 @@ room_next g u n ms good low long before =
         pushed_sum g k ms n m good l low long ∙ ap (λ (c : Bool). multiplier_sum ms (riders_at g k) +ℤ part c m) e in
         let w = least_below_some (length g.rows) (λ j. u j && has_rider g j n) (room_at g u ms) k l (and_from (u k) (has_rider g k n) may e) in
         let fits : m ≤ℤ w.0 = next_fits (least_below (length g.rows) (λ j. u j && has_rider g j n) (room_at g u ms)) (w.0) (pos (1024 * g.penalty)) (w.1) in
-        let reach : w.0 ≤ℤ room_at g u ms k = w.2 in
-        omega (arith, ints, sum, fits, reach)
+        omega (arith, ints, sum, fits, w.2)
     roomy positive k l may false e =
         let m = first_fit_of g u ms n in
         let sum : multiplier_sum (ms ++ m ∷ []) (riders_at g k) ≡ multiplier_sum ms (riders_at g k) +ℤ pos 0 =
         pushed_sum g k ms n m good l low long ∙ ap (λ (c : Bool). multiplier_sum ms (riders_at g k) +ℤ part c m) e in
-        let old = before.room k l may in
-        omega (arith, ints, sum, old)
+        omega (arith, ints, sum, before.room k l may)
 
 room_below : (g : Graph) (u : Usable) (n : ℕ) → IsGoodGraph g → n ≤ g.riders → LeavesRoom g u (first_fit_below g u n)
 unfolding first_fit_below
@@ -154,36 +130,26 @@ first_fit_leaves_room g u good = room_below g u g.riders good (omega arith)
 
 pub positive_sum : (ms : List ℤ) (xs : List ℕ) → ((r : ℕ) → pos 0 ≤ℤ multiplier_at ms r) → pos 0 ≤ℤ multiplier_sum ms xs
 positive_sum ms [] h = omega (arith, ints)
-positive_sum ms (x ∷ xs) h =
-    let first = h x in
-    let rest = positive_sum ms xs h in
-    omega (arith, ints, first, rest)
+positive_sum ms (x ∷ xs) h = omega (arith, ints, h x, positive_sum ms xs h)
 
 -- a usable row costs at least what its vehicle's cheapest one does, with the multipliers too
 reduced_ge : (g : Graph) (u : Usable) (ms : List ℤ) (k : ℕ) → LeavesRoom g u ms → k < length g.rows → u k ≡ true → (pos 1024 *ℤ least_cost g u (row_vehicle g k)) ≤ℤ reduced_cost g ms k
-reduced_ge g u ms k roomy l may =
-    let room : pos 0 ≤ℤ room_at g u ms k = roomy.room k l may in
-    omega (arith, ints, room)
+reduced_ge g u ms k roomy l may = omega (arith, ints, roomy.room k l may)
 
 -- the cheapest one costs no more
 reduced_le : (g : Graph) (ms : List ℤ) (k : ℕ) → ((r : ℕ) → pos 0 ≤ℤ multiplier_at ms r) → reduced_cost g ms k ≤ℤ pos (1024 * cost_at g k)
-reduced_le g ms k h =
-    let sum = positive_sum ms (riders_at g k) h in
-    omega (arith, ints, sum)
+reduced_le g ms k h = omega (arith, ints, positive_sum ms (riders_at g k) h)
 
 vehicle_term_is : (g : Graph) (u : Usable) (ms : List ℤ) (v : ℕ) → LeavesRoom g u ms → vehicle_term g u ms v ≡ pos 1024 *ℤ least_cost g u v
 vehicle_term_is g u ms v roomy = by_least (least_below (length g.rows) (is_usable_by g u v) (λ k. pos (cost_at g k))) refl
   where
-    unfit : least_below (length g.rows) (is_usable_by g u v) (λ k. pos (cost_at g k)) ≡ None → (k : ℕ) → k < length g.rows → (b : Bool) → is_usable_by g u v k ≡ b → is_usable_by g u v k ≡ false
-    unfit none k l false e = e
-    unfit none k l true e =
-        let w = least_below_some (length g.rows) (is_usable_by g u v) (λ j. pos (cost_at g j)) k l e in
-        absurd (none-some (w.0) (sym none ∙ w.1))
+    unfit : least_below (length g.rows) (is_usable_by g u v) (λ k. pos (cost_at g k)) ≡ None → (k : ℕ) → k < length g.rows → is_usable_by g u v k ≡ false
+    unfit none k l = false_from_ne_true (is_usable_by g u v k) (λ e. let w = least_below_some (length g.rows) (is_usable_by g u v) (λ j. pos (cost_at g j)) k l e in none-some (w.0) (sym none ∙ w.1))
 
     by_least : (o : Option ℤ) → least_below (length g.rows) (is_usable_by g u v) (λ k. pos (cost_at g k)) ≡ o → vehicle_term g u ms v ≡ pos 1024 *ℤ least_cost g u v
     by_least None e =
         let none : least_below (length g.rows) (is_usable_by g u v) (reduced_cost g ms) ≡ None =
-        least_below_none (length g.rows) (is_usable_by g u v) (reduced_cost g ms) (λ k l. unfit e k l (is_usable_by g u v k) refl) in
+        least_below_none (length g.rows) (is_usable_by g u v) (reduced_cost g ms) (unfit e) in
         let term : vehicle_term g u ms v ≡ pos 0 = ap (λ (o : Option ℤ). unwrap_or o (pos 0)) none in
         let cost : least_cost g u v ≡ pos 0 = ap (λ (o : Option ℤ). unwrap_or o (pos 0)) e in
         omega (arith, ints, term, cost)
@@ -204,20 +170,11 @@ vehicle_term_is g u ms v roomy = by_least (least_below (length g.rows) (is_usabl
         omega (arith, ints, cost, paid, low, top, above, same, reached, term)
 
 pub rider_term_is : (g : Graph) (ms : List ℤ) (r : ℕ) → multiplier_at ms r ≤ℤ pos (1024 * g.penalty) → rider_term g ms r ≡ multiplier_at ms r
-rider_term_is g ms r most =
-    let least = int_min_is (multiplier_at ms r) (pos (1024 * g.penalty)) in
-    ⊎_elim
-    (λ (must : must_be_served g r ≡ true). cond-true (must_be_served g r) (multiplier_at ms r) (int_min (multiplier_at ms r) (pos (1024 * g.penalty))) must)
-    (λ (may : must_be_served g r ≡ false).
-    let is : rider_term g ms r ≡ int_min (multiplier_at ms r) (pos (1024 * g.penalty)) = cond-false (must_be_served g r) (multiplier_at ms r) (int_min (multiplier_at ms r) (pos (1024 * g.penalty))) may in
-    omega (arith, ints))
-    (cases_Bool (must_be_served g r))
+rider_term_is g ms r most = grind (arith, ints, int_min_is (multiplier_at ms r) (pos (1024 * g.penalty)), most)
 
 int_sum_scale : (n : ℕ) (f : ℕ → ℤ) → int_sum_below n (λ v. pos 1024 *ℤ f v) ≡ pos 1024 *ℤ int_sum_below n f
 int_sum_scale zero f = refl
-int_sum_scale (suc n) f =
-    let rest : int_sum_below n (λ v. pos 1024 *ℤ f v) ≡ pos 1024 *ℤ int_sum_below n f = int_sum_scale n f in
-    omega (arith, ints)
+int_sum_scale (suc n) f = omega (arith, ints, int_sum_scale n f)
 
 roomy_value : (g : Graph) (u : Usable) (ms : List ℤ) → LeavesRoom g u ms → leaf_value g u ms ≡ pos 1024 *ℤ int_sum_below g.vehicles (least_cost g u) +ℤ int_sum_below g.riders (multiplier_at ms)
 unfolding leaf_value

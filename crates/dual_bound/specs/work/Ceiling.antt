@@ -1,6 +1,7 @@
 use Rattle.std.specs.Prelude.{◌≡◌, ℕ, List, length, slice_index_or, ◌*◌, ℤ, pos, ◌≤ℤ◌}
 use Rattle.plan_rules.specs.Graph.{Graph}
-use Rattle.plan_rules.specs.Multipliers.{Usable, multiplier_at, first_fit}
+use Rattle.plan_rules.specs.Multipliers.{Usable, multiplier_at}
+use Rattle.plan_rules.specs.Terms.{first_fit}
 use Rattle.dual_bound.specs.work.Size.{IsModest}
 
 -- a number for each rider that her first-fit multiplier doesn't exceed

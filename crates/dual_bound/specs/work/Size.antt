@@ -1,6 +1,7 @@
 use Rattle.std.specs.Prelude.{◌≡◌, ℕ, ◌<◌, ℤ, pos, neg_ℤ, ◌≤ℤ◌, List, length, slice_index_or}
 use Rattle.plan_rules.specs.Graph.{Graph}
-use Rattle.plan_rules.specs.Multipliers.{Usable, least_cost}
+use Rattle.plan_rules.specs.Multipliers.{Usable}
+use Rattle.plan_rules.specs.Terms.{least_cost}
 
 -- the cost of a row
 pub record IsCost (z : ℤ) : Type 0 where

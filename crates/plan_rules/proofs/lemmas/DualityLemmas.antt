@@ -90,7 +90,7 @@ vehicle_term_le g usable ms v (Some k) rows own may =
     let least : w.0 ≤ℤ reduced_cost g ms k = w.2 in
     let row = rows k own.within in
     let riders : multiplier_sum ms (riders_at g k) ≡ int_sum_below g.riders (λ r. part (has_rider g k r) (multiplier_at ms r)) =
-    multiplier_sum_is ms g.riders (riders_at g k) row.members.rising row.members.below in
+    multiplier_sum_is ms g.riders (riders_at g k) row.rising row.below in
     omega (arith, ints)
 
 -- a rider's term is at most her multiplier where she is served, and the penalty where she is left out

@@ -1,6 +1,6 @@
 -- Riders of rows, and how often riders are served.
 use Rattle.std.proofs.Common.{◌≡◌, ◌==◌, ℕ, zero, suc, ◌+◌, ◌<◌, ◌≤◌, Bool, true, false, IsTrue, List, [], ◌∷◌, length, get_or, Option, Some, None, MatchOption, refl, sym, ap, ◌∙◌, subst, ⊎_elim, arith, add-one, eqb-true, eq-eqb}
-use Rattle.plan_rules.proofs.Common.{list_any, IsStrictlyIncreasing, cases_lt, cases_Bool, or_cases, both_ways, list_any_at, get_or_read, count_below, TripRow, Graph, no_row, row_at, riders_at, row_vehicle, has_rider, IsRowOf, HasNoRow, choice_at, is_in, times_served, IsGraphRow, HoldsRightly, IsStartOf}
+use Rattle.plan_rules.proofs.Common.{list_any, IsStrictlyIncreasing, cases_lt, cases_Bool, or_cases, both_ways, list_any_at, get_or_read, count_below, TripRow, Graph, no_row, row_at, riders_at, row_vehicle, has_rider, IsRowOf, HasNoRow, choice_at, is_in, times_served, IsGraphRow, HoldsRightly, IsStartOf, nat_tests, false_from_ne_true}
 use Rattle.plan_rules.proofs.lemmas.SumLemmas.{flag, flag-true, flag-false, count_below_more, count_below_none, count_below_some, count_below_found}
 
 -- ---- lists of riders
@@ -20,35 +20,23 @@ tail_rises x xs h k l =
 
 below_tail : (x : ℕ) (xs : List ℕ) → IsStrictlyIncreasing (x ∷ xs) → IsBelow x xs
 below_tail x [] h r e = absurd (both_ways false refl e)
-below_tail x (y ∷ ys) h r e =
-    let first : x < y = h 0 (omega arith) in
-    ⊎_elim
-    (λ (here : (y == r) ≡ true). let same : y ≡ r = eqb-true y r here in omega arith)
-    (λ (later : has ys r ≡ true). let above : y < r = below_tail y ys (tail_rises x (y ∷ ys) h) r later in omega arith)
-    (or_cases (y == r) (has ys r) e)
+below_tail x (y ∷ ys) h r e = grind (arith, nat_tests, h 0 (omega arith), below_tail y ys (tail_rises x (y ∷ ys) h) r)
 
 -- the first of rising riders stands nowhere else
 pub head_apart : (x : ℕ) (xs : List ℕ) (r : ℕ) → IsStrictlyIncreasing (x ∷ xs) → (x == r) ≡ true → has xs r ≡ true → ⊥
-head_apart x xs r h here later =
-    let same : x ≡ r = eqb-true x r here in
-    let above : x < r = below_tail x xs h r later in
-    omega arith
+head_apart x xs r h here later = grind (arith, nat_tests, below_tail x xs h r later)
 
 -- what holds of each number at its place holds of each in the list
 pub has_below : (n : ℕ) (xs : List ℕ) (r : ℕ) → ((i : ℕ) → i < length xs → get_or xs i 0 < n) → has xs r ≡ true → r < n
 has_below n [] r h e = absurd (both_ways false refl e)
-has_below n (x ∷ xs) r h e =
-    ⊎_elim
-    (λ (here : (x == r) ≡ true). let same : x ≡ r = eqb-true x r here in let low : x < n = h 0 (omega arith) in omega arith)
-    (λ (later : has xs r ≡ true). has_below n xs r (λ i l. h (suc i) (omega arith)) later)
-    (or_cases (x == r) (has xs r) e)
+has_below n (x ∷ xs) r h e = grind (arith, nat_tests, h 0 (omega arith), has_below n xs r (λ i l. h (suc i) (omega arith)))
 
 pub has_at : (xs : List ℕ) (i : ℕ) → i < length xs → has xs (get_or xs i 0) ≡ true
 has_at xs i l = list_any_at (λ x. x == get_or xs i 0) xs i 0 l (eq-eqb (get_or xs i 0) (get_or xs i 0) refl)
 
 -- a rider of a row is one of the graph's
 pub rider_below : (g : Graph) (k r : ℕ) → IsGraphRow g.vehicles g.riders (row_at g k) → has_rider g k r ≡ true → r < g.riders
-rider_below g k r row e = has_below g.riders (riders_at g k) r row.members.below e
+rider_below g k r row e = has_below g.riders (riders_at g k) r row.below e
 
 -- ---- how often a rider is served
 
@@ -82,14 +70,8 @@ pub times_served_outside : (g : Graph) (chosen : List (Option ℕ)) (n r : ℕ) 
 unfolding times_served
 times_served_outside g chosen n r rows fits out =
     count_below_none n (λ v. is_in g (choice_at chosen v) r)
-    (λ v l. nobody v l (is_in g (choice_at chosen v) r) refl)
-  where
-    nobody : (v : ℕ) → v < n → (b : Bool) → is_in g (choice_at chosen v) r ≡ b → is_in g (choice_at chosen v) r ≡ false
-    nobody v l false e = e
-    nobody v l true e =
-        let w = in_choice g (choice_at chosen v) r e in
-        let low : r < g.riders = rider_below g (w.0) r (rows (w.0) (fits v (w.0) l (w.1))) (w.2) in
-        absurd (omega arith)
+    (λ v l. false_from_ne_true (is_in g (choice_at chosen v) r)
+    (λ e. let w = in_choice g (choice_at chosen v) r e in let low = rider_below g (w.0) r (rows (w.0) (fits v (w.0) l (w.1))) (w.2) in omega (arith, low, out)))
 
 -- ---- rows of vehicles
 
@@ -101,12 +83,7 @@ row_between g v k start next first second low high =
     record { within = omega (arith, second.within); own = omega arith }
 
 pub between_row : (g : Graph) (v k start next : ℕ) → IsStartOf g v start → IsStartOf g (v + 1) next → IsRowOf g v k → (start ≤ k) × (k < next)
-between_row g v k start next first second row =
-    let within : k < length g.rows = row.within in
-    let own : row_vehicle g k ≡ v = row.own in (
-      ⊎_elim (λ (low : k < start). let wrong : row_vehicle g k < v = first.below k low in absurd (omega arith)) (λ (yes : start ≤ k). yes) (cases_lt k start),
-      ⊎_elim (λ (yes : k < next). yes) (λ (high : next ≤ k). let wrong : v + 1 ≤ row_vehicle g k = second.above k high within in absurd (omega arith)) (cases_lt k next),
-    )
+between_row g v k start next first second row = (grind (arith, first.below k, row.own), grind (arith, second.above k, row.own, row.within))
 
 pub no_row_between : (g : Graph) (v start : ℕ) → IsStartOf g v start → IsStartOf g (v + 1) start → HasNoRow g v
 no_row_between g v start first second k row =
@@ -116,17 +93,7 @@ no_row_between g v start first second k row =
 -- where a vehicle has no row, its rows start where they end
 pub starts_meet : (g : Graph) (v start next : ℕ) → IsStartOf g v start → IsStartOf g (v + 1) next → HasNoRow g v → start ≡ next
 starts_meet g v start next first second none =
-    ⊎_elim
-    (λ (some : start < next). absurd (none start (row_between g v start start next first second (omega arith) some)))
-    (λ (high : next ≤ start).
-    ⊎_elim
-    (λ (cross : next < start).
-    let below : row_vehicle g next < v = first.below next cross in
-    let above : v + 1 ≤ row_vehicle g next = second.above next (omega arith) (omega (arith, first.within)) in
-    absurd (omega arith))
-    (λ (low : start ≤ next). omega arith)
-    (cases_lt next start))
-    (cases_lt start next)
+    grind (arith, λ (some : start < next). none start (row_between g v start start next first second (omega arith) some), first.below next, second.above next, first.within)
 
 -- ---- held rows
 
@@ -134,18 +101,8 @@ starts_meet g v start next first second none =
 pub held_once : (g : Graph) (n r : ℕ) → n ≤ g.vehicles → ((v : ℕ) → v < n → HoldsRightly g v) → times_served g g.held n r ≤ 1
 held_once g zero r low holds = omega (arith, times_served_none g g.held r)
 held_once g (suc n) r low holds =
-    let more : times_served g g.held (n + 1) r ≡ times_served g g.held n r + flag (is_in g (choice_at g.held n) r) = times_served_more g g.held n r in
-    let same : times_served g g.held (suc n) r ≡ times_served g g.held (n + 1) r = ap (λ (m : ℕ). times_served g g.held m r) (sym (add-one n)) in
-    let before : times_served g g.held n r ≤ 1 = held_once g n r (omega arith) (λ v l. holds v (omega arith)) in
-    ⊎_elim
-    (λ (yes : is_in g (choice_at g.held n) r ≡ true).
-    let counted : flag (is_in g (choice_at g.held n) r) ≡ 1 = flag-true _ yes in
-    let alone : times_served g g.held n r ≡ 0 = alone_at (choice_at g.held n) (holds n (omega arith)) yes in
-    omega arith)
-    (λ (no : is_in g (choice_at g.held n) r ≡ false).
-    let counted : flag (is_in g (choice_at g.held n) r) ≡ 0 = flag-false _ no in
-    omega arith)
-    (cases_Bool (is_in g (choice_at g.held n) r))
+    let more : times_served g g.held (suc n) r ≡ times_served g g.held n r + flag (is_in g (choice_at g.held n) r) = ap (λ (m : ℕ). times_served g g.held m r) (sym (add-one n)) ∙ times_served_more g g.held n r in
+    grind (arith, more, held_once g n r (omega arith) (λ v l. holds v (omega arith)), alone_at (choice_at g.held n) (holds n (omega arith)))
   where
     alone_at : (c : Option ℕ) → MatchOption c (HasNoRow g n) (λ k. IsRowOf g n k × ((r : ℕ) → IsTrue (has_rider g k r) → times_served g g.held n r ≡ 0)) → is_in g c r ≡ true → times_served g g.held n r ≡ 0
     alone_at None h e = absurd (both_ways false refl e)

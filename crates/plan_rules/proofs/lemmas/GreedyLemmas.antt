@@ -10,30 +10,11 @@ use Rattle.plan_rules.proofs.lemmas.MarkLemmas.{any_marked, marked_one}
 rank_order : (a b x y j k : ℕ) → a ≤ 6 → b ≤ 6 → x ≤ 1000000000 → y ≤ 1000000000 → j < 2000000 → k < 2000000 → (j ≡ k → ⊥) → rank_value a x j ≤ rank_value b y k
     → (b < a) ⊎ ((a ≡ b) × ((x < y) ⊎ ((x ≡ y) × (j < k))))
 unfolding rank_value
-rank_order a b x y j k la lb lx ly lj lk ne low =
-    ⊎_elim
-    (λ (larger : b < a). inl larger)
-    (λ (smaller : a ≤ b).
-    ⊎_elim
-    (λ (same : a ≡ b).
-    inr (
-      same,
-      ⊎_elim
-          (λ (cheaper : x < y). inl cheaper)
-          (λ (dearer : y ≤ x).
-          ⊎_elim
-          (λ (alike : x ≡ y). inr (alike, omega arith))
-          (λ (differs : x ≡ y → ⊥). absurd (omega arith))
-          (cases_eq x y))
-          (cases_lt x y),
-    ))
-    (λ (differs : a ≡ b → ⊥). absurd (omega arith))
-    (cases_eq a b))
-    (cases_lt b a)
+rank_order a b x y j k la lb lx ly lj lk ne low = grind arith
 
 pub rank_before : (g : Graph) (j k : ℕ) → IsGoodGraph g → j < length g.rows → k < length g.rows → (j ≡ k → ⊥) → rank_of g j ≤ rank_of g k → IsTriedBefore g j k
 rank_before g j k good lj lk ne low =
-    let few = good.limits.rows in
+    let few = good.few in
     rank_order (length (riders_at g j)) (length (riders_at g k)) (cost_at g j) (cost_at g k) j k
     (good.rows j lj).few (good.rows k lk).few (good.rows j lj).cheap (good.rows k lk).cheap
     (omega (arith, few, lj)) (omega (arith, few, lk)) ne low
@@ -50,7 +31,7 @@ IsOfRow g rank = (rank.2 < length g.rows) × (rank ≡ parts_of g rank.2)
 pub in_order : (g : Graph) (s t : ℕ × ℕ × ℕ) → IsGoodGraph g → IsOfRow g s → IsOfRow g t → is_lt (ordering_then (ordering_then (nat_cmp t.0 s.0) (nat_cmp t.1 s.1)) (nat_cmp t.2 s.2)) ≡ false → rank_of g s.2 ≤ rank_of g t.2
 unfolding rank_value
 in_order g s t good first second e =
-    let few = good.limits.rows in
+    let few = good.few in
     let cheap : cost_at g s.2 ≤ 1000000000 = (good.rows s.2 first.0).cheap in
     let a : s.0 ≡ 6 - length (riders_at g s.2) = ap (λ (p : ℕ × ℕ × ℕ). p.0) first.1 in
     let x : s.1 ≡ cost_at g s.2 = ap (λ (p : ℕ × ℕ × ℕ). p.1) first.1 in
@@ -61,9 +42,7 @@ in_order g s t good first second e =
     omega arith
   where
     ordered : (a x j b y k : ℕ) → x ≤ 1000000000 → j < 2000000 → ((a < b) ⊎ ((a ≡ b) × ((x < y) ⊎ ((x ≡ y) × (j ≤ k))))) → (a * 1000000001 + x) * 2000000 + j ≤ (b * 1000000001 + y) * 2000000 + k
-    ordered a x j b y k lx lj (inl larger) = omega (arith, larger)
-    ordered a x j b y k lx lj (inr (same, inl dearer)) = omega (arith, same, dearer)
-    ordered a x j b y k lx lj (inr (same, inr (alike, later))) = omega (arith, same, alike, later)
+    ordered a x j b y k lx lj h = omega (arith, h)
 
 pub of_rows : (g : Graph) (ranks : List (ℕ × ℕ × ℕ)) → AreRanks g ranks → All (IsOfRow g) ranks
 of_rows g ranks are k d l =
@@ -101,15 +80,10 @@ module _ (g : Graph) (chosen : List (Option ℕ)) (served : List Bool) (row : �
 
   -- a row that is taken is apart from one with no marked rider
   pub new_apart : (list_any (λ r. get_or served r false) (riders_at g row) ≡ false) → (j : ℕ) → j < length g.rows → IsTaken g chosen j → IsApart g j row
-  new_apart unmarked j low taken = record {
-    vehicles = other_vehicle j taken;
-    riders = λ r a b.
-        let marked : get_or served r false ≡ true = selection.serves j r low taken a in
-        both_ways _ unmarked (any_marked served (riders_at g row) r b marked);
-  }
+  new_apart unmarked j low taken = (other_vehicle j taken, λ r a b. both_ways _ unmarked (any_marked served (riders_at g row) r b (selection.serves j r low taken a)))
 
   flip : (j : ℕ) → IsApart g j row → IsApart g row j
-  flip j apart = record { vehicles = λ e. apart.vehicles (sym e); riders = λ r a b. apart.riders r b a }
+  flip j apart = (λ e. apart.0 (sym e), λ r a b. apart.1 r b a)
 
   pub selection_more : (list_any (λ r. get_or served r false) (riders_at g row) ≡ false) → (marks : List Bool) → length marks ≡ length served
       → ((r : ℕ) → r < length served → get_or marks r false ≡ (get_or served r false || has_rider g row r))
@@ -169,14 +143,14 @@ way_by_vehicle g chosen served row k good within selection e =
       other = k;
       within = own.within;
       taken = ap (choice_at chosen) own.own ∙ e;
-      conflict = λ apart. apart.vehicles own.own;
+      conflict = λ apart. apart.0 own.own;
     }
 
 pub way_by_rider : (g : Graph) (chosen : List (Option ℕ)) (served : List Bool) (row : ℕ) → IsSelection g chosen served → list_any (λ r. get_or served r false) (riders_at g row) ≡ true → IsInTheWay g chosen row
 way_by_rider g chosen served row selection e =
     let r = marked_one served (riders_at g row) e in
     let j = selection.served_by (r.0) (r.2) in
-    record { other = j.0; within = j.1; taken = j.2; conflict = λ apart. apart.riders (r.0) (j.3) (r.1) }
+    record { other = j.0; within = j.1; taken = j.2; conflict = λ apart. apart.1 (r.0) (j.3) (r.1) }
 
 -- ---- the whole ranking
 
@@ -186,8 +160,7 @@ pub greedy_from : (g : Graph) (chosen : List (Option ℕ)) (served : List Bool) 
 greedy_from g chosen served good selection settled = record {
   sized = selection.sized;
   own = selection.own;
-  apart = λ j k lj lk before a b. selection.apart j k lj lk (λ (e : j ≡ k). not_before_itself g j k e before) a b;
-  taken = settled;
+  taken = λ k l. (λ b j lj before a. selection.apart j k lj l (λ (e : j ≡ k). not_before_itself g j k e before) a b, settled k l);
 }
   where
     not_before_itself : (g : Graph) (j k : ℕ) → j ≡ k → IsTriedBefore g j k → ⊥

@@ -1,6 +1,6 @@
 -- Marks of the riders whom vehicles hold.
 use Rattle.std.proofs.Common.{◌≡◌, ◌||◌, ℕ, ◌+◌, ◌<◌, ◌≤◌, Bool, true, false, IsTrue, List, get_or, nat_lt, Option, MatchOption, refl, sym, ap, ◌∙◌, subst, ⊎_elim, arith, ltb-true, ltb-false, lt-ltb}
-use Rattle.plan_rules.proofs.Common.{list_any, cases_eq, cases_Bool, both_ways, Graph, row_at, riders_at, has_rider, IsRowOf, HasNoRow, choice_at, times_served, IsGraphRow, HoldsRightly, MarksServed}
+use Rattle.plan_rules.proofs.Common.{list_any, cases_eq, cases_Bool, both_ways, Graph, row_at, riders_at, has_rider, IsRowOf, HasNoRow, choice_at, times_served, IsGraphRow, HoldsRightly, MarksServed, nat_tests}
 use Rattle.plan_rules.proofs.lemmas.SumLemmas.{flag}
 use Rattle.plan_rules.proofs.lemmas.GraphLemmas.{rider_below}
 use Rattle.plan_rules.proofs.lemmas.MarkLemmas.{any_marked, marked_one}
@@ -13,19 +13,7 @@ holds_more g n before here v l =
     (cases_eq v n)
 
 pub or_flag : (n : ℕ) (b : Bool) → (nat_lt 0 n || b) ≡ nat_lt 0 (n + flag b)
-or_flag n true = last (nat_lt 0 n) ∙ sym (lt-ltb 0 (n + 1) (omega arith))
-  where
-    last : (a : Bool) → (a || true) ≡ true
-    last true = refl
-    last false = refl
-or_flag n false = same (nat_lt 0 n) ∙ ap (nat_lt 0) (plus n)
-  where
-    same : (a : Bool) → (a || false) ≡ a
-    same true = refl
-    same false = refl
-
-    plus : (m : ℕ) → m ≡ m + 0
-    plus m = omega arith
+or_flag n b = grind (arith, nat_tests)
 
 -- no rider of the row is in an earlier vehicle's, where none is marked
 pub unmarked_apart : (g : Graph) (chosen : List (Option ℕ)) (n k : ℕ) (marks : List Bool) → MarksServed g chosen n marks → IsGraphRow g.vehicles g.riders (row_at g k) → list_any (λ q. get_or marks q false) (riders_at g k) ≡ false → (r : ℕ) → has_rider g k r ≡ true → times_served g chosen n r ≡ 0
@@ -42,10 +30,7 @@ unmarked_apart g chosen n k marks before row none r e =
 pub marked_held : (g : Graph) (chosen : List (Option ℕ)) (n k : ℕ) (marks : List Bool) → MarksServed g chosen n marks → IsGraphRow g.vehicles g.riders (row_at g k) → list_any (λ q. get_or marks q false) (riders_at g k) ≡ true → ((r : ℕ) → has_rider g k r ≡ true → times_served g chosen n r ≡ 0) → ⊥
 marked_held g chosen n k marks before row some apart =
     let w = marked_one marks (riders_at g k) some in
-    let low : w.0 < g.riders = rider_below g k (w.0) row (w.1) in
-    let none : times_served g chosen n (w.0) ≡ 0 = apart (w.0) (w.1) in
-    let held : 0 < times_served g chosen n (w.0) = ltb-true 0 (times_served g chosen n (w.0)) (sym (before.marks (w.0) low) ∙ w.2) in
-    omega arith
+    grind (arith, nat_tests, apart (w.0) (w.1), w.2, before.marks (w.0) (rider_below g k (w.0) row (w.1)))
 
 -- what a vehicle holds, seen from its choice
 pub holds_at : (g : Graph) (n : ℕ) (c : Option ℕ) → choice_at g.held n ≡ c → MatchOption c (HasNoRow g n) (λ k. IsRowOf g n k × ((r : ℕ) → IsTrue (has_rider g k r) → times_served g g.held n r ≡ 0)) → HoldsRightly g n

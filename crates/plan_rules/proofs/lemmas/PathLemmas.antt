@@ -1,6 +1,8 @@
 -- Decisions along a tree.
-use Rattle.std.proofs.Common.{◌≡◌, ◌==◌, ◌&&◌, ◌||◌, not, ℕ, zero, suc, ◌+◌, ◌-◌, ◌<◌, ◌≤◌, Bool, true, false, List, [], ◌∷◌, ◌++◌, length, get_or, take, set, refl, sym, ap, ◌∙◌, ⊎_elim, eq-eqb, ne_eqb, arith}
-use Rattle.plan_rules.proofs.Common.{cases_eq, and_right, cond-true, cond-false, take_more, set_at, get_or_default, fold_more, fold_push, Graph, row_vehicle, only_row, without_row, Standing, root, decided, standing_of, Decision}
+use Rattle.std.proofs.Common.{◌≡◌, ◌==◌, ◌&&◌, ◌||◌, not, ℕ, zero, suc, ◌+◌, ◌-◌, ◌<◌, ◌≤◌, Bool, true, false, List, [], ◌∷◌, ◌++◌, length, get_or, take, set, refl, sym, ap, ◌∙◌, subst, ⊎_elim, eq-eqb, ne_eqb, arith}
+use Rattle.plan_rules.proofs.Common.{cases_eq, and_right, cond-true, cond-false, take_more, set_at, get_or_default, fold_more, fold_push, Graph, row_vehicle, IsRowOf, every_row, only_row, without_row, coming_after, Standing, root, decided, standing_of, Decision, Branch}
+use Rattle.plan_rules.specs.Path.{IsPathOf}
+use Rattle.std.proofs.lemmas.List.Elements.{All-push}
 use Rattle.std.proofs.lemmas.List.{take_all, length-take-le, get_or-take, get_or-set_same, get_or-set_other}
 
 pub standing_start : (g : Graph) → standing_of g [] ≡ root
@@ -15,18 +17,12 @@ pub standing_more : (g : Graph) (path : List Decision) (i : ℕ) (d : Decision) 
 unfolding standing_of
 standing_more g path i d l = fold_more (decided g) root path i d l
 
-coming_without : (g : Graph) (s : Standing) (d : Decision) → d.alone ≡ false → (decided g s d).coming ≡ s.coming
-coming_without g s d e =
-    let first : Standing = record { usable = only_row g s.usable d.vehicle d.row; coming = without_row s.usable d.row ∷ s.coming } in
-    let second : Standing = record { usable = without_row s.usable d.row; coming = s.coming } in
-    ap (λ (t : Standing). t.coming) (cond-false d.alone first second e)
+pub coming_without : (g : Graph) (s : Standing) (d : Decision) → d.alone ≡ false → (decided g s d).coming ≡ s.coming
+coming_without g s d e = rw e refl
 
 -- to leave decisions that aren't alone leaves the same subtrees to come
 pub coming_kept : (g : Graph) (path : List Decision) (low n : ℕ) → low + n ≤ length path → ((k : ℕ) (d : Decision) → low ≤ k → k < length path → (get_or path k d).alone ≡ false) → (standing_of g (take (low + n) path)).coming ≡ (standing_of g (take low path)).coming
-coming_kept g path low zero l h = ap (λ (m : ℕ). (standing_of g (take m path)).coming) (plus_zero low)
-  where
-    plus_zero : (m : ℕ) → m + 0 ≡ m
-    plus_zero m = omega arith
+coming_kept g path low zero l h = let e : low + zero ≡ low = omega arith in ap (λ (m : ℕ). (standing_of g (take m path)).coming) e
 coming_kept g path low (suc n) l h =
     let d : Decision = record { vehicle = 0; row = 0; alone = false } in
     let e : low + suc n ≡ (low + n) + 1 = omega arith in
@@ -37,16 +33,25 @@ coming_kept g path low (suc n) l h =
 
 -- what a decision leaves usable
 pub usable_alone : (g : Graph) (s : Standing) (d : Decision) (k : ℕ) → d.alone ≡ true → (decided g s d).usable k ≡ (s.usable k && (not (row_vehicle g k == d.vehicle) || k == d.row))
-usable_alone g s d k e =
-    let first : Standing = record { usable = only_row g s.usable d.vehicle d.row; coming = without_row s.usable d.row ∷ s.coming } in
-    let second : Standing = record { usable = without_row s.usable d.row; coming = s.coming } in
-    ap (λ (t : Standing). t.usable k) (cond-true d.alone first second e)
+usable_alone g s d k e = rw e refl
 
 pub usable_without : (g : Graph) (s : Standing) (d : Decision) (k : ℕ) → d.alone ≡ false → (decided g s d).usable k ≡ (s.usable k && not (k == d.row))
-usable_without g s d k e =
-    let first : Standing = record { usable = only_row g s.usable d.vehicle d.row; coming = without_row s.usable d.row ∷ s.coming } in
-    let second : Standing = record { usable = without_row s.usable d.row; coming = s.coming } in
-    ap (λ (t : Standing). t.usable k) (cond-false d.alone first second e)
+usable_without g s d k e = rw e refl
+
+-- what is to come at the first subtree of a branch
+pub coming_entered : (g : Graph) (old new : List Decision) (v k : ℕ) → new ≡ old ++ record { vehicle = v; row = k; alone = true } ∷ [] → (standing_of g new).usable ∷ (standing_of g new).coming ≡ coming_after g (standing_of g old).usable (Branch v k) (standing_of g old).coming
+coming_entered g old new v k e =
+    ap (λ (p : List Decision). (standing_of g p).usable ∷ (standing_of g p).coming) e
+    ∙ ap (λ (s : Standing). s.usable ∷ s.coming) (standing_push g old (record { vehicle = v; row = k; alone = true }))
+
+pub coming_start : (g : Graph) (path : List Decision) → path ≡ [] → (every_row ∷ []) ≡ (standing_of g path).usable ∷ (standing_of g path).coming
+coming_start g path e = sym (ap (λ (p : List Decision). (standing_of g p).usable ∷ (standing_of g p).coming) e ∙ ap (λ (s : Standing). s.usable ∷ s.coming) (standing_start g))
+
+pub path_none : (g : Graph) (path : List Decision) → path ≡ [] → IsPathOf g path
+path_none g path e = subst (IsPathOf g) (sym e) (λ k d l. absurd (omega (arith, l)))
+
+pub path_push : (g : Graph) (path : List Decision) (e : Decision) → IsPathOf g path → (e.vehicle < g.vehicles) × IsRowOf g e.vehicle e.row → IsPathOf g (path ++ e ∷ [])
+path_push g path e before here = All-push (λ (d : Decision). (d.vehicle < g.vehicles) × IsRowOf g d.vehicle d.row) path e before here
 
 pub coming_left : (g : Graph) (path : List Decision) (depth : ℕ) → depth ≤ length path → ((k : ℕ) (d : Decision) → depth ≤ k → k < length path → (get_or path k d).alone ≡ false) → (standing_of g path).coming ≡ (standing_of g (take depth path)).coming
 coming_left g path depth l h =

@@ -1,6 +1,6 @@
 -- Plans: the held one is lawful; choices name rows.
 use Rattle.std.proofs.Common.{◌≡◌, ◌⊎◌, ℕ, ◌<◌, ◌≤◌, true, IsTrue, List, length, Option, Some, None, MatchOption, refl, sym, ◌∙◌, subst, inl, inr, arith, ltb-true}
-use Rattle.plan_rules.proofs.Common.{none-some, same_Some, cases_lt, get_or_past, Graph, has_rider, IsRowOf, HasNoRow, choice_at, times_served, must_be_served, IsGoodGraph, IsPlan, IsLawful, times_chosen}
+use Rattle.plan_rules.proofs.Common.{none-some, same_Some, cases_lt, get_or_past, Graph, has_rider, IsRowOf, HasNoRow, choice_at, times_served, must_be_served, IsGoodGraph, HoldsRightly, IsPlan, IsLawful, times_chosen}
 use Rattle.plan_rules.specs.lemmas.Graph.{ChoosesRows}
 use Rattle.plan_rules.proofs.lemmas.GraphLemmas.{held_once, in_choice, rider_below, times_served_found, times_served_outside}
 
@@ -26,30 +26,28 @@ plan_rows g chosen plan v k e = by_cases (cases_lt v (length chosen))
       | inr high ↦ absurd (none-some k (sym (get_or_past chosen v None high) ∙ e))
     ]
 
--- the held plan gives each vehicle one of its rows
-pub held_own : (g : Graph) (v : ℕ) (c : Option ℕ) → MatchOption c (HasNoRow g v) (λ k. IsRowOf g v k × ((r : ℕ) → IsTrue (has_rider g k r) → times_served g g.held v r ≡ 0)) → MatchOption c (HasNoRow g v) (IsRowOf g v)
-held_own g v None h = h
-held_own g v (Some k) h = h.0
-
 -- a rider who must be served is one of the graph's
 pub must_below : (g : Graph) (r : ℕ) → IsGoodGraph g → must_be_served g r ≡ true → r < g.riders
 must_below g r good must =
     let some : 0 < times_served g g.held g.vehicles r = ltb-true 0 (times_served g g.held g.vehicles r) must in
     let v = times_served_found g g.held g.vehicles r some in
     let k = in_choice g (choice_at g.held (v.0)) r (v.2) in
-    let own = own_row g (v.0) (k.0) (choice_at g.held (v.0)) (held_own g (v.0) (choice_at g.held (v.0)) (good.holds (v.0) (v.1))) (k.1) in
-    rider_below g (k.0) r (good.rows (k.0) own.within) (k.2)
+    rider_below g (k.0) r (good.rows (k.0) (plan_choice g g.held (v.0) (k.0) good.held.plan (v.1) (k.1)).within) (k.2)
 
--- the held plan is lawful
-pub held_is_lawful : (g : Graph) → IsGoodGraph g → IsLawful g g.held
-held_is_lawful g good = record {
-  plan = record { sized = good.sized; own = λ v l. held_own g v (choice_at g.held v) (good.holds v l) };
-  once = λ r. held_once g g.vehicles r (omega arith) good.holds;
+-- where each vehicle holds rightly, the held plan is lawful
+pub held_lawful : (g : Graph) → length g.held ≡ g.vehicles → ((v : ℕ) → v < g.vehicles → HoldsRightly g v) → IsLawful g g.held
+held_lawful g sized holds = record {
+  plan = record { sized = sized; own = λ v l. held_own v (choice_at g.held v) (holds v l) };
+  once = λ r. held_once g g.vehicles r (omega arith) holds;
   kept = λ r must.
       let some : 0 < times_served g g.held g.vehicles r = ltb-true 0 (times_served g g.held g.vehicles r) must in
-      let once : times_served g g.held g.vehicles r ≤ 1 = held_once g g.vehicles r (omega arith) good.holds in
+      let once : times_served g g.held g.vehicles r ≤ 1 = held_once g g.vehicles r (omega arith) holds in
       omega arith;
 }
+  where
+    held_own : (v : ℕ) (c : Option ℕ) → MatchOption c (HasNoRow g v) (λ k. IsRowOf g v k × ((r : ℕ) → IsTrue (has_rider g k r) → times_served g g.held v r ≡ 0)) → MatchOption c (HasNoRow g v) (IsRowOf g v)
+    held_own v None h = h
+    held_own v (Some k) h = h.0
 
 -- a plan is lawful where it serves each of the graph's riders as it must
 pub lawful_from : (g : Graph) (chosen : List (Option ℕ)) → IsGoodGraph g → IsPlan g chosen → ((r : ℕ) → r < g.riders → times_chosen g chosen r ≤ 1) → ((r : ℕ) → r < g.riders → IsTrue (must_be_served g r) → times_chosen g chosen r ≡ 1) → IsLawful g chosen
@@ -64,6 +62,5 @@ lawful_from g chosen good plan once kept = record {
 
     nobody : (r : ℕ) → g.riders ≤ r → IsTrue (must_be_served g r) → ⊥
     nobody r high must =
-        let none : times_served g g.held g.vehicles r ≡ 0 = times_served_outside g g.held g.vehicles r good.rows (λ v k l e. (own_row g v k (choice_at g.held v) (held_own g v (choice_at g.held v) (good.holds v l)) e).within) high in
-        let some : 0 < times_served g g.held g.vehicles r = ltb-true 0 (times_served g g.held g.vehicles r) must in
+        let low = must_below g r good must in
         omega arith

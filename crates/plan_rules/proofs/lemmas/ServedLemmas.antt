@@ -1,6 +1,6 @@
 -- The riders whom chosen rows serve: their marks, and how many they are.
 use Rattle.std.proofs.Common.{◌≡◌, ◌==◌, ◌||◌, ℕ, zero, suc, ◌+◌, ◌<◌, ◌≤◌, Bool, true, false, List, [], ◌∷◌, length, get_or, replicate, nat_lt, Option, Some, None, refl, sym, ap, ◌∙◌, ⊎_elim, arith, ltb-true, le-ltb}
-use Rattle.plan_rules.proofs.Common.{list_any, IsStrictlyIncreasing, cases_Bool, both_ways, get_or-replicate, length-replicate, sum_below, count_below, Graph, row_at, riders_at, choice_at, is_in, times_served, IsGraphRow, IsGoodGraph, IsLawful, times_chosen, left_out, choice_size, IsServedOnce, MarksServed}
+use Rattle.plan_rules.proofs.Common.{list_any, IsStrictlyIncreasing, cases_Bool, both_ways, get_or-replicate, length-replicate, sum_below, count_below, Graph, row_at, riders_at, choice_at, is_in, times_served, IsGraphRow, IsGoodGraph, IsLawful, times_chosen, left_out, choice_size, IsServedOnce, MarksServed, nat_tests}
 use Rattle.plan_rules.proofs.lemmas.SumLemmas.{flag, flag-true, flag-false, flag-or, sum_below_same, sum_below_plus, sum_below_zero, sum_below_swap, count_below_single, count_below_two}
 use Rattle.plan_rules.proofs.lemmas.GraphLemmas.{has, tail_rises, head_apart, rider_below, times_served_more, times_served_none, times_served_found, times_served_as_count}
 use Rattle.plan_rules.proofs.lemmas.MarkLemmas.{marked_one}
@@ -47,16 +47,7 @@ served_kept g chosen n marks before none =
 
 -- where the next vehicle's riders are served by none before it, still nobody is served twice
 pub once_more : (g : Graph) (chosen : List (Option ℕ)) (n : ℕ) → IsServedOnce g chosen n → ((r : ℕ) → is_in g (choice_at chosen n) r ≡ true → times_served g chosen n r ≡ 0) → IsServedOnce g chosen (n + 1)
-once_more g chosen n before apart r =
-    let more : times_served g chosen (n + 1) r ≡ times_served g chosen n r + flag (is_in g (choice_at chosen n) r) = times_served_more g chosen n r in
-    ⊎_elim
-    (λ (yes : is_in g (choice_at chosen n) r ≡ true).
-    let counted : flag (is_in g (choice_at chosen n) r) ≡ 1 = flag-true _ yes in
-    omega (arith, apart r yes))
-    (λ (no : is_in g (choice_at chosen n) r ≡ false).
-    let counted : flag (is_in g (choice_at chosen n) r) ≡ 0 = flag-false _ no in
-    omega (arith, before r))
-    (cases_Bool (is_in g (choice_at chosen n) r))
+once_more g chosen n before apart r = grind (arith, times_served_more g chosen n r, before r, apart r)
 
 pub once_kept : (g : Graph) (chosen : List (Option ℕ)) (n : ℕ) → IsServedOnce g chosen n → choice_at chosen n ≡ None → IsServedOnce g chosen (n + 1)
 once_kept g chosen n before none =
@@ -99,13 +90,11 @@ choice_counted : (g : Graph) (c : Option ℕ) → IsGoodGraph g → ((k : ℕ) �
 choice_counted g None good fits = sym (sum_below_zero g.riders)
 choice_counted g (Some k) good fits =
     let row = good.rows k (fits k refl) in
-    rising_counted g.riders (riders_at g k) row.members.rising row.members.below
+    rising_counted g.riders (riders_at g k) row.rising row.below
 
 -- whoever is served at most once is served once or left out
 once_or_left : (n : ℕ) → n ≤ 1 → n + flag (n == 0) ≡ 1
-once_or_left zero l = refl
-once_or_left (suc zero) l = refl
-once_or_left (suc (suc n)) l = absurd (omega arith)
+once_or_left n l = grind (arith, nat_tests)
 
 -- the riders of a lawful plan's rows and those who are left out are all riders
 pub served_or_left : (g : Graph) (chosen : List (Option ℕ)) → IsGoodGraph g → IsLawful g chosen → sum_below g.vehicles (λ v. choice_size g (choice_at chosen v)) + left_out g chosen ≡ g.riders

@@ -1,6 +1,6 @@
 -- Sums, counts and least values over the numbers below n.
-use Rattle.std.proofs.Common.{◌≡◌, ◌==◌, ◌⊎◌, ℕ, zero, suc, ◌+◌, ◌*◌, ◌<◌, ◌≤◌, Bool, true, false, cond, ◌||◌, if◌then◌else◌, ltb, ℤ, pos, ◌+ℤ◌, ◌-ℤ◌, ◌≤ℤ◌, Option, Some, None, refl, sym, ap, ◌∙◌, subst, inl, inr, ⊎_elim, arith, add-one, eq-eqb, ne_eqb, lt-ltb, le-ltb, int_lt}
-use Rattle.plan_rules.proofs.Common.{same_Some, none-some, int_min, ints, int_min_is, both_ways, cases_eq, cases_Bool, cond_both, cond-true, cond-false, and_parts, and_from, and_left, and_right, sum_below, count_below, all_below, int_sum_below, lesser, least_below}
+use Rattle.std.proofs.Common.{◌≡◌, ◌==◌, ◌⊎◌, ℕ, zero, suc, ◌+◌, ◌*◌, ◌<◌, ◌≤◌, Bool, true, false, cond, ◌||◌, ◌&&◌, if◌then◌else◌, ltb, ℤ, pos, ◌+ℤ◌, ◌-ℤ◌, ◌≤ℤ◌, Option, Some, None, refl, sym, ap, ◌∙◌, subst, inl, inr, ⊎_elim, arith, add-one, eq-eqb, ne_eqb, lt-ltb, le-ltb, int_lt}
+use Rattle.plan_rules.proofs.Common.{same_Some, none-some, int_min, ints, int_min_is, nat_tests, both_ways, cases_eq, cases_Bool, cond_both, cond-true, cond-false, and_parts, and_from, and_left, and_right, sum_below, count_below, all_below, int_sum_below, lesser, least_below}
 
 -- ---- sums of naturals
 
@@ -9,10 +9,7 @@ sum_below_more n f = rw add-one refl
 
 pub sum_below_same : (n : ℕ) (f h : ℕ → ℕ) → ((k : ℕ) → k < n → f k ≡ h k) → sum_below n f ≡ sum_below n h
 sum_below_same zero f h e = refl
-sum_below_same (suc n) f h e =
-    let rest : sum_below n f ≡ sum_below n h = sum_below_same n f h (λ k l. e k (omega arith)) in
-    let last : f n ≡ h n = e n (omega arith) in
-    omega arith
+sum_below_same (suc n) f h e = omega (arith, sum_below_same n f h (λ k l. e k (omega arith)), e n (omega arith))
 
 pub sum_below_plus : (n : ℕ) (f h : ℕ → ℕ) → sum_below n (λ k. f k + h k) ≡ sum_below n f + sum_below n h
 sum_below_plus zero f h = refl
@@ -28,10 +25,7 @@ sum_below_zero (suc n) = omega (arith, sum_below_zero n)
 
 pub sum_below_swap : (n m : ℕ) (f : ℕ → ℕ → ℕ) → sum_below n (λ v. sum_below m (f v)) ≡ sum_below m (λ r. sum_below n (λ v. f v r))
 sum_below_swap zero m f = sym (sum_below_zero m)
-sum_below_swap (suc n) m f =
-    let rest : sum_below n (λ v. sum_below m (f v)) ≡ sum_below m (λ r. sum_below n (λ v. f v r)) = sum_below_swap n m f in
-    let both : sum_below m (λ r. sum_below n (λ v. f v r) + f n r) ≡ sum_below m (λ r. sum_below n (λ v. f v r)) + sum_below m (f n) = sum_below_plus m (λ r. sum_below n (λ v. f v r)) (f n) in
-    omega arith
+sum_below_swap (suc n) m f = omega (arith, sum_below_swap n m f, sum_below_plus m (λ r. sum_below n (λ v. f v r)) (f n))
 
 -- ---- counts
 
@@ -61,51 +55,23 @@ count_below_same n p q e =
 -- where none passes, none is counted
 pub count_below_none : (n : ℕ) (p : ℕ → Bool) → ((k : ℕ) → k < n → p k ≡ false) → count_below n p ≡ 0
 count_below_none zero p e = refl
-count_below_none (suc n) p e =
-    let rest : count_below n p ≡ 0 = count_below_none n p (λ k l. e k (omega arith)) in
-    let last : flag (p n) ≡ 0 = flag-false (p n) (e n (omega arith)) in
-    omega arith
+count_below_none (suc n) p e = omega (arith, count_below_none n p (λ k l. e k (omega arith)), flag-false (p n) (e n (omega arith)))
 
 -- a number below n is counted once
 pub count_below_single : (n x : ℕ) → x < n → count_below n (λ r. x == r) ≡ 1
 count_below_single zero x l = absurd (omega arith)
 count_below_single (suc n) x l =
-    ⊎_elim
-    (λ (here : x ≡ n).
-    let none : count_below n (λ r. x == r) ≡ 0 = count_below_none n (λ r. x == r) (λ k low. ne_eqb x k (λ (e : x ≡ k). omega arith)) in
-    let last : flag (x == n) ≡ 1 = flag-true (x == n) (eq-eqb x n here) in
-    omega arith)
-    (λ (other : x ≡ n → ⊥).
-    let rest : count_below n (λ r. x == r) ≡ 1 = count_below_single n x (omega arith) in
-    let last : flag (x == n) ≡ 0 = flag-false (x == n) (ne_eqb x n other) in
-    omega arith)
-    (cases_eq x n)
+    grind (arith, nat_tests, count_below_single n x, λ (here : x ≡ n). count_below_none n (λ r. x == r) (λ k low. ne_eqb x k (λ e. omega arith)))
 
 -- one that passes is counted
 pub count_below_some : (n : ℕ) (p : ℕ → Bool) (k : ℕ) → k < n → p k ≡ true → 1 ≤ count_below n p
 count_below_some zero p k l e = absurd (omega arith)
-count_below_some (suc n) p k l e =
-    ⊎_elim
-    (λ (here : k ≡ n). let last : flag (p n) ≡ 1 = flag-true (p n) (subst (λ (j : ℕ). p j ≡ true) here e) in omega arith)
-    (λ (other : k ≡ n → ⊥). omega (arith, count_below_some n p k (omega arith) e))
-    (cases_eq k n)
+count_below_some (suc n) p k l e = grind (arith, count_below_some n p k)
 
 -- two that pass are counted twice
 pub count_below_two : (n : ℕ) (p : ℕ → Bool) (j k : ℕ) → j < n → k < n → (j ≡ k → ⊥) → p j ≡ true → p k ≡ true → 2 ≤ count_below n p
 count_below_two zero p j k a b d e f = absurd (omega arith)
-count_below_two (suc n) p j k a b d e f =
-    ⊎_elim
-    (λ (here : j ≡ n).
-    let last : flag (p n) ≡ 1 = flag-true (p n) (subst (λ (i : ℕ). p i ≡ true) here e) in
-    omega (arith, count_below_some n p k (omega arith) f))
-    (λ (other : j ≡ n → ⊥).
-    ⊎_elim
-    (λ (there : k ≡ n).
-    let last : flag (p n) ≡ 1 = flag-true (p n) (subst (λ (i : ℕ). p i ≡ true) there f) in
-    omega (arith, count_below_some n p j (omega arith) e))
-    (λ (apart : k ≡ n → ⊥). omega (arith, count_below_two n p j k (omega arith) (omega arith) d e f))
-    (cases_eq k n))
-    (cases_eq j n)
+count_below_two (suc n) p j k a b d e f = grind (arith, count_below_two n p j k, count_below_some n p j, count_below_some n p k)
 
 -- where something is counted, something passes
 pub count_below_found : (n : ℕ) (p : ℕ → Bool) → 1 ≤ count_below n p → (k : ℕ) × (k < n) × (p k ≡ true)
@@ -123,11 +89,7 @@ count_below_found (suc n) p h =
 
 pub all_below_at : (n : ℕ) (p : ℕ → Bool) (k : ℕ) → all_below n p ≡ true → k < n → p k ≡ true
 all_below_at zero p k e l = absurd (omega arith)
-all_below_at (suc n) p k e l =
-    ⊎_elim
-    (λ (here : k ≡ n). subst (λ (j : ℕ). p j ≡ true) (sym here) ((and_parts (all_below n p) (p n) e).1))
-    (λ (other : k ≡ n → ⊥). all_below_at n p k ((and_parts (all_below n p) (p n) e).0) (omega arith))
-    (cases_eq k n)
+all_below_at (suc n) p k e l = grind (arith, all_below_at n p k)
 
 pub all_below_from : (n : ℕ) (p : ℕ → Bool) → ((k : ℕ) → k < n → p k ≡ true) → all_below n p ≡ true
 all_below_from zero p e = refl
@@ -136,18 +98,11 @@ all_below_from (suc n) p e =
 
 pub all_below_fails : (n : ℕ) (p : ℕ → Bool) (k : ℕ) → k < n → p k ≡ false → all_below n p ≡ false
 all_below_fails zero p k l e = absurd (omega arith)
-all_below_fails (suc n) p k l e =
-    ⊎_elim
-    (λ (here : k ≡ n). and_right (all_below n p) (p n) (subst (λ (j : ℕ). p j ≡ false) here e))
-    (λ (other : k ≡ n → ⊥). and_left (all_below n p) (p n) (all_below_fails n p k (omega arith) e))
-    (cases_eq k n)
+all_below_fails (suc n) p k l e = grind (arith, all_below_fails n p k)
 
 pub all_below_same : (n : ℕ) (p q : ℕ → Bool) → ((k : ℕ) → k < n → p k ≡ q k) → all_below n p ≡ all_below n q
 all_below_same zero p q e = refl
-all_below_same (suc n) p q e =
-    let rest : all_below n p ≡ all_below n q = all_below_same n p q (λ k l. e k (omega arith)) in
-    let last : p n ≡ q n = e n (omega arith) in
-    cc
+all_below_same (suc n) p q e = λ i. all_below_same n p q (λ k l. e k (omega arith)) i && e n (omega arith) i
 
 -- ---- sums of integers
 
@@ -156,48 +111,31 @@ int_sum_more n f = rw add-one refl
 
 pub int_sum_same : (n : ℕ) (f h : ℕ → ℤ) → ((k : ℕ) → k < n → f k ≡ h k) → int_sum_below n f ≡ int_sum_below n h
 int_sum_same zero f h e = refl
-int_sum_same (suc n) f h e =
-    let rest : int_sum_below n f ≡ int_sum_below n h = int_sum_same n f h (λ k l. e k (omega arith)) in
-    let last : f n ≡ h n = e n (omega arith) in
-    cc
+int_sum_same (suc n) f h e = omega (arith, ints, int_sum_same n f h (λ k l. e k (omega arith)), e n (omega arith))
 
 pub int_sum_le : (n : ℕ) (f h : ℕ → ℤ) → ((k : ℕ) → k < n → f k ≤ℤ h k) → int_sum_below n f ≤ℤ int_sum_below n h
 int_sum_le zero f h e = omega (arith, ints)
-int_sum_le (suc n) f h e =
-    let rest : int_sum_below n f ≤ℤ int_sum_below n h = int_sum_le n f h (λ k l. e k (omega arith)) in
-    let last : f n ≤ℤ h n = e n (omega arith) in
-    omega (arith, ints)
+int_sum_le (suc n) f h e = omega (arith, ints, int_sum_le n f h (λ k l. e k (omega arith)), e n (omega arith))
 
 pub int_sum_plus : (n : ℕ) (f h : ℕ → ℤ) → int_sum_below n (λ k. f k +ℤ h k) ≡ int_sum_below n f +ℤ int_sum_below n h
 int_sum_plus zero f h = refl
-int_sum_plus (suc n) f h =
-    let rest : int_sum_below n (λ k. f k +ℤ h k) ≡ int_sum_below n f +ℤ int_sum_below n h = int_sum_plus n f h in
-    omega (arith, ints)
+int_sum_plus (suc n) f h = omega (arith, ints, int_sum_plus n f h)
 
 pub int_sum_minus : (n : ℕ) (f h : ℕ → ℤ) → int_sum_below n (λ k. f k -ℤ h k) ≡ int_sum_below n f -ℤ int_sum_below n h
 int_sum_minus zero f h = refl
-int_sum_minus (suc n) f h =
-    let rest : int_sum_below n (λ k. f k -ℤ h k) ≡ int_sum_below n f -ℤ int_sum_below n h = int_sum_minus n f h in
-    omega (arith, ints)
+int_sum_minus (suc n) f h = omega (arith, ints, int_sum_minus n f h)
 
 pub int_sum_pos : (n : ℕ) (f : ℕ → ℕ) → int_sum_below n (λ k. pos (f k)) ≡ pos (sum_below n f)
 int_sum_pos zero f = refl
-int_sum_pos (suc n) f =
-    let rest : int_sum_below n (λ k. pos (f k)) ≡ pos (sum_below n f) = int_sum_pos n f in
-    omega (arith, ints)
+int_sum_pos (suc n) f = omega (arith, ints, int_sum_pos n f)
 
 pub int_sum_zero : (n : ℕ) → int_sum_below n (λ _. pos 0) ≡ pos 0
 int_sum_zero zero = refl
-int_sum_zero (suc n) =
-    let rest : int_sum_below n (λ _. pos 0) ≡ pos 0 = int_sum_zero n in
-    omega (arith, ints)
+int_sum_zero (suc n) = omega (arith, ints, int_sum_zero n)
 
 pub int_sum_swap : (n m : ℕ) (f : ℕ → ℕ → ℤ) → int_sum_below n (λ v. int_sum_below m (f v)) ≡ int_sum_below m (λ r. int_sum_below n (λ v. f v r))
 int_sum_swap zero m f = sym (int_sum_zero m)
-int_sum_swap (suc n) m f =
-    let rest : int_sum_below n (λ v. int_sum_below m (f v)) ≡ int_sum_below m (λ r. int_sum_below n (λ v. f v r)) = int_sum_swap n m f in
-    let both : int_sum_below m (λ r. int_sum_below n (λ v. f v r) +ℤ f n r) ≡ int_sum_below m (λ r. int_sum_below n (λ v. f v r)) +ℤ int_sum_below m (f n) = int_sum_plus m (λ r. int_sum_below n (λ v. f v r)) (f n) in
-    omega (arith, ints)
+int_sum_swap (suc n) m f = omega (arith, ints, int_sum_swap n m f, int_sum_plus m (λ r. int_sum_below n (λ v. f v r)) (f n))
 
 -- the number where the test passes, and else nothing
 abbrev pub part : Bool → ℤ → ℤ
@@ -230,23 +168,7 @@ int_sum_single (suc n) x f l =
 -- what is counted at most once counts once where it is counted
 pub int_sum_once : (n : ℕ) (p : ℕ → Bool) (z : ℤ) → count_below n p ≤ 1 → int_sum_below n (λ v. part (p v) z) ≡ part (ltb 0 (count_below n p)) z
 int_sum_once zero p z h = refl
-int_sum_once (suc n) p z h =
-    ⊎_elim
-    (λ (yes : p n ≡ true).
-    let last : flag (p n) ≡ 1 = flag-true (p n) yes in
-    let now : part (p n) z ≡ z = cond-true (p n) z (pos 0) yes in
-    let rest : int_sum_below n (λ v. part (p v) z) ≡ part (ltb 0 (count_below n p)) z = int_sum_once n p z (omega arith) in
-    let none : part (ltb 0 (count_below n p)) z ≡ pos 0 = cond-false (ltb 0 (count_below n p)) z (pos 0) (le-ltb 0 (count_below n p) (omega arith)) in
-    let whole : part (ltb 0 (count_below (suc n) p)) z ≡ z = cond-true (ltb 0 (count_below (suc n) p)) z (pos 0) (lt-ltb 0 (count_below (suc n) p) (omega arith)) in
-    omega (arith, ints))
-    (λ (no : p n ≡ false).
-    let last : flag (p n) ≡ 0 = flag-false (p n) no in
-    let now : part (p n) z ≡ pos 0 = cond-false (p n) z (pos 0) no in
-    let rest : int_sum_below n (λ v. part (p v) z) ≡ part (ltb 0 (count_below n p)) z = int_sum_once n p z (omega arith) in
-    let same : count_below (suc n) p ≡ count_below n p = omega arith in
-    let whole : part (ltb 0 (count_below (suc n) p)) z ≡ part (ltb 0 (count_below n p)) z = ap (λ (c : ℕ). part (ltb 0 c) z) same in
-    omega (arith, ints))
-    (cases_Bool (p n))
+int_sum_once (suc n) p z h = grind (arith, ints, nat_tests, int_sum_once n p z)
 
 -- ---- least values
 
@@ -318,14 +240,7 @@ from_lesser n p f z passed (Some y) before value =
 pub least_below_found : (n : ℕ) (p : ℕ → Bool) (f : ℕ → ℤ) (z : ℤ) → least_below n p f ≡ Some z → Reaches n p f z
 least_below_found zero p f z e = absurd (none-some z e)
 least_below_found (suc n) p f z e =
-    ⊎_elim
-    (λ (yes : p n ≡ true).
-    let now : least_below (suc n) p f ≡ Some (lesser (least_below n p f) (f n)) =
-    cond-true (p n) (Some (lesser (least_below n p f) (f n))) (least_below n p f) yes in
-    from_lesser n p f z yes (least_below n p f) (λ y is. least_below_found n p f y is) (same_Some _ _ (sym now ∙ e)))
-    (λ (no : p n ≡ false).
-    let now : least_below (suc n) p f ≡ least_below n p f =
-    cond-false (p n) (Some (lesser (least_below n p f) (f n))) (least_below n p f) no in
-    let w = least_below_found n p f z (sym now ∙ e) in
-    (w.0, omega arith, w.2, w.3))
-    (cases_Bool (p n))
+    cond_both (p n) (Some (lesser (least_below n p f) (f n))) (least_below n p f) (λ (o : Option ℤ). o ≡ Some z → Reaches (suc n) p f z)
+    (λ yes e. from_lesser n p f z yes (least_below n p f) (λ y is. least_below_found n p f y is) (same_Some _ _ e))
+    (λ no e. let w = least_below_found n p f z e in (w.0, omega arith, w.2, w.3))
+    e

@@ -1,6 +1,6 @@
 -- The leaves and dead ends of a sound tree part the plans, and its value is a bound.
 use Rattle.std.proofs.Common.{◌≡◌, ◌==◌, ◌&&◌, ◌||◌, not, ℕ, suc, ◌+◌, ◌*◌, ◌/◌, ◌<◌, ◌≤◌, Bool, true, false, cond, List, [], ◌∷◌, length, Option, Some, None, count_by, ℤ, pos, negsuc, ◌≤ℤ◌, refl, sym, ap, ◌∙◌, inl, inr, ⊎_elim, arith, eq-eqb, ne_eqb, unwrap_or}
-use Rattle.plan_rules.proofs.Common.{same_Some, ints, sum_by-cons, cases_eq, cases_Bool, or_right, or_left, both_ways, false_from_ne_true, all_below, lesser, count_below, Graph, row_at, row_vehicle, has_rider, IsRowOf, choice_at, is_in, IsGraphRow, IsGoodGraph, IsPlan, IsLawful, cost_of, IsBound, Usable, leaf_value, every_row, only_row, without_row, CanBranch, IsClash, IsStranded, IsDeadEnd, Place, rounded_up, least_leaf, is_choice_usable, is_within, belongs_to_end, belongs_to_dead_end, ReadsTo, places_from, IsWholeTree, places_read, value_read, Node, Branch, Leaf, Dead}
+use Rattle.plan_rules.proofs.Common.{same_Some, ints, sum_by-cons, cases_eq, cases_Bool, or_right, or_left, both_ways, false_from_ne_true, all_below, lesser, count_below, Graph, row_at, row_vehicle, has_rider, IsRowOf, choice_at, is_in, IsGraphRow, IsGoodGraph, IsPlan, IsLawful, cost_of, IsBound, Usable, leaf_value, every_row, only_row, without_row, CanBranch, IsSoleRow, IsDeadEnd, Clash, Stranded, Place, rounded_up, least_leaf, is_choice_usable, is_within, belongs_to_end, belongs_to_dead_end, ReadsTo, places_from, IsWholeTree, places_read, value_read, Node, Branch, Leaf, Dead, nat_tests, coming_after}
 use Rattle.plan_rules.proofs.lemmas.SumLemmas.{flag, flag-true, flag-false, all_below_at, all_below_from, all_below_fails, all_below_same, count_below_two, lesser-le_left, lesser-le_right}
 use Rattle.plan_rules.proofs.lemmas.GraphLemmas.{times_served_as_count, times_served_found, in_choice}
 use Rattle.plan_rules.proofs.lemmas.PlanLemmas.{has_choice, plan_choice}
@@ -28,52 +28,23 @@ module _ (g : Graph) (usable : Usable) (chosen : List (Option ℕ)) (plan : IsPl
   only_same e w l None is = refl
   only_same e w l (Some j) is =
       let own : IsRowOf g w j = plan_choice g chosen w j plan l is in
-      ⊎_elim
-      (λ (here : w ≡ v).
-      let same : j ≡ k = same_Some j k (sym is ∙ ap (choice_at chosen) here ∙ e) in
-      whole (usable j) (not (row_vehicle g j == v)) (j == k) (or_right (not (row_vehicle g j == v)) (j == k) (eq-eqb j k same)))
-      (λ (other : w ≡ v → ⊥).
-      let apart : (row_vehicle g j == v) ≡ false = ne_eqb (row_vehicle g j) v (λ (q : row_vehicle g j ≡ v). other (sym own.own ∙ q)) in
-      whole (usable j) (not (row_vehicle g j == v)) (j == k) (or_left (not (row_vehicle g j == v)) (j == k) (ap not apart)))
-      (cases_eq w v)
-    where
-      whole : (a b d : Bool) → (b || d) ≡ true → (a && (b || d)) ≡ a
-      whole true b d e = e
-      whole false b d e = refl
+      grind (arith, nat_tests, own.own, λ (here : w ≡ v). same_Some j k (sym is ∙ ap (choice_at chosen) here ∙ e))
 
   -- the same without the row, where the vehicle chooses another
   without_same : (j : ℕ) → choice_at chosen v ≡ Some j → (j ≡ k → ⊥) → (w : ℕ) → w < g.vehicles → (c : Option ℕ) → choice_at chosen w ≡ c → is_choice_usable (without_row usable k) c ≡ is_choice_usable usable c
   without_same j e differs w l None is = refl
   without_same j e differs w l (Some i) is =
       let own : IsRowOf g w i = plan_choice g chosen w i plan l is in
-      let apart : (i == k) ≡ false =
-      ne_eqb i k (λ (q : i ≡ k).
+      let apart : i ≡ k → ⊥ = λ q.
       let here : w ≡ v = sym own.own ∙ ap (row_vehicle g) q ∙ row.own in
-      differs (sym (same_Some i j (sym is ∙ ap (choice_at chosen) here ∙ e)) ∙ q)) in
-      whole (usable i) (i == k) apart
-    where
-      whole : (a b : Bool) → b ≡ false → (a && not b) ≡ a
-      whole true b e = ap not e
-      whole false b e = refl
+      differs (sym (same_Some i j (sym is ∙ ap (choice_at chosen) here ∙ e)) ∙ q) in
+      grind (arith, nat_tests, apart)
 
   only_fails : (j : ℕ) → IsRowOf g v j → (j ≡ k → ⊥) → only_row g usable v k j ≡ false
-  only_fails j own differs =
-      let here : (row_vehicle g j == v) ≡ true = eq-eqb (row_vehicle g j) v own.own in
-      let apart : (j == k) ≡ false = ne_eqb j k differs in
-      none (usable j) (row_vehicle g j == v) (j == k) here apart
-    where
-      none : (a b d : Bool) → b ≡ true → d ≡ false → (a && (not b || d)) ≡ false
-      none true true false p q = refl
-      none true true true p q = q
-      none true false d p q = absurd (both_ways false refl p)
-      none false b d p q = refl
+  only_fails j own differs = grind (arith, nat_tests, own.own, differs)
 
   without_fails : without_row usable k k ≡ false
-  without_fails = none (usable k) (k == k) (eq-eqb k k refl)
-    where
-      none : (a b : Bool) → b ≡ true → (a && not b) ≡ false
-      none true b e = ap not e
-      none false b e = refl
+  without_fails = grind (arith, nat_tests)
 
 -- how a plan stands to the two sides of a branch
 record IsParted (g : Graph) (usable : Usable) (v k : ℕ) (chosen : List (Option ℕ)) : Type 0 where
@@ -129,16 +100,6 @@ ends_count g chosen rows plan [] coming rest e =
     let same = ap (count_by (λ u. is_within g u chosen)) (sym e) in
     omega (arith, same)
 ends_count g chosen rows plan (n ∷ nodes) [] rest e = absurd e
-ends_count g chosen rows plan (Leaf ms ∷ nodes) (u ∷ us) rest e =
-    let first = count-cons (belongs_to_end g chosen) (record { node = Leaf ms; usable = u }) (places_from g us nodes) in
-    let second = count-cons (λ w. is_within g w chosen) u us in
-    let later = ends_count g chosen rows plan nodes us rest (e.1) in
-    omega (arith, first, second, later)
-ends_count g chosen rows plan (Dead ∷ nodes) (u ∷ us) rest e =
-    let first = count-cons (belongs_to_end g chosen) (record { node = Dead; usable = u }) (places_from g us nodes) in
-    let second = count-cons (λ w. is_within g w chosen) u us in
-    let later = ends_count g chosen rows plan nodes us rest (e.1) in
-    omega (arith, first, second, later)
 ends_count g chosen rows plan (Branch v k ∷ nodes) (u ∷ us) rest e =
     let after = only_row g u v k ∷ without_row u k ∷ us in
     let first = count-cons (belongs_to_end g chosen) (record { node = Branch v k; usable = u }) (places_from g after nodes) in
@@ -148,6 +109,10 @@ ends_count g chosen rows plan (Branch v k ∷ nodes) (u ∷ us) rest e =
     let parted = (parts g u v k chosen plan (branch_vehicle g u v k rows (e.0)) (e.0)).together in
     let later = ends_count g chosen rows plan nodes after rest (e.1) in
     omega (arith, first, second, third, fourth, parted, later)
+ends_count g chosen rows plan (n ∷ nodes) (u ∷ us) rest e =
+    let first = count-cons (belongs_to_end g chosen) (record { node = n; usable = u }) (places_from g us nodes) in
+    let second = count-cons (λ w. is_within g w chosen) u us in
+    omega (arith, first, second, ends_count g chosen rows plan nodes us rest (e.1))
 
 pub each_plan_at_one_end : (g : Graph) (nodes : List Node) (chosen : List (Option ℕ)) → IsGoodGraph g → IsWholeTree g nodes → IsPlan g chosen → count_by (belongs_to_end g chosen) (places_read g nodes) ≡ 1
 each_plan_at_one_end g nodes chosen good sound plan =
@@ -158,58 +123,45 @@ each_plan_at_one_end g nodes chosen good sound plan =
 
 -- ---- no lawful plan at a dead end
 
-clash_holds_none : (g : Graph) (usable : Usable) (chosen : List (Option ℕ)) → IsGoodGraph g → IsLawful g chosen → IsClash g usable → is_within g usable chosen ≡ true → ⊥
-clash_holds_none g usable chosen good lawful c within =
-    let a = has_choice g c.first c.first_row (choice_at chosen c.first) (lawful.plan.own c.first first_low) c.first_sole.row.row in
-    let b = has_choice g c.second c.second_row (choice_at chosen c.second) (lawful.plan.own c.second second_low) c.second_sole.row.row in
-    let a_is : a.0 ≡ c.first_row = c.first_sole.sole (a.0) (record { row = a.2; usable_row = within_at g usable chosen c.first (a.0) within first_low (a.1) }) in
-    let b_is : b.0 ≡ c.second_row = c.second_sole.sole (b.0) (record { row = b.2; usable_row = within_at g usable chosen c.second (b.0) within second_low (b.1) }) in
-    let a_in : is_in g (choice_at chosen c.first) c.rider ≡ true = ap (λ (o : Option ℕ). is_in g o c.rider) (a.1 ∙ ap Some a_is) ∙ c.in_first in
-    let b_in : is_in g (choice_at chosen c.second) c.rider ≡ true = ap (λ (o : Option ℕ). is_in g o c.rider) (b.1 ∙ ap Some b_is) ∙ c.in_second in
-    let two : 2 ≤ count_below g.vehicles (λ v. is_in g (choice_at chosen v) c.rider) =
-    count_below_two g.vehicles (λ v. is_in g (choice_at chosen v) c.rider) c.first c.second first_low second_low c.differ a_in b_in in
-    let count = times_served_as_count g chosen g.vehicles c.rider in
-    let once = lawful.once c.rider in
-    omega (arith, two, count, once)
+pub dead_end_holds_none : (g : Graph) (usable : Usable) (chosen : List (Option ℕ)) → IsGoodGraph g → IsLawful g chosen → IsDeadEnd g usable → is_within g usable chosen ≡ false
+dead_end_holds_none g usable chosen good lawful dead = false_from_ne_true (is_within g usable chosen) (holds_none dead)
   where
-    row_low : (v k : ℕ) → IsRowOf g v k → v < g.vehicles
-    row_low v k row =
-        let low : row_vehicle g k < g.vehicles = (good.rows k row.within).vehicle in
+    low : (v k : ℕ) → IsRowOf g v k → v < g.vehicles
+    low v k row =
+        let below : row_vehicle g k < g.vehicles = (good.rows k row.within).vehicle in
         let own : row_vehicle g k ≡ v = row.own in
         omega arith
 
-    first_low : c.first < g.vehicles
-    first_low = row_low c.first c.first_row c.first_sole.row.row
+    -- the vehicle's choice is its sole row
+    sole_has : (v k r : ℕ) → IsSoleRow g usable v k → has_rider g k r ≡ true → is_within g usable chosen ≡ true → is_in g (choice_at chosen v) r ≡ true
+    sole_has v k r sole has within =
+        let below = low v k sole.row.row in
+        let c = has_choice g v k (choice_at chosen v) (lawful.plan.own v below) sole.row.row in
+        let is : c.0 ≡ k = sole.sole (c.0) (record { row = c.2; usable_row = within_at g usable chosen v (c.0) within below (c.1) }) in
+        ap (λ (o : Option ℕ). is_in g o r) (c.1 ∙ ap Some is) ∙ has
 
-    second_low : c.second < g.vehicles
-    second_low = row_low c.second c.second_row c.second_sole.row.row
-
-stranded_holds_none : (g : Graph) (usable : Usable) (chosen : List (Option ℕ)) → IsLawful g chosen → IsStranded g usable → is_within g usable chosen ≡ true → ⊥
-stranded_holds_none g usable chosen lawful s within =
-    let times = lawful.kept s.rider s.must in
-    let v = times_served_found g chosen g.vehicles s.rider (omega (arith, times)) in
-    let k = in_choice g (choice_at chosen (v.0)) s.rider (v.2) in
-    let own = plan_choice g chosen (v.0) (k.0) lawful.plan (v.1) (k.1) in
-    let nobody : has_rider g (k.0) s.rider ≡ false = s.nowhere (k.0) own.within (within_at g usable chosen (v.0) (k.0) within (v.1) (k.1)) in
-    both_ways (has_rider g (k.0) s.rider) nobody (k.2)
-
-pub dead_end_holds_none : (g : Graph) (usable : Usable) (chosen : List (Option ℕ)) → IsGoodGraph g → IsLawful g chosen → IsDeadEnd g usable → is_within g usable chosen ≡ false
-dead_end_holds_none g usable chosen good lawful (inl c) = false_from_ne_true (is_within g usable chosen) (clash_holds_none g usable chosen good lawful c)
-dead_end_holds_none g usable chosen good lawful (inr s) = false_from_ne_true (is_within g usable chosen) (stranded_holds_none g usable chosen lawful s)
+    holds_none : IsDeadEnd g usable → is_within g usable chosen ≡ true → ⊥
+    holds_none (Clash v w j k r differ a b in_a in_b) within =
+        let two = count_below_two g.vehicles (λ v. is_in g (choice_at chosen v) r) v w (low v j a.row.row) (low w k b.row.row) differ (sole_has v j r a in_a within) (sole_has w k r b in_b within) in
+        let count = times_served_as_count g chosen g.vehicles r in
+        omega (arith, two, count, lawful.once r)
+    holds_none (Stranded r must nowhere) within =
+        let times = lawful.kept r must in
+        let v = times_served_found g chosen g.vehicles r (omega (arith, times)) in
+        let k = in_choice g (choice_at chosen (v.0)) r (v.2) in
+        let own = plan_choice g chosen (v.0) (k.0) lawful.plan (v.1) (k.1) in
+        both_ways (has_rider g (k.0) r) (nowhere (k.0) own.within (within_at g usable chosen (v.0) (k.0) within (v.1) (k.1))) (k.2)
 
 dead_count : (g : Graph) (chosen : List (Option ℕ)) → IsGoodGraph g → IsLawful g chosen → (nodes : List Node) (coming rest : List Usable) → ReadsTo g coming nodes rest → count_by (belongs_to_dead_end g chosen) (places_from g coming nodes) ≡ 0
 dead_count g chosen good lawful [] coming rest e = refl
 dead_count g chosen good lawful (n ∷ nodes) [] rest e = absurd e
-dead_count g chosen good lawful (Leaf ms ∷ nodes) (u ∷ us) rest e =
-    let first = count-cons (belongs_to_dead_end g chosen) (record { node = Leaf ms; usable = u }) (places_from g us nodes) in
-    omega (arith, first, dead_count g chosen good lawful nodes us rest (e.1))
 dead_count g chosen good lawful (Dead ∷ nodes) (u ∷ us) rest e =
     let first = count-cons (belongs_to_dead_end g chosen) (record { node = Dead; usable = u }) (places_from g us nodes) in
     let none : flag (is_within g u chosen) ≡ 0 = flag-false _ (dead_end_holds_none g u chosen good lawful (e.0)) in
     omega (arith, first, none, dead_count g chosen good lawful nodes us rest (e.1))
-dead_count g chosen good lawful (Branch v k ∷ nodes) (u ∷ us) rest e =
-    let after = only_row g u v k ∷ without_row u k ∷ us in
-    let first = count-cons (belongs_to_dead_end g chosen) (record { node = Branch v k; usable = u }) (places_from g after nodes) in
+dead_count g chosen good lawful (n ∷ nodes) (u ∷ us) rest e =
+    let after = coming_after g u n us in
+    let first = count-cons (belongs_to_dead_end g chosen) (record { node = n; usable = u }) (places_from g after nodes) in
     omega (arith, first, dead_count g chosen good lawful nodes after rest (e.1))
 
 pub no_plan_at_dead_ends : (g : Graph) (nodes : List Node) (chosen : List (Option ℕ)) → IsGoodGraph g → IsWholeTree g nodes → IsLawful g chosen → count_by (belongs_to_dead_end g chosen) (places_read g nodes) ≡ 0
@@ -245,29 +197,26 @@ least_leaf_step : (g : Graph) (chosen : List (Option ℕ)) → IsGoodGraph g →
 least_leaf_step g chosen good lawful (Leaf ms) u ps later some none =
     let ends = count-cons (belongs_to_end g chosen) (record { node = Leaf ms; usable = u }) ps in
     let dead = count-cons (belongs_to_dead_end g chosen) (record { node = Leaf ms; usable = u }) ps in
+    let value = rounded_up (leaf_value g u ms) in
+    let right : lesser (least_leaf g ps) value ≤ℤ value = lesser-le_right (least_leaf g ps) value in
+    let all : lesser (least_leaf g ps) value ≤ℤ pos (cost_of g chosen) =
     ⊎_elim
     (λ (yes : is_within g u chosen ≡ true).
-    let below : rounded_up (leaf_value g u ms) ≤ℤ pos (cost_of g chosen) = rounded_up_le (leaf_value g u ms) (cost_of g chosen) (leaf_value_le g u ms chosen good lawful yes) in
-    let right : lesser (least_leaf g ps) (rounded_up (leaf_value g u ms)) ≤ℤ rounded_up (leaf_value g u ms) = lesser-le_right (least_leaf g ps) (rounded_up (leaf_value g u ms)) in
-    let all : lesser (least_leaf g ps) (rounded_up (leaf_value g u ms)) ≤ℤ pos (cost_of g chosen) = omega (arith, ints) in
-    (lesser (least_leaf g ps) (rounded_up (leaf_value g u ms)), refl, all))
+    let below : value ≤ℤ pos (cost_of g chosen) = rounded_up_le (leaf_value g u ms) (cost_of g chosen) (leaf_value_le g u ms chosen good lawful yes) in
+    omega (arith, ints))
     (λ (no : is_within g u chosen ≡ false).
     let zero : flag (is_within g u chosen) ≡ 0 = flag-false _ no in
     let w = later (omega (arith, ends, some, zero)) (omega (arith, dead, none)) in
-    let same : lesser (least_leaf g ps) (rounded_up (leaf_value g u ms)) ≡ lesser (Some (w.0)) (rounded_up (leaf_value g u ms)) = ap (λ (o : Option ℤ). lesser o (rounded_up (leaf_value g u ms))) (w.1) in
-    let left : lesser (Some (w.0)) (rounded_up (leaf_value g u ms)) ≤ℤ w.0 = lesser-le_left (w.0) (rounded_up (leaf_value g u ms)) in
+    let same : lesser (least_leaf g ps) value ≡ lesser (Some (w.0)) value = ap (λ (o : Option ℤ). lesser o value) (w.1) in
+    let left : lesser (Some (w.0)) value ≤ℤ w.0 = lesser-le_left (w.0) value in
     let below : w.0 ≤ℤ pos (cost_of g chosen) = w.2 in
-    let all : lesser (least_leaf g ps) (rounded_up (leaf_value g u ms)) ≤ℤ pos (cost_of g chosen) = omega (arith, ints) in
-    (lesser (least_leaf g ps) (rounded_up (leaf_value g u ms)), refl, all))
-    (cases_Bool (is_within g u chosen))
-least_leaf_step g chosen good lawful Dead u ps later some none =
-    let ends = count-cons (belongs_to_end g chosen) (record { node = Dead; usable = u }) ps in
-    let dead = count-cons (belongs_to_dead_end g chosen) (record { node = Dead; usable = u }) ps in
+    omega (arith, ints))
+    (cases_Bool (is_within g u chosen)) in
+    (lesser (least_leaf g ps) value, refl, all)
+least_leaf_step g chosen good lawful n u ps later some none =
+    let ends = count-cons (belongs_to_end g chosen) (record { node = n; usable = u }) ps in
+    let dead = count-cons (belongs_to_dead_end g chosen) (record { node = n; usable = u }) ps in
     later (omega (arith, ends, dead, some, none)) (omega (arith, dead, none))
-least_leaf_step g chosen good lawful (Branch v k) u ps later some none =
-    let ends = count-cons (belongs_to_end g chosen) (record { node = Branch v k; usable = u }) ps in
-    let dead = count-cons (belongs_to_dead_end g chosen) (record { node = Branch v k; usable = u }) ps in
-    later (omega (arith, ends, some)) (omega (arith, dead, none))
 
 least_leaf_le : (g : Graph) (chosen : List (Option ℕ)) → IsGoodGraph g → IsLawful g chosen → (ps : List Place) → 1 ≤ count_by (belongs_to_end g chosen) ps → count_by (belongs_to_dead_end g chosen) ps ≡ 0 → HasLeafBelow g chosen ps
 least_leaf_le g chosen good lawful [] some none = absurd (omega (arith, some))

@@ -1,6 +1,6 @@
 -- What depends on usable rows depends on those of the graph alone.
-use Rattle.std.proofs.Common.{◌≡◌, ◌==◌, ◌&&◌, ℕ, zero, suc, ◌<◌, Bool, cond, List, length, Option, Some, ℤ, pos, ◌+ℤ◌, ◌-ℤ◌, ◌*ℤ◌, ◌*◌, [], ◌∷◌, ◌++◌, refl, sym, ap, ◌∙◌, inl, inr, arith, unwrap_or}
-use Rattle.plan_rules.proofs.Common.{least_below, lesser, int_sum_below, Graph, row_vehicle, cost_at, riders_at, has_rider, Usable, is_usable_by, reduced_cost, vehicle_term, rider_term, leaf_value, least_cost, room_at, first_fit_of, first_fit_below, first_fit, first_fit_value, multiplier_sum, MayUse, CanBranch, IsSoleRow, IsDeadEnd}
+use Rattle.std.proofs.Common.{◌≡◌, ◌==◌, ◌&&◌, ℕ, zero, suc, ◌<◌, Bool, cond, List, length, Option, Some, ℤ, pos, ◌+ℤ◌, ◌-ℤ◌, ◌*ℤ◌, ◌*◌, [], ◌∷◌, ◌++◌, refl, sym, ap, ◌∙◌, arith, unwrap_or}
+use Rattle.plan_rules.proofs.Common.{least_below, lesser, int_sum_below, Graph, row_vehicle, cost_at, riders_at, has_rider, Usable, is_usable_by, reduced_cost, vehicle_term, rider_term, leaf_value, least_cost, room_at, first_fit_of, first_fit_below, first_fit, first_fit_value, multiplier_sum, MayUse, CanBranch, IsSoleRow, IsDeadEnd, Clash, Stranded}
 use Rattle.plan_rules.proofs.lemmas.SumLemmas.{int_sum_same}
 
 -- the two agree on the graph's rows
@@ -46,19 +46,8 @@ sole_agrees g u w v k e sole = record {
 }
 
 pub dead_end_agrees : (g : Graph) (u w : Usable) → Agree g u w → IsDeadEnd g u → IsDeadEnd g w
-dead_end_agrees g u w e (inl c) = inl (record {
-  first = c.first;
-  second = c.second;
-  first_row = c.first_row;
-  second_row = c.second_row;
-  rider = c.rider;
-  differ = c.differ;
-  first_sole = sole_agrees g u w c.first c.first_row e c.first_sole;
-  second_sole = sole_agrees g u w c.second c.second_row e c.second_sole;
-  in_first = c.in_first;
-  in_second = c.in_second;
-})
-dead_end_agrees g u w e (inr s) = inr (record { rider = s.rider; must = s.must; nowhere = λ k l may. s.nowhere k l (e k l ∙ may) })
+dead_end_agrees g u w e (Clash v x j k r differ a b in_a in_b) = Clash v x j k r differ (sole_agrees g u w v j e a) (sole_agrees g u w x k e b) in_a in_b
+dead_end_agrees g u w e (Stranded r must nowhere) = Stranded r must (λ k l may. nowhere k l (e k l ∙ may))
 
 -- ---- the first-fit multipliers
 

@@ -16,10 +16,7 @@ none_before g usable f v start first =
     (λ k l. and_left (row_vehicle g k == v) (usable k) (ne_eqb (row_vehicle g k) v (λ (e : row_vehicle g k ≡ v). let low : row_vehicle g k < v = first.below k l in omega arith)))
 
 least_below_plus : (n m : ℕ) (p : ℕ → Bool) (f : ℕ → ℤ) → ((k : ℕ) → n ≤ k → k < n + m → p k ≡ false) → least_below (n + m) p f ≡ least_below n p f
-least_below_plus n zero p f h = ap (λ (j : ℕ). least_below j p f) (plus n)
-  where
-    plus : (n : ℕ) → n + 0 ≡ n
-    plus n = omega arith
+least_below_plus n zero p f h = let e : n + zero ≡ n = omega arith in ap (λ (j : ℕ). least_below j p f) e
 least_below_plus n (suc m) p f h =
     let e : n + suc m ≡ (n + m) + 1 = omega arith in
     ap (λ (j : ℕ). least_below j p f) e
@@ -49,11 +46,4 @@ least_passed g usable f v k o out e =
 
 -- a vehicle's rows don't end before they start
 pub starts_rise : (g : Graph) (v start end : ℕ) → IsStartOf g v start → IsStartOf g (v + 1) end → start ≤ end
-starts_rise g v start end first second =
-    ⊎_elim
-    (λ (cross : end < start).
-    let below : row_vehicle g end < v = first.below end cross in
-    let above : v + 1 ≤ row_vehicle g end = second.above end (omega arith) (omega (arith, first.within)) in
-    absurd (omega arith))
-    (λ (low : start ≤ end). low)
-    (cases_lt end start)
+starts_rise g v start end first second = grind (arith, first.below end, second.above end, first.within)

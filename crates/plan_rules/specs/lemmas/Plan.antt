@@ -1,6 +1,7 @@
-use Rattle.std.specs.Prelude.{◌≡◌, ◌==◌, ℕ, ◌<◌, ◌≤◌, Bool, false, nat_lt, List, length, slice_index_or, Option, Some, None}
+use Rattle.std.specs.Prelude.{◌≡◌, ◌==◌, ℕ, ◌<◌, ◌≤◌, Bool, false, nat_lt, List, length, slice_index_or, Option}
+use Rattle.std.specs.Option.{option_map_or}
 use Rattle.plan_rules.specs.Sums.{count_below}
-use Rattle.plan_rules.specs.Graph.{Graph, riders_at, times_served}
+use Rattle.plan_rules.specs.Graph.{Graph, riders_at, cost_at, times_served}
 
 -- how many of the chosen rows have this rider
 abbrev pub times_chosen : Graph → List (Option ℕ) → ℕ → ℕ
@@ -15,7 +16,10 @@ pub record MarksServed (g : Graph) (chosen : List (Option ℕ)) (n : ℕ) (flags
   pub sized : g.riders ≤ length flags
   pub marks : (r : ℕ) → r < g.riders → slice_index_or flags r false ≡ nat_lt 0 (times_served g chosen n r)
 
+-- what the chosen row costs; no row costs nothing
+abbrev pub choice_cost : Graph → Option ℕ → ℕ
+choice_cost g choice = option_map_or (cost_at g) choice 0
+
 -- how many riders the chosen row has; no row has none
 abbrev pub choice_size : Graph → Option ℕ → ℕ
-choice_size g None = 0
-choice_size g (Some k) = length (riders_at g k)
+choice_size g choice = option_map_or (λ k. length (riders_at g k)) choice 0

@@ -1,6 +1,13 @@
-use Rattle.std.specs.Prelude.{◌≡◌, ℕ, ◌+◌, ◌≤◌, Bool, List, length, slice_index}
-use Rattle.plan_rules.specs.Graph.{Graph, IsGoodGraph, IsStartOf}
+use Rattle.std.specs.Prelude.{◌≡◌, ℕ, ◌+◌, ◌<◌, ◌≤◌, Bool, List, length, slice_index}
+use Rattle.std.specs.List.Sorted.{IsStrictlyIncreasing}
+use Rattle.plan_rules.specs.Graph.{Graph, IsStartOf}
+use Rattle.plan_rules.specs.GoodGraph.{IsGoodGraph}
 use Rattle.plan_rules.specs.lemmas.Plan.{MarksServed}
+
+-- the riders rise and are all below this number
+pub record AreRisingBelow (riders : ℕ) (members : List ℕ) : Type 0 where
+  pub below : (i : ℕ) → i < length members → slice_index members i < riders
+  pub rising : IsStrictlyIncreasing members
 
 -- the rows of vehicle v begin at the v-th of these numbers and end before the next one
 pub record IsRowIndex (g : Graph) (index : List ℕ) : Type 0 where

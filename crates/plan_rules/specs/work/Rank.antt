@@ -1,7 +1,7 @@
 use Rattle.std.specs.Prelude.{◌≡◌, ◌≢◌, ℕ, ◌-◌, ◌<◌, Bool, false, true, IsTrue, List, length, slice_index_or, Option, Some, Contains, All}
 use Rattle.std.specs.List.Sorted.{IsNonDecreasingBy}
-use Rattle.plan_rules.specs.Graph.{Graph, riders_at, cost_at, has_rider, choice_at, IsRowOf}
-use Rattle.plan_rules.specs.Greedy.{IsTaken, IsApart}
+use Rattle.plan_rules.specs.Graph.{Graph, riders_at, cost_at, row_vehicle, has_rider, choice_at, IsRowOf}
+use Rattle.plan_rules.specs.Greedy.{IsTaken}
 use Rattle.plan_rules.specs.lemmas.Rank.{rank_of}
 
 -- what a row is sorted by: how many riders are missing to six, the cost, the number
@@ -22,6 +22,10 @@ pub record IsRanking (g : Graph) (ranks : List (ℕ × ℕ × ℕ)) : Type 0 whe
   pub within : All (λ rank. rank.2 < length g.rows) ranks
   pub all : (k : ℕ) → k < length g.rows → Contains ranks (parts_of g k)
   pub sorted : IsNonDecreasingBy (λ rank. rank_of g rank.2) ranks
+
+-- the rows have neither a vehicle nor a rider in common
+abbrev pub IsApart : Graph → ℕ → ℕ → Type 0
+IsApart g j k = (row_vehicle g j ≢ row_vehicle g k) × ((r : ℕ) → IsTrue (has_rider g j r) → IsTrue (has_rider g k r) → ⊥)
 
 -- the rows taken so far are apart, each is its vehicle's choice, and their riders are marked
 pub record IsSelection (g : Graph) (chosen : List (Option ℕ)) (served : List Bool) : Type 0 where

@@ -1,6 +1,7 @@
 use Rattle.std.proofs.Common.{◌≡◌, true, List, ◌∷◌, sym, ap, ◌∙◌, subst}
 use Rattle.assignment_search.proofs.Common.{Usable, only_row, without_row, standing_of, IsPathOf, IsNewEnd}
-use Rattle.assignment_search.proofs.StandingLemmas.{coming_entered, path_push, left_next, head_is, tail_is}
+use Rattle.plan_rules.proofs.lemmas.PathLemmas.{coming_entered, path_push}
+use Rattle.assignment_search.proofs.StandingLemmas.{left_next, head_is, tail_is}
 use Rattle.assignment_search.proofs.ApartLemmas.{only_apart, without_apart}
 use Rattle.assignment_search.proofs.parting.part.Goals as goal
 

@@ -1,6 +1,7 @@
 use Rattle.std.proofs.Common.{◌<◌, ℕ, true, sym, ap, ◌∙◌, subst}
 use Rattle.assignment_search.proofs.Common.{CanBranch, IsSoundNode, coming_after, standing_of, IsPathOf, Node}
-use Rattle.assignment_search.proofs.StandingLemmas.{coming_entered, path_push, left_next}
+use Rattle.plan_rules.proofs.lemmas.PathLemmas.{coming_entered, path_push}
+use Rattle.assignment_search.proofs.StandingLemmas.{left_next}
 use Rattle.assignment_search.proofs.standing.follow.Goals as goal
 
 pub returns-in_ok-enter-in-Branch-clause-next : goal.returns-in_ok-enter-in-Branch-clause-next

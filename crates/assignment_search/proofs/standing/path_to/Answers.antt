@@ -1,6 +1,7 @@
 use Rattle.std.proofs.Common.{◌≡◌, ◌<◌, ℕ, suc, length, get_or, take, [], ◌∷◌, ◌+◌, List, sym, ◌∙◌, subst, arith, add-one}
 use Rattle.assignment_search.proofs.Common.{get_or_read, Usable, every_row, ReadsTo, IsSoundNode, coming_after, standing_of, Node, Dead}
-use Rattle.assignment_search.proofs.StandingLemmas.{coming_start, path_none, next_of, head_is, tail_is}
+use Rattle.plan_rules.proofs.lemmas.PathLemmas.{coming_start, path_none}
+use Rattle.assignment_search.proofs.StandingLemmas.{next_of, head_is, tail_is}
 use Rattle.assignment_search.proofs.standing.path_to.Goals as goal
 
 pub loop-k-init : goal.loop-k-init

@@ -5,7 +5,8 @@ use Rattle.std.proofs.lemmas.Option.{slice_get-get_or}
 use Rattle.plan_rules.specs.Plan.{IsBound}
 use Rattle.plan_rules.proofs.lemmas.TreeLemmas.{tree_value_bounds}
 use Rattle.plan_rules.proofs.lemmas.SearchTreeLemmas.{tree_of_value}
-use Rattle.bound_checker.proofs.lemmas.WalkLemmas.{coming_start, path_none, fault_here, least_more}
+use Rattle.plan_rules.proofs.lemmas.PathLemmas.{coming_start, path_none}
+use Rattle.bound_checker.proofs.lemmas.WalkLemmas.{fault_here, least_more}
 use Rattle.bound_checker.proofs.checker.check.Goals as goal
 
 pub loop-place-init : goal.loop-place-init

@@ -1,6 +1,6 @@
 use Rattle.std.proofs.Common.{◌≡◌, ◌<◌, Bool, List, true, false, length, get_or, refl, sym, ap, ◌∙◌, subst, arith}
 use Rattle.bound_checker.proofs.Common.{with_items_is, Usable, usable_of, standing_of, IsPathOf, Decision, Agree, can_branch_agrees, coming_of}
-use Rattle.bound_checker.proofs.lemmas.WalkLemmas.{coming_entered, path_push}
+use Rattle.plan_rules.proofs.lemmas.PathLemmas.{coming_entered, path_push}
 use Rattle.bound_checker.proofs.walk.Walk.visit_branch.Goals as goal
 
 pub returns-clause-ok : goal.returns-clause-ok
