@@ -36,7 +36,7 @@ pub use Rattle.plan_rules.specs.declared.row.TripRow.{TripRow}
 pub use Rattle.pool_base.specs.Times.{point_count, travel_time}
 pub use Rattle.promise_check.proofs.lemmas.Promises.{filter_range_skips, filter_range_takes, rising_once}
 pub use Rattle.promise_check.specs.Settling.{IsPlaced, IsSettled}
-pub use Rattle.rebalancing.specs.Matching.{IsBestMatching, IsMatching, pair_seconds, total_of}
+pub use Rattle.rebalancing.specs.Matching.{IsBestMatching, IsMatching, pair_seconds}
 pub use Rattle.request_book.specs.declared.outcome.Answer.{Answer}
 pub use Rattle.request_book.specs.declared.outcome.ChosenTrip.{ChosenTrip}
 pub use Rattle.request_book.specs.declared.outcome.LateVehicle.{LateVehicle}
