@@ -9,7 +9,7 @@ pub use Rattle.std.specs.List.{AllByRecursion, AllZip, range_with_len}
 pub use Rattle.std.specs.List.Sorted.{IsStrictlyIncreasing}
 pub use Rattle.assignment_search.specs.Found.{IsBestNear, IsClose, IsFair, ShowsBound}
 pub use Rattle.batch_laws.proofs.lemmas.GraphLemmas.{graph_in_order, graph_or_overflow, one_place, one_trip_graph}
-pub use Rattle.batch_laws.proofs.lemmas.SortedLemmas.{has_head, has_later, head_or_tail, rising_once, same_rising}
+pub use Rattle.batch_laws.proofs.lemmas.SortedLemmas.{has_head, has_later, head_or_tail, same_rising}
 pub use Rattle.batch_snapshot.specs.Batch.{Batch}
 pub use Rattle.batch_snapshot.specs.Kept.{IsKept, IsOnce, riders_aboard}
 pub use Rattle.batch_solver.proofs.lemmas.LeftLemmas.{kept_below, kept_few}
@@ -35,9 +35,9 @@ pub use Rattle.plan_rules.specs.Graph.{Graph, IsRowOf, choice_at, cost_at, no_ro
 pub use Rattle.plan_rules.specs.lemmas.Graph.{HasNoRow}
 pub use Rattle.plan_rules.specs.declared.row.TripRow.{TripRow}
 pub use Rattle.pool_base.specs.Times.{point_count, travel_time}
-pub use Rattle.promise_check.proofs.lemmas.Promises.{filter_range_skips, filter_range_takes}
+pub use Rattle.promise_check.proofs.lemmas.Promises.{filter_range_skips, filter_range_takes, rising_once}
 pub use Rattle.promise_check.specs.Settling.{IsPlaced, IsSettled}
-pub use Rattle.rebalancing.specs.Matching.{IsBestMatching, IsMatching, pair_seconds, total_of}
+pub use Rattle.rebalancing.specs.Matching.{IsBestMatching, IsMatching, pair_seconds}
 pub use Rattle.request_book.specs.declared.outcome.Answer.{Answer}
 pub use Rattle.request_book.specs.declared.outcome.ChosenTrip.{ChosenTrip}
 pub use Rattle.request_book.specs.declared.outcome.LateVehicle.{LateVehicle}

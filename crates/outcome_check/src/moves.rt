@@ -1,10 +1,10 @@
 //! Moves of idle vehicles.
-ghost use Rattle.std.specs.Prelude.{◌≡◌, ◌↔◌, ◌<◌, ◌≤◌, ℕ, All, IfOk, IsTrue, List, MatchOption, length, slice_index};
+ghost use Rattle.std.specs.Prelude.{◌≡◌, ◌↔◌, ◌<◌, ◌≤◌, ℕ, All, IfOk, IsTrue, List, MatchOption, length, slice_index, sum_by};
 ghost use Rattle.batch_solver.specs.Moves.{AreMoves, idle_vehicles, move_line};
 ghost use Rattle.batch_solver.specs.Told.{left_riders, rider_id, vehicle_id};
 ghost use Rattle.plan_rules.specs.Plan.{IsPlan};
 ghost use Rattle.pool_base.specs.Times.{point_count, travel_time};
-ghost use Rattle.rebalancing.specs.Matching.{IsBestMatching, IsMatching, total_of};
+ghost use Rattle.rebalancing.specs.Matching.{IsBestMatching, IsMatching, pair_seconds};
 ghost use Rattle.stop_orders.specs.Sound.{IsSound};
 ghost use Rattle.outcome_check.specs.work.Moves.{HaveOwnPlaces, IsRisingMatching, IsWithin, TellsMoves};
 
@@ -203,7 +203,7 @@ fn total_of(times: &Times, starts: &[usize], origins: &[usize], pairs: &[(usize,
     requires origins { All (λ p. p < point_count times.now) origins.now }
     requires matching { IsMatching (travel_time times.now) starts.now origins.now pairs.now }
     requires few { length pairs.now ≤ 500 }
-    ensures { result ≡ total_of (travel_time times.now) starts.now origins.now pairs.now }
+    ensures { result ≡ sum_by (pair_seconds (travel_time times.now) starts.now origins.now) pairs.now }
 {
     let mut total = 0;
     for &(place, wanted) in pairs {

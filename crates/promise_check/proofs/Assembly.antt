@@ -1,12 +1,11 @@
-use Rattle.std.proofs.Common.{◌≡◌, ℕ, zero, suc, ◌+◌, ◌-◌, ◌<◌, ◌≤◌, inl, inr, true, false, eqb, List, [], ◌∷◌, length, map, get_or, Some, None, Option, refl, sym, ap, ◌∙◌, subst, arith, ⊎_elim}
-use Rattle.promise_check.proofs.Common.{range_with_len, IsStrictlyIncreasing, option_map_or, cases_lt, cases_order, length-map, get_or-map, get_or_default, filter_passes, slice_get-get_or, Promise, Rider, Vehicle, Batch, Leg, SettledRider, SettledVehicle, IsLeg, IsServable, no_rider, no_vehicle, greatest, IsTrip, vehicle_task, IsShort, IsSound, IsSoundVehicle, Settings, request_at, no_request, kept_leg, ArePlain, is_promised_to, promised_to, kept_legs, IsLive, kept_rider, IsHeld, AreKept, HoldsPromised, IsLiveRider, IsRiderOf, HasRightLimit, IsSettled, IsSettledVehicle, AreSettledVehicles}
+use Rattle.std.proofs.Common.{◌≡◌, ℕ, zero, suc, ◌+◌, ◌<◌, ◌≤◌, inl, inr, true, false, eqb, List, [], ◌∷◌, length, map, get_or, Some, None, Option, ◌⊎◌, Bool, MatchBool, refl, sym, ap, ◌∙◌, subst, arith, ⊎_elim}
+use Rattle.promise_check.proofs.Common.{range_with_len, option_map_or, length-map, get_or-map, get_or_default, filter_passes, slice_get-get_or, Promise, Rider, Vehicle, Batch, Leg, SettledRider, SettledVehicle, IsLeg, IsServable, no_rider, no_vehicle, greatest, IsTrip, vehicle_task, IsShort, IsSound, IsSoundVehicle, Settings, request_at, no_request, kept_leg, ArePlain, is_promised_to, promised_to, kept_legs, IsLive, kept_rider, IsHeld, AreKept, HoldsPromised, HasRightLimit, IsLegOf, IsSettled, IsSettledVehicle, AreSettledVehicles, slice_get_within}
 use Rattle.std.specs.List.{All, Contains, slice_get}
-use Rattle.std.specs.Option.{is_some}
 use Rattle.std.proofs.lemmas.Bool.Decides.{Decides-eqb}
 use Rattle.pool_base.specs.TravelTime.{longest}
 use Rattle.batch_snapshot.specs.Kept.{IsKept}
 use Rattle.stop_orders.specs.declared.settled.Settled.{Settled}
-use Rattle.promise_check.proofs.lemmas.Promises.{filter_range_has, promised_trip}
+use Rattle.promise_check.proofs.lemmas.Promises.{rising_once, promised_trip}
 use Rattle.promise_check.proofs.Seats.{kept_leg_valid, legs_valid, task_with_legs, plain_can_be_kept}
 
 some_at : {X : Type 0} (xs : List X) (k : ℕ) → k < length xs → (x : X) × (slice_get xs k ≡ Some x)
@@ -27,31 +26,6 @@ maps_on f g [] h = refl
 maps_on f g (x ∷ xs) h =
     let first = h 0 (omega arith) in let rest = maps_on f g xs (λ k lt. h (suc k) (omega arith)) in (cc (first, rest))
 
-rises_far : (xs : List ℕ) → IsStrictlyIncreasing xs → (d i : ℕ) → i + suc d < length xs → get_or xs i 0 < get_or xs (i + suc d) 0
-rises_far xs up zero i h = let e : i + 1 ≡ i + suc zero = omega arith in subst (λ (v : ℕ). get_or xs i 0 < get_or xs v 0) e (up i (omega arith))
-rises_far xs up (suc d) i h =
-    let before = rises_far xs up d i (omega arith) in
-    let e : i + suc d + 1 ≡ i + suc (suc d) = omega arith in
-    let last = up (i + suc d) (omega arith) in
-    subst (λ (v : ℕ). get_or xs i 0 < get_or xs v 0) e (omega arith)
-
--- in a rising list no number stands twice
-one_place : (xs : List ℕ) → IsStrictlyIncreasing xs → (i j : ℕ) → i < length xs → j < length xs → get_or xs i 0 ≡ get_or xs j 0 → i ≡ j
-one_place xs up i j hi hj e =
-    elim (cases_order i j) as (λ _. i ≡ j) [
-      | inl same ↦ same
-      | inr w ↦ elim w as (λ _. i ≡ j) [
-        | inl lt ↦ (
-            let k : i + suc (j - i - 1) ≡ j = omega arith in
-            let low = subst (λ (v : ℕ). get_or xs i 0 < get_or xs v 0) k (rises_far xs up (j - i - 1) i (omega arith)) in
-            absurd (omega arith))
-        | inr gt ↦ (
-            let k : j + suc (i - j - 1) ≡ i = omega arith in
-            let low = subst (λ (v : ℕ). get_or xs j 0 < get_or xs v 0) k (rises_far xs up (i - j - 1) j (omega arith)) in
-            absurd (omega arith))
-      ]
-    ]
-
 -- one promise names one vehicle
 one_vehicle : (promise : Option Promise) (a b : ℕ) → option_map_or (λ p. eqb p.vehicle a) promise false ≡ true → option_map_or (λ p. eqb p.vehicle b) promise false ≡ true → a ≡ b
 one_vehicle None a b h k = absurd (cc (h, k))
@@ -66,8 +40,17 @@ promised_passes id requests r c =
 none_in_nil : {X : Type 0} (x : X) → Contains [] x → ⊥
 none_in_nil x c = let lt = c.1 in omega arith
 
-some_if_contains : (xs : List ℕ) (x : ℕ) → Contains xs x → 0 < length xs
-some_if_contains xs x c = let lt = c.1 in omega arith
+-- a vehicle is live by any list of riders in which those promised to it have the same legs
+live_with : (settings : Settings) (tau : ℕ → ℕ → ℕ) (requests : List Rider) (riders others : List SettledRider) (v : SettledVehicle)
+    → kept_legs settings.wait requests riders (promised_to v.id requests) ≡ kept_legs settings.wait requests others (promised_to v.id requests) → IsLive settings tau requests riders v → IsLive settings tau requests others v
+live_with settings tau requests riders others v same l = record { few = l.few; servable = subst (λ (legs : List Leg). IsServable tau (vehicle_task settings.dwell v legs)) same l.servable }
+
+-- with nobody but its passengers a vehicle is served exactly where it is not late
+pub nobody_served : (P : List ℕ → Type 0) (most : ℕ) (late : Bool) (trip : List ℕ) → MatchBool late (P [] → ⊥) (P []) → (0 < length trip → length trip ≤ most → P trip → ⊥)
+    → ((length trip ≤ most) × P trip × ([] ≡ trip)) ⊎ (length trip ≤ most → P trip → ⊥)
+nobody_served P most true [] late none = inr (λ few served. late served)
+nobody_served P most false [] late none = inl (omega arith, late, refl)
+nobody_served P most late (x ∷ xs) is none = inr (none (omega arith))
 
 module _ (settings : Settings) (points : List ℕ) (tau : ℕ → ℕ → ℕ) (batch : Batch) (plain : List SettledRider) (vehicles : List SettledVehicle)
     (av : AreSettledVehicles settings points tau batch.sealed_at batch.riders plain batch.vehicles vehicles) where
@@ -94,39 +77,20 @@ module _ (settings : Settings) (points : List ℕ) (tau : ℕ → ℕ → ℕ) (
   rider_total : length riders ≡ length batch.riders
   rider_total = ak.count ∙ pl.count
 
-  plain_of : (r : ℕ) (x : Rider) → slice_get batch.riders r ≡ Some x → request_at batch.riders r ≡ x
-  plain_of r x e =
-      elim (cases_lt r (length batch.riders)) as (λ _. request_at batch.riders r ≡ x) [
-        | inl lt ↦ (let at = slice_get-get_or batch.riders r no_request lt in (cc (at, e)))
-        | inr ge ↦ absurd (let lt = within batch.riders r x e in omega arith)
-      ]
-    where
-      within : {X : Type 0} (xs : List X) (k : ℕ) (z : X) → slice_get xs k ≡ Some z → k < length xs
-      within [] k z h = absurd (cc)
-      within (y ∷ ys) zero z h = omega arith
-      within (y ∷ ys) (suc k) z h = let lt = within ys k z h in omega arith
+  -- what holds of a rider with the wait alone and with the promise holds of the settled one
+  settled_rider : (P : SettledRider → Type 0) (r : ℕ) → r < length batch.riders → P (get_or plain r no_rider) → P (kept_rider settings.wait (request_at batch.riders r) (get_or plain r no_rider)) → P (get_or riders r no_rider)
+  settled_rider P r h is kept = ⊎_elim (λ w. subst P (sym w.1) kept) (λ w. subst P (sym w.1) is) (ak.each r (let e = pl.count in omega arith))
 
   one_of : (v : ℕ) → v < length vehicles → (x : Vehicle) × (slice_get batch.vehicles v ≡ Some x) × IsSettledVehicle settings points tau batch.sealed_at batch.riders plain x (get_or vehicles v no_vehicle)
   one_of v h =
       let at = some_at batch.vehicles v (let e = av.count in omega arith) in (at.0, at.1, av.each v at.0 at.1)
 
-  -- what overrides the pickup doesn't see whether it was kept
-  same_leg : (k : ℕ) → k < length batch.riders → kept_leg settings.wait (request_at batch.riders k) (get_or plain k no_rider).leg ≡ kept_leg settings.wait (request_at batch.riders k) (get_or riders k no_rider).leg
-  same_leg k h =
-      ⊎_elim (λ w. sym (ap (λ (y : SettledRider). kept_leg settings.wait (request_at batch.riders k) y.leg) w.1))
-      (λ w. sym (ap (λ (y : SettledRider). kept_leg settings.wait (request_at batch.riders k) y.leg) w.1))
-      (ak.each k (let e = pl.count in omega arith))
-
   same_legs : (id : ℕ) → kept_legs settings.wait batch.riders plain (promised_to id batch.riders) ≡ kept_legs settings.wait batch.riders riders (promised_to id batch.riders)
   same_legs id =
-      maps_on (λ k. kept_leg settings.wait (request_at batch.riders k) (get_or plain k no_rider).leg) (λ k. kept_leg settings.wait (request_at batch.riders k) (get_or riders k no_rider).leg)
-      (promised_to id batch.riders) (λ k lt. same_leg (get_or (promised_to id batch.riders) k 0) ((promised_trip id batch.riders).within k 0 lt))
-
-  live_now : (v : SettledVehicle) → IsLive settings tau batch.riders plain v → IsLive settings tau batch.riders riders v
-  live_now v l = record { few = l.few; servable = subst (λ (legs : List Leg). IsServable tau (vehicle_task settings.dwell v legs)) (same_legs v.id) l.servable }
-
-  live_before : (v : SettledVehicle) → IsLive settings tau batch.riders riders v → IsLive settings tau batch.riders plain v
-  live_before v l = record { few = l.few; servable = subst (λ (legs : List Leg). IsServable tau (vehicle_task settings.dwell v legs)) (sym (same_legs v.id)) l.servable }
+      let leg = λ (y : SettledRider) (k : ℕ). kept_leg settings.wait (request_at batch.riders k) y.leg in
+      maps_on (λ k. leg (get_or plain k no_rider) k) (λ k. leg (get_or riders k no_rider) k) (promised_to id batch.riders) (λ i lt.
+      let k = get_or (promised_to id batch.riders) i 0 in
+      settled_rider (λ y. leg (get_or plain k no_rider) k ≡ leg y k) k ((promised_trip id batch.riders).within i 0 lt) refl refl)
 
   -- who is held was promised, by a live vehicle
   held_promised : (v : SettledVehicle) (r : ℕ) → HoldsPromised settings tau batch.riders plain v → Contains v.held.items r
@@ -134,63 +98,22 @@ module _ (settings : Settings) (points : List ℕ) (tau : ℕ → ℕ → ℕ) (
   held_promised v r (inl w) c = (w.0, w.1, promised_passes v.id batch.riders r (subst (λ (t : List ℕ). Contains t r) w.1 c))
   held_promised v r (inr w) c = absurd (none_in_nil r (subst (λ (t : List ℕ). Contains t r) w.1 c))
 
-  right_limit : (r : ℕ) → r < length riders → HasRightLimit settings tau batch.riders assembled r
+  right_limit : (r : ℕ) → r < length riders → HasRightLimit settings batch.riders assembled r
   right_limit r h =
-      ⊎_elim
-      (λ w.
-      let v = w.0.0 in let vh = w.0.1 in
-      let one = one_of v vh in
-      let p = held_promised (get_or vehicles v no_vehicle) r one.2.held w.0.2 in
-      inl (
-        record { vehicle = v; within = vh; promised = p.2; live = live_now (get_or vehicles v no_vehicle) p.0 },
-        ap (λ (y : SettledRider). y.leg.latest_pickup) w.1,
-        ap (λ (y : SettledRider). y.lapsed) w.1,
-      ))
-      (λ w.
-      let x = some_at batch.riders r (let e = rider_total in omega arith) in
-      let one = pl.each r x.0 x.1 in
-      let is = plain_of r x.0 x.1 in
-      inr (
-        λ l. w.0 (live_is_held l),
-        ap (λ (y : SettledRider). y.leg.latest_pickup) w.1 ∙ one.leg.latest_pickup ∙ ap (λ (z : Rider). z.time + settings.wait) (sym is),
-        ap (λ (y : SettledRider). y.lapsed) w.1 ∙ one.lapsed ∙ ap (λ (z : Rider). is_some z.promise) (sym is),
-      ))
+      let one = pl.each r (request_at batch.riders r) (slice_get-get_or batch.riders r no_request (let e = rider_total in omega arith)) in
+      ⊎_elim (λ w. inl (w.0, ap (λ (y : SettledRider). y.leg.latest_pickup) w.1, ap (λ (y : SettledRider). y.lapsed) w.1))
+      (λ w. inr (w.0, ap (λ (y : SettledRider). y.leg.latest_pickup) w.1 ∙ one.leg.latest_pickup, ap (λ (y : SettledRider). y.lapsed) w.1 ∙ one.lapsed))
       (ak.each r (let e = ak.count in omega arith))
-    where
-      live_is_held : IsLiveRider settings tau batch.riders assembled r → IsHeld vehicles r
-      live_is_held l =
-          let v = get_or vehicles l.vehicle no_vehicle in
-          let has = filter_range_has (λ k. is_promised_to v.id (request_at batch.riders k)) (length batch.riders) r (let e = rider_total in omega arith) l.promised in
-          ⊎_elim
-          (λ u. (l.vehicle, l.within, subst (λ (t : List ℕ). Contains t r) (sym u.1) has))
-          (λ u. absurd (u.0 (some_if_contains (promised_to v.id batch.riders) r has) (live_before v l.live)))
-          (one_of l.vehicle l.within).2.held
 
-  rider_of : (r : ℕ) (x : Rider) → slice_get batch.riders r ≡ Some x → IsRiderOf settings points tau x (get_or riders r no_rider)
-  rider_of r x e =
-      let one = pl.each r x e in
-      let leg = one.leg in
-      let is = plain_of r x e in
-      let base : IsRiderOf settings points tau x (get_or plain r no_rider) = record {
-        id = one.id;
-        leg = record { origin_place = leg.origin_place; destination_place = leg.destination_place; latest_pickup = refl; ideal = leg.ideal; latest_dropoff = leg.latest_dropoff; size = leg.size };
-      } in
-      let kept : IsRiderOf settings points tau x (kept_rider settings.wait (request_at batch.riders r) (get_or plain r no_rider)) = record {
-        id = one.id;
-        leg = record { origin_place = leg.origin_place; destination_place = leg.destination_place; latest_pickup = refl; ideal = leg.ideal; latest_dropoff = leg.latest_dropoff; size = leg.size };
-      } in
-      ⊎_elim (λ w. subst (IsRiderOf settings points tau x) (sym w.1) kept) (λ w. subst (IsRiderOf settings points tau x) (sym w.1) base) (ak.each r (inside r x e))
-    where
-      beyond : (xs : List Rider) (k : ℕ) (z : Rider) → length xs ≤ k → slice_get xs k ≡ Some z → ⊥
-      beyond [] k z h s = absurd (cc)
-      beyond (y ∷ ys) zero z h s = omega arith
-      beyond (y ∷ ys) (suc k) z h s = beyond ys k z (omega arith) s
+  rider_id : (r : ℕ) (x : Rider) → slice_get batch.riders r ≡ Some x → (get_or riders r no_rider).id ≡ x.id
+  rider_id r x e = let one = pl.each r x e in settled_rider (λ y. y.id ≡ x.id) r (slice_get_within batch.riders r x e) one.id one.id
 
-      inside : (k : ℕ) (z : Rider) → slice_get batch.riders k ≡ Some z → k < length plain
-      inside k z s = elim (cases_lt k (length plain)) as (λ _. k < length plain) [
-        | inl lt ↦ lt
-        | inr ge ↦ absurd (beyond batch.riders k z (let n = pl.count in omega arith) s)
-      ]
+  rider_leg : (r : ℕ) (x : Rider) → slice_get batch.riders r ≡ Some x → IsLegOf settings points tau x.origin x.destination x.time x.party (record (get_or riders r no_rider).leg { latest_pickup = x.time + settings.wait })
+  rider_leg r x e =
+      let leg = (pl.each r x e).leg in
+      let plain_leg : IsLegOf settings points tau x.origin x.destination x.time x.party (record (get_or plain r no_rider).leg { latest_pickup = x.time + settings.wait }) =
+      record { origin_place = leg.origin_place; destination_place = leg.destination_place; latest_pickup = refl; ideal = leg.ideal; latest_dropoff = leg.latest_dropoff; size = leg.size } in
+      settled_rider (λ y. IsLegOf settings points tau x.origin x.destination x.time x.party (record y.leg { latest_pickup = x.time + settings.wait })) r (slice_get_within batch.riders r x e) plain_leg plain_leg
 
   pub settled_right : IsSettled settings points tau batch assembled
   settled_right =
@@ -202,9 +125,12 @@ module _ (settings : Settings) (points : List ℕ) (tau : ℕ → ℕ → ℕ) (
         rider_count = rider_total;
         placed = λ v x e. (av.each v x e).placed;
         late = λ v h. (one_of v h).2.late;
-        held = λ v h. ⊎_elim (λ w. inl (live_now (get_or vehicles v no_vehicle) w.0, w.1))
-            (λ w. inr (λ some l. w.0 some (live_before (get_or vehicles v no_vehicle) l), w.1)) (one_of v h).2.held;
-        riders = rider_of;
+        held = λ v h.
+            let y = get_or vehicles v no_vehicle in
+            ⊎_elim (λ w. inl (live_with settings tau batch.riders plain riders y (same_legs y.id) w.0, w.1))
+            (λ w. inr (λ l. w.0 (live_with settings tau batch.riders riders plain y (sym (same_legs y.id)) l), w.1)) (one_of v h).2.held;
+        ids = rider_id;
+        legs = rider_leg;
         limits = right_limit;
       }
 
@@ -212,12 +138,8 @@ module _ (settings : Settings) (points : List ℕ) (tau : ℕ → ℕ → ℕ) (
   valid_rider r h =
       let inside : r < length batch.riders = (let e = rider_total in omega arith) in
       let can = plain_can_be_kept settings points tau batch.riders plain pl r inside in
-      let x = some_at batch.riders r inside in
-      let one = pl.each r x.0 x.1 in
-      ⊎_elim
-      (λ w. subst (λ (y : SettledRider). IsLeg (length points) y.leg × IsShort y.leg) (sym w.1) (kept_leg_valid (length points) settings.wait (request_at batch.riders r) (get_or plain r no_rider).leg can, one.short))
-      (λ w. subst (λ (y : SettledRider). IsLeg (length points) y.leg × IsShort y.leg) (sym w.1) (one.valid, one.short))
-      (ak.each r (let e = ak.count in omega arith))
+      let one = pl.each r (request_at batch.riders r) (slice_get-get_or batch.riders r no_request inside) in
+      settled_rider (λ y. IsLeg (length points) y.leg × IsShort y.leg) r inside (one.valid, one.short) (kept_leg_valid (length points) settings.wait (request_at batch.riders r) (get_or plain r no_rider).leg can, one.short)
 
   -- the legs of who is held are those as promised
   held_legs : (v : ℕ) → v < length vehicles → map (λ k. (get_or riders k no_rider).leg) (get_or vehicles v no_vehicle).held.items ≡ kept_legs settings.wait batch.riders plain (get_or vehicles v no_vehicle).held.items
@@ -264,7 +186,7 @@ module _ (settings : Settings) (points : List ℕ) (tau : ℕ → ℕ → ℕ) (
         vehicle_count = (let e = av.count in let most = kept.vehicle_count in omega arith);
         rider_count = (let e = rider_total in let most = kept.rider_count in omega arith);
         vehicle_ids = rw ids kept.vehicles_rise;
-        rider_ids = rw (maps_same (λ (r : Rider). r.id) (λ (r : SettledRider). r.id) no_rider batch.riders riders rider_total (λ k x e. (rider_of k x e).id)) kept.riders_rise;
+        rider_ids = rw (maps_same (λ (r : Rider). r.id) (λ (r : SettledRider). r.id) no_rider batch.riders riders rider_total rider_id) kept.riders_rise;
         now = early;
         most_seats = ap greatest (sym (maps_same (λ (v : Vehicle). v.seats) (λ (v : SettledVehicle). v.seats) no_vehicle batch.vehicles vehicles av.count (λ k x e. (av.each k x e).placed.seats)));
         short = λ k d lt. subst (λ (y : SettledRider). IsShort y.leg) (get_or_default riders k no_rider d lt) (valid_rider k lt).1;
@@ -276,5 +198,5 @@ module _ (settings : Settings) (points : List ℕ) (tau : ℕ → ℕ → ℕ) (
             let n = length-map vehicles (λ (x : SettledVehicle). x.id) in
             let iv = get_or-map (λ (x : SettledVehicle). x.id) vehicles v no_vehicle 0 hv in
             let iw = get_or-map (λ (x : SettledVehicle). x.id) vehicles w no_vehicle 0 hw in
-            one_place (map (λ (x : SettledVehicle). x.id) vehicles) (rw ids kept.vehicles_rise) v w (omega arith) (omega arith) (iv ∙ same ∙ sym iw);
+            rising_once (map (λ (x : SettledVehicle). x.id) vehicles) (rw ids kept.vehicles_rise) v w (omega arith) (omega arith) (iv ∙ same ∙ sym iw);
       }

@@ -13,11 +13,11 @@ pub use Rattle.batch_snapshot.specs.declared.promise.Promise.{Promise}
 pub use Rattle.batch_snapshot.specs.declared.rider.Rider.{Rider}
 pub use Rattle.batch_snapshot.specs.declared.vehicle.Vehicle.{Vehicle}
 pub use Rattle.pool_base.specs.Times.{point_count, travel_time}
-pub use Rattle.promise_check.specs.Promised.{IsLive, is_promised_to, kept_legs, promised_limit, promised_to}
+pub use Rattle.promise_check.specs.Promised.{IsLive, promised_limit, promised_to}
 pub use Rattle.promise_check.specs.Requests.{IsLegOf, request_at}
-pub use Rattle.promise_check.specs.Settling.{HasRightLimit, HoldsPromised, IsLiveRider, IsRiderOf, IsSettled}
-pub use Rattle.promise_check.specs.lemmas.Named.{kept_leg, no_request}
-pub use Rattle.promise_check.specs.work.Promised.{AreKept, IsHeld, kept_rider}
+pub use Rattle.promise_check.specs.Settling.{HasRightLimit, IsSettled}
+pub use Rattle.promise_check.specs.lemmas.Named.{HoldsPromised, IsHeld, is_promised_to, kept_leg, kept_legs, no_request}
+pub use Rattle.promise_check.specs.work.Promised.{AreKept, kept_rider}
 pub use Rattle.promise_check.specs.work.Requests.{ArePlain, CanBeKept, IsBetweenPlaces, IsPlain}
 pub use Rattle.promise_check.specs.work.Settling.{AreSettledVehicles, HasVehiclePlaces, IsSettledVehicle}
 pub use Rattle.rider_limits.specs.declared.settings.Settings.{Settings}

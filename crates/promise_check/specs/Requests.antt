@@ -8,15 +8,12 @@ use Rattle.rider_limits.specs.declared.settings.Settings.{Settings}
 abbrev pub request_at : List Rider → ℕ → Rider
 request_at requests r = slice_index_or requests r (record { id = 0; origin = 0; destination = 0; time = 0; party = 1; promise = None })
 
--- when a rider would arrive who left at the second of the request; that second where there is no way
-abbrev pub ideal_second : (ℕ → ℕ → ℕ) → ℕ → ℕ → ℕ → ℕ
-ideal_second tau time origin destination = if nat_lt (tau origin destination) never then time + tau origin destination else time
-
--- the leg of a request: its nodes' places, and the limits that follow from its second
+-- the leg of a request: its nodes' places, and the limits that follow from its second; ideal is to leave at that second and to
+-- drive without a stop
 pub record IsLegOf (settings : Settings) (points : List ℕ) (tau : ℕ → ℕ → ℕ) (origin destination time party : ℕ) (leg : Leg) : Type 0 where
   pub origin_place : slice_get points leg.origin ≡ Some origin
   pub destination_place : slice_get points leg.destination ≡ Some destination
   pub latest_pickup : leg.latest_pickup ≡ time + settings.wait
-  pub ideal : leg.ideal ≡ ideal_second tau time leg.origin leg.destination
+  pub ideal : leg.ideal ≡ (if nat_lt (tau leg.origin leg.destination) never then time + tau leg.origin leg.destination else time)
   pub latest_dropoff : leg.latest_dropoff ≡ leg.ideal + settings.delay
   pub size : leg.party ≡ party

@@ -1,7 +1,7 @@
 ghost use Rattle.std.specs.Prelude.{◌≡◌, ℕ, ◌+◌, ◌<◌, ◌≤◌, All, Contains, IfOk, length};
-ghost use Rattle.promise_check.specs.Promised.{kept_legs, promised_limit};
-ghost use Rattle.promise_check.specs.lemmas.Named.{kept_leg};
-ghost use Rattle.promise_check.specs.work.Promised.{kept_rider, IsHeld, AreKept};
+ghost use Rattle.promise_check.specs.Promised.{promised_limit};
+ghost use Rattle.promise_check.specs.lemmas.Named.{kept_leg, kept_legs, IsHeld};
+ghost use Rattle.promise_check.specs.work.Promised.{kept_rider, AreKept};
 
 use arrayvec::ArrayVec;
 use batch_snapshot::Rider;

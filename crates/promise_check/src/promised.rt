@@ -1,5 +1,6 @@
 ghost use Rattle.std.specs.Prelude.{◌≡◌, ◌+◌, ◌<◌, ◌≤◌, MatchOption, length};
-ghost use Rattle.promise_check.specs.Promised.{is_promised_to, promised_to};
+ghost use Rattle.promise_check.specs.Promised.{promised_to};
+ghost use Rattle.promise_check.specs.lemmas.Named.{is_promised_to};
 
 use arrayvec::ArrayVec;
 use batch_snapshot::Rider;

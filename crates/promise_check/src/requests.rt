@@ -2,7 +2,8 @@ ghost use Rattle.std.specs.Prelude.{◌≡◌, ◌+◌, ◌<◌, ◌≤◌, All,
 ghost use Rattle.pool_base.specs.Times.{point_count, travel_time};
 ghost use Rattle.stop_orders.specs.Task.{IsLeg};
 ghost use Rattle.stop_orders.specs.Sound.{IsShort};
-ghost use Rattle.promise_check.specs.Requests.{IsLegOf, ideal_second};
+ghost use Rattle.promise_check.specs.Requests.{IsLegOf};
+ghost use Rattle.promise_check.specs.lemmas.Named.{ideal_second};
 ghost use Rattle.promise_check.specs.work.Requests.{IsPlain, ArePlain, IsBetweenPlaces};
 
 use batch_snapshot::{Points, Rider};

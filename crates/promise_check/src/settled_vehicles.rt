@@ -1,13 +1,14 @@
-ghost use Rattle.std.specs.Prelude.{◌≡◌, ℕ, ◌+◌, ◌<◌, ◌≤◌, ◌⊎◌, [], All, Contains, IfOk, MatchBool, length, map, sum_by, slice_index_or};
+ghost use Rattle.std.specs.Prelude.{◌≡◌, ℕ, ◌+◌, ◌<◌, ◌≤◌, ◌⊎◌, [], All, Contains, IfOk, MatchBool, Some, length, map, slice_get, sum_by, slice_index_or};
 ghost use Rattle.pool_base.specs.Times.{point_count, travel_time};
 ghost use Rattle.batch_snapshot.specs.Vehicle.{HasSeats};
-ghost use Rattle.stop_orders.specs.Task.{IsLeg, IsTask, IsServable, persons};
+ghost use Rattle.batch_snapshot.specs.declared.passenger.Passenger.{Passenger};
+ghost use Rattle.stop_orders.specs.Task.{IsLeg, IsTask, IsServable, leg_at, persons};
 ghost use Rattle.stop_orders.specs.Settled.{no_rider, vehicle_task};
 ghost use Rattle.stop_orders.specs.Sound.{IsShort};
-ghost use Rattle.promise_check.specs.Requests.{request_at};
+ghost use Rattle.promise_check.specs.Requests.{IsLegOf, request_at};
 ghost use Rattle.promise_check.specs.work.Requests.{IsBetweenPlaces, ArePlain, CanBeKept};
 ghost use Rattle.promise_check.specs.Promised.{promised_to, IsLive};
-ghost use Rattle.promise_check.specs.Settling.{AreLegsOf, IsPlaced};
+ghost use Rattle.promise_check.specs.Settling.{IsPlaced};
 ghost use Rattle.promise_check.specs.work.Settling.{HasVehiclePlaces, IsSettledVehicle, AreSettledVehicles};
 
 use crate::kept_riders::legs_as_promised;
@@ -118,7 +119,8 @@ fn legs_of(
     requires table { point_count times.now ≡ length points.now }
     requires places { All (λ p. IsBetweenPlaces points.now p.origin p.destination) passengers.now }
     requires count { length passengers.now ≤ 10 }
-    ensures legs { AreLegsOf settings.now points.now (travel_time times.now) passengers.now result.items }
+    ensures count { length result.items ≡ length passengers.now }
+    ensures legs { (k : ℕ) (p : Passenger) → slice_get passengers.now k ≡ Some p → IsLegOf settings.now points.now (travel_time times.now) p.origin p.destination p.time p.party (leg_at result.items k) }
     ensures valid { All (IsLeg (length points.now)) result.items }
     ensures short { All IsShort result.items }
     ensures persons { persons result.items ≡ sum_by (λ p. p.party) passengers.now }

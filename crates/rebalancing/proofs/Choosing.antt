@@ -1,5 +1,5 @@
 use Rattle.std.proofs.Common.{◌≡◌, ◌≢◌, ℕ, ◌+◌, ◌<◌, ◌≤◌, List, [], ◌∷◌, ◌++◌, length, slice_index, get_or, map, All, Any, sum_by, ℤ, pos, neg_ℤ, ◌+ℤ◌, ◌-ℤ◌, ◌≤ℤ◌, refl, sym, ap, ◌∙◌, ⊎_elim, arith}
-use Rattle.rebalancing.proofs.Common.{cases_eq, cases_lt, ints, length-map, get_or-map, All-push, Contains-append_left, Contains-push, never, Matching, pair_seconds, total_of, IsMatching, pair_worth, potential, ArePotentials, weight_of, IsPricedMatching, weight_in, IsChosen, seconds_in}
+use Rattle.rebalancing.proofs.Common.{cases_eq, cases_lt, ints, length-map, get_or-map, All-push, Contains-append_left, Contains-push, never, Matching, pair_seconds, IsMatching, pair_worth, potential, ArePotentials, weight_of, IsPricedMatching, weight_in, IsChosen, seconds_in}
 use Rattle.std.proofs.lemmas.Bool.{lt-ltb, le-ltb}
 use Rattle.std.proofs.lemmas.List.Quantifiers.{all_pairs_push}
 use Rattle.rebalancing.proofs.PlaceSums.{sum_by_same}
@@ -82,7 +82,7 @@ module _ (tau : ℕ → ℕ → ℕ) (idle wanted : List ℕ) (s : Matching) (pa
         omega arith;
   }
 
-  pub total-chosen : sum_by (seconds_in s) pairs ≡ total_of tau idle wanted pairs
+  pub total-chosen : sum_by (seconds_in s) pairs ≡ sum_by (pair_seconds tau idle wanted) pairs
   total-chosen = sum_by_same (seconds_in s) (pair_seconds tau idle wanted) pairs (λ k d h.
       let is : weight_in s (get_or pairs k d).0 (get_or pairs k d).1 ≡ weight_of (pair_seconds tau idle wanted (get_or pairs k d)) = weight_is k d h in
       let worth : weight_of (pair_seconds tau idle wanted (get_or pairs k d)) + pair_seconds tau idle wanted (get_or pairs k d) ≡ pair_worth = weight_of-is _ (way k d h) in

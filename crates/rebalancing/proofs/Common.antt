@@ -6,7 +6,7 @@ pub use Rattle.std.proofs.lemmas.List.Elements.{All-from_get_or, All-head, All-p
 pub use Rattle.std.proofs.lemmas.List.Sums.{sum_by-cons, sum_by-le, sum_by-le-sum_by, sum_by-set}
 pub use Rattle.pool_base.specs.Times.{travel_time}
 pub use Rattle.pool_base.specs.TravelTime.{longest, never}
-pub use Rattle.rebalancing.specs.Matching.{IsBestMatching, IsMatching, pair_seconds, total_of}
+pub use Rattle.rebalancing.specs.Matching.{IsBestMatching, IsMatching, pair_seconds}
 pub use Rattle.rebalancing.specs.Potentials.{ArePotentials, pair_worth, potential}
 pub use Rattle.rebalancing.specs.declared.matching.Matching.{Matching}
 pub use Rattle.rebalancing.specs.work.Chosen.{IsChosen, seconds_in}

@@ -1,28 +1,22 @@
 use Rattle.std.proofs.Common.{◌≡◌, ℕ, suc, ◌+◌, ◌*◌, ◌<◌, ◌≤◌, List, length, get_or, map, replicate, All, Any, sum, sum_by, ℤ, pos, negsuc, neg_ℤ, ◌+ℤ◌, ◌-ℤ◌, ◌≤ℤ◌, refl, ap, ◌∙◌, arith}
-use Rattle.rebalancing.proofs.Common.{ints, length-map, get_or-map, length-replicate, get_or-replicate, sum_by-le, never, longest, pair_seconds, total_of, IsMatching, IsBestMatching, pair_worth, potential, ArePotentials}
+use Rattle.rebalancing.proofs.Common.{ints, length-map, get_or-map, length-replicate, get_or-replicate, sum_by-le, never, longest, pair_seconds, IsMatching, IsBestMatching, pair_worth, potential, ArePotentials}
+use Rattle.std.proofs.lemmas.List.Folds.{sum_by-replicate}
 use Rattle.rebalancing.proofs.PlaceSums.{sum_over_different, sum_over_covering, sum_at_least, sum_exactly}
 
 -- as many ones
 abbrev ones_of : ℕ → List ℕ
 ones_of n = replicate n 1
 
--- the sum of as many ones
-sum_of_ones : (n : ℕ) → sum (ones_of n) ≤ n
-sum_of_ones n =
-    let most : sum (ones_of n) ≤ length (ones_of n) * 1 = sum_by-le (λ x. x) 1 (ones_of n) (λ k d h. let within : k < n = rw length-replicate at h in rw (get_or-replicate n k 1 d within) (omega arith)) in
-    omega (arith, length-replicate {A = ℕ} n 1)
-
 -- a matching has at most as many pairs as the first list has places
 pub IsMatching-short : (tau : ℕ → ℕ → ℕ) (from to : List ℕ) (pairs : List (ℕ × ℕ)) → IsMatching tau from to pairs → length pairs ≤ length from
 IsMatching-short tau from to pairs m =
-    let n : ℕ = length from in
-    let ones : List ℕ = ones_of (length from) in
     let within : All (λ (p : ℕ × ℕ). p.0 < length (ones_of (length from))) pairs = λ k d h. rw length-replicate ((m.within k d h).0) in
     let bound : sum_by (λ (p : ℕ × ℕ). get_or (ones_of (length from)) p.0 0) pairs ≤ sum (ones_of (length from)) = sum_over_different (λ (p : ℕ × ℕ). p.0) pairs (ones_of (length from)) within m.once_from in
     let each : All (λ (p : ℕ × ℕ). 1 ≡ 0 + get_or (ones_of (length from)) p.0 0 + 0) pairs = λ k d h. rw (get_or-replicate {A = ℕ} (length from) _ 1 0 (m.within k d h).0) refl in
     let count : length pairs * 1 ≡ sum_by (λ (p : ℕ × ℕ). 0) pairs + sum_by (λ (p : ℕ × ℕ). get_or (ones_of (length from)) p.0 0) pairs + sum_by (λ (p : ℕ × ℕ). 0) pairs = sum_exactly (λ (p : ℕ × ℕ). 0) (λ (p : ℕ × ℕ). get_or (ones_of (length from)) p.0 0) (λ (p : ℕ × ℕ). 0) 1 pairs each in
     let none : sum_by (λ (p : ℕ × ℕ). 0) pairs ≤ length pairs * 0 = sum_by-le (λ (p : ℕ × ℕ). 0) 0 pairs (λ k d h. omega arith) in
-    omega (arith, sum_of_ones (length from))
+    let most : sum (ones_of (length from)) ≡ length from * 1 = sum_by-replicate (λ (x : ℕ). x) (length from) 1 in
+    omega arith
 
 -- Prices: two places' prices and the pair's seconds are at least the pair's worth, and exactly that on the pairs
 -- chosen; a place of no pair has price 0.
@@ -36,7 +30,7 @@ pub record ArePrices (tau : ℕ → ℕ → ℕ) (from to : List ℕ) (pairs : L
 
 -- another matching gains no more: its pairs' worth less its seconds is at most that of the priced matching
 gains_no_more : (tau : ℕ → ℕ → ℕ) (from to : List ℕ) (pairs other : List (ℕ × ℕ)) (a b : List ℕ) → ArePrices tau from to pairs a b → IsMatching tau from to other
-    → length other * pair_worth + total_of tau from to pairs ≤ total_of tau from to other + length pairs * pair_worth
+    → length other * pair_worth + sum_by (pair_seconds tau from to) pairs ≤ sum_by (pair_seconds tau from to) other + length pairs * pair_worth
 gains_no_more tau from to pairs other a b prices m =
     let s : ℕ × ℕ → ℕ = pair_seconds tau from to in
     let f : ℕ × ℕ → ℕ = λ p. get_or a p.0 0 in
@@ -52,9 +46,9 @@ gains_no_more tau from to pairs other a b prices m =
     omega arith
 
 -- the total of a matching of at most 500 places is less than the worth of one more pair
-total_short : (tau : ℕ → ℕ → ℕ) (from to : List ℕ) (pairs : List (ℕ × ℕ)) → ((a b : ℕ) → tau a b < never → tau a b ≤ longest) → length from ≤ 500 → IsMatching tau from to pairs → total_of tau from to pairs < pair_worth
+total_short : (tau : ℕ → ℕ → ℕ) (from to : List ℕ) (pairs : List (ℕ × ℕ)) → ((a b : ℕ) → tau a b < never → tau a b ≤ longest) → length from ≤ 500 → IsMatching tau from to pairs → sum_by (pair_seconds tau from to) pairs < pair_worth
 total_short tau from to pairs range few m =
-    let most : total_of tau from to pairs ≤ length pairs * longest = sum_by-le (pair_seconds tau from to) longest pairs (λ k d h. range _ _ (m.reachable k d h)) in
+    let most : sum_by (pair_seconds tau from to) pairs ≤ length pairs * longest = sum_by-le (pair_seconds tau from to) longest pairs (λ k d h. range _ _ (m.reachable k d h)) in
     let short : length pairs ≤ length from = IsMatching-short tau from to pairs m in
     omega arith
 
@@ -63,11 +57,11 @@ pub best_by_prices : (tau : ℕ → ℕ → ℕ) (from to : List ℕ) (pairs : L
 best_by_prices tau from to pairs a b range few m prices = record {
   matching = m;
   most_pairs = λ other n.
-      let gain : length other * pair_worth + total_of tau from to pairs ≤ total_of tau from to other + length pairs * pair_worth = gains_no_more tau from to pairs other a b prices n in
-      let short : total_of tau from to other < pair_worth = total_short tau from to other range few n in
+      let gain : length other * pair_worth + sum_by (pair_seconds tau from to) pairs ≤ sum_by (pair_seconds tau from to) other + length pairs * pair_worth = gains_no_more tau from to pairs other a b prices n in
+      let short : sum_by (pair_seconds tau from to) other < pair_worth = total_short tau from to other range few n in
       omega arith;
   least_total = λ other n e.
-      let gain : length other * pair_worth + total_of tau from to pairs ≤ total_of tau from to other + length pairs * pair_worth = gains_no_more tau from to pairs other a b prices n in
+      let gain : length other * pair_worth + sum_by (pair_seconds tau from to) pairs ≤ sum_by (pair_seconds tau from to) other + length pairs * pair_worth = gains_no_more tau from to pairs other a b prices n in
       omega arith;
 }
 

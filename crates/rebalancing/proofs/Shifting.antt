@@ -1,4 +1,4 @@
-use Rattle.std.proofs.Common.{◌≡◌, ◌≢◌, ℕ, ◌+◌, ◌<◌, ◌≤◌, ◌⊎◌, List, length, slice_index, sym, ap, ◌∙◌, inl, inr, ⊎_elim, arith}
+use Rattle.std.proofs.Common.{◌≡◌, ◌≢◌, ℕ, zero, suc, ◌+◌, ◌<◌, ◌≤◌, ◌⊎◌, List, length, slice_index, refl, sym, ap, ◌∙◌, inl, inr, ⊎_elim, arith}
 use Rattle.rebalancing.proofs.Common.{cases_eq, cases_lt, pair_worth, IsPriced, IsRooted, Falls, Rises, IsGrown, IsReached, IsCheapest}
 
 module _ {n m : ℕ} {w : ℕ → ℕ → ℕ} {k : ℕ} {a b q r c parent place : List ℕ} {count : ℕ} (tree : IsRooted n m w k a b q r c parent place count) where
@@ -11,19 +11,12 @@ module _ {n m : ℕ} {w : ℕ → ℕ → ℕ} {k : ℕ} {a b q r c parent place
 
   -- no vehicle is at two positions
   pub vehicles_differ : (s t : ℕ) → s < count → t < count → slice_index r s ≡ slice_index r t → s ≡ t
-  vehicles_differ s t hs ht e =
-      ⊎_elim
-      (λ (ps : 0 < s). ⊎_elim
-      (λ (pt : 0 < t).
-      let same : slice_index c s ≡ slice_index c t = sym (tree.partner s ps hs) ∙ ap (slice_index q) e ∙ tree.partner t pt ht in
-      sym (tree.placed s ps hs) ∙ ap (slice_index place) same ∙ tree.placed t pt ht)
-      (λ (zt : t ≤ 0). let z : t ≡ 0 = omega arith in absurd (root_apart s ps hs (sym (ap (slice_index r) z) ∙ sym e)))
-      (cases_lt 0 t))
-      (λ (zs : s ≤ 0). ⊎_elim
-      (λ (pt : 0 < t). let z : s ≡ 0 = omega arith in absurd (root_apart t pt ht (sym (ap (slice_index r) z) ∙ e)))
-      (λ (zt : t ≤ 0). omega arith)
-      (cases_lt 0 t))
-      (cases_lt 0 s)
+  vehicles_differ zero zero hs ht e = refl
+  vehicles_differ zero (suc t) hs ht e = absurd (root_apart (suc t) (omega arith) ht e)
+  vehicles_differ (suc s) zero hs ht e = absurd (root_apart (suc s) (omega arith) hs (sym e))
+  vehicles_differ (suc s) (suc t) hs ht e =
+      let same : slice_index c (suc s) ≡ slice_index c (suc t) = sym (tree.partner (suc s) (omega arith) hs) ∙ ap (slice_index q) e ∙ tree.partner (suc t) (omega arith) ht in
+      sym (tree.placed (suc s) (omega arith) hs) ∙ ap (slice_index place) same ∙ tree.placed (suc t) (omega arith) ht
 
   -- fewer positions are as they were where their vehicles have the riders that they had
   pub IsRooted-kept : (others : List ℕ) (fewer : ℕ) → 0 < fewer → fewer ≤ count → ((t : ℕ) → t < fewer → slice_index others (slice_index r t) ≡ slice_index q (slice_index r t)) → IsRooted n m w k a b others r c parent place fewer
@@ -45,19 +38,14 @@ module _ {n m : ℕ} {w : ℕ → ℕ → ℕ} {k : ℕ} {a b q r c parent place
 module _ {n m : ℕ} {w : ℕ → ℕ → ℕ} {k : ℕ} {a b q p r c parent place : List ℕ} (priced : IsPriced n m w k (k + 1) m a b q p) (grown : IsGrown n m w k a b q r c parent place) where
   -- a vehicle that is neither the root nor has a rider of the tree isn't in the tree
   out_of_tree : (i : ℕ) → i ≢ k → (slice_index q i < m → slice_index place (slice_index q i) ≡ 0) → (t : ℕ) → t < length r → slice_index r t ≢ i
-  out_of_tree i other out t ht e =
-      ⊎_elim
-      (λ (pt : 0 < t).
-      let rider : slice_index q i ≡ slice_index c t = ap (slice_index q) (sym e) ∙ grown.tree.partner t pt ht in
-      let within : slice_index c t < m = grown.tree.rider t pt ht in
+  out_of_tree i other out zero ht e = other (sym e ∙ grown.tree.root)
+  out_of_tree i other out (suc t) ht e =
+      let rider : slice_index q i ≡ slice_index c (suc t) = ap (slice_index q) (sym e) ∙ grown.tree.partner (suc t) (omega arith) ht in
+      let within : slice_index c (suc t) < m = grown.tree.rider (suc t) (omega arith) ht in
       let zero_at : slice_index place (slice_index q i) ≡ 0 = out (omega arith) in
-      let at : slice_index place (slice_index c t) ≡ t = grown.tree.placed t pt ht in
-      let same : slice_index place (slice_index q i) ≡ slice_index place (slice_index c t) = ap (slice_index place) rider in
-      absurd (omega arith))
-      (λ (le : t ≤ 0).
-      let first : t ≡ 0 = omega arith in
-      other (sym e ∙ ap (slice_index r) first ∙ grown.tree.root))
-      (cases_lt 0 t)
+      let at : slice_index place (slice_index c (suc t)) ≡ suc t = grown.tree.placed (suc t) (omega arith) ht in
+      let same : slice_index place (slice_index q i) ≡ slice_index place (slice_index c (suc t)) = ap (slice_index place) rider in
+      absurd (omega arith)
 
   -- a vehicle is at some position of the tree, or at none
   pub vehicle_cases : (i : ℕ) → i < n → ((t : ℕ) × (t < length r) × (slice_index r t ≡ i)) ⊎ ((t : ℕ) → t < length r → slice_index r t ≢ i)

@@ -5,10 +5,6 @@ use Rattle.pool_base.specs.TravelTime.{never}
 abbrev pub pair_seconds : (ℕ → ℕ → ℕ) → List ℕ → List ℕ → ℕ × ℕ → ℕ
 pair_seconds tau from to pair = tau (slice_index from pair.0) (slice_index to pair.1)
 
--- the sum of the pairs' seconds
-abbrev pub total_of : (ℕ → ℕ → ℕ) → List ℕ → List ℕ → List (ℕ × ℕ) → ℕ
-total_of tau from to pairs = sum_by (pair_seconds tau from to) pairs
-
 -- the pairs join places of two lists, each place at most once, and only where there is a way
 pub record IsMatching (tau : ℕ → ℕ → ℕ) (from to : List ℕ) (pairs : List (ℕ × ℕ)) : Type 0 where
   pub within : All (λ (p : ℕ × ℕ). (p.0 < length from) × (p.1 < length to)) pairs
@@ -16,8 +12,8 @@ pub record IsMatching (tau : ℕ → ℕ → ℕ) (from to : List ℕ) (pairs : 
   pub once_from : AllPairs (λ (p q : ℕ × ℕ). p.0 ≢ q.0) pairs
   pub once_to : AllPairs (λ (p q : ℕ × ℕ). p.1 ≢ q.1) pairs
 
--- no matching has more pairs, and none of as many pairs has a lesser total
+-- no matching has more pairs, and none of as many pairs takes less time in all
 pub record IsBestMatching (tau : ℕ → ℕ → ℕ) (from to : List ℕ) (pairs : List (ℕ × ℕ)) : Type 0 where
   pub matching : IsMatching tau from to pairs
   pub most_pairs : (other : List (ℕ × ℕ)) → IsMatching tau from to other → length other ≤ length pairs
-  pub least_total : (other : List (ℕ × ℕ)) → IsMatching tau from to other → length other ≡ length pairs → total_of tau from to pairs ≤ total_of tau from to other
+  pub least_total : (other : List (ℕ × ℕ)) → IsMatching tau from to other → length other ≡ length pairs → sum_by (pair_seconds tau from to) pairs ≤ sum_by (pair_seconds tau from to) other

@@ -1,6 +1,6 @@
 ghost use Rattle.std.specs.Prelude.{◌≡◌, ℕ, ◌+◌, ◌*◌, ◌<◌, ◌≤◌, ◌^◌, pos, neg_ℤ, All, AllPairs, sum_by, IfOk, OnOk, length, map, slice_index};
 ghost use Rattle.pool_base.specs.Times.{point_count, travel_time};
-ghost use Rattle.rebalancing.specs.Matching.{IsBestMatching, total_of};
+ghost use Rattle.rebalancing.specs.Matching.{IsBestMatching, pair_seconds};
 ghost use Rattle.rebalancing.specs.Potentials.{ArePotentials, pair_worth};
 ghost use Rattle.rebalancing.specs.work.Weights.{weight_at};
 ghost use Rattle.rebalancing.specs.work.Prices.{IsPricedMatching, IsSized, weight_in};
@@ -29,7 +29,7 @@ pub fn rebalance(
     requires wanted_places { All (λ place. place < point_count times.now) wanted.now }
     ensures best { IfOk result (λ moves. IsBestMatching (travel_time times.now) idle.now wanted.now moves.pairs) }
     ensures rising { IfOk result (λ moves. AllPairs (λ (p q : ℕ × ℕ). p.0 < q.0) moves.pairs) }
-    ensures total { IfOk result (λ moves. moves.total ≡ total_of (travel_time times.now) idle.now wanted.now moves.pairs) }
+    ensures total { IfOk result (λ moves. moves.total ≡ sum_by (pair_seconds (travel_time times.now) idle.now wanted.now) moves.pairs) }
     ensures potentials { IfOk result (λ moves. ArePotentials (travel_time times.now) idle.now wanted.now moves.pairs moves.from moves.to) }
 {
     let weights = weights_of(alloc, idle, wanted, times)?;

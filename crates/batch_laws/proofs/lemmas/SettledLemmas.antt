@@ -1,12 +1,11 @@
 -- A batch settles in one way.
-use Rattle.std.proofs.Common.{◌≡◌, ℕ, ◌+◌, ◌<◌, ◌≤◌, ◌⊎◌, Bool, true, false, MatchBool, List, [], ◌∷◌, length, get_or, map, Some, None, slice_get, IsTrue, is_some, refl, sym, ap, ◌∙◌, subst, inl, inr, ⊎_elim, arith}
+use Rattle.std.proofs.Common.{◌≡◌, ℕ, ◌+◌, ◌<◌, ◌≤◌, ◌⊎◌, Bool, true, false, MatchBool, List, [], length, get_or, map, Some, slice_get, refl, sym, ap, ◌∙◌, subst, inl, inr, ⊎_elim, arith}
 use Rattle.std.specs.List.Sorted.{IsStrictlyIncreasing}
 use Rattle.std.proofs.Math.Path.{fun_ext}
 use Rattle.std.proofs.lemmas.Bool.{cases_lt}
 use Rattle.std.proofs.lemmas.List.{ext_get_or, get_or_past}
-use Rattle.std.proofs.lemmas.Option.{slice_get_cases, get_or_from_slice_get}
+use Rattle.std.proofs.lemmas.Option.{slice_get_cases, slice_get_within, slice_get-get_or, get_or_from_slice_get}
 use Rattle.batch_snapshot.specs.declared.passenger.Passenger.{Passenger}
-use Rattle.batch_snapshot.specs.declared.rider.Rider.{Rider}
 use Rattle.batch_snapshot.specs.declared.vehicle.Vehicle.{Vehicle}
 use Rattle.batch_snapshot.specs.Batch.{Batch}
 use Rattle.stop_orders.specs.declared.leg.Leg.{Leg}
@@ -17,19 +16,16 @@ use Rattle.stop_orders.specs.declared.task.Task.{Task}
 use Rattle.stop_orders.specs.Task.{IsServable, leg_at, no_leg}
 use Rattle.stop_orders.specs.Settled.{vehicle_at, rider_at, vehicle_task, no_vehicle, no_rider}
 use Rattle.rider_limits.specs.declared.settings.Settings.{Settings}
-use Rattle.promise_check.specs.Requests.{IsLegOf, request_at, ideal_second}
-use Rattle.promise_check.specs.Promised.{promised_limit, promised_to, is_promised_to, kept_legs, IsLive}
-use Rattle.promise_check.specs.lemmas.Named.{kept_leg}
-use Rattle.promise_check.specs.Settling.{AreLegsOf, IsPlaced, IsLateRight, HoldsPromised, IsLiveRider, HasRightLimit, IsSettled}
-use Rattle.batch_laws.proofs.lemmas.SortedLemmas.{rising_once}
+use Rattle.promise_check.specs.Requests.{IsLegOf, request_at}
+use Rattle.promise_check.specs.Promised.{promised_limit, promised_to, IsLive}
+use Rattle.promise_check.specs.lemmas.Named.{ideal_second, kept_leg, kept_legs, HoldsPromised, IsHeld, no_request}
+use Rattle.promise_check.specs.Settling.{IsPlaced, HasRightLimit, IsSettled}
+use Rattle.promise_check.proofs.lemmas.Promises.{rising_once}
 
 -- a node stands at one place
 pub one_place_of : (points : List ℕ) → IsStrictlyIncreasing points → (i j node : ℕ) → slice_get points i ≡ Some node → slice_get points j ≡ Some node → i ≡ j
 one_place_of points up i j node a b =
-    rising_once points up i j (inside_of i a) (inside_of j b) (get_or_from_slice_get points i node 0 a ∙ sym (get_or_from_slice_get points j node 0 b))
-  where
-    inside_of : (k : ℕ) → slice_get points k ≡ Some node → k < length points
-    inside_of k e = ⊎_elim (λ found. found.1) (λ none. let no : Some node ≡ None = sym e ∙ none.1 in cc) (slice_get_cases points k).1
+    rising_once points up i j (slice_get_within points i node a) (slice_get_within points j node b) (get_or_from_slice_get points i node 0 a ∙ sym (get_or_from_slice_get points j node 0 b))
 
 same_leg : (a b : Leg) → a.origin ≡ b.origin → a.destination ≡ b.destination → a.latest_pickup ≡ b.latest_pickup → a.ideal ≡ b.ideal → a.latest_dropoff ≡ b.latest_dropoff → a.party ≡ b.party → a ≡ b
 same_leg a b o d l i f p = λ k. record { origin = o k; destination = d k; latest_pickup = l k; ideal = i k; latest_dropoff = f k; party = p k }
@@ -64,6 +60,9 @@ same_test true false P h k = absurd (h k)
 same_test false true P h k = absurd (k h)
 same_test false false P h k = refl
 
+abbrev nobody : Passenger
+nobody = record { rider = 0; origin = 0; destination = 0; time = 0; party = 0 }
+
 module _ (settings : Settings) (points : List ℕ) (up : IsStrictlyIncreasing points) (tau : ℕ → ℕ → ℕ) where
   one_leg : (o d t p : ℕ) (a b : Leg) → IsLegOf settings points tau o d t p a → IsLegOf settings points tau o d t p b → a ≡ b
   one_leg o d t p a b is also =
@@ -73,23 +72,16 @@ module _ (settings : Settings) (points : List ℕ) (up : IsStrictlyIncreasing po
       same_leg a b from to (is.latest_pickup ∙ sym also.latest_pickup) ideal
       (is.latest_dropoff ∙ ap (λ (x : ℕ). x + settings.delay) ideal ∙ sym also.latest_dropoff) (is.size ∙ sym also.size)
 
-  one_list_of_legs : (ps : List Passenger) (a b : List Leg) → AreLegsOf settings points tau ps a → AreLegsOf settings points tau ps b → a ≡ b
-  one_list_of_legs ps a b are also =
-      ext_get_or no_leg a b (are.count ∙ sym also.count)
-      (λ k within.
-      let inside : k < length ps = (let n = are.count in omega (arith, n)) in
-      ⊎_elim
-      (λ found. let p : Passenger = found.0 in one_leg p.origin p.destination p.time p.party (leg_at a k) (leg_at b k) (are.each k p found.2) (also.each k p found.2))
-      (λ past. absurd (let far = past.0 in omega (arith, far)))
-      (slice_get_cases ps k).1)
-
   one_placing : (now : ℕ) (x : Vehicle) (a b : SettledVehicle) → IsPlaced settings points tau now x a → IsPlaced settings points tau now x b → IsSamePlace a b
   one_placing now x a b is also = record {
     id = is.id ∙ sym also.id;
     start = one_place_of points up a.start b.start x.node is.start also.start;
     ready = is.ready ∙ sym also.ready;
     seats = is.seats ∙ sym also.seats;
-    aboard = one_list_of_legs x.aboard.items a.aboard.items b.aboard.items is.aboard also.aboard;
+    aboard = ext_get_or no_leg a.aboard.items b.aboard.items (is.aboard_count ∙ sym also.aboard_count) (λ k within.
+        let p = get_or x.aboard.items k nobody in
+        let at = slice_get-get_or x.aboard.items k nobody (let n = is.aboard_count in omega (arith, n, within)) in
+        one_leg p.origin p.destination p.time p.party (leg_at a.aboard.items k) (leg_at b.aboard.items k) (is.aboard_legs k p at) (also.aboard_legs k p at));
     aboard_ids = is.aboard_ids ∙ sym also.aboard_ids;
   }
 
@@ -102,29 +94,20 @@ module _ (settings : Settings) (points : List ℕ) (up : IsStrictlyIncreasing po
         (λ past. absurd (let far = past.0 in omega (arith, far)))
         (slice_get_cases batch.vehicles v).1
 
-    -- riders are the same but for the latest pickup
-    record IsSameRider (a b : SettledRider) : Type 0 where
-      id : a.id ≡ b.id
-      leg : (limit : ℕ) → record a.leg { latest_pickup = limit } ≡ record b.leg { latest_pickup = limit }
-
-    rider_same : (r : ℕ) → r < length s.riders → IsSameRider (rider_at s r) (rider_at t r)
-    rider_same r within =
-        let inside : r < length batch.riders = (let n = is.rider_count in omega (arith, n)) in
-        ⊎_elim
-        (λ found.
-        let x : Rider = found.0 in
-        let a = is.riders r x found.2 in let b = also.riders r x found.2 in
-        let leg = one_leg x.origin x.destination x.time x.party (record (rider_at s r).leg { latest_pickup = x.time + settings.wait }) (record (rider_at t r).leg { latest_pickup = x.time + settings.wait }) a.leg b.leg in
-        record { id = a.id ∙ sym b.id; leg = λ limit. ap (λ (l : Leg). record l { latest_pickup = limit }) leg })
-        (λ past. absurd (let far = past.0 in omega (arith, far)))
-        (slice_get_cases batch.riders r).1
+    -- a rider's legs are the same but for the latest pickup
+    leg_same : (r : ℕ) → r < length s.riders → (limit : ℕ) → record (rider_at s r).leg { latest_pickup = limit } ≡ record (rider_at t r).leg { latest_pickup = limit }
+    leg_same r within limit =
+        let x = request_at batch.riders r in
+        let at = slice_get-get_or batch.riders r no_request (let n = is.rider_count in omega (arith, n, within)) in
+        ap (λ (l : Leg). record l { latest_pickup = limit }) (one_leg x.origin x.destination x.time x.party (record (rider_at s r).leg { latest_pickup = x.time + settings.wait }) (record (rider_at t r).leg { latest_pickup = x.time + settings.wait })
+        (is.legs r x at) (also.legs r x at))
 
     same_counts : length s.riders ≡ length t.riders
     same_counts = is.rider_count ∙ sym also.rider_count
 
     kept_same : (k : ℕ) → kept_leg settings.wait (request_at batch.riders k) (get_or s.riders k no_rider).leg ≡ kept_leg settings.wait (request_at batch.riders k) (get_or t.riders k no_rider).leg
     kept_same k = elim (cases_lt k (length s.riders)) as (λ _. kept_leg settings.wait (request_at batch.riders k) (get_or s.riders k no_rider).leg ≡ kept_leg settings.wait (request_at batch.riders k) (get_or t.riders k no_rider).leg) [
-      | inl less ↦ (rider_same k less).leg (promised_limit settings.wait (request_at batch.riders k))
+      | inl less ↦ leg_same k less (promised_limit settings.wait (request_at batch.riders k))
       | inr past ↦
           let past' : length t.riders ≤ k = (let n = same_counts in omega (arith, n)) in
           ap (λ (r : SettledRider). kept_leg settings.wait (request_at batch.riders k) r.leg) (get_or_past s.riders k no_rider past ∙ sym (get_or_past t.riders k no_rider past'))
@@ -144,31 +127,13 @@ module _ (settings : Settings) (points : List ℕ) (up : IsStrictlyIncreasing po
               (ap (λ (l : List Leg). vehicle_task settings.dwell v l) legs ∙ same_task settings.dwell v w (kept_legs settings.wait batch.riders t.riders (promised_to w.id batch.riders)) at) live.servable;
         }
 
-empty_or_some : {X : Type 0} (xs : List X) → (xs ≡ []) ⊎ (0 < length xs)
-empty_or_some [] = inl refl
-empty_or_some (x ∷ xs) = inr (omega arith)
-
 module _ (settings : Settings) (points : List ℕ) (up : IsStrictlyIncreasing points) (tau : ℕ → ℕ → ℕ) (batch : Batch) where
   held_same : (s t : Settled) → IsSettled settings points tau batch s → IsSettled settings points tau batch t → (v w : SettledVehicle) → IsSamePlace v w → IsSamePlace w v
       → HoldsPromised settings tau batch.riders s.riders v → HoldsPromised settings tau batch.riders t.riders w → v.held.items ≡ w.held.items
-  held_same s t is also v w at back a b =
-      let ids : promised_to v.id batch.riders ≡ promised_to w.id batch.riders = ap (λ (i : ℕ). promised_to i batch.riders) at.id in
-      ⊎_elim
-      (λ (a : IsLive settings tau batch.riders s.riders v × (v.held.items ≡ promised_to v.id batch.riders)). ⊎_elim
-      (λ (b : IsLive settings tau batch.riders t.riders w × (w.held.items ≡ promised_to w.id batch.riders)). a.1 ∙ ids ∙ sym b.1)
-      (λ (b : (0 < length (promised_to w.id batch.riders) → IsLive settings tau batch.riders t.riders w → ⊥) × (w.held.items ≡ [])). ⊎_elim
-      (λ (e : promised_to w.id batch.riders ≡ []). a.1 ∙ ids ∙ e ∙ sym b.1)
-      (λ (some : 0 < length (promised_to w.id batch.riders)). absurd (b.0 some (live_same settings points up tau batch s t is also v w at a.0)))
-      (empty_or_some (promised_to w.id batch.riders)))
-      b)
-      (λ (a : (0 < length (promised_to v.id batch.riders) → IsLive settings tau batch.riders s.riders v → ⊥) × (v.held.items ≡ [])). ⊎_elim
-      (λ (b : IsLive settings tau batch.riders t.riders w × (w.held.items ≡ promised_to w.id batch.riders)). ⊎_elim
-      (λ (e : promised_to v.id batch.riders ≡ []). a.1 ∙ sym e ∙ ids ∙ sym b.1)
-      (λ (some : 0 < length (promised_to v.id batch.riders)). absurd (a.0 some (live_same settings points up tau batch t s also is w v back b.0)))
-      (empty_or_some (promised_to v.id batch.riders)))
-      (λ (b : (0 < length (promised_to w.id batch.riders) → IsLive settings tau batch.riders t.riders w → ⊥) × (w.held.items ≡ [])). a.1 ∙ sym b.1)
-      b)
-      a
+  held_same s t is also v w at back (inl a) (inl b) = a.1 ∙ ap (λ (i : ℕ). promised_to i batch.riders) at.id ∙ sym b.1
+  held_same s t is also v w at back (inl a) (inr b) = absurd (b.0 (live_same settings points up tau batch s t is also v w at a.0))
+  held_same s t is also v w at back (inr a) (inl b) = absurd (a.0 (live_same settings points up tau batch t s also is w v back b.0))
+  held_same s t is also v w at back (inr a) (inr b) = a.1 ∙ sym b.1
 
   back_at : (a b : SettledVehicle) → IsSamePlace a b → IsSamePlace b a
   back_at a b is = record { id = sym is.id; start = sym is.start; ready = sym is.ready; seats = sym is.seats; aboard = sym is.aboard; aboard_ids = sym is.aboard_ids }
@@ -179,50 +144,31 @@ module _ (settings : Settings) (points : List ℕ) (up : IsStrictlyIncreasing po
         let a = vehicle_at s v in let b = vehicle_at t v in
         let within' : v < length t.vehicles = (let n = is.vehicle_count in let m = also.vehicle_count in omega (arith, n, m)) in
         let at = vehicle_placed settings points up tau batch s t is also v within in
-        let servable : IsServable tau (vehicle_task settings.dwell a []) ≡ IsServable tau (vehicle_task settings.dwell b []) = ap (λ (task : Task). IsServable tau task) (same_task settings.dwell a b [] at) in
-        let right : IsLateRight settings tau b = also.late v within' in
-        let right' : MatchBool b.late (IsServable tau (vehicle_task settings.dwell a []) → ⊥) (IsServable tau (vehicle_task settings.dwell a [])) =
-        subst (λ (task : Task). MatchBool b.late (IsServable tau task → ⊥) (IsServable tau task)) (sym (same_task settings.dwell a b [] at)) right in
-        same_vehicle a b at (same_test a.late b.late (IsServable tau (vehicle_task settings.dwell a [])) (is.late v within) right')
+        let right = subst (λ (task : Task). MatchBool b.late (IsServable tau task → ⊥) (IsServable tau task)) (sym (same_task settings.dwell a b [] at)) (also.late v within') in
+        same_vehicle a b at (same_test a.late b.late (IsServable tau (vehicle_task settings.dwell a [])) (is.late v within) right)
         (held_same s t is also a b at (back_at a b at) (is.held v within) (also.held v within'))
 
     same_vehicles : s.vehicles ≡ t.vehicles
     same_vehicles = ext_get_or no_vehicle s.vehicles t.vehicles (is.vehicle_count ∙ sym also.vehicle_count) same_vehicle_at
 
-  live_rider : (s t : Settled) (is : IsSettled settings points tau batch s) (also : IsSettled settings points tau batch t) (r : ℕ) → IsLiveRider settings tau batch.riders s r → IsLiveRider settings tau batch.riders t r
-  live_rider s t is also r live =
-      let e = same_vehicles s t is also in
-      record {
-        vehicle = live.vehicle;
-        within = subst (λ (vs : List SettledVehicle). live.vehicle < length vs) e live.within;
-        promised = subst (λ (vs : List SettledVehicle). IsTrue (is_promised_to (get_or vs live.vehicle no_vehicle).id (request_at batch.riders r))) e live.promised;
-        live = live_same settings points up tau batch s t is also (vehicle_at s live.vehicle) (vehicle_at t live.vehicle) (vehicle_placed settings points up tau batch s t is also live.vehicle live.within) live.live;
-      }
-
-  module _ (s t : Settled) (is : IsSettled settings points tau batch s) (also : IsSettled settings points tau batch t) where
-    limits_same : (r : ℕ) → HasRightLimit settings tau batch.riders s r → HasRightLimit settings tau batch.riders t r
+    limits_same : (r : ℕ) → HasRightLimit settings batch.riders s r → HasRightLimit settings batch.riders t r
         → ((rider_at s r).leg.latest_pickup ≡ (rider_at t r).leg.latest_pickup) × ((rider_at s r).lapsed ≡ (rider_at t r).lapsed)
-    limits_same r a b = ⊎_elim
-        (λ (a : IsLiveRider settings tau batch.riders s r × ((rider_at s r).leg.latest_pickup ≡ promised_limit settings.wait (request_at batch.riders r)) × ((rider_at s r).lapsed ≡ false)). ⊎_elim
-        (λ (b : IsLiveRider settings tau batch.riders t r × ((rider_at t r).leg.latest_pickup ≡ promised_limit settings.wait (request_at batch.riders r)) × ((rider_at t r).lapsed ≡ false)). (a.1 ∙ sym b.1, a.2 ∙ sym b.2))
-        (λ b. absurd (b.0 (live_rider s t is also r a.0)))
-        b)
-        (λ (a : (IsLiveRider settings tau batch.riders s r → ⊥) × ((rider_at s r).leg.latest_pickup ≡ (request_at batch.riders r).time + settings.wait) × ((rider_at s r).lapsed ≡ is_some (request_at batch.riders r).promise)). ⊎_elim
-        (λ b. absurd (a.0 (live_rider t s also is r b.0)))
-        (λ (b : (IsLiveRider settings tau batch.riders t r → ⊥) × ((rider_at t r).leg.latest_pickup ≡ (request_at batch.riders r).time + settings.wait) × ((rider_at t r).lapsed ≡ is_some (request_at batch.riders r).promise)). (a.1 ∙ sym b.1, a.2 ∙ sym b.2))
-        b)
-        a
+    limits_same r (inl a) (inl b) = (a.1 ∙ sym b.1, a.2 ∙ sym b.2)
+    limits_same r (inl a) (inr b) = absurd (b.0 (subst (λ (vs : List SettledVehicle). IsHeld vs r) same_vehicles a.0))
+    limits_same r (inr a) (inl b) = absurd (a.0 (subst (λ (vs : List SettledVehicle). IsHeld vs r) (sym same_vehicles) b.0))
+    limits_same r (inr a) (inr b) = (a.1 ∙ sym b.1, a.2 ∙ sym b.2)
 
     same_rider_at : (r : ℕ) → r < length s.riders → rider_at s r ≡ rider_at t r
     same_rider_at r within =
         let within' : r < length t.riders = (let n = is.rider_count in let m = also.rider_count in omega (arith, n, m)) in
-        let like = rider_same settings points up tau batch s t is also r within in
+        let x = request_at batch.riders r in
+        let at = slice_get-get_or batch.riders r no_request (let n = is.rider_count in omega (arith, n, within)) in
         let limits = limits_same r (is.limits r within) (also.limits r within') in
-        same_rider (rider_at s r) (rider_at t r) like.id
-        (like.leg (rider_at s r).leg.latest_pickup ∙ ap (λ (x : ℕ). record (rider_at t r).leg { latest_pickup = x }) limits.0) limits.1
+        same_rider (rider_at s r) (rider_at t r) (is.ids r x at ∙ sym (also.ids r x at))
+        (leg_same settings points up tau batch s t is also r within (rider_at s r).leg.latest_pickup ∙ ap (λ (x : ℕ). record (rider_at t r).leg { latest_pickup = x }) limits.0) limits.1
 
     -- a batch settles in one way
     pub one_settling : s ≡ t
     one_settling =
-        same_settled s t (is.now ∙ sym also.now) (is.dwell ∙ sym also.dwell) (is.most_seats ∙ sym also.most_seats) (same_vehicles s t is also)
+        same_settled s t (is.now ∙ sym also.now) (is.dwell ∙ sym also.dwell) (is.most_seats ∙ sym also.most_seats) same_vehicles
         (ext_get_or no_rider s.riders t.riders (is.rider_count ∙ sym also.rider_count) same_rider_at)

@@ -1,6 +1,5 @@
 -- Lists in a strict order that have the same members are the same.
 use Rattle.std.proofs.Common.{◌≡◌, ℕ, zero, suc, ◌+◌, ◌<◌, ◌≤◌, ◌⊎◌, List, [], ◌∷◌, length, get_or, Contains, refl, sym, ap, ◌∙◌, subst, inl, inr, ⊎_elim, arith}
-use Rattle.std.specs.List.Sorted.{IsStrictlyIncreasing}
 use Rattle.std.proofs.lemmas.Bool.{cases_lt}
 use Rattle.std.proofs.lemmas.List.{get_or_default}
 
@@ -103,18 +102,6 @@ module _ {X : Type 0} (R : X → X → Type 0) where
 
 pub nat_strict : IsStrict (λ (x y : ℕ). x < y)
 nat_strict = record { irreflexive = λ x h. omega arith; transitive = λ x y z h k. omega arith }
-
--- a rising list has a number at one place
-pub rising_once : (xs : List ℕ) → IsStrictlyIncreasing xs → (i j : ℕ) → i < length xs → j < length xs → get_or xs i 0 ≡ get_or xs j 0 → i ≡ j
-rising_once xs up i j a b e =
-    let far = in_order (λ (x y : ℕ). x < y) nat_strict xs (neighbours_from (λ (x y : ℕ). x < y) xs 0 up) in
-    elim (cases_lt i j) as (λ _. i ≡ j) [
-      | inl less ↦ absurd (let below = far i j 0 less b in omega (arith, below, e))
-      | inr ge ↦ elim (cases_lt j i) as (λ _. i ≡ j) [
-        | inl less ↦ absurd (let below = far j i 0 less a in omega (arith, below, e))
-        | inr le ↦ omega arith
-      ]
-    ]
 
 -- rising numbers with the same members are the same
 pub same_rising : (xs ys : List ℕ) → ((k : ℕ) → k + 1 < length xs → get_or xs k 0 < get_or xs (k + 1) 0) → ((k : ℕ) → k + 1 < length ys → get_or ys k 0 < get_or ys (k + 1) 0)

@@ -1,24 +1,17 @@
 -- A network has one table of travel times between the same places.
-use Rattle.std.proofs.Common.{◌≡◌, ℕ, ◌<◌, List, length, get_or, sym, ◌∙◌, inl, inr, ⊎_elim, arith}
+use Rattle.std.proofs.Common.{◌≡◌, ℕ, ◌<◌, List, length, get_or, sym, ◌∙◌, inl, inr, arith}
 use Rattle.std.proofs.Math.Path.{fun_ext}
 use Rattle.std.proofs.lemmas.Bool.{cases_lt}
-use Rattle.pool_base.specs.TravelTime.{never}
 use Rattle.pool_base.specs.Times.{point_count, travel_time}
 use Rattle.pool_base.specs.declared.times.Times.{Times}
 use Rattle.road_network.specs.declared.arc.Arc.{Arc}
-use Rattle.road_network.specs.Walk.{IsLeastTime, HasNoWalk, IsTimeBetween}
+use Rattle.road_network.specs.Walk.{IsTimeBetween}
 
 one_time : (arcs : List Arc) (a b s t : ℕ) → IsTimeBetween arcs a b s → IsTimeBetween arcs a b t → s ≡ t
-one_time arcs a b s t one other = ⊎_elim
-    (λ (x : IsLeastTime arcs a b s). ⊎_elim
-    (λ (y : IsLeastTime arcs a b t). let p = x.least y.walk y.walks in let q = y.least x.walk x.walks in let e = x.takes in let f = y.takes in omega (arith, p, q, e, f))
-    (λ (y : HasNoWalk arcs a b × (t ≡ never)). absurd (y.0 x.walk x.walks))
-    other)
-    (λ (x : HasNoWalk arcs a b × (s ≡ never)). ⊎_elim
-    (λ (y : IsLeastTime arcs a b t). absurd (x.0 y.walk y.walks))
-    (λ (y : HasNoWalk arcs a b × (t ≡ never)). x.1 ∙ sym y.1)
-    other)
-    one
+one_time arcs a b s t (inl x) (inl y) = let p = x.least y.walk y.walks in let q = y.least x.walk x.walks in let e = x.takes in let f = y.takes in omega (arith, p, q, e, f)
+one_time arcs a b s t (inl x) (inr y) = absurd (y.0 x.walk x.walks)
+one_time arcs a b s t (inr x) (inl y) = absurd (x.0 y.walk y.walks)
+one_time arcs a b s t (inr x) (inr y) = x.1 ∙ sym y.1
 
 -- the cells between so many places, which need no more be said of
 pub one_table : (arcs : List Arc) (places : List ℕ) (t u : Times) → point_count t ≡ length places → point_count u ≡ length places

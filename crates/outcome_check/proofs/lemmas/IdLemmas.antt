@@ -65,7 +65,7 @@ module _ (settings : Settings) (points : List ℕ) (k places : ℕ) (tau : ℕ �
   told_id : (r : ℕ) → r < length settled.riders → rider_id settled r ≡ get_or (map (λ (x : Rider). x.id) batch.riders) r 0
   told_id r h =
       let low : r < length batch.riders = (let n = is.rider_count in omega (arith, n, h)) in
-      (is.riders r (get_or batch.riders r no_rider) (slice_get-get_or batch.riders r no_rider low)).id ∙ sym (get_or-map (λ (x : Rider). x.id) batch.riders r no_rider 0 low)
+      is.ids r (get_or batch.riders r no_rider) (slice_get-get_or batch.riders r no_rider low) ∙ sym (get_or-map (λ (x : Rider). x.id) batch.riders r no_rider 0 low)
 
   apart_at : (v r j : ℕ) → v < length settled.vehicles → r < length settled.riders → j < length (vehicle_at settled v).aboard_ids.items → rider_id settled r ≡ get_or (vehicle_at settled v).aboard_ids.items j 0 → ⊥
   apart_at v r j h a b e =
@@ -90,7 +90,7 @@ module _ (settings : Settings) (points : List ℕ) (k places : ℕ) (tau : ℕ �
     riders = λ r s a b e. one_rider settled sound.rider_ids r s a b e;
     counts = λ v h.
         let x = get_or batch.vehicles v no_vehicle in
-        ap (λ (xs : List ℕ). length xs) (ids_at v h) ∙ length-map x.aboard.items (λ (p : Passenger). p.rider) ∙ sym (placed_at v h).aboard.count;
+        ap (λ (xs : List ℕ). length xs) (ids_at v h) ∙ length-map x.aboard.items (λ (p : Passenger). p.rider) ∙ sym (placed_at v h).aboard_count;
     passengers = λ v i j h a b e.
         let ids = ids_at v h in
         let riders : List ℕ = map (λ (x : Rider). x.id) batch.riders in

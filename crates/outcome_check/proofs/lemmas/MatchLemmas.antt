@@ -1,6 +1,6 @@
 -- Moves, read as pairs of places, and matchings that grow.
-use Rattle.std.proofs.Common.{◌≡◌, ◌≢◌, ◌⊎◌, ℕ, suc, ◌+◌, ◌-◌, ◌<◌, ◌≤◌, Bool, true, false, List, [], ◌∷◌, ◌++◌, length, get_or, take, set, map, All, AllPairs, refl, sym, ap, ◌∙◌, subst, inr, ⊎_elim, arith}
-use Rattle.outcome_check.proofs.Common.{cases_eq, get_or_default, length-map, get_or-map, map_push, take_more, All-push, IsMatching, IsBestMatching, pair_seconds, total_of, MoveLine, Settled, rider_at, vehicle_at, AreMoves, move_line, HaveOwnPlaces, IsRisingMatching, IsWithin, TellsMoves}
+use Rattle.std.proofs.Common.{◌≡◌, ◌≢◌, ◌⊎◌, ℕ, suc, ◌+◌, ◌-◌, ◌<◌, ◌≤◌, Bool, true, false, List, [], ◌∷◌, ◌++◌, length, get_or, take, set, map, sum_by, All, AllPairs, refl, sym, ap, ◌∙◌, subst, inr, ⊎_elim, arith}
+use Rattle.outcome_check.proofs.Common.{cases_eq, get_or_default, length-map, get_or-map, map_push, take_more, All-push, IsMatching, IsBestMatching, pair_seconds, MoveLine, Settled, rider_at, vehicle_at, AreMoves, move_line, HaveOwnPlaces, IsRisingMatching, IsWithin, TellsMoves}
 use Rattle.std.proofs.lemmas.List.{ext_get_or, length-take, get_or-take, get_or-set_same, get_or-set_other, length-set}
 use Rattle.std.proofs.lemmas.List.Quantifiers.{all_pairs_push}
 use borrow.Author.Count.{below_more}
@@ -83,7 +83,7 @@ rising_short n m (p ∷ ps) up all =
 -- matchings
 module _ (tau : ℕ → ℕ → ℕ) (from to : List ℕ) where
   -- a matching as good as a best one is best
-  pub best_alike : (pairs best : List (ℕ × ℕ)) → IsMatching tau from to pairs → IsBestMatching tau from to best → length pairs ≡ length best → total_of tau from to pairs ≡ total_of tau from to best → IsBestMatching tau from to pairs
+  pub best_alike : (pairs best : List (ℕ × ℕ)) → IsMatching tau from to pairs → IsBestMatching tau from to best → length pairs ≡ length best → sum_by (pair_seconds tau from to) pairs ≡ sum_by (pair_seconds tau from to) best → IsBestMatching tau from to pairs
   best_alike pairs best matching is long total = record {
     matching = matching;
     most_pairs = λ other m. let most = is.most_pairs other m in omega (arith, most, long);
@@ -93,7 +93,7 @@ module _ (tau : ℕ → ℕ → ℕ) (from to : List ℕ) where
   pub best_long : (pairs best : List (ℕ × ℕ)) → IsBestMatching tau from to pairs → IsBestMatching tau from to best → length pairs ≡ length best
   best_long pairs best is also = let most = also.most_pairs pairs is.matching in let other = is.most_pairs best also.matching in omega (arith, most, other)
 
-  pub best_total : (pairs best : List (ℕ × ℕ)) → IsBestMatching tau from to pairs → IsBestMatching tau from to best → total_of tau from to pairs ≡ total_of tau from to best
+  pub best_total : (pairs best : List (ℕ × ℕ)) → IsBestMatching tau from to pairs → IsBestMatching tau from to best → sum_by (pair_seconds tau from to) pairs ≡ sum_by (pair_seconds tau from to) best
   best_total pairs best is also =
       let long = best_long pairs best is also in
       let least = also.least_total pairs is.matching long in let other = is.least_total best also.matching (sym long) in

@@ -1,13 +1,22 @@
 use Rattle.std.proofs.Common.{◌≡◌, ℕ, zero, suc, ◌+◌, ◌-◌, ◌<◌, ◌≤◌, ◌⊎◌, inl, inr, List, [], ◌∷◌, ◌++◌, length, take, get_or, set, refl, sym, ap, ◌∙◌, subst, arith, Bool, true, false, cond, ⊎_elim}
-use Rattle.promise_check.proofs.Common.{range_with_len, IsStrictlyIncreasing, cases_lt, cases_eq, length_push, get_or_append_left, get_or_push, take_more, get_or_default, Contains-append_left, Contains-push, Contains-push_cases, filter-append, All-filter, All-from_get_or, Rider, SettledRider, SettledVehicle, no_rider, no_vehicle, IsTrip, request_at, no_request, is_promised_to, promised_to, kept_rider, AreKept, IsHeld}
-use Rattle.std.specs.List.{Contains, filter}
+use Rattle.promise_check.proofs.Common.{range_with_len, IsStrictlyIncreasing, cases_lt, cases_eq, cases_order, length_push, get_or_append_left, get_or_push, take_more, get_or_default, Contains-append_left, Contains-push, Contains-push_cases, filter-append, All-filter, All-from_get_or, Rider, SettledRider, SettledVehicle, no_rider, no_vehicle, IsTrip, request_at, no_request, is_promised_to, promised_to, kept_rider, AreKept, IsHeld}
+use Rattle.std.specs.List.{All, Contains, filter}
 use Rattle.std.proofs.lemmas.List.{length-append, length-set, get_or-set_same, get_or-set_other, map-id, append-nil}
 use Rattle.std.proofs.lemmas.List.FromFn.{map-range_with_len_more, length-range_with_len, get_or-range_with_len}
-use Rattle.std.proofs.lemmas.List.Kept.{IsStrictlyIncreasing-filter}
+use Rattle.std.proofs.lemmas.List.Kept.{AllPairs-from_increasing, IsStrictlyIncreasing-filter}
 
 range_more : (n : ℕ) → range_with_len 0 (n + 1) ≡ range_with_len 0 n ++ n ∷ []
 range_more n =
     sym (map-id (range_with_len 0 (n + 1))) ∙ map-range_with_len_more (λ (x : ℕ). x) 0 n n (omega arith) ∙ ap (λ (v : List ℕ). v ++ n ∷ []) (map-id (range_with_len 0 n))
+
+-- in a rising list no number stands twice
+pub rising_once : (xs : List ℕ) → IsStrictlyIncreasing xs → (i j : ℕ) → i < length xs → j < length xs → get_or xs i 0 ≡ get_or xs j 0 → i ≡ j
+rising_once xs up i j hi hj e =
+    let far = AllPairs-from_increasing xs up in
+    elim (cases_order i j) as (λ _. i ≡ j) [
+      | inl same ↦ same
+      | inr w ↦ absurd (⊎_elim (λ lt. let low = far i j 0 lt hj in omega arith) (λ gt. let low = far j i 0 gt hi in omega arith) w)
+    ]
 
 -- one more number that passes, or not
 pub filter_range_more : (p : ℕ → Bool) (n : ℕ) → filter p (range_with_len 0 (n + 1)) ≡ filter p (range_with_len 0 n) ++ cond (p n) (n ∷ []) []
@@ -36,20 +45,21 @@ filter_range_has p (suc n) r h passed =
           rw passes (subst (λ (v : ℕ). Contains (filter p (range_with_len 0 n) ++ n ∷ []) v) (sym here) (Contains-push (filter p (range_with_len 0 n)) n))
     ]))
 
-range_increases : (n : ℕ) → IsStrictlyIncreasing (range_with_len 0 n)
-range_increases n k h =
+-- the numbers that pass rise, and are those of the range
+pub filter_range_rises : (p : ℕ → Bool) (n : ℕ) → IsStrictlyIncreasing (filter p (range_with_len 0 n))
+filter_range_rises p n = IsStrictlyIncreasing-filter p (range_with_len 0 n) (λ k h.
     let e = length-range_with_len 0 n in
-    let a = get_or-range_with_len 0 n k 0 (omega arith) in let b = get_or-range_with_len 0 n (k + 1) 0 (omega arith) in omega arith
+    let a = get_or-range_with_len 0 n k 0 (omega arith) in let b = get_or-range_with_len 0 n (k + 1) 0 (omega arith) in omega arith)
+
+pub filter_range_below : (p : ℕ → Bool) (n : ℕ) → All (λ r. r < n) (filter p (range_with_len 0 n))
+filter_range_below p n = All-filter p (λ r. r < n) (range_with_len 0 n)
+    (All-from_get_or (λ r. r < n) (range_with_len 0 n) 0 (λ i h. let e = length-range_with_len 0 n in let at = get_or-range_with_len 0 n i 0 (omega arith) in omega arith))
 
 -- the riders promised to a vehicle are a trip
 pub promised_trip : (id : ℕ) (requests : List Rider) → IsTrip (length requests) (promised_to id requests)
 promised_trip id requests =
-    let n = length requests in
-    record {
-      rising = IsStrictlyIncreasing-filter (λ k. is_promised_to id (request_at requests k)) (range_with_len 0 n) (range_increases n);
-      within = All-filter (λ k. is_promised_to id (request_at requests k)) (λ r. r < n) (range_with_len 0 n)
-          (All-from_get_or (λ r. r < n) (range_with_len 0 n) 0 (λ i h. let e = length-range_with_len 0 n in let at = get_or-range_with_len 0 n i 0 (omega arith) in omega arith));
-    }
+    let named = λ (k : ℕ). is_promised_to id (request_at requests k) in
+    record { rising = filter_range_rises named (length requests); within = filter_range_below named (length requests) }
 
 pub filter_range_skips : (p : ℕ → Bool) (n : ℕ) → p n ≡ false → filter p (range_with_len 0 (n + 1)) ≡ filter p (range_with_len 0 n)
 filter_range_skips p n e = filter_range_more p n ∙ ap (λ (b : Bool). filter p (range_with_len 0 n) ++ cond b (n ∷ []) []) e ∙ append-nil (filter p (range_with_len 0 n))

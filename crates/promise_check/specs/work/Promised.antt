@@ -1,18 +1,13 @@
-use Rattle.std.specs.Prelude.{◌≡◌, ℕ, ◌<◌, ◌⊎◌, false, Contains, List, length, slice_index_or}
+use Rattle.std.specs.Prelude.{◌≡◌, ℕ, ◌<◌, ◌⊎◌, false, List, length, slice_index_or}
 use Rattle.batch_snapshot.specs.declared.rider.Rider.{Rider}
 use Rattle.stop_orders.specs.declared.settled_rider.SettledRider.{SettledRider}
-use Rattle.stop_orders.specs.declared.settled_vehicle.SettledVehicle.{SettledVehicle}
-use Rattle.stop_orders.specs.Settled.{no_rider, no_vehicle}
+use Rattle.stop_orders.specs.Settled.{no_rider}
 use Rattle.promise_check.specs.Requests.{request_at}
 use Rattle.promise_check.specs.lemmas.Named.{kept_leg}
 
 -- the rider with the pickup that was promised
 abbrev pub kept_rider : ℕ → Rider → SettledRider → SettledRider
 kept_rider wait request rider = record rider { leg = kept_leg wait request rider.leg; lapsed = false }
-
--- one of the vehicles keeps its promise to the rider
-abbrev pub IsHeld : List SettledVehicle → ℕ → Type 0
-IsHeld vehicles r = (v : ℕ) × (v < length vehicles) × Contains (slice_index_or vehicles v no_vehicle).held.items r
 
 -- who is held has the promised limit, the others stay
 pub record AreKept (wait : ℕ) (requests : List Rider) (plain : List SettledRider) (Held : ℕ → Type 0) (before after : List SettledRider) : Type 0 where

@@ -1,19 +1,20 @@
-use Rattle.std.specs.Prelude.{◌≡◌, ℕ, List, [], length, Some, slice_get, All, Contains, slice_index_or}
+use Rattle.std.specs.Prelude.{◌≡◌, ℕ, List, [], length, Some, slice_get, All, MatchBool, Contains, slice_index_or}
 use Rattle.batch_snapshot.specs.declared.rider.Rider.{Rider}
 use Rattle.batch_snapshot.specs.declared.vehicle.Vehicle.{Vehicle}
 use Rattle.stop_orders.specs.declared.settled_rider.SettledRider.{SettledRider}
 use Rattle.stop_orders.specs.declared.settled_vehicle.SettledVehicle.{SettledVehicle}
-use Rattle.stop_orders.specs.Task.{IsTask}
+use Rattle.stop_orders.specs.Task.{IsTask, IsServable}
 use Rattle.stop_orders.specs.Settled.{no_vehicle, vehicle_task}
 use Rattle.stop_orders.specs.Sound.{IsShort}
 use Rattle.rider_limits.specs.declared.settings.Settings.{Settings}
-use Rattle.promise_check.specs.Settling.{IsPlaced, IsLateRight, HoldsPromised}
+use Rattle.promise_check.specs.Settling.{IsPlaced}
+use Rattle.promise_check.specs.lemmas.Named.{HoldsPromised}
 use Rattle.promise_check.specs.work.Requests.{IsBetweenPlaces}
 
 -- a vehicle with its place, whether it is late, and the riders that it keeps; its tasks are valid
 pub record IsSettledVehicle (settings : Settings) (points : List ℕ) (tau : ℕ → ℕ → ℕ) (now : ℕ) (requests : List Rider) (riders : List SettledRider) (x : Vehicle) (y : SettledVehicle) : Type 0 where
   pub placed : IsPlaced settings points tau now x y
-  pub late : IsLateRight settings tau y
+  pub late : MatchBool y.late (IsServable tau (vehicle_task settings.dwell y []) → ⊥) (IsServable tau (vehicle_task settings.dwell y []))
   pub held : HoldsPromised settings tau requests riders y
   pub valid : IsTask (length points) (vehicle_task settings.dwell y [])
   pub short : All IsShort y.aboard.items

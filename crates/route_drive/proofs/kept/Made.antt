@@ -1,10 +1,10 @@
 -- A close with a good plan on a driven day: the chosen trips are what the vehicles now serve, and the state after it is kept.
 use Rattle.std.proofs.Common.{◌≡◌, ◌⊎◌, ℕ, ◌+◌, ◌<◌, ◌≤◌, Bool, true, false, cond, List, [], ◌∷◌, length, get_or, map, Option, Some, None, refl, sym, ap, ◌∙◌, subst, arith, inl, inr, slice_get, is_some, option_map, option_and_then, unwrap_or, ◌&&◌, min, ◌-◌, ◌*◌, MatchBool, max, zero, suc, Contains}
-use Rattle.route_drive.proofs.Common.{AllByRecursion, cases_Bool, slice_get_within, get_or_from_slice_get, slice_get-get_or, travel_time, Times, Batch, Promise, Rider, Vehicle, HasGraphsWith, IsGoodPlan, request_at, IsSettled, HasRightLimit, shown, find_rider, find_vehicle, PlannedStop, Planned, State, Settings, Roads, index_in, Settled, vehicle_at, rider_at, AreTravelTimes, IsKept, option_map_or, cases_lt, false≢true, get_or-map, length-map, persons_aboard, Passenger, rider_id, told_stop, IsTripOf, times_served_some, times_served_found, in_choice, choice_at, riders_at, is_in, IsLegOf, no_request, IsPlaced, picks, trip_picks, after_plan, in_batch, planned_status, look_up, KeysDiffer, with_status, passenger_of, is_active, ChosenTrip, BookRider, Status, Waiting, Promised, Aboard, look_up-at, KeysDiffer-from_rise, has_node, Leg, Stop, Pick, Drop, Alight, IsKnown, trip_task, no_leg, leg_at, visit_at, free_seats, calls_of, find_passenger, and_from, and_parts, cond-true, times_chosen, ideal_second, Task, look_up-map, look_up-key, latest_of, Visit, ideal_dropoff, IsDroppedInTime, AreReached, party_at, HasSeatsFor, IsRightPickup, IsRightDropoff, IsRightStop, IsOfVehicle, HasCalls, IsServing, seat_in, persons, ShowsRiders, get_or_default, is_promised_to, IsLive, Delivered, MatchBool-at_false, must_be_served, promised_limit, promised_to, filter_range_has, IsPromiseKept, step, Command, Reply, look_up-here, look_up-there, HoldsPromised, chosen_stops, IsBoundBy, IsBound, KeepsBounds}
+use Rattle.route_drive.proofs.Common.{AllByRecursion, cases_Bool, slice_get_within, get_or_from_slice_get, slice_get-get_or, travel_time, Times, Batch, Promise, Rider, Vehicle, HasGraphsWith, IsGoodPlan, request_at, IsSettled, HasRightLimit, shown, find_rider, find_vehicle, PlannedStop, Planned, State, Settings, Roads, index_in, Settled, vehicle_at, rider_at, AreTravelTimes, IsKept, option_map_or, cases_lt, false≢true, get_or-map, length-map, persons_aboard, Passenger, rider_id, told_stop, IsTripOf, times_served_some, times_served_found, in_choice, choice_at, riders_at, is_in, IsLegOf, no_request, IsPlaced, picks, trip_picks, after_plan, in_batch, planned_status, look_up, KeysDiffer, with_status, passenger_of, is_active, ChosenTrip, BookRider, Status, Waiting, Promised, Aboard, look_up-at, KeysDiffer-from_rise, has_node, Leg, Stop, Pick, Drop, Alight, IsKnown, trip_task, no_leg, leg_at, visit_at, free_seats, calls_of, find_passenger, and_from, and_parts, cond-true, times_chosen, ideal_second, Task, look_up-map, look_up-key, latest_of, Visit, ideal_dropoff, IsDroppedInTime, AreReached, party_at, HasSeatsFor, IsRightPickup, IsRightDropoff, IsRightStop, IsOfVehicle, HasCalls, IsServing, seat_in, persons, ShowsRiders, get_or_default, is_promised_to, IsLive, Delivered, MatchBool-at_false, must_be_served, promised_limit, IsPromiseKept, step, Command, Reply, look_up-here, look_up-there, chosen_stops, IsBoundBy, IsBound, KeepsBounds}
 use Rattle.std.proofs.lemmas.Bool.{eq-eqb, true≢false, lt-ltb}
 use Rattle.route_drive.proofs.kept.Batches.{found_at, same_place, IsAsking, IsRiderAboard, same_persons, other_id}
 use Rattle.route_drive.proofs.kept.Served.{request_rider, vehicle_found}
-use Rattle.route_drive.proofs.kept.Trips.{vehicle_of_number, not_late, number_of_vehicle, promise_is_live, trip_of, trip_back, trip_is, one_trip, told_id, row_of, rider_aboard, known, member_calls, passenger_calls, other_calls}
+use Rattle.route_drive.proofs.kept.Trips.{vehicle_of_number, not_late, number_of_vehicle, promise_is_held, trip_of, trip_back, trip_is, one_trip, told_id, row_of, rider_aboard, known, member_calls, passenger_calls, other_calls}
 use Rattle.route_drive.proofs.kept.Told.{told_from, none_promised, one_promised, IsPickPromised, found_among, none_among, IsTold, told_reached, told_seats, told_all, told_length}
 use Rattle.route_drive.proofs.kept.Walks.{has_index, name_at, is_node_at}
 use Rattle.request_book.specs.Closing.{Pick as PlanPick}
@@ -222,7 +222,7 @@ module _ (settings : Settings) (roads : Roads) (s : State) (stops : ℕ → List
         low q None = omega arith
         low q (Some p) = omega arith
 
-        by : HasRightLimit settings (travel_time times) b.riders settled n → (rider_at settled n).leg.latest_pickup ≤ (request_at b.riders n).time + settings.wait
+        by : HasRightLimit settings b.riders settled n → (rider_at settled n).leg.latest_pickup ≤ (request_at b.riders n).time + settings.wait
         by (inl live) = subst (λ m. m ≤ (request_at b.riders n).time + settings.wait) (sym live.1) (low (request_at b.riders n) (request_at b.riders n).promise)
         by (inr other) = let e = other.1 in omega (arith, e)
 
@@ -230,7 +230,7 @@ module _ (settings : Settings) (roads : Roads) (s : State) (stops : ℕ → List
     member_leg i h =
         let low : get_or trip i 0 < length b.riders = member_low k own i h in
         let of = planned_rider (get_or trip i 0) low in
-        let leg = (limits.riders (get_or trip i 0) (request_at b.riders (get_or trip i 0)) (slice_get-get_or b.riders (get_or trip i 0) no_request low)).leg in
+        let leg = limits.legs (get_or trip i 0) (request_at b.riders (get_or trip i 0)) (slice_get-get_or b.riders (get_or trip i 0) no_request low) in
         let is : request_at b.riders (get_or trip i 0) ≡ shown of.0 of.2.promise = of.2.is in
         let c = limits.rider_count in
         subst (HasLeg (get_or trip i 0)) (sym (leg_is i h)) (record {
@@ -258,7 +258,7 @@ module _ (settings : Settings) (roads : Roads) (s : State) (stops : ℕ → List
     passenger_leg : (j : ℕ) → (h : j < length own.x.aboard.items) → IsLegOf settings points (travel_time times) (aboard_at j h).rider.origin (aboard_at j h).rider.destination (aboard_at j h).rider.time (aboard_at j h).rider.party (leg_at (vehicle_at settled k).aboard.items j)
     passenger_leg j h =
         subst (λ (p : Passenger). IsLegOf settings points (travel_time times) p.origin p.destination p.time p.party (leg_at (vehicle_at settled k).aboard.items j)) (sym (aboard_at j h).is)
-        (placed.aboard.each j (get_or own.x.aboard.items j (record { rider = 0; origin = 0; destination = 0; time = 0; party = 0 })) (slice_get-get_or own.x.aboard.items j (record { rider = 0; origin = 0; destination = 0; time = 0; party = 0 }) h))
+        (placed.aboard_legs j (get_or own.x.aboard.items j (record { rider = 0; origin = 0; destination = 0; time = 0; party = 0 })) (slice_get-get_or own.x.aboard.items j (record { rider = 0; origin = 0; destination = 0; time = 0; party = 0 }) h))
 
     -- the visits of the trip are what is told of them
     are_told : AllByRecursion (IsTold points riders' vis told) own.is.stops
@@ -456,7 +456,7 @@ module _ (settings : Settings) (roads : Roads) (s : State) (stops : ℕ → List
         let row = row_of settings roads s stops b settled points times kept shows early limits table planned good k own.is.row own.within own.is.chooses in
         let six = (good.exact.good.rows own.is.row row.within).few in
         let l : length own.is.stops ≤ length (map (λ r. (rider_at settled r).leg) trip) * 2 + length (vehicle_at settled k).aboard.items = length-IsOrder (length (map (λ r. (rider_at settled r).leg) trip)) (length (vehicle_at settled k).aboard.items) own.is.stops (omega (arith, six, legs)) own.is.serves.order in
-        let c : length (vehicle_at settled k).aboard.items ≡ length own.x.aboard.items = placed.aboard.count in
+        let c : length (vehicle_at settled k).aboard.items ≡ length own.x.aboard.items = placed.aboard_count in
         omega (arith, a, legs, size, l, c)
 
     -- the vehicle serves the stops that the plan gives it
@@ -467,7 +467,7 @@ module _ (settings : Settings) (roads : Roads) (s : State) (stops : ℕ → List
         let dwell : settled.dwell ≡ settings.dwell = limits.dwell in
         let items : own.t.stops.items ≡ told_from roads points times table riders' settled.dwell vis told (vehicle_at settled k).start (vehicle_at settled k).ready own.is.stops = own.is.told in
         let room : free_seats task ≡ own.x.seats - persons_aboard own.x =
-        (let a : persons (vehicle_at settled k).aboard.items ≡ persons_aboard own.x = same_persons (vehicle_at settled k).aboard.items own.x.aboard.items placed.aboard.count (λ k p e. (placed.aboard.each k p e).size) in
+        (let a : persons (vehicle_at settled k).aboard.items ≡ persons_aboard own.x = same_persons (vehicle_at settled k).aboard.items own.x.aboard.items placed.aboard_count (λ k p e. (placed.aboard_legs k p e).size) in
         let c : (vehicle_at settled k).seats ≡ own.x.seats = placed.seats in
         ap (λ n. n - persons (vehicle_at settled k).aboard.items) c ∙ ap (λ n. own.x.seats - n) a) in
         let reached : AreReached roads settled.dwell own.x.node (vehicle_at settled k).ready own.t.stops.items =
@@ -555,26 +555,20 @@ module _ (settings : Settings) (roads : Roads) (s : State) (stops : ℕ → List
   kept_in_plan : (n : ℕ) (p : Promise) → n < length b.riders → (request_at b.riders n).promise ≡ Some p → 1 ≤ times_chosen good.graph (good.holds point.Plan).chosen n
   kept_in_plan n p low e =
       let to : is_promised_to p.vehicle (request_at b.riders n) ≡ true = rw e (eq-eqb p.vehicle p.vehicle refl) in
-      let live = promise_is_live settings roads s stops b settled points times kept shows early limits table n p.vehicle low to in
-      let listed : Contains (promised_to (vehicle_at settled live.vehicle).id b.riders) n = filter_range_has (λ m. is_promised_to (vehicle_at settled live.vehicle).id (request_at b.riders m)) (length b.riders) n low live.promised in
-      let held : (vehicle_at settled live.vehicle).held.items ≡ promised_to (vehicle_at settled live.vehicle).id b.riders = holds live.vehicle live.live (limits.held live.vehicle live.within) listed in
-      let row = MatchBool-at_false (choice_at good.graph.held live.vehicle ≡ None) ((m : ℕ) × (choice_at good.graph.held live.vehicle ≡ Some m) × IsRowWith good.graph.rows live.vehicle (vehicle_at settled live.vehicle).held.items m)
-      (not_late settings roads s stops b settled points times kept shows early limits table live.vehicle live.within) (good.exact.hold.each live.vehicle live.within) in
-      let riders : riders_at good.graph row.0 ≡ promised_to (vehicle_at settled live.vehicle).id b.riders = row.2.trip ∙ held in
-      let at : get_or (promised_to (vehicle_at settled live.vehicle).id b.riders) listed.0 0 ≡ n = get_or_default (promised_to (vehicle_at settled live.vehicle).id b.riders) listed.0 0 n listed.1 ∙ listed.2 in
+      let keeper = promise_is_held settings roads s stops b settled points times kept shows early limits table n p.vehicle low to in
+      let v = keeper.0 in
+      let within : v < length settled.vehicles = keeper.1 in
+      let listed : Contains (vehicle_at settled v).held.items n = keeper.2 in
+      let row = MatchBool-at_false (choice_at good.graph.held v ≡ None) ((m : ℕ) × (choice_at good.graph.held v ≡ Some m) × IsRowWith good.graph.rows v (vehicle_at settled v).held.items m)
+      (not_late settings roads s stops b settled points times kept shows early limits table v within) (good.exact.hold.each v within) in
+      let at : get_or (vehicle_at settled v).held.items listed.0 0 ≡ n = get_or_default (vehicle_at settled v).held.items listed.0 0 n listed.1 ∙ listed.2 in
       let has : has_node (riders_at good.graph row.0) n ≡ true =
-      subst (λ xs. has_node xs n ≡ true) (sym riders) (subst (λ m. has_node (promised_to (vehicle_at settled live.vehicle).id b.riders) m ≡ true) at (is_node_at (promised_to (vehicle_at settled live.vehicle).id b.riders) listed.0 listed.1)) in
+      subst (λ xs. has_node xs n ≡ true) (sym row.2.trip) (subst (λ m. has_node (vehicle_at settled v).held.items m ≡ true) at (is_node_at (vehicle_at settled v).held.items listed.0 listed.1)) in
       let c = good.exact.vehicle_total in
-      let l = live.within in
-      let served = times_served_some good.graph good.graph.held good.graph.vehicles n live.vehicle (omega (arith, c, l)) (ap (λ o. is_in good.graph o n) row.1 ∙ has) in
+      let served = times_served_some good.graph good.graph.held good.graph.vehicles n v (omega (arith, c, within)) (ap (λ o. is_in good.graph o n) row.1 ∙ has) in
       let must : must_be_served good.graph n ≡ true = lt-ltb 0 _ (omega (arith, served)) in
       let one : times_chosen good.graph (good.holds point.Plan).chosen n ≡ 1 = (good.holds point.Plan).holds.lawful.kept n must in
       omega (arith, one)
-    where
-      holds : (k : ℕ) → IsLive settings (travel_time times) b.riders settled.riders (vehicle_at settled k) → HoldsPromised settings (travel_time times) b.riders settled.riders (vehicle_at settled k) → Contains (promised_to (vehicle_at settled k).id b.riders) n
-          → (vehicle_at settled k).held.items ≡ promised_to (vehicle_at settled k).id b.riders
-      holds k live (inl both) listed = both.1
-      holds k live (inr other) listed = absurd (other.0 (let l = listed.1 in omega (arith, l)) live)
 
   pub closed_bounds : KeepsBounds s planned_state
   closed_bounds z limit was = by was.of.status refl was.bound
@@ -623,12 +617,12 @@ module _ (settings : Settings) (roads : Roads) (s : State) (stops : ℕ → List
               other_id b.riders shows.rise (get_or (riders_at good.graph other.is.row) member.i 0) n (trip.within member.i 0 member.within) low (sym member.rider ∙ rider ∙ ap (λ m. (request_at b.riders m).id) at) in
               subst (λ m. stop.second ≤ (rider_at settled m).leg.latest_pickup) same member.in_limit
 
-          by_promise : HasRightLimit settings (travel_time times) b.riders settled n → (rider_at settled n).leg.latest_pickup ≤ p.pickup
+          by_promise : HasRightLimit settings b.riders settled n → (rider_at settled n).leg.latest_pickup ≤ p.pickup
           by_promise (inl live) =
               let e = live.1 in
               let f : promised_limit settings.wait (request_at b.riders n) ≡ min p.pickup ((request_at b.riders n).time + settings.wait) = rw promise refl in
               omega (arith, e, f)
-          by_promise (inr lapsed) = absurd (lapsed.0 (promise_is_live settings roads s stops b settled points times kept shows early limits table n p.vehicle low (rw promise (eq-eqb p.vehicle p.vehicle refl))))
+          by_promise (inr lapsed) = absurd (lapsed.0 (promise_is_held settings roads s stops b settled points times kept shows early limits table n p.vehicle low (rw promise (eq-eqb p.vehicle p.vehicle refl))))
 
       by : (t : Status) → was.of.status ≡ t → IsBoundBy limit t → IsBound planned_state z limit
       by (Promised p) e le =

@@ -248,7 +248,7 @@ module _ (settings : Settings) (roads : Roads) (s : State) (stops : ℕ → List
     is_order : IsOrder (length (kept_legs settings.wait b.riders settled.riders numbers)) (length (vehicle_at settled k).aboard.items) order
     is_order =
         let a : length names ≡ length (kept_legs settings.wait b.riders settled.riders numbers) = names_length ∙ sym legs_length in
-        let c : length passenger_names ≡ length (vehicle_at settled k).aboard.items = passengers_length ∙ sym placed.aboard.count in
+        let c : length passenger_names ≡ length (vehicle_at settled k).aboard.items = passengers_length ∙ sym placed.aboard_count in
         subst (λ n. IsOrder n (length (vehicle_at settled k).aboard.items) order) a
         (subst (λ m. IsOrder (length names) m order) c (numbers_are_order names passenger_names names_distinct passengers_distinct names_apart (stops x.id) stops_numbered rides leaves))
 
@@ -269,7 +269,7 @@ module _ (settings : Settings) (roads : Roads) (s : State) (stops : ℕ → List
         (let e : Promised promised.promise ≡ Promised (record { vehicle = x.id; pickup = stop.second }) = sym promised.status ∙ ap (λ (r : BookRider). r.status) same ∙ own.status in cc) in
         let is : request_at b.riders (get_or numbers place.0 0) ≡ shown own.rider (Some (record { vehicle = x.id; pickup = stop.second })) =
         promised.is ∙ ap (λ r. shown r (Some promised.promise)) same ∙ ap (λ p. shown own.rider (Some p)) promise in
-        let leg = (limits.riders (get_or numbers place.0 0) (request_at b.riders (get_or numbers place.0 0)) (slice_get-get_or b.riders (get_or numbers place.0 0) no_request h)).leg in
+        let leg = limits.legs (get_or numbers place.0 0) (request_at b.riders (get_or numbers place.0 0)) (slice_get-get_or b.riders (get_or numbers place.0 0) no_request h) in
         let leg' : IsLegOf settings points (travel_time times) own.rider.origin own.rider.destination own.rider.time own.rider.party (record (rider_at settled (get_or numbers place.0 0)).leg { latest_pickup = (request_at b.riders (get_or numbers place.0 0)).time + settings.wait }) =
         subst (λ (q : Rider). IsLegOf settings points (travel_time times) q.origin q.destination q.time q.party (record (rider_at settled (get_or numbers place.0 0)).leg { latest_pickup = (request_at b.riders (get_or numbers place.0 0)).time + settings.wait })) is leg in
         let limit : promised_limit settings.wait (request_at b.riders (get_or numbers place.0 0)) ≡ min stop.second (own.rider.time + settings.wait) = ap (promised_limit settings.wait) is in
@@ -291,7 +291,7 @@ module _ (settings : Settings) (roads : Roads) (s : State) (stops : ℕ → List
         let two = own.found in
         let same : promised.rider ≡ own.rider = cc in
         let is : request_at b.riders (get_or numbers place.0 0) ≡ shown own.rider (Some promised.promise) = promised.is ∙ ap (λ r. shown r (Some promised.promise)) same in
-        let leg = (limits.riders (get_or numbers place.0 0) (request_at b.riders (get_or numbers place.0 0)) (slice_get-get_or b.riders (get_or numbers place.0 0) no_request h)).leg in
+        let leg = limits.legs (get_or numbers place.0 0) (request_at b.riders (get_or numbers place.0 0)) (slice_get-get_or b.riders (get_or numbers place.0 0) no_request h) in
         let leg' : IsLegOf settings points (travel_time times) own.rider.origin own.rider.destination own.rider.time own.rider.party (record (rider_at settled (get_or numbers place.0 0)).leg { latest_pickup = (request_at b.riders (get_or numbers place.0 0)).time + settings.wait }) =
         subst (λ (q : Rider). IsLegOf settings points (travel_time times) q.origin q.destination q.time q.party (record (rider_at settled (get_or numbers place.0 0)).leg { latest_pickup = (request_at b.riders (get_or numbers place.0 0)).time + settings.wait })) is leg in
         let leg_is : leg_at task.riders.items place.0 ≡ kept_leg settings.wait (request_at b.riders (get_or numbers place.0 0)) (rider_at settled (get_or numbers place.0 0)).leg =
@@ -309,7 +309,7 @@ module _ (settings : Settings) (roads : Roads) (s : State) (stops : ℕ → List
         let two = own.found in
         let same : aboard.rider ≡ own.rider = cc in
         let is : get_or x.aboard.items (index_in passenger_names stop.rider) no_passenger ≡ passenger_of own.rider = sym aboard.is ∙ ap passenger_of same in
-        let leg = placed.aboard.each (index_in passenger_names stop.rider) (get_or x.aboard.items (index_in passenger_names stop.rider) no_passenger) (slice_get-get_or x.aboard.items (index_in passenger_names stop.rider) no_passenger there.0) in
+        let leg = placed.aboard_legs (index_in passenger_names stop.rider) (get_or x.aboard.items (index_in passenger_names stop.rider) no_passenger) (slice_get-get_or x.aboard.items (index_in passenger_names stop.rider) no_passenger there.0) in
         let leg' : IsLegOf settings points (travel_time times) own.rider.origin own.rider.destination own.rider.time own.rider.party (leg_at (vehicle_at settled k).aboard.items (index_in passenger_names stop.rider)) =
         subst (λ (p : Passenger). IsLegOf settings points (travel_time times) p.origin p.destination p.time p.party (leg_at (vehicle_at settled k).aboard.items (index_in passenger_names stop.rider))) is leg in
         subst (IsSeen points s.riders stop) (sym (ap (visit_at task) (number_alights names passenger_names stop drop has)))
@@ -329,7 +329,7 @@ module _ (settings : Settings) (roads : Roads) (s : State) (stops : ℕ → List
 
     room_is : x.seats - persons_aboard x ≡ free_seats task
     room_is =
-        let a : persons (vehicle_at settled k).aboard.items ≡ persons_aboard x = same_persons (vehicle_at settled k).aboard.items x.aboard.items placed.aboard.count (λ k p e. (placed.aboard.each k p e).size) in
+        let a : persons (vehicle_at settled k).aboard.items ≡ persons_aboard x = same_persons (vehicle_at settled k).aboard.items x.aboard.items placed.aboard_count (λ k p e. (placed.aboard_legs k p e).size) in
         let c : (vehicle_at settled k).seats ≡ x.seats = placed.seats in
         sym (ap (λ n. n - persons (vehicle_at settled k).aboard.items) c ∙ ap (λ n. x.seats - n) a)
 
@@ -376,5 +376,5 @@ module _ (settings : Settings) (roads : Roads) (s : State) (stops : ℕ → List
         let l : length order ≡ length (stops x.id) = length-map (stops x.id) (number_of names passenger_names) in
         let f = serves.few in
         let a : length (kept_legs settings.wait b.riders settled.riders numbers) ≡ length (promised_to (vehicle_at settled k).id b.riders) = legs_length in
-        let c : length (vehicle_at settled k).aboard.items ≡ length x.aboard.items = placed.aboard.count in
+        let c : length (vehicle_at settled k).aboard.items ≡ length x.aboard.items = placed.aboard_count in
         omega (arith, two, l, f, a, c)

@@ -1,7 +1,7 @@
 -- On a driven day a good plan has no late vehicle and no lapsed promise; and of the trips that it chooses: whose stops they
 -- are, and what they promise.
-use Rattle.std.proofs.Common.{◌≡◌, ℕ, ◌+◌, ◌<◌, ◌≤◌, true, false, not, List, [], ◌∷◌, length, get_or, map, filter, Option, Some, None, refl, sym, ap, ◌∙◌, subst, arith, inl, inr, All, slice_get, is_some, zero, suc, eqb, nat_eq, Bool}
-use Rattle.route_drive.proofs.Common.{AllByRecursion, AllZip, range_with_len, cases_Bool, MatchBool-at_true, recursion_from_All, All-from_get_or, length-range_with_len, get_or-range_with_len, slice_get_within, slice_get-get_or, slice_get_cases, travel_time, Times, Batch, Promise, Vehicle, HasGraphsWith, IsGoodPlan, IsLate, request_at, is_promised_to, IsLive, IsSettled, IsLiveRider, find_vehicle, PlannedStop, Planned, State, Settings, Roads, index_in, Settled, vehicle_at, rider_at, no_rider, no_vehicle, vehicle_task, IsServable, AreTravelTimes, IsKept, ShowsRiders, get_or_from_slice_get, IsDistinct, cases_eq, rider_id, IsTripOf, times_served_as_count, choice_at, riders_at, no_row, is_in, IsRowOf, no_request, ChosenTrip, has_node, IsTrip, find_rider, false≢true, get_or-map, length-map, Passenger, told_stop, IsPlaced, BookRider, Aboard, look_up-at, Stop, Pick, Drop, Alight, is_of_rider, is_of_passenger, IsKnown, trip_task, visit_at, is_stop_of, calls_of, pool_promise, find_passenger}
+use Rattle.std.proofs.Common.{◌≡◌, ℕ, ◌+◌, ◌<◌, ◌≤◌, true, false, not, List, [], ◌∷◌, length, get_or, map, filter, Option, Some, None, refl, sym, ap, ◌∙◌, subst, arith, inl, inr, All, slice_get, is_some, zero, suc, eqb, nat_eq, Bool, Contains}
+use Rattle.route_drive.proofs.Common.{AllByRecursion, AllZip, range_with_len, cases_Bool, MatchBool-at_true, recursion_from_All, All-from_get_or, length-range_with_len, get_or-range_with_len, slice_get_within, slice_get-get_or, slice_get_cases, travel_time, Times, Batch, Promise, Vehicle, HasGraphsWith, IsGoodPlan, IsLate, request_at, is_promised_to, promised_to, filter_range_has, IsLive, IsSettled, IsHeld, find_vehicle, PlannedStop, Planned, State, Settings, Roads, index_in, Settled, vehicle_at, rider_at, no_rider, no_vehicle, vehicle_task, IsServable, AreTravelTimes, IsKept, ShowsRiders, get_or_from_slice_get, IsDistinct, cases_eq, rider_id, IsTripOf, times_served_as_count, choice_at, riders_at, no_row, is_in, IsRowOf, no_request, ChosenTrip, has_node, IsTrip, find_rider, false≢true, get_or-map, length-map, Passenger, told_stop, IsPlaced, BookRider, Aboard, look_up-at, Stop, Pick, Drop, Alight, is_of_rider, is_of_passenger, IsKnown, trip_task, visit_at, is_stop_of, calls_of, pool_promise, find_passenger}
 use Rattle.std.proofs.lemmas.Bool.{eq-eqb, ne_eqb}
 use Rattle.route_drive.proofs.kept.Lists.{filter_none, filter_all}
 use Rattle.route_drive.proofs.kept.Batches.{found_at, distinct_from_differ, ids_distinct, other_id, IsRiderAboard}
@@ -93,6 +93,10 @@ module _ (settings : Settings) (roads : Roads) (s : State) (stops : ℕ → List
         servable = promised_served settings roads s stops b settled points times kept shows early limits table k x.0 x.1;
       }
 
+  -- each vehicle keeps all riders promised to it
+  pub holds : (k : ℕ) → (h : k < length settled.vehicles) → (vehicle_at settled k).held.items ≡ promised_to (vehicle_at settled k).id b.riders
+  holds k h = elim (limits.held k h) [ inl both ↦ both.1 | inr other ↦ absurd (other.0 (live_at k h)) ]
+
   -- a vehicle of an id has a number
   pub number_of_vehicle : (id : ℕ) (v : Vehicle) → find_vehicle id s.vehicles ≡ Some v → (k : ℕ) × (k < length settled.vehicles) × (slice_get b.vehicles k ≡ Some v)
   number_of_vehicle id v found =
@@ -103,20 +107,17 @@ module _ (settings : Settings) (roads : Roads) (s : State) (stops : ℕ → List
       let c = limits.vehicle_count in
       (place.0, omega (arith, l, c), at')
 
-  -- every promise is live
-  pub promise_is_live : (r : ℕ) (id : ℕ) → r < length b.riders → is_promised_to id (request_at b.riders r) ≡ true → IsLiveRider settings (travel_time times) b.riders settled r
-  promise_is_live r id h promised =
+  -- every promise is kept
+  pub promise_is_held : (r : ℕ) (id : ℕ) → r < length b.riders → is_promised_to id (request_at b.riders r) ≡ true → IsHeld settled.vehicles r
+  promise_is_held r id h promised =
       let of = promised_request settings roads s stops b settled points times kept shows early limits table id r h promised in
       let holder = kept.state.promises (request_at b.riders r).id of.rider of.promise of.found of.status in
       let k = number_of_vehicle of.promise.vehicle holder.vehicle holder.at in
       let placed = limits.placed k.0 holder.vehicle k.2 in
       let own : (vehicle_at settled k.0).id ≡ id = placed.id ∙ vehicle_id of.promise.vehicle s.vehicles holder.vehicle holder.at ∙ of.own in
-      record {
-        vehicle = k.0;
-        within = k.1;
-        promised = subst (λ v. is_promised_to v (request_at b.riders r) ≡ true) (sym own) promised;
-        live = live_at k.0 k.1;
-      }
+      let listed : Contains (promised_to (vehicle_at settled k.0).id b.riders) r =
+      filter_range_has (λ m. is_promised_to (vehicle_at settled k.0).id (request_at b.riders m)) (length b.riders) r h (subst (λ v. is_promised_to v (request_at b.riders r) ≡ true) (sym own) promised) in
+      (k.0, k.1, subst (λ xs. Contains xs r) (sym (holds k.0 k.1)) listed)
 
   pub not_lapsed : (r : ℕ) → r < length settled.riders → (rider_at settled r).lapsed ≡ false
   not_lapsed r h = elim (limits.limits r h) [ inl live ↦ live.2 | inr other ↦ other.2 ∙ promised (request_at b.riders r).promise refl other.0 ]
@@ -124,11 +125,11 @@ module _ (settings : Settings) (roads : Roads) (s : State) (stops : ℕ → List
       within : r < length b.riders
       within = let c = limits.rider_count in omega (arith, h, c)
 
-      promised : (o : Option Promise) → (request_at b.riders r).promise ≡ o → (IsLiveRider settings (travel_time times) b.riders settled r → ⊥) → is_some o ≡ false
+      promised : (o : Option Promise) → (request_at b.riders r).promise ≡ o → (IsHeld settled.vehicles r → ⊥) → is_some o ≡ false
       promised None e not = refl
       promised (Some p) e not =
           let to : is_promised_to p.vehicle (request_at b.riders r) ≡ true = rw e (eq-eqb p.vehicle p.vehicle refl) in
-          absurd (not (promise_is_live r p.vehicle within to))
+          absurd (not (promise_is_held r p.vehicle within to))
 
   -- by the limits that follow from these travel times
   pub all_in_time : All (λ v. v.late ≡ false) settled.vehicles × All (λ r. r.lapsed ≡ false) settled.riders
@@ -186,7 +187,7 @@ module _ (settings : Settings) (roads : Roads) (s : State) (stops : ℕ → List
 
     -- the ids that are told are those of the batch
     pub told_id : (r : ℕ) → r < length b.riders → rider_id settled r ≡ (request_at b.riders r).id
-    told_id r h = (limits.riders r (request_at b.riders r) (slice_get-get_or b.riders r no_request h)).id
+    told_id r h = limits.ids r (request_at b.riders r) (slice_get-get_or b.riders r no_request h)
 
     module _ (k : ℕ) (lk : k < length settled.vehicles) (x : Vehicle) (at : slice_get b.vehicles k ≡ Some x) (t : ChosenTrip)
         (is : IsTripOf points (travel_time times) settled good.graph (good.holds point.Plan).chosen k t) where
@@ -250,7 +251,7 @@ module _ (settings : Settings) (roads : Roads) (s : State) (stops : ℕ → List
       known =
           let a : length (map (λ r. (rider_at settled r).leg) trip) ≡ length trip = length-map trip (λ r. (rider_at settled r).leg) in
           subst (λ n. AllByRecursion (IsKnown n (length x.aboard.items)) is.stops) a
-          (subst (λ m. AllByRecursion (IsKnown (length (map (λ r. (rider_at settled r).leg) trip)) m) is.stops) placed.aboard.count is.serves.order.known)
+          (subst (λ m. AllByRecursion (IsKnown (length (map (λ r. (rider_at settled r).leg) trip)) m) is.stops) placed.aboard_count is.serves.order.known)
 
       -- whose the stops are that are told
       told_member : (i : ℕ) → i < length trip → rider_id settled (get_or trip i 0) ≡ get_or trip_names i 0
@@ -296,7 +297,7 @@ module _ (settings : Settings) (roads : Roads) (s : State) (stops : ℕ → List
           ap (λ z. calls_of z t.stops.items) (sym (name_is i h)) ∙ calls_by (get_or trip_names i 0) (is_of_rider i) (rider_test i h) ∙ ap (map is_pick) (is.serves.order.rides i (omega (arith, a, h)))
 
       pub passenger_calls : (j : ℕ) → j < length x.aboard.items → calls_of (get_or passenger_names j 0) t.stops.items ≡ false ∷ []
-      passenger_calls j h = let c = placed.aboard.count in calls_by (get_or passenger_names j 0) (is_of_passenger j) (passenger_test j h) ∙ ap (map is_pick) (is.serves.order.alights j (omega (arith, c, h)))
+      passenger_calls j h = let c = placed.aboard_count in calls_by (get_or passenger_names j 0) (is_of_passenger j) (passenger_test j h) ∙ ap (map is_pick) (is.serves.order.alights j (omega (arith, c, h)))
 
       pub other_calls : (r : ℕ) → r < length b.riders → has_node trip r ≡ false → calls_of (request_at b.riders r).id t.stops.items ≡ []
       other_calls r lr out = calls_by (request_at b.riders r).id (λ stop. false) (other_test r lr out) ∙ ap (map is_pick) (none_filtered is.stops)

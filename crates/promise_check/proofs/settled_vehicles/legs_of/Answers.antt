@@ -32,8 +32,5 @@ loop-passenger-preserved c =
 pub returns-clause-legs : goal.returns-clause-legs
 returns-clause-legs c =
     let settings = c.args.settings.now in let points = c.args.points.now in let tau = travel_time c.args.times.now in
-    record {
-      count = (let n = c.loop-passenger.invariant.count in omega arith);
-      each = pairs_all (λ (x : Passenger) (y : Leg). IsLegOf settings points tau x.origin x.destination x.time x.party y) no_leg c.loop-passenger.passenger-index c.args.passengers.now c.loop-passenger.legs.items
-          (omega arith) c.loop-passenger.invariant.each;
-    }
+    pairs_all (λ (x : Passenger) (y : Leg). IsLegOf settings points tau x.origin x.destination x.time x.party y) no_leg c.loop-passenger.passenger-index c.args.passengers.now c.loop-passenger.legs.items
+    (omega arith) c.loop-passenger.invariant.each
