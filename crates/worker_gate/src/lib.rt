@@ -4,23 +4,11 @@
 //! pieces, whatever the schedule and the number of workers. A gate hears of each piece as it begins. That
 //! pieces run at the same time is not said: tests show it.
 //!
-//! A caller:
+//! A caller, from the tests of `single_calls`, which has the numbers of two pieces squared:
 //!
 //! ```
-//! impl Job for Squares {
-//!     type Out = u64;
-//!     ghost can = { λ _ _. Unit {0} };
-//!     ghost right = { λ _ piece out. out ≡ piece * piece };
-//!
-//!     fn run(&self, _alloc: Global, piece: u32) -> Result<u64, OutOfMemory> {
-//!         Ok(u64::from(piece) * u64::from(piece))
-//!     }
-//! }
-//!
-//! fn answers_with_memory(rt: HostRuntime) {
-//!     let job = Squares;
-//!     assert!(rt; run_pieces(&rt, rt.alloc(), 2, 3, &job, &FreeGate).is_ok());
-//! }
+//! let outs = run_pieces(&rt, rt.alloc(), 2, 2, &Squares, &gate)?;
+//! assert_eq!(rt; outs.as_slice(), [0, 1].as_slice());
 //! ```
 //!
 //! Main clauses: `run_pieces`: `count`, `right`.

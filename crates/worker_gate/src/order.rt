@@ -1,18 +1,20 @@
 //! Outs in the order of their pieces.
-ghost use Rattle.std.specs.Prelude.{◌≡◌, ℕ, ◌<◌, All, IfOk, map, vec_len};
-ghost use Rattle.worker_gate.specs.work.Workers.{EachDoneOnce, AreOutsOf};
+ghost use Rattle.std.specs.Prelude.{◌≡◌, ℕ, IfOk, map, vec_len};
+ghost use Rattle.worker_gate.specs.Outs.{AreRight};
+ghost use Rattle.worker_gate.specs.work.Workers.{AreDoneRight, EachDoneOnce};
 
+use crate::job::Job;
 use crate::worker::Done;
 use pool_base::OutOfMemory;
 use std::alloc::Global;
 
-// The outs, by rising piece. Where each of so many pieces was done once, these are their outs.
-pub(crate) fn in_order<O: Drop>(
+// The outs, by rising piece. Where each of so many pieces was done once and right, each stands at its place.
+pub(crate) fn in_order<J: Job>(
     alloc: Global,
-    mut done: Vec<Done<O>>,
-) -> Result<Vec<O>, OutOfMemory>
-    ensures count { (pieces : ℕ) → All (λ d. d.piece < pieces) done.items → EachDoneOnce pieces done.items → IfOk result (λ outs. vec_len outs ≡ pieces) }
-    ensures outs { (pieces : ℕ) → All (λ d. d.piece < pieces) done.items → EachDoneOnce pieces done.items → IfOk result (λ outs. AreOutsOf done.items outs.items) }
+    mut done: Vec<Done<J::Out>>,
+) -> Result<Vec<J::Out>, OutOfMemory>
+    ensures { (pieces : ℕ) (job : J) → AreDoneRight pieces (J.right job) done.items → EachDoneOnce pieces done.items
+        → IfOk result (λ outs. (vec_len outs ≡ pieces) × AreRight (J.right job) outs.items) }
 {
     done.sort_unstable_by_key(|d| d.piece);
     let outs = outs_of(alloc, done)?;

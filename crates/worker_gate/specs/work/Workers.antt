@@ -1,5 +1,5 @@
 -- What a worker has done.
-use Rattle.std.specs.Prelude.{◌≡◌, ℕ, ◌<◌, ◌≤◌, List, [], ◌∷◌, ◌++◌, map, length, All, Contains, true, false, sum_by, slice_index_or}
+use Rattle.std.specs.Prelude.{◌≡◌, ℕ, ◌<◌, ◌≤◌, List, [], ◌∷◌, ◌++◌, map, All, true, false, sum_by}
 use Rattle.atomic_table.specs.Seated.{TableId}
 use Rattle.worker_gate.specs.declared.worker.Done.{Done}
 use Rattle.worker_gate.specs.declared.worker.Worker.{Worker}
@@ -21,6 +21,11 @@ module _ {O : Type 0} where
   abbrev pub pieces_of : List (Done O) → List ℕ
   pieces_of done = map (λ d. d.piece) done
 
+  -- the numbers drawn are the pieces done, each as often, and some number past them
+  pub record Matches (pieces : ℕ) (numbers : List ℕ) (done : List (Done O)) : Type 0 where
+    pub past_drawn : 1 ≤ sum_by (past pieces) numbers
+    pub done_drawn : (k : ℕ) → k < pieces → sum_by (at k) numbers ≡ sum_by (λ d. at k d.piece) done
+
   -- the worker has its seat still. If it ended, it has done each piece that it drew, once, and then drew a number past the pieces
   pub record HasWorked (table : TableId) (pieces : ℕ) (w : Worker O) : Type 0 where
     pub own : w.hand.table_id ≡ table
@@ -33,13 +38,8 @@ module _ {O : Type 0} where
     pub own : w.hand.table_id ≡ table
     pub whole : w.hand.me.0.parts ≡ parts
     pub empty_handed : w.hand.me.1 ≡ []
-    pub past_drawn : 1 ≤ sum_by (past pieces) w.hand.me.0.numbers
-    pub done_drawn : (k : ℕ) → k < pieces → sum_by (at k) w.hand.me.0.numbers ≡ sum_by (λ d. at k d.piece) w.done.items
+    pub matches : Matches pieces w.hand.me.0.numbers w.done.items
 
   -- each piece was done once
   abbrev pub EachDoneOnce : ℕ → List (Done O) → Type 0
   EachDoneOnce pieces done = (k : ℕ) → k < pieces → sum_by (λ d. at k d.piece) done ≡ 1
-
-  -- the k-th out is one that was done of piece k
-  abbrev pub AreOutsOf : List (Done O) → List O → Type 0
-  AreOutsOf done outs = (k : ℕ) (d : O) → k < length outs → Contains done (record { piece = k; out = slice_index_or outs k d })

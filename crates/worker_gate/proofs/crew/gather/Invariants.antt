@@ -1,6 +1,5 @@
 use Rattle.std.proofs.Common.{◌≡◌, ◌+◌, [], All, vec_len}
-use Rattle.worker_gate.specs.work.Workers.{HasWorked, AreDoneRight}
-use Rattle.worker_gate.proofs.Ended.{Matches}
+use Rattle.worker_gate.specs.work.Workers.{HasWorked, AreDoneRight, Matches}
 use Rattle.worker_gate.proofs.crew.gather.Given as goal
 
 abbrev pub invariant-loop-worker : goal.invariant-loop-worker
