@@ -1,2 +1,3 @@
 pub mod PointLemmas
 pub mod SameLemmas
+pub mod lemmas

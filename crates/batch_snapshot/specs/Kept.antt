@@ -1,17 +1,9 @@
-use Rattle.std.specs.Prelude.{◌≡◌, ◌≢◌, ℕ, ◌<◌, ◌≤◌, List, ◌++◌, map, length, slice_index}
-use Rattle.std.specs.List.{All, Contains, flat_map}
+use Rattle.std.specs.Prelude.{◌≡◌, ◌≢◌, ◌≤◌, List, ◌++◌, map, length, All, AllPairs}
+use Rattle.std.specs.List.{flat_map}
 use Rattle.std.specs.List.Sorted.{IsStrictlyIncreasing}
 use Rattle.batch_snapshot.specs.declared.vehicle.Vehicle.{Vehicle}
 use Rattle.batch_snapshot.specs.Batch.{Batch}
 use Rattle.batch_snapshot.specs.Vehicle.{HasSeats}
-
--- the riders aboard some vehicle, vehicle by vehicle
-abbrev pub riders_aboard : List Vehicle → List ℕ
-riders_aboard vehicles = flat_map (λ v. map (λ p. p.rider) v.aboard.items) vehicles
-
--- no id stands twice
-abbrev pub IsOnce : List ℕ → Type 0
-IsOnce ids = (i j : ℕ) → i < j → j < length ids → slice_index ids i ≢ slice_index ids j
 
 -- what every snapshot keeps
 pub record IsKept (b : Batch) : Type 0 where
@@ -24,12 +16,8 @@ pub record IsKept (b : Batch) : Type 0 where
   pub seats : All HasSeats b.vehicles
   -- nobody asked after the moment of the snapshot
   pub asked : All (λ r. r.time ≤ b.sealed_at) b.riders
-  -- nobody is in two places
-  pub once : IsOnce (map (λ r. r.id) b.riders ++ riders_aboard b.vehicles)
-  -- no rider of the batch is among those whose wait ended
-  pub apart : All (λ r. ¬ (Contains b.expired r.id)) b.riders
-  -- nor is anybody aboard
-  pub aboard_apart : All (λ id. ¬ (Contains b.expired id)) (riders_aboard b.vehicles)
+  -- nobody is in two places: among those whose wait ended, in the batch, or aboard of a vehicle
+  pub once : AllPairs (λ id other. id ≢ other) (b.expired ++ (map (λ r. r.id) b.riders ++ flat_map (λ v. map (λ p. p.rider) v.aboard.items) b.vehicles))
 
 -- what every fleet keeps
 pub record IsFleet (vehicles : List Vehicle) : Type 0 where

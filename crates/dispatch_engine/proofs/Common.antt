@@ -19,7 +19,8 @@ pub use Rattle.pool_io.specs.Faults.{one_more}
 pub use Rattle.request_book.proofs.lemmas.StepTable.{by-table, step-table}
 pub use Rattle.request_book.specs.Book.{BookView, IsBook, IsSameBook, next_position}
 unfoldable pub use Rattle.request_book.specs.Replay.{RepliesAreSteps, state_after}
-unfoldable pub use Rattle.request_book.specs.Sealing.{batch_of, sealed_state}
+unfoldable pub use Rattle.request_book.specs.Sealing.{batch_of}
+unfoldable pub use Rattle.request_book.specs.lemmas.Named.{sealed_state}
 pub use Rattle.request_book.specs.Step.{rider_becomes, step, vehicle_becomes}
 pub use Rattle.request_book.specs.declared.command.Command.{Command}
 pub use Rattle.request_book.specs.declared.command.Command.TheVariants.{Cancel, Close, Dropoff, Pickup, Report, Seal, Submit}

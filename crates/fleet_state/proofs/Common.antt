@@ -8,10 +8,10 @@ pub use Rattle.std.specs.List.{AllWithin, list_any, prefix_len}
 pub use Rattle.batch_snapshot.specs.Kept.{IsFleet}
 pub use Rattle.batch_snapshot.specs.Vehicle.{HasSeats}
 pub use Rattle.batch_snapshot.specs.declared.vehicle.Vehicle.{Vehicle}
-pub use Rattle.fleet_state.specs.Fleet.{IsFleetOf, vehicle_of_row, vehicles_of}
+pub use Rattle.fleet_state.specs.Fleet.{IsFleetOf, vehicles_of}
 unfoldable pub use Rattle.fleet_state.specs.Vehicle.{vehicle_in}
 pub use Rattle.fleet_state.specs.declared.fault.FleetFault.TheVariants.{Duplicate, Number, Seats, TooManyVehicles, UnknownNode}
-pub use Rattle.fleet_state.specs.lemmas.Named.{empty_vehicle, is_repeated}
+pub use Rattle.fleet_state.specs.lemmas.Named.{empty_vehicle, vehicle_of_row}
 pub use Rattle.fleet_state.specs.work.Place.{IsPlaceOf, has_id_at, has_vehicle}
 pub use Rattle.pool_base.proofs.lemmas.InOrderLemmas.{all_or_first-err, all_or_first-ok, refused_where-passed, then_ok}
 pub use Rattle.pool_base.specs.InOrder.{all_or_first, refused_where, ◌>>=◌}

@@ -1,11 +1,12 @@
 -- A fleet, row by row.
-use Rattle.std.proofs.Common.{◌≡◌, ◌↔◌, ℕ, ◌+◌, ◌<◌, ◌≤◌, Bool, true, false, ◌||◌, cond, eqb, List, [], ◌∷◌, ◌++◌, length, get_or, take, Contains, Ok, Err, sym, ap, subst, ◌∙◌, inl, inr, arith}
-use Rattle.fleet_state.proofs.Common.{list_any, take_more, Contains-append_left, Contains-append_right, Contains-append_cases, Contains-push, Contains-push_cases, list_any-append, ◌>>=◌, refused_where, all_or_first, number_at, all_or_first-err, Vehicle, TooManyVehicles, Duplicate, vehicle_in, vehicle_of_row, vehicles_of, is_repeated, has_vehicle}
+use Rattle.std.proofs.Common.{◌≡◌, ◌↔◌, ℕ, ◌+◌, ◌<◌, ◌≤◌, Bool, true, false, ◌||◌, cond, eqb, List, [], ◌∷◌, ◌++◌, length, get_or, take, Contains, Result, Ok, Err, sym, ap, subst, ◌∙◌, inl, inr, arith}
+use Rattle.fleet_state.proofs.Common.{list_any, take_more, Contains-append_left, Contains-append_right, Contains-append_cases, Contains-push, Contains-push_cases, list_any-append, ◌>>=◌, refused_where, all_or_first, number_at, all_or_first-err, Vehicle, TooManyVehicles, Duplicate, vehicle_in, vehicle_of_row, vehicles_of, has_vehicle}
 use Rattle.std.specs.List.{insert}
 use Rattle.std.proofs.lemmas.Bool.{le-ltb}
 use Rattle.std.proofs.lemmas.List.Sorted.{IsPermutation-insert, IsPermutation-sym, Contains-permutation}
 use Rattle.fleet_state.specs.declared.fault.FleetFault.{FleetFault}
 use Rattle.fleet_state.proofs.PlaceLemmas.{list_any-insert}
+use Rattle.fleet_state.proofs.RowLemmas.{vehicle_in-last}
 
 -- one more element, put in at any place of one list and at the end of another, has both lists the same elements still
 pub same_members-insert : {X : Type 0} (xs ys : List X) (i : ℕ) (x : X) → ((v : X) → Contains ys v ↔ Contains xs v) → (v : X) → Contains (insert ys i x) v ↔ Contains (xs ++ x ∷ []) v
@@ -38,26 +39,31 @@ known_more records row sorted place vehicle within named known id =
     turned : (a b : Bool) → (a || b) ≡ (b || (a || false))
     turned a b = grind arith
 
--- a row that has an earlier row's vehicle, and one that hasn't
-repeated : (records : List (List (List ℕ))) (row : ℕ) (sorted : List Vehicle) (vehicle : Vehicle) → vehicle.id ≡ number_at (get_or records row []) 0 → ((id : ℕ) → has_vehicle sorted id ≡ is_known records row id) → is_repeated records row ≡ has_vehicle sorted vehicle.id
-repeated records row sorted vehicle named known = sym (ap (has_vehicle sorted) named ∙ known (number_at (get_or records row []) 0))
+-- a row is refused as its fields are, and then where an earlier row has its vehicle
+unless_known : List (List (List ℕ)) → ℕ → Vehicle → Result Vehicle FleetFault
+unless_known records row vehicle = refused_where (is_known records row vehicle.id) (Duplicate (row + 1)) >>= λ _. Ok vehicle
+
+vehicle_of_row-last : (nodes : List ℕ) (records : List (List (List ℕ))) (row : ℕ) → vehicle_of_row nodes records row ≡ (vehicle_in nodes [] (row + 1) (get_or records row []) >>= unless_known records row)
+unfolding unless_known
+vehicle_of_row-last nodes records row = vehicle_in-last nodes (take row records) (row + 1) (get_or records row [])
 
 -- a row of a new vehicle
-pub vehicle_of_row-new : (nodes : List ℕ) (records : List (List (List ℕ))) (row : ℕ) (sorted : List Vehicle) (vehicle : Vehicle) → vehicle_in nodes (row + 1) (get_or records row []) ≡ Ok vehicle → vehicle.id ≡ number_at (get_or records row []) 0 → ((id : ℕ) → has_vehicle sorted id ≡ is_known records row id) → has_vehicle sorted vehicle.id ≡ false → vehicle_of_row nodes records row ≡ Ok vehicle
-vehicle_of_row-new nodes records row sorted vehicle is named known new =
-    ap (λ r. r >>= λ v. refused_where (is_repeated records row) (Duplicate (row + 1)) >>= λ _. Ok v) is
-    ∙ ap (λ t. refused_where t (Duplicate (row + 1)) >>= λ _. Ok vehicle) (repeated records row sorted vehicle named known ∙ new)
+pub vehicle_of_row-new : (nodes : List ℕ) (records : List (List (List ℕ))) (row : ℕ) (sorted : List Vehicle) (vehicle : Vehicle) → vehicle_in nodes [] (row + 1) (get_or records row []) ≡ Ok vehicle → ((id : ℕ) → has_vehicle sorted id ≡ is_known records row id) → has_vehicle sorted vehicle.id ≡ false → vehicle_of_row nodes records row ≡ Ok vehicle
+unfolding unless_known
+vehicle_of_row-new nodes records row sorted vehicle is known new =
+    vehicle_of_row-last nodes records row ∙ ap (λ r. r >>= unless_known records row) is
+    ∙ ap (λ t. refused_where t (Duplicate (row + 1)) >>= λ _. Ok vehicle) (sym (known vehicle.id) ∙ new)
 
 -- a row of a vehicle that is there
-pub vehicle_of_row-duplicate : (nodes : List ℕ) (records : List (List (List ℕ))) (row : ℕ) (sorted : List Vehicle) (vehicle : Vehicle) → vehicle_in nodes (row + 1) (get_or records row []) ≡ Ok vehicle → vehicle.id ≡ number_at (get_or records row []) 0 → ((id : ℕ) → has_vehicle sorted id ≡ is_known records row id) → has_vehicle sorted vehicle.id ≡ true → vehicle_of_row nodes records row ≡ Err (Duplicate (row + 1))
-vehicle_of_row-duplicate nodes records row sorted vehicle is named known there =
-    ap (λ r. r >>= λ v. refused_where (is_repeated records row) (Duplicate (row + 1)) >>= λ _. Ok v) is
-    ∙ ap (λ t. refused_where t (Duplicate (row + 1)) >>= λ _. Ok vehicle) (repeated records row sorted vehicle named known ∙ there)
+pub vehicle_of_row-duplicate : (nodes : List ℕ) (records : List (List (List ℕ))) (row : ℕ) (sorted : List Vehicle) (vehicle : Vehicle) → vehicle_in nodes [] (row + 1) (get_or records row []) ≡ Ok vehicle → ((id : ℕ) → has_vehicle sorted id ≡ is_known records row id) → has_vehicle sorted vehicle.id ≡ true → vehicle_of_row nodes records row ≡ Err (Duplicate (row + 1))
+unfolding unless_known
+vehicle_of_row-duplicate nodes records row sorted vehicle is known there =
+    vehicle_of_row-last nodes records row ∙ ap (λ r. r >>= unless_known records row) is
+    ∙ ap (λ t. refused_where t (Duplicate (row + 1)) >>= λ _. Ok vehicle) (sym (known vehicle.id) ∙ there)
 
 -- a row whose fields are refused
-pub vehicle_of_row-fault : (nodes : List ℕ) (records : List (List (List ℕ))) (row : ℕ) (fault : FleetFault) → vehicle_in nodes (row + 1) (get_or records row []) ≡ Err fault → vehicle_of_row nodes records row ≡ Err fault
-vehicle_of_row-fault nodes records row fault is =
-    ap (λ r. r >>= λ v. refused_where (is_repeated records row) (Duplicate (row + 1)) >>= λ _. Ok v) is
+pub vehicle_of_row-fault : (nodes : List ℕ) (records : List (List (List ℕ))) (row : ℕ) (fault : FleetFault) → vehicle_in nodes [] (row + 1) (get_or records row []) ≡ Err fault → vehicle_of_row nodes records row ≡ Err fault
+vehicle_of_row-fault nodes records row fault is = vehicle_of_row-last nodes records row ∙ ap (λ r. r >>= unless_known records row) is
 
 -- the vehicles of few rows
 vehicles_of-few : (nodes : List ℕ) (records : List (List (List ℕ))) → length records ≤ 500 → vehicles_of nodes records ≡ all_or_first (vehicle_of_row nodes records) (length records)

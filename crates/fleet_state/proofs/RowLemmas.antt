@@ -1,6 +1,8 @@
-use Rattle.std.proofs.Common.{◌≡◌, ℕ, ◌≤◌, true, not, ◌&&◌, nat_le, List, Ok, Contains, eqb, length, get_or, refl, subst, ◌∙◌, arith}
-use Rattle.fleet_state.proofs.Common.{not-false, and_parts, get_or_default, Any-from_list_any, list_any_at, Vehicle, HasSeats, Number, Seats, UnknownNode, refused_where, number_in, number_at, then_ok, refused_where-passed, vehicle_in, empty_vehicle, has_node}
+use Rattle.std.proofs.Common.{◌≡◌, ℕ, ◌≤◌, ◌==◌, true, not, ◌&&◌, nat_le, List, [], Result, Ok, Err, Contains, eqb, length, get_or, refl, subst, ◌∙◌, arith}
+use Rattle.fleet_state.proofs.Common.{not-false, and_parts, get_or_default, Any-from_list_any, list_any_at, Vehicle, HasSeats, Number, Seats, UnknownNode, Duplicate, ◌>>=◌, refused_where, number_in, number_at, then_ok, refused_where-passed, vehicle_in, empty_vehicle, has_node}
 use Rattle.std.specs.Bool.{Decides}
+use Rattle.std.specs.List.{list_any}
+use Rattle.fleet_state.specs.declared.fault.FleetFault.{FleetFault}
 use Rattle.std.proofs.lemmas.Bool.{leb-true, eqb-true, eq-eqb}
 use Rattle.pool_base.proofs.lemmas.NumeralLemmas.{number_in-at}
 
@@ -11,7 +13,7 @@ pub record IsNewVehicle (nodes : List ℕ) (fields : List (List ℕ)) (vehicle :
   pub named : has_node nodes vehicle.node ≡ true
   pub id : vehicle.id ≡ number_at fields 0
 
-pub IsNewVehicle-vehicle_in : (nodes : List ℕ) (row : ℕ) (fields : List (List ℕ)) (vehicle : Vehicle) → vehicle_in nodes row fields ≡ Ok vehicle → IsNewVehicle nodes fields vehicle
+pub IsNewVehicle-vehicle_in : (nodes : List ℕ) (row : ℕ) (fields : List (List ℕ)) (vehicle : Vehicle) → vehicle_in nodes [] row fields ≡ Ok vehicle → IsNewVehicle nodes fields vehicle
 unfolding vehicle_in
 IsNewVehicle-vehicle_in nodes row fields vehicle is =
     then_ok (number_in Number row fields 0) _ vehicle (IsNewVehicle nodes fields vehicle) is (λ id named is.
@@ -30,6 +32,23 @@ IsNewVehicle-vehicle_in nodes row fields vehicle is =
       id = number_in-at Number row fields 0 id named;
       named = not-false (has_node nodes node) (refused_where-passed (not (has_node nodes node)) (UnknownNode row) v known);
     })))))))
+
+after : {A B C : Type 0} (r : Result A FleetFault) (whole : A → Result C FleetFault) (front : A → Result B FleetFault) (last : B → Result C FleetFault) → ((x : A) → whole x ≡ (front x >>= last)) → (r >>= whole) ≡ ((r >>= front) >>= last)
+after (Ok x) whole front last each = each x
+after (Err fault) whole front last each = refl
+
+-- that an earlier row has the vehicle is the last refusal of a row
+pub vehicle_in-last : (nodes : List ℕ) (earlier : List (List (List ℕ))) (row : ℕ) (fields : List (List ℕ)) →
+    vehicle_in nodes earlier row fields ≡ (vehicle_in nodes [] row fields >>= λ vehicle. refused_where (list_any (λ before. number_at before 0 == vehicle.id) earlier) (Duplicate row) >>= λ _. Ok vehicle)
+unfolding vehicle_in
+vehicle_in-last nodes earlier row fields =
+    after (number_in Number row fields 0) _ _ last (λ id. after (number_in Number row fields 1) _ _ last (λ seats.
+    after (number_in Number row fields 2) _ _ last (λ node. after (number_in Number row fields 3) _ _ last (λ time.
+    after (refused_where (not (nat_le 1 seats && nat_le seats 10)) (Seats row)) _ _ last (λ _.
+    after (refused_where (not (has_node nodes node)) (UnknownNode row)) _ _ last (λ _. refl))))))
+  where
+    last : Vehicle → Result Vehicle FleetFault
+    last vehicle = refused_where (list_any (λ before. number_at before 0 == vehicle.id) earlier) (Duplicate row) >>= λ _. Ok vehicle
 
 -- a node is found just where it is among the nodes
 pub has_node-Decides : (nodes : List ℕ) (node : ℕ) → Decides (has_node nodes node) (Contains nodes node)

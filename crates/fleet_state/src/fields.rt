@@ -77,7 +77,7 @@ pub(crate) fn read_vehicle(
     network: &Network,
 ) -> Result<Vehicle, FleetFault>
     requires { IsFleetRow rows.now row }
-    ensures { result ≡ vehicle_in network.now.nodes (row + 1) (record_at rows.now row) }
+    ensures { result ≡ vehicle_in network.now.nodes [] (row + 1) (record_at rows.now row) }
 {
     let place = row as u64 + 1;
     let id = vehicle_id(rows, row, 0)?;

@@ -1,6 +1,5 @@
 use Rattle.std.specs.Prelude.{ℕ, List, [], ◌∷◌, ◌++◌, codes}
 use Rattle.std.specs.Fmt.{decimal}
-use Rattle.std.specs.List.{flat_map}
 use Rattle.load_maker.specs.declared.row.Field.{Field}
 use Rattle.load_maker.specs.declared.row.Field.TheVariants.{Number, Report, Submit, Seal, Empty}
 
@@ -17,7 +16,3 @@ abbrev pub csv_line : List Field → List ℕ
 csv_line [] = []
 csv_line (field ∷ []) = field_text field ++ 10 ∷ []
 csv_line (field ∷ next ∷ fields) = field_text field ++ 44 ∷ csv_line (next ∷ fields)
-
--- a text: its header line, then its rows, one behind another
-abbrev pub text_under : List ℕ → List (List Field) → List ℕ
-text_under header rows = header ++ 10 ∷ flat_map csv_line rows

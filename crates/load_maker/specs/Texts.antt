@@ -1,4 +1,5 @@
-use Rattle.std.specs.Prelude.{ℕ, ◌+◌, ◌-◌, ◌*◌, ◌%◌, List, [], ◌∷◌, nat_lt, if◌then◌else◌}
+use Rattle.std.specs.Prelude.{ℕ, ◌+◌, ◌-◌, ◌*◌, ◌%◌, List, [], ◌∷◌, ◌++◌, nat_lt, if◌then◌else◌}
+use Rattle.std.specs.List.{flat_map}
 use Rattle.pool_base.specs.Header.{network_header, fleet_header, script_header}
 use Rattle.rand_core.specs.Stream.{Stream}
 use Rattle.rand_core.specs.Steps.{stream_of}
@@ -6,7 +7,7 @@ use Rattle.rand_xoshiro.specs.SplitMix64.{splitmix_steps}
 use Rattle.rider_limits.specs.declared.load_shape.LoadShape.{LoadShape}
 use Rattle.load_maker.specs.declared.row.Field.{Field}
 use Rattle.load_maker.specs.declared.row.Field.TheVariants.{Number, Report, Submit, Seal, Empty}
-use Rattle.load_maker.specs.Row.{text_under}
+use Rattle.load_maker.specs.Row.{csv_line}
 use Rattle.load_maker.specs.Part.{draw, Part, plain, both, each}
 
 -- the id of the node in a row and a column of a square, both from 0
@@ -58,8 +59,9 @@ pub record Texts : Type 0 where
   pub fleet : List ℕ
   pub script : List ℕ
 
--- the texts of a made workload, by the draws of a SplitMix64 generator with its seed, in this order: the arcs of the
--- square, row by row, from each node to the next of its row and to the next of its column; the vehicles, from 1; the batches
+-- the texts of a made workload, each a header line and its rows, by the draws of a SplitMix64 generator with its seed, in
+-- this order: the arcs of the square, row by row, from each node to the next of its row and to the next of its column; the
+-- vehicles, from 1; the batches
 unfoldable pub texts_of : LoadShape → Texts
 texts_of shape =
     let side = shape.side in
@@ -68,4 +70,8 @@ texts_of shape =
     let network = each (λ i. each (λ j. both (right i j) (down i j)) side) side (stream_of splitmix_steps shape.seed) in
     let fleet = each (λ n. vehicle_row shape (n + 1)) shape.vehicles network.1 in
     let script = each (batch_rows shape) shape.rounds fleet.1 in
-    record { network = text_under network_header network.0; fleet = text_under fleet_header fleet.0; script = text_under script_header script.0 }
+    record {
+      network = network_header ++ 10 ∷ flat_map csv_line network.0;
+      fleet = fleet_header ++ 10 ∷ flat_map csv_line fleet.0;
+      script = script_header ++ 10 ∷ flat_map csv_line script.0;
+    }

@@ -10,23 +10,24 @@ unfoldable pub use Rattle.csv.specs.Reading.{records_from, strip_bom}
 pub use Rattle.csv.specs.Reading.{default_config, records, records_next}
 unfoldable pub use Rattle.load_maker.specs.Part.{draw}
 pub use Rattle.load_maker.specs.Part.{Part, both, each, plain}
-pub use Rattle.load_maker.specs.Row.{csv_line, field_text, text_under}
+pub use Rattle.load_maker.specs.Row.{csv_line, field_text}
+pub use Rattle.load_maker.specs.lemmas.Parts.{text_under, csv_lines, draws_of, nothing, other_than, seal_row}
 unfoldable pub use Rattle.load_maker.specs.Texts.{arcs_between, batch_rows, drawn_node, report_row, submit_row, texts_of, vehicle_row}
 pub use Rattle.load_maker.specs.Texts.{Texts, node_id}
 pub use Rattle.load_maker.specs.declared.row.Field.{Field}
 unfoldable pub use Rattle.load_maker.specs.lemmas.Parts.{all_reports, arcs_down, arcs_of_row, arcs_right, fleet_part, network_part, reports, script_part, submits}
-pub use Rattle.load_maker.specs.lemmas.Parts.{csv_lines, draws_of, nothing, other_than, seal_row}
 pub use Rattle.made_inputs.specs.Accepted.{AreReadable, IsFleetText, IsNetworkText, IsScriptText}
 pub use Rattle.pool_base.proofs.lemmas.DistinctLemmas.{any-distinct, length-distinct}
 pub use Rattle.pool_base.proofs.lemmas.InOrderLemmas.{all_or_first-all, all_or_first-ok, first_fault-all}
 pub use Rattle.pool_base.specs.Header.{fleet_header, network_header, script_header}
 pub use Rattle.pool_base.specs.InOrder.{all_or_first, refused_where, ◌>>=◌}
 pub use Rattle.pool_base.specs.Numeral.{number_at, number_up_to}
-pub use Rattle.pool_io.specs.Table.{header_fields, rows_under, table_of}
+pub use Rattle.pool_io.specs.Table.{rows_under, table_of}
 pub use Rattle.rand_core.specs.Stream.{Stream, next_u64}
 pub use Rattle.rider_limits.specs.declared.load_shape.LoadShape.{LoadShape}
-unfoldable pub use Rattle.road_network.specs.Reading.{field_refusal, network_of}
-pub use Rattle.road_network.specs.Reading.{nodes_of, refusal_at}
+unfoldable pub use Rattle.road_network.specs.Reading.{network_of, refusal_at}
+pub use Rattle.road_network.specs.Reading.{nodes_of}
+unfoldable pub use Rattle.road_network.specs.lemmas.Rows.{field_refusal}
 pub use Rattle.road_network.specs.Roads.{Roads, has_node}
 pub use Rattle.road_network.specs.lemmas.Limits.{greatest_name, longest_arc, most_arcs, most_nodes}
 pub use Rattle.road_network.specs.lemmas.Rows.{first_refusal, names_in, roads_of, unless_refused}

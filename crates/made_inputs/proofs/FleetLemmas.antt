@@ -1,14 +1,14 @@
 use Rattle.std.proofs.Common.{◌≡◌, ℕ, zero, suc, ◌+◌, ◌*◌, ◌%◌, ◌<◌, ◌≤◌, ◌==◌, true, false, cond, List, [], ◌∷◌, Result, Ok, Err, map, length, take, get_or, unwrap_or, refl, sym, ap, subst, ◌∙◌, arith}
-use Rattle.made_inputs.proofs.Common.{get_or_default, length-map, get_or-map, list_any_none, mod_below, Stream, next_u64, ◌>>=◌, refused_where, all_or_first, all_or_first-ok, number_at, nodes_of, has_node, LoadShape, Field, draw, draws_of, fleet_part, network_part, drawn_node, vehicle_row}
+use Rattle.made_inputs.proofs.Common.{get_or_default, length-map, get_or-map, list_any, list_any_none, mod_below, Stream, next_u64, all_or_first, all_or_first-ok, number_at, nodes_of, has_node, LoadShape, Field, draw, draws_of, fleet_part, network_part, drawn_node, vehicle_row}
 use Rattle.std.specs.List.Sorted.{IsStrictlyIncreasing}
 use Rattle.std.proofs.lemmas.Bool.{le-ltb, ne_eqb}
 use Rattle.std.proofs.lemmas.List.{get_or-take, length-take-le}
 use Rattle.std.proofs.Math.Nat.{mul-le-mul}
 use Rattle.batch_snapshot.specs.declared.vehicle.Vehicle.{Vehicle}
-use Rattle.fleet_state.specs.declared.fault.FleetFault.TheVariants.{TooManyVehicles, Duplicate}
+use Rattle.fleet_state.specs.declared.fault.FleetFault.TheVariants.{TooManyVehicles}
 use Rattle.fleet_state.specs.Vehicle.{vehicle_in}
-use Rattle.fleet_state.specs.lemmas.Named.{empty_vehicle, is_repeated}
-use Rattle.fleet_state.specs.Fleet.{vehicle_of_row, IsFleetOf}
+use Rattle.fleet_state.specs.lemmas.Named.{empty_vehicle, vehicle_of_row}
+use Rattle.fleet_state.specs.Fleet.{IsFleetOf}
 use Rattle.std.proofs.lemmas.List.FromFn.{length-map-range_with_len, get_or-map-range_with_len, map-range_with_len_more}
 use Rattle.std.specs.List.{range_with_len}
 use Rattle.made_inputs.proofs.FieldLemmas.{AllFit, small_number}
@@ -68,15 +68,15 @@ vehicle_fits nodes first next row step =
     (ap length vehicle.is, subst AllFit (sym vehicle.is) (vehicle.id_small, (omega arith, (vehicle.node_small, (omega arith, tt)))))
 
 -- the row of a vehicle is accepted
-row_given : (nodes : List ℕ) (row id node : ℕ) → has_node nodes node ≡ true → node ≤ 1000000000 → id ≤ 1000000000 → vehicle_in nodes row (fields_of (field.Number id ∷ field.Number 4 ∷ field.Number node ∷ field.Number 0 ∷ [])) ≡ Ok (empty_vehicle id 4 node 0)
+row_given : (nodes : List ℕ) (earlier : List (List (List ℕ))) (row id node : ℕ) → has_node nodes node ≡ true → list_any (λ before. number_at before 0 == id) earlier ≡ false → node ≤ 1000000000 → id ≤ 1000000000 → vehicle_in nodes earlier row (fields_of (field.Number id ∷ field.Number 4 ∷ field.Number node ∷ field.Number 0 ∷ [])) ≡ Ok (empty_vehicle id 4 node 0)
 unfolding vehicle_in
-row_given nodes row id node known node_small id_small =
-    rw (small_number id id_small, small_number 4 (omega arith), small_number node node_small, small_number 0 (omega arith), known) refl
+row_given nodes earlier row id node known new node_small id_small =
+    rw (small_number id id_small, small_number 4 (omega arith), small_number node node_small, small_number 0 (omega arith), known, new) refl
 
-row_given_of : (nodes : List ℕ) (number id : ℕ) (row : List Field) (is : IsVehicle nodes id row) → vehicle_in nodes number (fields_of row) ≡ Ok (empty_vehicle id 4 is.node 0)
-row_given_of nodes number id row vehicle =
-    ap (λ (fields : List Field). vehicle_in nodes number (fields_of fields)) vehicle.is
-    ∙ row_given nodes number id vehicle.node vehicle.known vehicle.node_small vehicle.id_small
+row_given_of : (nodes : List ℕ) (earlier : List (List (List ℕ))) (number id : ℕ) (row : List Field) (is : IsVehicle nodes id row) → list_any (λ before. number_at before 0 == id) earlier ≡ false → vehicle_in nodes earlier number (fields_of row) ≡ Ok (empty_vehicle id 4 is.node 0)
+row_given_of nodes earlier number id row vehicle new =
+    ap (λ (fields : List Field). vehicle_in nodes earlier number (fields_of fields)) vehicle.is
+    ∙ row_given nodes earlier number id vehicle.node vehicle.known new vehicle.node_small vehicle.id_small
 
 -- rows of vehicles, place by place
 vehicle_at : (nodes : List ℕ) (first high : ℕ) (rows : List (List Field)) (k : ℕ) → Lead (VehicleStep nodes) first high rows → k < length rows → IsVehicle nodes (first + k) (get_or rows k [])
@@ -96,18 +96,16 @@ id_at nodes high rows k all below =
     ap (λ fields. number_at fields 0) (get_or-map fields_of rows k [] [] below) ∙ id_named nodes (1 + k) (get_or rows k []) (vehicle_at nodes 1 high rows k all below)
 
 -- no row has an earlier row's vehicle
-none_repeated : (nodes : List ℕ) (high : ℕ) (rows : List (List Field)) (k : ℕ) → Lead (VehicleStep nodes) 1 high rows → k < length rows → is_repeated (map fields_of rows) k ≡ false
+none_repeated : (nodes : List ℕ) (high : ℕ) (rows : List (List Field)) (k : ℕ) → Lead (VehicleStep nodes) 1 high rows → k < length rows → list_any (λ before. number_at before 0 == 1 + k) (take k (map fields_of rows)) ≡ false
 none_repeated nodes high rows k all below =
     let records : List (List (List ℕ)) = map fields_of rows in
     let size : length records ≡ length rows = length-map rows fields_of in
-    let own : number_at (get_or records k []) 0 ≡ 1 + k = id_at nodes high rows k all below in
-    list_any_none (λ fields. number_at fields 0 == number_at (get_or records k []) 0) (take k records)
+    list_any_none (λ fields. number_at fields 0 == 1 + k) (take k records)
     (λ i d within.
     let before : i < k = omega (arith, within, length-take-le k records (omega (arith, below, size))) in
     let other : number_at (get_or records i []) 0 ≡ 1 + i = id_at nodes high rows i all (omega (arith, before, below)) in
     let read : get_or (take k records) i d ≡ get_or records i [] = get_or-take k records i d before ∙ get_or_default records i d [] (omega (arith, before, below, size)) in
-    ne_eqb (number_at (get_or (take k records) i d) 0) (number_at (get_or records k []) 0)
-    (λ e. omega (arith, before, own, other, ap (λ fields. number_at fields 0) read, e)))
+    ne_eqb (number_at (get_or (take k records) i d) 0) (1 + k) (λ e. omega (arith, before, other, ap (λ fields. number_at fields 0) read, e)))
 
 -- the vehicle of a row
 abbrev made_vehicle : List (List (List ℕ)) → ℕ → Vehicle
@@ -123,10 +121,8 @@ row_made nodes high rows k all below =
     ap (λ (fs : List (List ℕ)). number_at fs 2) fields
     ∙ ap (λ (fs : List Field). number_at (fields_of fs) 2) vehicle.is
     ∙ ap (λ o. unwrap_or o 0) (small_number vehicle.node vehicle.node_small) in
-    let read : vehicle_in nodes (k + 1) (get_or records k []) ≡ Ok (made_vehicle records k) =
-    ap (vehicle_in nodes (k + 1)) fields ∙ row_given_of nodes (k + 1) (1 + k) row vehicle ∙ ap (λ n. Ok (empty_vehicle (1 + k) 4 n 0)) (sym node) in
-    ap (λ r. r >>= λ v. refused_where (is_repeated records k) (Duplicate (k + 1)) >>= λ _. Ok v) read
-    ∙ ap (λ t. refused_where t (Duplicate (k + 1)) >>= λ _. Ok (made_vehicle records k)) (none_repeated nodes high rows k all below)
+    ap (vehicle_in nodes (take k records) (k + 1)) fields ∙ row_given_of nodes (take k records) (k + 1) (1 + k) row vehicle (none_repeated nodes high rows k all below)
+    ∙ ap (λ n. Ok (empty_vehicle (1 + k) 4 n 0)) (sym node)
 
 all_given : {A F : Type 0} (at : ℕ → Result A F) (give : ℕ → A) (n : ℕ) → ((k : ℕ) → k < n → at k ≡ Ok (give k)) → all_or_first at n ≡ Ok (map give (range_with_len 0 n))
 all_given at give zero gives = refl
@@ -168,7 +164,8 @@ fleet_given nodes high rows all few =
         read =
             ap (λ b. cond b (Err TooManyVehicles) (all_or_first (vehicle_of_row nodes records) (length records))) (le-ltb 500 (length records) (omega (arith, size, few)))
             ∙ all_given (vehicle_of_row nodes records) (made_vehicle records) (length records) (λ k below. row_made nodes high rows k all (omega (arith, below, size)));
-        sorted = record { rising = rising records (length records); members = λ v. ((λ has. has), (λ has. has)) };
+        rising = rising records (length records);
+        members = λ v. ((λ has. has), (λ has. has));
       };
     }
 

@@ -99,6 +99,10 @@ arc_at low high [] k all below = absurd (omega (arith, below))
 arc_at low high (row ∷ rows) zero all below = all.1
 arc_at low high (row ∷ rows) (suc k) all below = arc_at all.0 high rows k all.2 (omega (arith, below))
 
+refusal_parts : (rows : List (List (List ℕ))) (k : ℕ) → refusal_at rows k ≡ option_or (field_refusal (k + 1) (get_or rows k [])) (cond (ltb most_nodes (length (nodes_of (take (k + 1) rows)))) (Some (TooManyNodes (k + 1))) None)
+unfolding refusal_at field_refusal
+refusal_parts rows k = grind arith
+
 -- no row of arcs is refused, where the rows are few
 no_refusal : (rows : List (List Field)) (k : ℕ) → Lead ArcStep 0 0 rows → 2 * length rows ≤ most_nodes → k < length rows → refusal_at (map fields_of rows) k ≡ None
 no_refusal rows k all few below =
@@ -109,7 +113,8 @@ no_refusal rows k all few below =
     let twice : length (flat_map names_in (take (k + 1) records)) ≡ 2 * length (take (k + 1) records) = two_names (take (k + 1) records) in
     let size : length records ≡ length rows = length-map rows fields_of in
     let part : length (take (k + 1) records) ≡ k + 1 = length-take-le (k + 1) records (omega (arith, below, size)) in
-    ap (λ o. option_or o (cond (ltb most_nodes (length (nodes_of (take (k + 1) records)))) (Some (TooManyNodes (k + 1))) None)) fine
+    refusal_parts records k
+    ∙ ap (λ o. option_or o (cond (ltb most_nodes (length (nodes_of (take (k + 1) records)))) (Some (TooManyNodes (k + 1))) None)) fine
     ∙ ap (λ b. cond b (Some (TooManyNodes (k + 1))) None) (le-ltb most_nodes (length (nodes_of (take (k + 1) records))) (omega (arith, named, twice, part, below, few)))
 
 network_given : (rows : List (List Field)) → Lead ArcStep 0 0 rows → length rows ≤ 40000 → network_of (map fields_of rows) ≡ Ok (roads_of (map fields_of rows))

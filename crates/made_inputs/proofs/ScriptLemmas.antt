@@ -6,10 +6,11 @@ use Rattle.request_book.specs.declared.command.Command.{Command}
 use Rattle.script_rows.specs.declared.fault.ScriptFault.TheVariants.{TooManyRows}
 use Rattle.script_rows.specs.declared.version.ScriptVersion.TheVariants.{One}
 use Rattle.script_rows.specs.Word.{word_of}
-use Rattle.script_rows.specs.Line.{party_in, submit_in, three_in, command_in, leaves_empty, line_in}
+use Rattle.script_rows.specs.Line.{party_in, three_in, command_in, leaves_empty, line_in}
 use Rattle.script_rows.specs.Round.{NumberedLanes}
-use Rattle.script_rows.specs.Script.{round_before, script_of}
-use Rattle.script_rows.specs.lemmas.Named.{line_at, rounds_of}
+use Rattle.script_rows.specs.Script.{script_of}
+use Rattle.script_rows.specs.lemmas.Named.{line_at, round_before, rounds_of}
+use Rattle.script_rows.proofs.lemmas.LineLemmas.{round_before-first}
 use Rattle.made_inputs.proofs.FieldLemmas.{AllFit, small_number}
 use Rattle.made_inputs.proofs.TextLemmas.{fields_of, RowsFit}
 use Rattle.made_inputs.proofs.PartLemmas.{Step, Lead, Lead-fit, IsPart, IsPart-nothing, IsPart-both, IsPart-each, IsPart-cond}
@@ -50,7 +51,7 @@ report_given round vehicle node time number last round_small vehicle_small node_
 submit_given : (round lane rider origin destination time number last : ℕ) → round ≤ 1000000000 → lane ≤ 15 → rider ≤ 1000000000 → origin ≤ 1000000000 → destination ≤ 1000000000 → time ≤ 1000000000 → last ≤ round
     → line_in One number last (fields_of (field.Number round ∷ field.Number lane ∷ field.Submit ∷ field.Number rider ∷ field.Number origin ∷ field.Number destination ∷ field.Number time ∷ []))
     ≡ Ok (record { round = round; lane = lane; command = command.Submit rider origin destination time 1 })
-unfolding line_in command_in submit_in party_in leaves_empty word_of
+unfolding line_in command_in party_in leaves_empty word_of
 submit_given round lane rider origin destination time number last round_small lane_small rider_small origin_small destination_small time_small behind =
     rw (small_number round round_small, small_number lane (omega arith), small_number rider rider_small, small_number origin origin_small, small_number destination destination_small, small_number time time_small, le-ltb 15 lane lane_small, le-ltb round last behind) refl
 
@@ -171,7 +172,7 @@ round_behind low records zero = low
 round_behind low records (suc k) = number_at (get_or records k []) 0
 
 same_before : (records : List (List (List ℕ))) (k : ℕ) → round_before records k ≡ round_behind 0 records k
-same_before records zero = refl
+same_before records zero = round_before-first records
 same_before records (suc k) = refl
 
 -- the row before a row of the rest

@@ -12,11 +12,11 @@ unfolding texts_of network_part arcs_of_row arcs_right arcs_down fleet_part scri
 accepted shape range =
     let arcs : List (List Field) = network_rows shape in
     let rows : List (List Field) = fleet_rows shape in
-    let network = network_accepted shape range.side_most in
-    let fleet = fleet_accepted shape range.side_least range.side_most range.vehicles_most in
+    let network = network_accepted shape range.side_range.1 in
+    let fleet = fleet_accepted shape range.side_range.0 range.side_range.1 range.vehicles_range.1 in
     let given : GiveFleet (nodes_of (map fields_of arcs)) (map fields_of rows) = fleet.1 in
     let lines : List (List Field) = script_rows shape in
-    let script = script_accepted shape range.side_least range.side_most range.vehicles_most range.riders_most range.rounds_most in
+    let script = script_accepted shape range.side_range.0 range.side_range.1 range.vehicles_range.1 range.riders_range.1 range.rounds_range.1 in
     let read : GiveScript (map fields_of lines) = script.1 in
     record {
       roads = roads_of (map fields_of arcs);

@@ -11,7 +11,9 @@ pub use Rattle.assignment_search.specs.Found.{IsBestNear, IsClose, IsFair, Shows
 pub use Rattle.batch_laws.proofs.lemmas.GraphLemmas.{graph_in_order, graph_or_overflow, one_place, one_trip_graph}
 pub use Rattle.batch_laws.proofs.lemmas.SortedLemmas.{has_head, has_later, head_or_tail, same_rising}
 pub use Rattle.batch_snapshot.specs.Batch.{Batch}
-pub use Rattle.batch_snapshot.specs.Kept.{IsKept, IsOnce, riders_aboard}
+pub use Rattle.batch_snapshot.proofs.lemmas.KeptLemmas.{once_apart}
+pub use Rattle.batch_snapshot.specs.Kept.{IsKept}
+pub use Rattle.batch_snapshot.specs.lemmas.Kept.{IsOnce, riders_aboard}
 pub use Rattle.batch_solver.proofs.lemmas.LeftLemmas.{kept_below, kept_few}
 pub use Rattle.batch_solver.proofs.lemmas.MoveLemmas.{has_places, no_moves, none_matched}
 pub use Rattle.batch_solver.proofs.lemmas.TripLemmas.{valid_task, vehicle_read}

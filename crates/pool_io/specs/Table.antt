@@ -20,10 +20,6 @@ record_at table row = slice_index_or table.records row []
 abbrev pub field_at : List (List ℕ) → ℕ → List ℕ
 field_at fields column = slice_index_or fields column []
 
--- the fields of a header line, which commas part
-abbrev pub header_fields : List ℕ → List (List ℕ)
-header_fields header = slice_split (λ byte. byte == 44) header
-
 -- what records give under a header: the rows after the first record, which has the header's fields byte for byte, or
 -- the first of them with another number of fields; rows count from 1
 abbrev pub rows_under : List (List ℕ) → List (List (List ℕ)) → Result Table RowFault
@@ -34,8 +30,8 @@ rows_under names (first ∷ rows) =
     (Ok (record { columns = length names; records = rows }))
     else Err (Header (length first))
 
--- the table that bytes hold under a header line, or the first refusal; the bytes hold records as the `csv` crate
+-- the table that bytes hold under a header line, whose fields commas part, or the first refusal; the bytes hold records as the `csv` crate
 -- reads them with its defaults: fields between commas, quotes round a field, records ended by a line feed, a carriage
 -- return or both, empty lines skipped, a byte order mark at the start skipped
 abbrev pub table_of : List ℕ → List ℕ → Result Table RowFault
-table_of header bytes = rows_under (header_fields header) (records default_config (strip_bom bytes))
+table_of header bytes = rows_under (slice_split (λ byte. byte == 44) header) (records default_config (strip_bom bytes))

@@ -1,7 +1,8 @@
-ghost use Rattle.std.specs.Prelude.{◌≡◌, ◌≢◌, ◌↔◌, ℕ, ◌+◌, ◌*◌, ◌^◌, ◌<◌, ◌≤◌, ◌++◌, ◌∷◌, [], List, Ok, Err, IsTrue, length, map, slice_index_or, IfOk, IfErr, OnOk, MatchBool};
+ghost use Rattle.std.specs.Prelude.{◌≡◌, ◌≢◌, ◌↔◌, ℕ, ◌+◌, ◌*◌, ◌^◌, ◌<◌, ◌≤◌, ◌==◌, ◌++◌, ◌∷◌, [], List, Ok, Err, IsTrue, length, map, slice_index_or, IfOk, IfErr, OnOk, MatchBool};
+ghost use Rattle.std.specs.List.{slice_split};
 ghost use Rattle.csv.specs.Records.{fields_of, partial_of};
-ghost use Rattle.pool_io.specs.Table.{header_fields, table_of};
-ghost use Rattle.pool_io.specs.lemmas.Records.{records_of, even_rows};
+ghost use Rattle.pool_io.specs.Table.{table_of};
+ghost use Rattle.pool_io.specs.lemmas.Records.{header_fields, records_of, even_rows};
 ghost use Rattle.pool_io.specs.work.Progress.{HasRead};
 
 use crate::table::Rows;
@@ -128,7 +129,7 @@ fn rows_after(alloc: Global, reader: &mut Reader<&[u8]>, columns: usize) -> Resu
 /// The header is its fields between commas; the first record must have as many fields, each equal to it
 /// byte for byte, and every later record must have as many. Linear in the bytes.
 pub fn rows(alloc: Global, bytes: &[u8], header: &[u8]) -> Result<Rows, RowFault>
-    ensures columns { IfOk result (λ table. table.columns ≡ length (header_fields header.now)) }
+    ensures columns { IfOk result (λ table. table.columns ≡ length (slice_split (λ byte. byte == 44) header.now)) }
     ensures table { IfOk result (λ table. table_of header.now bytes.now ≡ Ok table) }
     ensures refused { IfErr result
         (λ fault. fault ≢ RowFault.OutOfMemory → table_of header.now bytes.now ≡ Err fault) }

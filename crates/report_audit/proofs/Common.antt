@@ -54,7 +54,7 @@ pub use Rattle.request_book.proofs.lemmas.StepTable.{by-table, would_seal-table}
 pub use Rattle.request_book.specs.Book.{BookView, IsApplied, IsBook, next_position, opening, would_seal}
 pub use Rattle.request_book.specs.Command.{IsNoClose}
 unfoldable pub use Rattle.request_book.specs.Replay.{RepliesAreSteps, state_after}
-unfoldable pub use Rattle.request_book.specs.Sealing.{sealed_state}
+unfoldable pub use Rattle.request_book.specs.lemmas.Named.{sealed_state}
 pub use Rattle.request_book.specs.Sealing.{batch_of}
 unfoldable pub use Rattle.request_book.specs.Step.{close, step}
 pub use Rattle.request_book.specs.Step.{answered, cancel, dropoff, pickup, report, rider_becomes, seal, submit, vehicle_becomes}

@@ -1,8 +1,9 @@
 -- Journals, entry by entry.
 use Rattle.std.proofs.Common.{◌≡◌, ℕ, ◌<◌, ◌^◌, List, [], ◌∷◌, ◌++◌, Option, Some, None, Result, Ok, Err, refl, sym, ap, ◌∙◌, subst, eq-eqb, arith}
-use Rattle.report_audit.proofs.Common.{Batch, IsGoodClose, ClosesAreGood, last_sealed, plain-quiet, one_more, next_position, would_seal, IsNoClose, state_after, RepliesAreSteps, batch_of, sealed_state, answered, cancel, close, dropoff, pickup, report, seal, step, submit, Command, Submit, Cancel, Report, Pickup, Dropoff, Seal, Close, Entry, Outcome, BookRefusal, Reply, Accepted, Cancelled, Closed, Dropped, Picked, Placed, Sealed, Waiting, State, answer, seal_refusal, seal_step, table_step, batch_unless, by-table, would_seal-table, Settings, Roads, snapshot_before, IsTold, AreTold}
+use Rattle.report_audit.proofs.Common.{Batch, IsGoodClose, ClosesAreGood, last_sealed, plain-quiet, one_more, next_position, would_seal, IsNoClose, state_after, RepliesAreSteps, batch_of, sealed_state, answered, cancel, close, dropoff, pickup, report, seal, step, submit, Command, Submit, Cancel, Report, Pickup, Dropoff, Seal, Close, Entry, Outcome, BookRefusal, Reply, Accepted, Cancelled, Closed, Dropped, Picked, Placed, Sealed, Waiting, State, answer, seal_refusal, seal_step, close_step, table_step, batch_unless, by-table, would_seal-table, Settings, Roads, snapshot_before, IsTold, AreTold}
 use Rattle.dispatch_engine.specs.lemmas.Lanes.{IsPlain}
-use Rattle.request_book.specs.Closing.{after_answer}
+use Rattle.request_book.specs.lemmas.Closing.{after_answer, closed_state}
+use Rattle.request_book.specs.lemmas.Refusals.{first_of}
 use Rattle.report_audit.proofs.TextLemmas.{next-none, next-more}
 
 -- replies
@@ -75,8 +76,8 @@ sealed-after nodes wait s (Close batch outcome) is = absurd is
 -- a batch that stands sealed is closed by its number
 pub close-is : (nodes : List ℕ) (wait : ℕ) (s : State) (b : Batch) (outcome : Outcome) → s.sealed ≡ Some b
     → step nodes wait s (Close b.number outcome) ≡ (record s { riders = after_answer b.riders outcome.answer s.riders; sealed = None }, Closed)
-unfolding step close
-close-is nodes wait s b outcome e = rw e (rw (eq-eqb b.number b.number refl) refl)
+unfolding table_step close_step closed_state first_of
+close-is nodes wait s b outcome e = by-table (λ p. p ≡ (record s { riders = after_answer b.riders outcome.answer s.riders; sealed = None }, Closed)) nodes wait s (Close b.number outcome) (rw (e, eq-eqb b.number b.number refl) refl)
 
 -- only a close is answered `closed`
 answered_is : (s : State) (own : Reply) (r : Result State BookRefusal) → (own ≡ Closed → ⊥) → (answered s own r).1 ≡ Closed → ⊥

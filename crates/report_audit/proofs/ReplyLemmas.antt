@@ -2,11 +2,11 @@
 use Rattle.std.proofs.Common.{ℕ, ◌+◌, ◌==◌, nat_le, nat_lt, Bool, true, false, cond, List, [], ◌∷◌, ◌++◌, length, Option, Some, None, sym, ap, subst}
 use Rattle.report_audit.proofs.Common.{Batch, Vehicle, one_more, BookView, IsApplied, sealed_state, rider_becomes, vehicle_becomes, step, Command, BookRefusal, UnknownNode, SamePlace, PoolFull, BookFull, TimeBack, NotPromised, VehicleFull, NotAboard, ClockBack, NotThisBatch, Reply, Accepted, Cancelled, Placed, Picked, Dropped, Sealed, Closed, Refused, Status, Waiting, Promised, Aboard, State, answer, picked_up, dropped_off, submit_step, cancel_step, report_step, pickup_step, dropoff_step, seal_step, close_step, table_step, by-table, has_node, TellsEnd}
 use Rattle.batch_snapshot.specs.Vehicle.{persons_aboard}
-use Rattle.request_book.specs.State.{find_rider, find_vehicle, pool_count}
+use Rattle.request_book.specs.State.{find_rider, find_vehicle}
+use Rattle.request_book.specs.lemmas.Named.{pool_count, stands_at}
 use Rattle.request_book.specs.declared.rider.BookRider.{BookRider}
 use Rattle.request_book.specs.declared.rider.Status.TheVariants.{Cancelled as GivenUp}
 use Rattle.request_book.specs.lemmas.Closing.{closed_state}
-use Rattle.request_book.specs.lemmas.Named.{stands_at}
 use Rattle.request_book.specs.lemmas.Refusals.{first_of, duplicate_rider, unknown_node, same_place, pool_full, book_full, unknown_rider, aboard_refusal, ended_refusal, is_aboard, has_ended, unknown_vehicle, time_back, promise_refusal, not_promised, vehicle_full, seat_refusal, not_aboard, batch_open, clock_back, not_this_batch}
 use Rattle.request_book.specs.declared.command.Command.TheVariants as command
 

@@ -14,10 +14,10 @@ lawful_short s is =
     record {
       wait = omega (arith, r.wait_most);
       delay = omega (arith, r.delay_most);
-      trip = omega (arith, r.trip_most);
+      trip = omega (arith, r.trip_range.1);
       penalty = omega (arith, r.penalty_most);
-      budget = omega (arith, r.budget_most);
-      pairs = omega (arith, r.pairs_most);
+      budget = omega (arith, r.budget_range.1);
+      pairs = omega (arith, r.pairs_range.1);
       proof = omega (arith, is.proof);
       dwell = omega (arith, r.dwell_most);
     }
@@ -31,15 +31,11 @@ told_lawful s =
           record {
             wait_most = r.wait_most;
             delay_most = r.delay_most;
-            trip_least = r.trip_least;
-            trip_most = r.trip_most;
+            trip_range = r.trip_range;
             penalty_most = r.penalty_most;
-            budget_least = r.budget_least;
-            budget_most = r.budget_most;
-            pairs_least = r.pairs_least;
-            pairs_most = r.pairs_most;
-            workers_least = omega arith;
-            workers_most = omega arith;
+            budget_range = r.budget_range;
+            pairs_range = r.pairs_range;
+            workers_range = (omega arith, omega arith);
             dwell_most = r.dwell_most;
           };
       proof = refl;

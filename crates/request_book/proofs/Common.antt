@@ -9,7 +9,8 @@ pub use Rattle.std.proofs.lemmas.List.Sums.{sum_by-cons, sum_by_push}
 pub use Rattle.std.specs.List.{cons_option, list_any}
 pub use Rattle.std.specs.List.Sorted.{IsBinarySearchResult, IsSearchInRange, IsStrictlyIncreasing}
 pub use Rattle.batch_snapshot.specs.Batch.{Batch}
-pub use Rattle.batch_snapshot.specs.Kept.{IsFleet, IsKept, IsOnce, riders_aboard}
+pub use Rattle.batch_snapshot.specs.Kept.{IsFleet, IsKept}
+pub use Rattle.batch_snapshot.specs.lemmas.Kept.{riders_aboard}
 pub use Rattle.batch_snapshot.specs.Vehicle.{HasSeats, persons_aboard}
 pub use Rattle.batch_snapshot.specs.declared.passenger.Passenger.{Passenger}
 pub use Rattle.batch_snapshot.specs.declared.rider.Rider.{Rider}
@@ -17,15 +18,19 @@ pub use Rattle.batch_snapshot.specs.declared.vehicle.Vehicle.{Vehicle}
 pub use Rattle.pool_base.specs.declared.memory.OutOfMemory.{OutOfMemory}
 pub use Rattle.pool_io.specs.Faults.{one_more}
 pub use Rattle.request_book.specs.Book.{BookView, IsBook, next_position, opening, would_seal}
-unfoldable pub use Rattle.request_book.specs.Closing.{after_answer, picks, trip_picks}
+unfoldable pub use Rattle.request_book.specs.Closing.{picks}
+unfoldable pub use Rattle.request_book.specs.lemmas.Closing.{trip_picks, after_answer, closed_state}
 pub use Rattle.request_book.specs.Closing.{Pick, after_plan}
 pub use Rattle.request_book.specs.Consistent.{AreConsistent, IsConsistent, IsNode, IsPassenger, NamesNodes, seat_in, status_in}
-unfoldable pub use Rattle.request_book.specs.Keyed.{AllAbove, KeysDiffer, KeysRise, by_key, changed_at, look_up, placed, without}
+unfoldable pub use Rattle.request_book.specs.Keyed.{AllAbove, KeysDiffer, KeysRise, by_key, changed_at, look_up, placed}
+unfoldable pub use Rattle.request_book.specs.lemmas.Keyed.{without}
 unfoldable pub use Rattle.request_book.specs.Replay.{RepliesAreSteps, state_after}
-pub use Rattle.request_book.specs.Rider.{is_active, passenger_of, pool_promise, shown, vehicle_of, with_status}
-unfoldable pub use Rattle.request_book.specs.Sealing.{batch_of, sealed_state}
+pub use Rattle.request_book.specs.Rider.{is_active, passenger_of, pool_promise, vehicle_of, with_status}
+pub use Rattle.request_book.specs.lemmas.Named.{shown, pool_count, asking, in_batch, lets_out, planned_status, stands_at, takes_in}
+unfoldable pub use Rattle.request_book.specs.Sealing.{batch_of}
+unfoldable pub use Rattle.request_book.specs.lemmas.Named.{sealed_state}
 pub use Rattle.request_book.specs.Sealing.{after_seal, is_over}
-pub use Rattle.request_book.specs.State.{find_passenger, find_rider, find_vehicle, pool_count}
+pub use Rattle.request_book.specs.State.{find_passenger, find_rider, find_vehicle}
 unfoldable pub use Rattle.request_book.specs.Step.{cancel, close, dropoff, pickup, report, seal, step, submit}
 pub use Rattle.request_book.specs.Step.{answered, rider_becomes, vehicle_becomes}
 pub use Rattle.request_book.specs.declared.command.Command.{Command}
@@ -44,8 +49,6 @@ pub use Rattle.request_book.specs.declared.rider.BookRider.{BookRider}
 pub use Rattle.request_book.specs.declared.rider.Status.{Status}
 pub use Rattle.request_book.specs.declared.rider.Status.TheVariants.{Aboard, Delivered, Expired, Promised, Waiting}
 pub use Rattle.request_book.specs.declared.state.State.{State}
-unfoldable pub use Rattle.request_book.specs.lemmas.Closing.{closed_state}
-pub use Rattle.request_book.specs.lemmas.Named.{asking, in_batch, lets_out, planned_status, stands_at, takes_in}
 unfoldable pub use Rattle.request_book.specs.lemmas.Refusals.{first_of}
 pub use Rattle.request_book.specs.lemmas.Refusals.{aboard_refusal, book_full, duplicate_rider, ended_refusal, has_ended, is_aboard, not_aboard, not_promised, not_this_batch, pool_full, promise_refusal, same_place, seat_refusal, time_back, unknown_node, unknown_rider, unknown_vehicle, vehicle_full}
 unfoldable pub use Rattle.request_book.specs.lemmas.Table.{cancel_step, close_step, dropoff_step, pickup_step, report_step, seal_step, submit_step, table_step}

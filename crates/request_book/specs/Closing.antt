@@ -1,11 +1,8 @@
-use Rattle.std.specs.Prelude.{ℕ, ◌&&◌, List, [], ◌∷◌, map, option_map, unwrap_or, is_some, if◌then◌else◌}
-use Rattle.std.specs.List.{flat_map}
+use Rattle.std.specs.Prelude.{ℕ, ◌&&◌, List, Some, None, option_map, unwrap_or, is_some, if◌then◌else◌}
+use Rattle.std.specs.List.{flat_map, filter_map}
 use Rattle.batch_snapshot.specs.declared.promise.Promise.{Promise}
 use Rattle.batch_snapshot.specs.declared.rider.Rider.{Rider}
-use Rattle.request_book.specs.declared.outcome.Answer.{Answer}
-use Rattle.request_book.specs.declared.outcome.Answer.TheVariants.{Overflow, Planned}
 use Rattle.request_book.specs.declared.outcome.ChosenTrip.{ChosenTrip}
-use Rattle.request_book.specs.declared.outcome.PlannedStop.{PlannedStop}
 use Rattle.request_book.specs.declared.rider.BookRider.{BookRider}
 use Rattle.request_book.specs.declared.rider.Status.TheVariants.{Waiting, Promised}
 use Rattle.request_book.specs.Keyed.{look_up}
@@ -16,15 +13,10 @@ pub record Pick : Type 0 where
   pub rider : ℕ
   pub promise : Promise
 
--- the pick stops of a vehicle's trip, in their order
-unfoldable pub trip_picks : ℕ → List PlannedStop → List Pick
-trip_picks vehicle [] = []
-trip_picks vehicle (stop ∷ stops) =
-    if stop.pick then (record { rider = stop.rider; promise = record { vehicle = vehicle; pickup = stop.second } }) ∷ trip_picks vehicle stops else trip_picks vehicle stops
-
 -- the pick stops of the chosen trips, in their order
 unfoldable pub picks : List ChosenTrip → List Pick
-picks chosen = flat_map (λ trip. trip_picks trip.vehicle trip.stops.items) chosen
+picks chosen = flat_map (λ trip. filter_map (λ stop.
+    if stop.pick then Some (record { rider = stop.rider; promise = record { vehicle = trip.vehicle; pickup = stop.second } }) else None) trip.stops.items) chosen
 
 -- the rider after a plan: who is in the snapshot and still in the pool is promised what the first of the rider's pick
 -- stops says, and without one waits
@@ -33,8 +25,3 @@ after_plan riders ps r =
     if is_active r.status && is_some (look_up (λ shown. shown.id) r.id riders)
     then with_status (unwrap_or (option_map (λ p. Promised p.promise) (look_up (λ p. p.rider) r.id ps)) Waiting) r
     else r
-
--- the riders after an answer for a batch of these riders
-unfoldable pub after_answer : List Rider → Answer → List BookRider → List BookRider
-after_answer batch Overflow riders = riders
-after_answer batch (Planned plan) riders = map (after_plan batch (picks plan.chosen)) riders

@@ -1,4 +1,4 @@
-use Rattle.std.specs.Prelude.{◌≡◌, ℕ, ◌≤◌, ◌==◌, true, List, length, Option, None, Some, option_and_then, if◌then◌else◌, is_some, option_map}
+use Rattle.std.specs.Prelude.{◌≡◌, ℕ, ◌≤◌, ◌==◌, true, List, length, Option, None, Some, option_and_then, if◌then◌else◌, is_some, option_map, count_by}
 use Rattle.std.specs.List.{All}
 use Rattle.batch_snapshot.specs.Batch.{Batch}
 use Rattle.batch_snapshot.specs.Points.{named_nodes}
@@ -9,8 +9,8 @@ use Rattle.request_book.specs.declared.rider.BookRider.{BookRider}
 use Rattle.request_book.specs.declared.rider.Status.{Status}
 use Rattle.request_book.specs.declared.state.State.{State}
 use Rattle.request_book.specs.Keyed.{KeysRise, KeysDiffer}
-use Rattle.request_book.specs.Rider.{vehicle_of, passenger_of}
-use Rattle.request_book.specs.State.{find_rider, find_vehicle, find_passenger, pool_count}
+use Rattle.request_book.specs.Rider.{vehicle_of, passenger_of, is_active}
+use Rattle.request_book.specs.State.{find_rider, find_vehicle, find_passenger}
 use Rattle.road_network.specs.Roads.{has_node}
 
 -- the rider as a passenger of this vehicle, if their status says so
@@ -21,7 +21,7 @@ seat_in vehicle r = option_and_then (λ v. if v == vehicle then Some (passenger_
 pub record AreConsistent (riders : List BookRider) (vehicles : List Vehicle) : Type 0 where
   pub vehicle_count : length vehicles ≤ 500
   pub rider_count : length riders ≤ 100000
-  pub pool : pool_count riders ≤ 1000
+  pub pool : count_by (λ r. is_active r.status) riders ≤ 1000
   -- each rider and each vehicle stands once; vehicles by rising id
   pub riders_differ : KeysDiffer (λ r. r.id) riders
   pub vehicles_rise : KeysRise (λ v. v.id) vehicles

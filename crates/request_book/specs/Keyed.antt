@@ -1,5 +1,5 @@
 -- Lists whose elements have a number as their key.
-use Rattle.std.specs.Prelude.{◌≡◌, ℕ, ◌==◌, ◌<◌, List, [], ◌∷◌, Option, None, find, map, filter, not, nat_lt, if◌then◌else◌}
+use Rattle.std.specs.Prelude.{◌≡◌, ℕ, ◌==◌, ◌<◌, List, [], ◌∷◌, Option, None, find, map, nat_lt, if◌then◌else◌}
 
 module _ {X : Type 0} (key : X → ℕ) where
   -- the first element of this key
@@ -9,10 +9,6 @@ module _ {X : Type 0} (key : X → ℕ) where
   -- the elements, with a change of those of this key
   unfoldable pub changed_at : ℕ → (X → X) → List X → List X
   changed_at k change xs = map (λ x. if key x == k then change x else x) xs
-
-  -- the elements of other keys
-  unfoldable pub without : ℕ → List X → List X
-  without k xs = filter (λ x. not (key x == k)) xs
 
   -- every key is above this one
   unfoldable pub AllAbove : ℕ → List X → Type 0

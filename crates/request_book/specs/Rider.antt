@@ -1,7 +1,6 @@
 use Rattle.std.specs.Prelude.{ℕ, Bool, Option, None, Some, is_some}
 use Rattle.batch_snapshot.specs.declared.passenger.Passenger.{Passenger}
 use Rattle.batch_snapshot.specs.declared.promise.Promise.{Promise}
-use Rattle.batch_snapshot.specs.declared.rider.Rider.{Rider}
 use Rattle.request_book.specs.declared.rider.Status.{Status}
 use Rattle.request_book.specs.declared.rider.Status.TheVariants.{Waiting, Promised, Aboard}
 use Rattle.request_book.specs.declared.rider.BookRider.{BookRider}
@@ -28,7 +27,3 @@ with_status status r = record r { status = status }
 -- the rider as a passenger
 abbrev pub passenger_of : BookRider → Passenger
 passenger_of r = record { rider = r.id; origin = r.origin; destination = r.destination; time = r.time; party = r.party }
-
--- the rider as the snapshot of a batch shows them
-abbrev pub shown : BookRider → Option Promise → Rider
-shown r promise = record { id = r.id; origin = r.origin; destination = r.destination; time = r.time; party = r.party; promise = promise }

@@ -6,7 +6,7 @@ use Rattle.request_book.specs.declared.rider.BookRider.{BookRider}
 use Rattle.request_book.specs.declared.rider.Status.TheVariants.{Expired}
 use Rattle.request_book.specs.declared.state.State.{State}
 use Rattle.request_book.specs.Keyed.{by_key}
-use Rattle.request_book.specs.Rider.{is_active, pool_promise, shown, with_status}
+use Rattle.request_book.specs.Rider.{is_active, pool_promise, with_status}
 
 -- the rider is in the pool, and their wait is over
 abbrev pub is_over : ℕ → ℕ → BookRider → Bool
@@ -23,12 +23,9 @@ batch_of wait s now = record {
   number = one_more s.batches;
   sealed_at = now;
   vehicles = s.vehicles;
-  riders = by_key (λ r. r.id)
-      (filter_map (λ r. if nat_le r.time now then option_map (shown r) (pool_promise r.status) else None) (map (after_seal wait now) s.riders));
+  riders = by_key (λ r. r.id) (filter_map (λ r.
+      if nat_le r.time now
+      then option_map (λ promise. record { id = r.id; origin = r.origin; destination = r.destination; time = r.time; party = r.party; promise = promise }) (pool_promise r.status)
+      else None) (map (after_seal wait now) s.riders));
   expired = by_key (λ id. id) (filter_map (λ r. if is_over wait now r then Some r.id else None) s.riders);
 }
-
--- the state after a seal
-unfoldable pub sealed_state : ℕ → State → ℕ → State
-sealed_state wait s now =
-    record { riders = map (after_seal wait now) s.riders; vehicles = s.vehicles; last_seal = Some now; sealed = Some (batch_of wait s now); batches = one_more s.batches }

@@ -1,9 +1,8 @@
-use Rattle.std.specs.Prelude.{ℕ, List, Option, count_by}
+use Rattle.std.specs.Prelude.{ℕ, List, Option}
 use Rattle.batch_snapshot.specs.declared.passenger.Passenger.{Passenger}
 use Rattle.batch_snapshot.specs.declared.vehicle.Vehicle.{Vehicle}
 use Rattle.request_book.specs.declared.rider.BookRider.{BookRider}
 use Rattle.request_book.specs.Keyed.{look_up}
-use Rattle.request_book.specs.Rider.{is_active}
 
 -- the rider of this id
 abbrev pub find_rider : ℕ → List BookRider → Option BookRider
@@ -16,7 +15,3 @@ find_vehicle = look_up (λ v. v.id)
 -- the passenger of this id
 abbrev pub find_passenger : ℕ → List Passenger → Option Passenger
 find_passenger = look_up (λ p. p.rider)
-
--- how many riders wait or have a promise
-abbrev pub pool_count : List BookRider → ℕ
-pool_count riders = count_by (λ r. is_active r.status) riders

@@ -1,11 +1,12 @@
 -- The step table: how the book answers each command, and what changes. Refusals are tried in the order
 -- in which they stand; the first that holds is the reply, and nothing changes.
-use Rattle.std.specs.Prelude.{ℕ, false, ◌==◌, ◌+◌, ◌&&◌, not, List, [], ◌∷◌, ◌++◌, length, None, Some, is_some, nat_le, nat_lt, Result, Ok, Err}
+use Rattle.std.specs.Prelude.{ℕ, ◌==◌, ◌+◌, ◌&&◌, not, List, [], ◌∷◌, ◌++◌, length, map, filter, count_by, None, Some, is_some, nat_le, nat_lt, Result, Ok, Err}
 use Rattle.std.specs.Option.{ok_or, option_map_or}
 use Rattle.batch_snapshot.specs.Vehicle.{persons_aboard}
 use Rattle.batch_snapshot.specs.declared.vehicle.Vehicle.{Vehicle}
 use Rattle.pool_base.specs.InOrder.{◌>>=◌, refused_where}
 use Rattle.request_book.specs.declared.outcome.Answer.{Answer}
+use Rattle.request_book.specs.declared.outcome.Answer.TheVariants.{Overflow, Planned}
 use Rattle.request_book.specs.declared.command.Command.{Command}
 use Rattle.request_book.specs.declared.command.Command.TheVariants as command
 use Rattle.request_book.specs.declared.reply.BookRefusal.{BookRefusal}
@@ -16,11 +17,11 @@ use Rattle.request_book.specs.declared.rider.BookRider.{BookRider}
 use Rattle.request_book.specs.declared.rider.Status.{Status}
 use Rattle.request_book.specs.declared.rider.Status.TheVariants.{Waiting, Promised, Aboard, Delivered, Cancelled as GivenUp}
 use Rattle.request_book.specs.declared.state.State.{State}
-use Rattle.request_book.specs.Keyed.{changed_at, without}
-use Rattle.request_book.specs.Rider.{with_status, passenger_of, vehicle_of}
-use Rattle.request_book.specs.State.{find_rider, find_vehicle, pool_count}
-use Rattle.request_book.specs.Sealing.{sealed_state}
-use Rattle.request_book.specs.Closing.{after_answer}
+use Rattle.request_book.specs.Keyed.{changed_at}
+use Rattle.request_book.specs.Rider.{with_status, passenger_of, is_active}
+use Rattle.request_book.specs.State.{find_rider, find_vehicle}
+use Rattle.request_book.specs.Sealing.{after_seal, batch_of}
+use Rattle.request_book.specs.Closing.{after_plan, picks}
 use Rattle.pool_io.specs.Faults.{one_more}
 use Rattle.road_network.specs.Roads.{has_node}
 
@@ -45,7 +46,7 @@ submit nodes s r = do
   _ ← refused_where (is_some (find_rider r.id s.riders)) DuplicateRider
   _ ← refused_where (not (has_node nodes r.origin && has_node nodes r.destination)) UnknownNode
   _ ← refused_where (r.origin == r.destination) SamePlace
-  _ ← refused_where (nat_le 1000 (pool_count s.riders)) PoolFull
+  _ ← refused_where (nat_le 1000 (count_by (λ q. is_active q.status) s.riders)) PoolFull
   _ ← refused_where (nat_le 100000 (length s.riders)) BookFull
   Ok (record s { riders = s.riders ++ r ∷ [] })
 
@@ -82,24 +83,24 @@ unfoldable pub dropoff : State → ℕ → ℕ → ℕ → Result State BookRefu
 dropoff s vehicle rider time = do
   v ← ok_or (find_vehicle vehicle s.vehicles) UnknownVehicle
   r ← ok_or (find_rider rider s.riders) UnknownRider
-  _ ← refused_where (not (option_map_or (λ holder. holder == vehicle) (vehicle_of r.status) false)) NotAboard
+  _ ← elim r.status [ Aboard holder ↦ refused_where (not (holder == vehicle)) NotAboard | _ ↦ Err NotAboard ]
   _ ← refused_where (nat_lt time v.time) (TimeBack v.time)
   Ok (vehicle_becomes (rider_becomes s r.id Delivered) vehicle
-      (λ w. record w { node = r.destination; time = time; aboard = record { items = without (λ p. p.rider) r.id w.aboard.items } }))
+      (λ w. record w { node = r.destination; time = time; aboard = record { items = filter (λ p. not (p.rider == r.id)) w.aboard.items } }))
 
 -- a batch is sealed: none may be open, and the second isn't below that of the last seal
 unfoldable pub seal : ℕ → State → ℕ → Result State BookRefusal
 seal wait s now = do
   _ ← option_map_or (λ b. Err (BatchOpen b.number)) s.sealed (Ok (tt {0}))
   _ ← option_map_or (λ last. refused_where (nat_lt now last) (ClockBack last)) s.last_seal (Ok (tt {0}))
-  Ok (sealed_state wait s now)
+  Ok (record s { riders = map (after_seal wait now) s.riders; last_seal = Some now; sealed = Some (batch_of wait s now); batches = one_more s.batches })
 
--- the sealed batch, if it has this number, is closed
+-- the sealed batch, if it has this number, is closed; an overflow changes no rider
 unfoldable pub close : State → ℕ → Answer → Result State BookRefusal
 close s batch answer = do
   b ← ok_or s.sealed (NotThisBatch None)
   _ ← refused_where (not (b.number == batch)) (NotThisBatch (Some b.number))
-  Ok (record s { riders = after_answer b.riders answer s.riders; sealed = None })
+  Ok (record s { riders = elim answer [ Overflow ↦ s.riders | Planned plan ↦ map (after_plan b.riders (picks plan.chosen)) s.riders ]; sealed = None })
 
 -- a refusal changes nothing; without one these are the new state and the reply
 abbrev pub answered : State → Reply → Result State BookRefusal → State × Reply

@@ -1,4 +1,5 @@
 pub mod Closing
+pub mod Keyed
 pub mod Named
 pub mod Refusals
 pub mod Table

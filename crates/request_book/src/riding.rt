@@ -4,13 +4,14 @@ ghost use Rattle.std.specs.Prelude.{◌≡◌, ◌==◌, ◌+◌, ◌<◌, ◌�
 ghost use Rattle.std.specs.List.{list_any};
 ghost use Rattle.indexmap.specs.IndexSet.{spare};
 ghost use Rattle.batch_snapshot.specs.Vehicle.{HasSeats};
-ghost use Rattle.request_book.specs.Keyed.{look_up, changed_at, without, placed, KeysRise, KeysDiffer};
+ghost use Rattle.request_book.specs.Keyed.{look_up, changed_at, placed, KeysRise, KeysDiffer};
+ghost use Rattle.request_book.specs.lemmas.Keyed.{without};
 ghost use Rattle.request_book.specs.work.Register.{state_of, IsIndexed, HasRoom};
 ghost use Rattle.request_book.specs.Rider.{is_active};
-ghost use Rattle.request_book.specs.State.{find_rider, find_passenger, pool_count};
+ghost use Rattle.request_book.specs.State.{find_rider, find_passenger};
+ghost use Rattle.request_book.specs.lemmas.Named.{pool_count, stands_at, takes_in, lets_out};
 ghost use Rattle.request_book.specs.Consistent.{IsConsistent};
 ghost use Rattle.request_book.specs.Step.{rider_becomes};
-ghost use Rattle.request_book.specs.lemmas.Named.{stands_at, takes_in, lets_out};
 ghost use Rattle.request_book.specs.lemmas.Table.{submit_refusal, submit_step, cancel_step, report_step, pickup_step, dropoff_step};
 
 use crate::refusals::{

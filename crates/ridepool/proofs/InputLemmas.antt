@@ -16,7 +16,7 @@ unfolding vehicles_in
 vehicles_made nodes text fleet is = ap (λ r. in_rows r (λ t. vehicles_of nodes t.records)) is.rows ∙ ap (λ r. own_fault r) is.is.read
 
 fleet_made : (nodes text : List ℕ) (fleet : List Vehicle) → IsFleetText nodes text fleet → IsFleetIn nodes text fleet
-fleet_made nodes text fleet is = record { vehicles = is.is.vehicles; read = vehicles_made nodes text fleet is; sorted = is.is.sorted }
+fleet_made nodes text fleet is = record { vehicles = is.is.vehicles; read = vehicles_made nodes text fleet is; rising = is.is.rising; members = is.is.members }
 
 script_made : (text : List ℕ) (rounds : List NumberedLanes) → IsScriptText text rounds → script_in text ≡ Ok rounds
 unfolding script_in

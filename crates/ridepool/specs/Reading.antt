@@ -1,7 +1,8 @@
 -- What the bytes of the inputs give: a value, or the first refusal.
-use Rattle.std.specs.Prelude.{◌≡◌, ℕ, List, Result, Ok, Err}
+use Rattle.std.specs.Prelude.{◌≡◌, ◌↔◌, ℕ, List, Result, Ok, Err, map, Contains}
+use Rattle.std.specs.List.Sorted.{IsStrictlyIncreasing}
 use Rattle.batch_snapshot.specs.declared.vehicle.Vehicle.{Vehicle}
-use Rattle.fleet_state.specs.Fleet.{vehicles_of, IsByRisingId}
+use Rattle.fleet_state.specs.Fleet.{vehicles_of}
 use Rattle.fleet_state.specs.declared.fault.FleetFault.{FleetFault}
 use Rattle.pool_base.specs.Header.{network_header, fleet_header, script_header, party_header}
 use Rattle.pool_io.specs.Table.{Table, table_of}
@@ -39,7 +40,8 @@ vehicles_in nodes bytes = in_rows (table_of fleet_header bytes) (λ t. vehicles_
 pub record IsFleetIn (nodes bytes : List ℕ) (fleet : List Vehicle) : Type 0 where
   pub vehicles : List Vehicle
   pub read : vehicles_in nodes bytes ≡ Ok vehicles
-  pub sorted : IsByRisingId vehicles fleet
+  pub rising : IsStrictlyIncreasing (map (λ v. v.id) fleet)
+  pub members : (v : Vehicle) → Contains fleet v ↔ Contains vehicles v
 
 -- the rounds, by what the first header gave
 abbrev pub first_version : List ℕ → Result Table RowFault → Result (List NumberedLanes) (Input ScriptFault)

@@ -5,7 +5,6 @@ use Rattle.rider_limits.specs.declared.subcommand.Subcommand.{Subcommand}
 use Rattle.rider_limits.specs.declared.subcommand.Subcommand.TheVariants.{Run, Load, Drive, Audit}
 use Rattle.rider_limits.specs.declared.key.Key.{Key}
 use Rattle.rider_limits.specs.declared.key.Key.TheVariants.{Wait, Delay, Trip, Penalty, Budget, Pairs, Workers, Proof, Dwell, Times, Seed, Side, Vehicles, Riders, Rounds}
-use Rattle.rider_limits.specs.declared.load_shape.LoadShape.{LoadShape}
 use Rattle.rider_limits.specs.declared.settings.Mode.{Mode}
 use Rattle.rider_limits.specs.declared.settings.Mode.TheVariants.{Run as Running, Load as Loading, Drive as Driving, Audit as Auditing}
 use Rattle.rider_limits.specs.declared.settings.Settings.{Settings}
@@ -17,20 +16,14 @@ use Rattle.rider_limits.specs.Words.{text_given}
 abbrev pub number_given : Key → List (List ℕ) → ℕ
 number_given key words = option_map_or value_of (text_given (about key).name words) (about key).default_number
 
--- the shape is the one that the words give
-pub record IsShapeGiven (words : List (List ℕ)) (shape : LoadShape) : Type 0 where
-  pub seed : shape.seed ≡ number_given Seed words
-  pub side : shape.side ≡ number_given Side words
-  pub vehicles : shape.vehicles ≡ number_given Vehicles words
-  pub riders : shape.riders ≡ number_given Riders words
-  pub rounds : shape.rounds ≡ number_given Rounds words
-
 -- the mode is the command's, with the shape that the words give
 abbrev pub IsModeGiven : Option Subcommand → List (List ℕ) → Mode → Type 0
 IsModeGiven (Some Run) words Running = Unit {0}
 IsModeGiven (Some Drive) words Driving = Unit {0}
 IsModeGiven (Some Audit) words Auditing = Unit {0}
-IsModeGiven (Some Load) words (Loading shape) = IsShapeGiven words shape
+IsModeGiven (Some Load) words (Loading shape) =
+    (shape.seed ≡ number_given Seed words) × (shape.side ≡ number_given Side words) × (shape.vehicles ≡ number_given Vehicles words)
+    × (shape.riders ≡ number_given Riders words) × (shape.rounds ≡ number_given Rounds words)
 IsModeGiven _ words _ = ⊥
 
 -- the settings are those that a command and the words behind it give

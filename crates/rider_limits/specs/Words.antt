@@ -1,16 +1,14 @@
-use Rattle.std.specs.Prelude.{ℕ, ◌+◌, Bool, List, [], ◌∷◌, ◌++◌, Option, Some, None, is_some, is_none, nat_eq, nat_lt, length, take, drop, slice_index_or, if◌then◌else◌, ◌==◌}
+use Rattle.std.specs.Prelude.{ℕ, ◌+◌, ◌&&◌, List, [], ◌∷◌, ◌++◌, Option, Some, None, is_some, is_none, nat_eq, nat_lt, length, take, drop, slice_index_or, if◌then◌else◌, ◌==◌}
 use Rattle.std.specs.List.{find, starts_with, position_or_len, before_first, after_first}
-use Rattle.std.specs.Option.{option_map, option_or}
+use Rattle.std.specs.Option.{option_map, option_map_or, option_or}
 use Rattle.pool_base.specs.InOrder.{first_fault}
 use Rattle.pool_base.specs.Which as file
-use Rattle.pool_base.specs.declared.which.Which.{Which}
 use Rattle.pool_base.specs.declared.which.Which.TheVariants.{Network, Fleet, Script, Report}
 use Rattle.rider_limits.specs.declared.subcommand.Subcommand.{Subcommand}
-use Rattle.rider_limits.specs.declared.subcommand.Subcommand.TheVariants.{Load, Audit}
 use Rattle.rider_limits.specs.declared.key.Key.{Key}
 use Rattle.rider_limits.specs.declared.word_fault.WordFault.{WordFault}
 use Rattle.rider_limits.specs.declared.word_fault.WordFault.TheVariants.{NoCommand, UnknownKey, Repeated, BadValue, MissingFile}
-use Rattle.rider_limits.specs.Key.{command_of, key_of, about, accepts}
+use Rattle.rider_limits.specs.Key.{command_of, key_of, reads, about, accepts}
 
 -- what stands behind a key and `=`, where a word begins with them
 unfoldable pub after_key : List ℕ → List ℕ → Option (List ℕ)
@@ -36,26 +34,13 @@ option_fault earlier word (Some (key, text)) =
     if is_some (text_given (about key).name earlier) then Some (Repeated word)
     else (if accepts (about key).takes text then None else Some (BadValue word))
 
--- no word names a file
-abbrev pub is_missing : List (List ℕ) → Which → Bool
-is_missing words which = is_none (text_given (file.file_name which) words)
-
--- the first file that a command needs and these words don't name
-abbrev pub missing_file : Subcommand → List (List ℕ) → Option Which
-missing_file Load words = None
-missing_file Audit words = find (is_missing words) (Network ∷ Fleet ∷ Script ∷ Report ∷ [])
-missing_file _ words = find (is_missing words) (Network ∷ Fleet ∷ Script ∷ [])
-
--- why the words behind a command are refused, if they are: the first fault of a word, or else a file that is missing;
--- the command is word 1
-abbrev pub fault_behind : Option Subcommand → List (List ℕ) → Option WordFault
-fault_behind None words = Some NoCommand
-fault_behind (Some command) words =
-    option_or
-    (first_fault (λ place. option_fault (take place words) (place + 2) (option_of command (slice_index_or words place []))) (length words))
-    (option_map (λ which. MissingFile which) (missing_file command words))
-
--- why words are refused, if they are: the first word is the command, and words count from 1
+-- why words are refused, if they are: the first word is no command, or else by the first fault of a word behind it, or
+-- else by the first file that the command reads and no word names; words count from 1
 abbrev pub fault_of : List (List ℕ) → Option WordFault
 fault_of [] = Some NoCommand
-fault_of (word ∷ words) = fault_behind (command_of word) words
+fault_of (word ∷ words) = option_map_or
+    (λ command. option_or
+    (first_fault (λ place. option_fault (take place words) (place + 2) (option_of command (slice_index_or words place []))) (length words))
+    (option_map (λ which. MissingFile which)
+    (find (λ which. reads command which && is_none (text_given (file.file_name which) words)) (Network ∷ Fleet ∷ Script ∷ Report ∷ []))))
+    (command_of word) (Some NoCommand)

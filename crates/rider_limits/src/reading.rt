@@ -4,7 +4,7 @@ ghost use Rattle.rider_limits.specs.Key.{about};
 ghost use Rattle.rider_limits.specs.work.Taken.{IsNumber, IsAccepted};
 ghost use Rattle.rider_limits.specs.Words.{text_given, fault_of};
 ghost use Rattle.rider_limits.specs.work.Named.{words_fault};
-ghost use Rattle.rider_limits.specs.Settings.{number_given, IsShapeGiven, AreGivenBehind, AreGiven};
+ghost use Rattle.rider_limits.specs.Settings.{number_given, IsModeGiven, AreGivenBehind, AreGiven};
 ghost use Rattle.rider_limits.specs.declared.subcommand.Subcommand.TheVariants.{Load};
 ghost use Rattle.rider_limits.specs.declared.key.Key.TheVariants.{Times};
 ghost use Rattle.rider_limits.specs.declared.settings.TimesWay.TheVariants.{Labels};
@@ -33,7 +33,7 @@ fn number(command: Subcommand, options: &[String], key: Key) -> u64
 /// The shape that words without a fault give.
 fn shape(options: &[String]) -> LoadShape
     requires { words_fault Subcommand.Load (map string_bytes options.now) ≡ None }
-    ensures { IsShapeGiven (map string_bytes options.now) result }
+    ensures { IsModeGiven (Some Load) (map string_bytes options.now) (Mode.Load result) }
 {
     LoadShape {
         seed: number(Subcommand::Load, options, Key::Seed),

@@ -2,8 +2,8 @@ ghost use Rattle.std.specs.Prelude.{◌≡◌, None, Some, map, MatchOption};
 ghost use Rattle.std.specs.List.{find};
 ghost use Rattle.std.specs.String.{string_bytes};
 ghost use Rattle.std.specs.Option.{option_copied};
-ghost use Rattle.rider_limits.specs.Words.{after_key, text_given, option_of, option_fault, is_missing, missing_file};
-ghost use Rattle.rider_limits.specs.work.Named.{words_fault};
+ghost use Rattle.rider_limits.specs.Words.{after_key, text_given, option_of, option_fault};
+ghost use Rattle.rider_limits.specs.work.Named.{is_missing, missing_file, words_fault};
 
 use crate::key::Key;
 use crate::subcommand::Subcommand;

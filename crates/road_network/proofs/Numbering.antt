@@ -1,68 +1,40 @@
 -- Nodes that are numbered keep their indexes.
-use Rattle.std.proofs.Common.{◌≡◌, ℕ, suc, ◌+◌, ◌<◌, ◌==◌, true, false, Bool, List, [], ◌∷◌, ◌++◌, length, map, refl, sym, ap, ◌∙◌, inl, inr, arith, length-append, All}
-use Rattle.road_network.proofs.Common.{cases_Bool, false≢true, nat_tests, All-head, All-tail, list_any, position_or_len, Arc, index_in, arc_in, number_at, with_row, with_node}
+use Rattle.std.proofs.Common.{◌≡◌, ℕ, ◌+◌, ◌<◌, ◌==◌, true, false, Bool, List, [], ◌∷◌, ◌++◌, length, map, refl, ap, ◌∙◌, arith, length-append, All}
+use Rattle.road_network.proofs.Common.{false≢true, nat_tests, All-head, All-tail, list_any, position_or_len, Arc, index_in, arc_in, number_at, with_row, with_node}
 
 pub any_found : {A : Type 0} (p : A → Bool) (xs : List A) → list_any p xs ≡ true → position_or_len p xs < length xs
 any_found p [] e = absurd (false≢true e)
-any_found p (x ∷ xs) e =
-    elim (cases_Bool (p x)) [
-      | inl passes ↦ rw passes (omega arith)
-      | inr fails ↦ let rest = any_found p xs (rw fails at e) in rw fails (omega (arith, rest))
-    ]
+any_found p (x ∷ xs) e = grind (arith, any_found p xs)
 
 none_found : {A : Type 0} (p : A → Bool) (xs : List A) → list_any p xs ≡ false → position_or_len p xs ≡ length xs
 none_found p [] e = refl
-none_found p (x ∷ xs) e =
-    elim (cases_Bool (p x)) [
-      | inl passes ↦ absurd (false≢true (sym (rw passes at e)))
-      | inr fails ↦ let rest = none_found p xs (rw fails at e) in rw fails (omega (arith, rest))
-    ]
+none_found p (x ∷ xs) e = grind (arith, none_found p xs)
 
 position-append : {A : Type 0} (p : A → Bool) (xs ys : List A) → position_or_len p xs < length xs → position_or_len p (xs ++ ys) ≡ position_or_len p xs
 position-append p [] ys found = absurd (omega (arith, found))
-position-append p (x ∷ xs) ys found =
-    elim (cases_Bool (p x)) [
-      | inl passes ↦ rw passes refl
-      | inr fails ↦
-          let rest : 1 + position_or_len p xs < suc (length xs) = rw fails at found in
-          let same = position-append p xs ys (omega (arith, rest)) in
-          rw fails (omega (arith, same))
-    ]
+position-append p (x ∷ xs) ys found = grind (arith, position-append p xs ys)
 
 -- a node is among those that are numbered
 abbrev pub IsNumbered : List ℕ → ℕ → Type 0
 IsNumbered nodes name = index_in nodes name < length nodes
 
 last_found : (nodes : List ℕ) (name : ℕ) → list_any (λ node. name == node) nodes ≡ false → index_in (nodes ++ name ∷ []) name ≡ length nodes
-last_found [] name none =
-    let test : (name == name) ≡ true = grind (arith, nat_tests) in
-    rw test refl
-last_found (n ∷ nodes) name none =
-    elim (cases_Bool (name == n)) [
-      | inl same ↦ absurd (false≢true (sym (rw same at none)))
-      | inr other ↦ let rest = last_found nodes name (rw other at none) in rw other (omega (arith, rest))
-    ]
+last_found [] name none = grind (arith, nat_tests)
+last_found (n ∷ nodes) name none = grind (arith, nat_tests, last_found nodes name)
 
 -- a name that is added is numbered, by the index that it had or gets
 pub with_node-numbers : (nodes : List ℕ) (name : ℕ) → (index_in (with_node nodes name) name ≡ index_in nodes name) × IsNumbered (with_node nodes name) name
 with_node-numbers nodes name =
-    elim (cases_Bool (list_any (λ node. name == node) nodes)) [
-      | inl known ↦ rw known (refl, any_found (λ node. name == node) nodes known)
-      | inr new ↦
-          let last = last_found nodes name new in
-          let none = none_found (λ node. name == node) nodes new in
-          rw new (last ∙ sym none, rw (last, length-append) (omega arith))
-    ]
+    let last = last_found nodes name in
+    let none = none_found (λ node. name == node) nodes in
+    let some = any_found (λ node. name == node) nodes in
+    (grind (arith, last, none), grind (arith, last, some, length-append nodes (name ∷ [])))
 
 -- and every other name keeps its index
 pub with_node-keeps : (nodes : List ℕ) (name other : ℕ) → IsNumbered nodes other → (index_in (with_node nodes name) other ≡ index_in nodes other) × IsNumbered (with_node nodes name) other
 with_node-keeps nodes name other numbered =
-    elim (cases_Bool (list_any (λ node. name == node) nodes)) [
-      | inl known ↦ rw known (refl, numbered)
-      | inr new ↦
-          let same = position-append (λ node. other == node) nodes (name ∷ []) numbered in
-          rw new (same, rw (same, length-append) (omega (arith, numbered)))
-    ]
+    let same = position-append (λ node. other == node) nodes (name ∷ []) numbered in
+    (grind (arith, same), grind (arith, same, length-append nodes (name ∷ [])))
 
 -- both nodes of a row are numbered
 abbrev pub IsRowNumbered : List ℕ → List (List ℕ) → Type 0

@@ -7,11 +7,17 @@ use Rattle.pool_base.proofs.lemmas.InOrderLemmas.{first_fault-none, first_fault-
 use Rattle.road_network.specs.declared.fault.NetworkFault.{NetworkFault}
 use Rattle.road_network.proofs.RowSteps.{nodes_of-more}
 
+-- a row is refused by its fields, or since it brings too many nodes
+pub refusal_at-parts : (rows : List (List (List ℕ))) (row : ℕ) → refusal_at rows row ≡ option_or (field_refusal (row + 1) (get_or rows row [])) (cond (nat_lt most_nodes (length (nodes_of (take (row + 1) rows)))) (Some (TooManyNodes (row + 1))) None)
+unfolding refusal_at field_refusal
+refusal_at-parts rows row = grind arith
+
 -- a row whose fields are accepted is refused where it brings too many nodes
 refusal_at-accepted : (rows : List (List (List ℕ))) (row : ℕ) (nodes : List ℕ) → row < length rows → nodes ≡ nodes_of (take row rows) → field_refusal (row + 1) (get_or rows row []) ≡ None
     → refusal_at rows row ≡ cond (nat_lt most_nodes (length (with_row nodes (get_or rows row [])))) (Some (TooManyNodes (row + 1))) None
 refusal_at-accepted rows row nodes within so_far accepted =
-    ap (λ o. option_or o (cond (nat_lt most_nodes (length (nodes_of (take (row + 1) rows)))) (Some (TooManyNodes (row + 1))) None)) accepted
+    refusal_at-parts rows row
+    ∙ ap (λ o. option_or o (cond (nat_lt most_nodes (length (nodes_of (take (row + 1) rows)))) (Some (TooManyNodes (row + 1))) None)) accepted
     ∙ ap (λ (ns : List ℕ). cond (nat_lt most_nodes (length ns)) (Some (TooManyNodes (row + 1))) None) (sym (nodes_of-more rows row nodes within so_far))
 
 -- a row that is accepted
@@ -26,7 +32,7 @@ pub first_refusal-field : (rows : List (List (List ℕ))) (row : ℕ) (fault : N
     → first_fault (refusal_at rows) row ≡ None → first_refusal rows ≡ Some fault
 first_refusal-field rows row fault within refused before =
     first_fault-some (refusal_at rows) (length rows) row fault within before
-    (ap (λ o. option_or o (cond (nat_lt most_nodes (length (nodes_of (take (row + 1) rows)))) (Some (TooManyNodes (row + 1))) None)) refused)
+    (refusal_at-parts rows row ∙ ap (λ o. option_or o (cond (nat_lt most_nodes (length (nodes_of (take (row + 1) rows)))) (Some (TooManyNodes (row + 1))) None)) refused)
 
 -- a row that brings too many nodes
 pub first_refusal-nodes : (rows : List (List (List ℕ))) (row : ℕ) (nodes : List ℕ) → row < length rows → nodes ≡ nodes_of (take row rows) → field_refusal (row + 1) (get_or rows row []) ≡ None → most_nodes < length (with_row nodes (get_or rows row []))

@@ -1,12 +1,12 @@
-use Rattle.std.specs.Prelude.{ℕ, ◌+◌, ◌-◌, ◌^◌, List, [], ◌∷◌, Option, Some, None, is_none, Result, Ok, Err, length, map, take, slice_index_or, unwrap_or, nat_lt, if◌then◌else◌}
-use Rattle.std.specs.List.{flat_map}
-use Rattle.std.specs.Option.{option_map_or, option_or}
+use Rattle.std.specs.Prelude.{ℕ, ◌+◌, ◌-◌, ◌^◌, ◌==◌, List, [], ◌∷◌, Option, Some, None, is_none, Result, Ok, Err, length, map, filter, take, slice_index_or, unwrap_or, nat_lt, if◌then◌else◌}
+use Rattle.std.specs.List.{flat_map, range_with_len}
+use Rattle.std.specs.Option.{option_map_or}
 use Rattle.pool_base.specs.Distinct.{distinct}
 use Rattle.pool_base.specs.InOrder.{first_fault}
 use Rattle.pool_base.specs.Numeral.{number_up_to, number_at}
 use Rattle.pool_io.specs.Table.{field_at}
 use Rattle.road_network.specs.Walk.{Arc}
-use Rattle.road_network.specs.Roads.{Roads, index_in, by_start}
+use Rattle.road_network.specs.Roads.{Roads, index_in}
 use Rattle.road_network.specs.declared.fault.NetworkFault.{NetworkFault}
 use Rattle.road_network.specs.declared.fault.NetworkFault.TheVariants.{TooManyArcs, Number, ArcTooLong, TooManyNodes}
 
@@ -18,30 +18,24 @@ arc_seconds fields = unwrap_or (number_up_to (2 ^ 64 - 1) (field_at fields 2)) 0
 abbrev pub nodes_of : List (List (List ℕ)) → List ℕ
 nodes_of rows = distinct (flat_map (λ fields. number_at fields 0 ∷ number_at fields 1 ∷ []) rows)
 
--- a row's arc between the indexes of its nodes
-abbrev pub arc_in : List ℕ → List (List ℕ) → Arc
-arc_in nodes fields =
-    record { from = index_in nodes (number_at fields 0); to = index_in nodes (number_at fields 1); seconds = arc_seconds fields }
-
--- why the fields of a row are refused, if they are: a node's name is at most 1,000,000,000, and an arc takes at
--- most 10,000 seconds; rows and columns count from 1
-unfoldable pub field_refusal : ℕ → List (List ℕ) → Option NetworkFault
-field_refusal row fields =
-    if is_none (number_up_to 1000000000 (field_at fields 0)) then Some (Number row 1)
-    else if is_none (number_up_to 1000000000 (field_at fields 1)) then Some (Number row 2)
-    else if is_none (number_up_to (2 ^ 64 - 1) (field_at fields 2)) then Some (Number row 3)
-    else if nat_lt 10000 (arc_seconds fields) then Some (ArcTooLong row)
+-- why the row at a place is refused, if it is: a node's name is at most 1,000,000,000, an arc takes at most 10,000
+-- seconds, and the nodes up to here are at most 100,000; rows and columns count from 1
+unfoldable pub refusal_at : List (List (List ℕ)) → ℕ → Option NetworkFault
+refusal_at rows place =
+    let fields = slice_index_or rows place [] in
+    if is_none (number_up_to 1000000000 (field_at fields 0)) then Some (Number (place + 1) 1)
+    else if is_none (number_up_to 1000000000 (field_at fields 1)) then Some (Number (place + 1) 2)
+    else if is_none (number_up_to (2 ^ 64 - 1) (field_at fields 2)) then Some (Number (place + 1) 3)
+    else if nat_lt 10000 (arc_seconds fields) then Some (ArcTooLong (place + 1))
+    else if nat_lt 100000 (length (nodes_of (take (place + 1) rows))) then Some (TooManyNodes (place + 1))
     else None
 
--- why the row at a place is refused, if it is: by its fields, or since it brings the nodes above 100,000
-abbrev pub refusal_at : List (List (List ℕ)) → ℕ → Option NetworkFault
-refusal_at rows place =
-    option_or (field_refusal (place + 1) (slice_index_or rows place []))
-    (if nat_lt 100000 (length (nodes_of (take (place + 1) rows))) then Some (TooManyNodes (place + 1)) else None)
-
--- the network that rows give, or why they are refused: there are more than 400,000 of them, or the first refusal of one
+-- the network that rows give, or why they are refused: there are more than 400,000 of them, or the first refusal of one;
+-- a row is an arc between the indexes of its nodes, and the arcs stand by their starting node
 unfoldable pub network_of : List (List (List ℕ)) → Result Roads NetworkFault
 network_of rows =
+    let nodes = nodes_of rows in
+    let arcs : List Arc = map (λ fields. record { from = index_in nodes (number_at fields 0); to = index_in nodes (number_at fields 1); seconds = arc_seconds fields }) rows in
     if nat_lt 400000 (length rows) then Err TooManyArcs
     else option_map_or (λ fault. Err fault) (first_fault (refusal_at rows) (length rows))
-    (Ok (record { nodes = nodes_of rows; arcs = by_start (length (nodes_of rows)) (map (arc_in (nodes_of rows)) rows) }))
+    (Ok (record { nodes = nodes; arcs = flat_map (λ node. filter (λ arc. arc.from == node) arcs) (range_with_len 0 (length nodes)) }))

@@ -1,4 +1,4 @@
-use Rattle.std.specs.Prelude.{ℕ, zero, suc, ◌<◌, ◌≤◌, ◌==◌, Bool, List, [], ◌++◌, All, length, filter, nat_eq}
+use Rattle.std.specs.Prelude.{ℕ, ◌<◌, ◌≤◌, ◌==◌, Bool, List, All, length, filter, nat_eq}
 use Rattle.std.specs.List.{IsDistinct, list_any, position_or_len}
 use Rattle.road_network.specs.Walk.{Arc}
 use Rattle.road_network.specs.declared.hop.Hop.{Hop}
@@ -23,11 +23,6 @@ leaving node arcs = filter (λ arc. arc.from == node) arcs
 -- an arc as it is seen from its starting node
 abbrev pub hop_of : Arc → Hop
 hop_of arc = record { to = arc.to; seconds = arc.seconds }
-
--- the arcs that leave the first so many nodes: those of node 0, then those of node 1, and so on
-abbrev pub by_start : ℕ → List Arc → List Arc
-by_start zero arcs = []
-by_start (suc node) arcs = by_start node arcs ++ filter (λ arc. arc.from == node) arcs
 
 -- an arc joins two of so many nodes, in at most 10,000 seconds
 abbrev pub IsArcAmong : ℕ → Arc → Type 0

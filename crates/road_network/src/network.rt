@@ -1,5 +1,6 @@
 ghost use Rattle.std.specs.Prelude.{◌≡◌, ◌↔◌, ℕ, ◌+◌, ◌<◌, ◌≤◌, Some, All, Contains, IsTrue, IsSome, IfOk, IfSome, length, map, nat_eq, position, slice_get};
-ghost use Rattle.road_network.specs.Roads.{IsArcAmong, IsNetwork, by_start, hop_of, leaving};
+ghost use Rattle.road_network.specs.Roads.{IsArcAmong, IsNetwork, hop_of, leaving};
+ghost use Rattle.road_network.specs.lemmas.Rows.{by_node};
 ghost use Rattle.road_network.specs.lemmas.Limits.{greatest_name, most_arcs, most_nodes};
 ghost use Rattle.road_network.specs.Storage.{start_at};
 
@@ -57,7 +58,7 @@ impl Network {
         requires names { All (λ name. name ≤ greatest_name) names.keys }
         requires among { All (IsArcAmong (length names.keys)) arcs.now }
         ensures { IfOk result (λ network. network
-            ≡ record { nodes = names.keys; arcs = by_start (length names.keys) arcs.now }) }
+            ≡ record { nodes = names.keys; arcs = by_node (length names.keys) arcs.now }) }
     {
         let (ends, hops) = sort_by_start(alloc, names.len(), arcs)?;
         Ok(Network { names, ends, hops })

@@ -2,7 +2,8 @@ ghost use Rattle.std.specs.Prelude.{◌≡◌, ◌≢◌, ◌+◌, ◌<◌, ◌�
 ghost use Rattle.pool_io.specs.Table.{record_at};
 ghost use Rattle.road_network.specs.Roads.{IsArcAmong, index_in};
 ghost use Rattle.road_network.specs.lemmas.Limits.{greatest_name, longest_arc, most_arcs, most_nodes};
-ghost use Rattle.road_network.specs.Reading.{arc_in, field_refusal, network_of, nodes_of, arc_seconds};
+ghost use Rattle.road_network.specs.Reading.{network_of, nodes_of, arc_seconds};
+ghost use Rattle.road_network.specs.lemmas.Rows.{field_refusal};
 ghost use Rattle.pool_base.specs.Numeral.{number_at};
 ghost use Rattle.road_network.specs.work.Numbering.{with_node};
 
@@ -31,6 +32,7 @@ struct NamedArc {
 }
 
 // What the fields of a row say.
+#[tactic(auto, unfolding(crate::specs::lemmas::Rows::field_refusal))]
 fn read_row(rows: &Rows, row: usize) -> Result<NamedArc, NetworkFault>
     requires columns { rows.now.columns ≡ 3 }
     requires row { row < length rows.now.records }

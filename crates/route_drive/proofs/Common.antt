@@ -46,15 +46,19 @@ pub use Rattle.request_book.proofs.lemmas.LawLemmas.{reached-consistent, rounds-
 pub use Rattle.request_book.proofs.lemmas.NamedLemmas.{step-named}
 pub use Rattle.request_book.proofs.lemmas.StepTable.{by-table}
 pub use Rattle.request_book.specs.Book.{BookView, IsBook, next_position, opening}
-unfoldable pub use Rattle.request_book.specs.Closing.{after_answer, picks, trip_picks}
+unfoldable pub use Rattle.request_book.specs.Closing.{picks}
+unfoldable pub use Rattle.request_book.specs.lemmas.Closing.{trip_picks, after_answer, closed_state}
 pub use Rattle.request_book.specs.Closing.{after_plan}
 pub use Rattle.request_book.specs.Command.{closed_outcome}
 pub use Rattle.request_book.specs.Consistent.{IsConsistent, IsNode, NamesNodes, seat_in}
-unfoldable pub use Rattle.request_book.specs.Keyed.{KeysDiffer, changed_at, look_up, without}
+unfoldable pub use Rattle.request_book.specs.Keyed.{KeysDiffer, changed_at, look_up}
+unfoldable pub use Rattle.request_book.specs.lemmas.Keyed.{without}
 pub use Rattle.request_book.specs.Keyed.{by_key}
 unfoldable pub use Rattle.request_book.specs.Replay.{RepliesAreSteps, state_after}
-pub use Rattle.request_book.specs.Rider.{is_active, passenger_of, pool_promise, shown, vehicle_of, with_status}
-unfoldable pub use Rattle.request_book.specs.Sealing.{batch_of, sealed_state}
+pub use Rattle.request_book.specs.Rider.{is_active, passenger_of, pool_promise, vehicle_of, with_status}
+pub use Rattle.request_book.specs.lemmas.Named.{shown, asking, in_batch, lets_out, planned_status, stands_at, takes_in}
+unfoldable pub use Rattle.request_book.specs.Sealing.{batch_of}
+unfoldable pub use Rattle.request_book.specs.lemmas.Named.{sealed_state}
 pub use Rattle.request_book.specs.Sealing.{after_seal, is_over}
 pub use Rattle.request_book.specs.State.{find_passenger, find_rider, find_vehicle}
 unfoldable pub use Rattle.request_book.specs.Step.{step}
@@ -75,8 +79,6 @@ pub use Rattle.request_book.specs.declared.rider.BookRider.{BookRider}
 pub use Rattle.request_book.specs.declared.rider.Status.{Status}
 pub use Rattle.request_book.specs.declared.rider.Status.TheVariants.{Aboard, Delivered, Expired, Promised, Waiting}
 pub use Rattle.request_book.specs.declared.state.State.{State}
-unfoldable pub use Rattle.request_book.specs.lemmas.Closing.{closed_state}
-pub use Rattle.request_book.specs.lemmas.Named.{asking, in_batch, lets_out, planned_status, stands_at, takes_in}
 unfoldable pub use Rattle.request_book.specs.lemmas.Refusals.{first_of}
 pub use Rattle.request_book.specs.lemmas.Refusals.{batch_open, clock_back, duplicate_rider}
 unfoldable pub use Rattle.request_book.specs.lemmas.Table.{cancel_step, close_step, dropoff_step, pickup_step, report_step, seal_step, submit_step, table_step}

@@ -8,15 +8,15 @@ pub use Rattle.pool_base.proofs.lemmas.InOrderLemmas.{all_or_first-err, all_or_f
 pub use Rattle.pool_base.specs.InOrder.{all_or_first, refused_where, ◌>>=◌}
 pub use Rattle.pool_io.specs.Table.{field_at, record_at}
 pub use Rattle.request_book.specs.declared.command.Command.{Command}
-unfoldable pub use Rattle.script_rows.specs.Line.{command_in, line_in, submit_in, three_in}
+unfoldable pub use Rattle.script_rows.specs.Line.{command_in, line_in, three_in}
 pub use Rattle.script_rows.specs.Line.{IsBehind, leaves_empty}
 pub use Rattle.script_rows.specs.Round.{MayStand, NumberedLanes, empty_round, with_command}
-pub use Rattle.script_rows.specs.Script.{round_before, round_of, script_of}
+pub use Rattle.script_rows.specs.Script.{round_of, script_of}
 pub use Rattle.script_rows.specs.declared.fault.ScriptFault.{ScriptFault}
 pub use Rattle.script_rows.specs.declared.fault.ScriptFault.TheVariants.{ExtraField, LaneRange, Number, RoundBack, SealLane, TooManyRows, UnknownCommand}
 pub use Rattle.script_rows.specs.declared.line.Line.{Line}
 pub use Rattle.script_rows.specs.declared.version.ScriptVersion.{ScriptVersion}
-pub use Rattle.script_rows.specs.lemmas.Named.{line_at, rounds_of}
+pub use Rattle.script_rows.specs.lemmas.Named.{line_at, round_before, rounds_of}
 unfoldable pub use Rattle.script_rows.specs.work.Building.{with_line}
 pub use Rattle.script_rows.specs.work.Building.{commands_of, joins, last_round}
 pub use Rattle.script_rows.specs.work.Words.{is_empty_in}

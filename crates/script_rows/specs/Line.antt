@@ -23,16 +23,6 @@ party_in Two row fields = do
   party ← number_in Number row fields 7
   if nat_le 1 party && nat_le party 6 then Ok party else Err (Party row)
 
--- a request: its rider, the nodes, the second, and the party
-unfoldable pub submit_in : ScriptVersion → ℕ → List (List ℕ) → Result Command ScriptFault
-submit_in version row fields = do
-  rider ← number_in Number row fields 3
-  origin ← number_in Number row fields 4
-  destination ← number_in Number row fields 5
-  time ← number_in Number row fields 6
-  party ← party_in version row fields
-  Ok (submit rider origin destination time party)
-
 -- a command of the numbers in the three columns behind its word
 unfoldable pub three_in : (ℕ → ℕ → ℕ → Command) → ℕ → List (List ℕ) → Result Command ScriptFault
 three_in command row fields = do
@@ -43,7 +33,13 @@ three_in command row fields = do
 
 -- the command of a row, by its word
 unfoldable pub command_in : ScriptVersion → ℕ → List (List ℕ) → Word → Result Command ScriptFault
-command_in version row fields Submit = submit_in version row fields
+command_in version row fields Submit = do
+  rider ← number_in Number row fields 3
+  origin ← number_in Number row fields 4
+  destination ← number_in Number row fields 5
+  time ← number_in Number row fields 6
+  party ← party_in version row fields
+  Ok (submit rider origin destination time party)
 command_in version row fields Cancel = number_in Number row fields 3 >>= λ rider. Ok (cancel rider)
 command_in version row fields Report = three_in report row fields
 command_in version row fields Pickup = three_in pickup row fields

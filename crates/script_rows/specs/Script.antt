@@ -1,4 +1,4 @@
-use Rattle.std.specs.Prelude.{ℕ, zero, suc, ◌+◌, ◌&&◌, List, [], Result, Ok, Err, map, length, slice_index_or, nat_lt, ◌==◌, if◌then◌else◌}
+use Rattle.std.specs.Prelude.{ℕ, ◌+◌, ◌&&◌, List, [], ◌∷◌, Result, Ok, Err, map, length, slice_index_or, nat_lt, ◌==◌, if◌then◌else◌}
 use Rattle.std.specs.List.{filter, range_with_len}
 use Rattle.pool_base.specs.Distinct.{distinct}
 use Rattle.pool_base.specs.InOrder.{◌>>=◌, all_or_first}
@@ -10,19 +10,15 @@ use Rattle.script_rows.specs.declared.version.ScriptVersion.{ScriptVersion}
 use Rattle.script_rows.specs.Line.{line_in}
 use Rattle.script_rows.specs.Round.{NumberedLanes}
 
--- the number in the first column of the row before a place, and 0 before the first row
-abbrev pub round_before : List (List (List ℕ)) → ℕ → ℕ
-round_before records zero = 0
-round_before records (suc place) = number_at (slice_index_or records place []) 0
-
 -- the round of a number: sixteen lanes, each with its commands in the order of the rows
 abbrev pub round_of : List Line → ℕ → NumberedLanes
 round_of lines number =
     record { number = number; lanes = map (λ lane. map (λ l. l.command) (filter (λ l. l.round == number && l.lane == lane) lines)) (range_with_len 0 16) }
 
--- the rounds that records give, one for each number, or the first refusal; each row is read behind the one before it
+-- the rounds that records give, one for each number, or the first refusal; each row is read behind the round of the row
+-- before it, the first behind round 0, which an empty row would have
 abbrev pub script_of : ScriptVersion → List (List (List ℕ)) → Result (List NumberedLanes) ScriptFault
 script_of version records =
     if nat_lt 200000 (length records) then Err TooManyRows
-    else (all_or_first (λ place. line_in version (place + 1) (round_before records place) (slice_index_or records place [])) (length records)
+    else (all_or_first (λ place. line_in version (place + 1) (number_at (slice_index_or ([] ∷ records) place []) 0) (slice_index_or records place [])) (length records)
     >>= λ lines. Ok (map (round_of lines) (distinct (map (λ l. l.round) lines))))

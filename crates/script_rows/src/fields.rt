@@ -3,7 +3,7 @@ ghost use Rattle.std.specs.List.{list_all, range_with_len};
 ghost use Rattle.pool_io.specs.Table.{record_at};
 ghost use Rattle.pool_base.specs.Numeral.{number_in};
 ghost use Rattle.script_rows.specs.work.Row.{IsScriptRow, IsScriptField};
-ghost use Rattle.script_rows.specs.Line.{party_in, submit_in, three_in, command_in, leaves_empty};
+ghost use Rattle.script_rows.specs.Line.{party_in, three_in, command_in, leaves_empty};
 ghost use Rattle.script_rows.specs.work.Words.{is_empty_in};
 
 use crate::fault::ScriptFault;
@@ -81,10 +81,10 @@ fn party(rows: &Rows, row: usize, version: ScriptVersion) -> Result<Party, Scrip
     }
 }
 
-#[tactic(auto, unfolding(crate::specs::Line::submit_in))]
+#[tactic(auto, unfolding(crate::specs::Line::command_in))]
 fn submit(rows: &Rows, row: usize, version: ScriptVersion) -> Result<Command, ScriptFault>
     requires { IsScriptRow rows.now row version }
-    ensures { result ≡ submit_in version (row + 1) (record_at rows.now row) }
+    ensures { result ≡ command_in version (row + 1) (record_at rows.now row) Word.Submit }
 {
     Ok(Command::Submit {
         rider: rider(rows, row, 3)?,

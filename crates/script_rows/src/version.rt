@@ -1,5 +1,5 @@
-ghost use Rattle.std.specs.Prelude.{◌≡◌, length};
-ghost use Rattle.pool_io.specs.Table.{header_fields};
+ghost use Rattle.std.specs.Prelude.{◌≡◌, ◌==◌, length};
+ghost use Rattle.std.specs.List.{slice_split};
 
 /// Which header a script has.
 #[derive(Clone, Copy)]
@@ -16,7 +16,7 @@ impl ScriptVersion {
     /// The header line, without its end.
     pub fn header(self) -> &'static [u8]
         ensures header { result.now ≡ header_of self }
-        ensures columns { length (header_fields result.now) ≡ columns_of self }
+        ensures columns { length (slice_split (λ byte. byte == 44) result.now) ≡ columns_of self }
     {
         match self {
             ScriptVersion::One => b"round,lane,command,a,b,c,d",

@@ -1,5 +1,5 @@
 -- Parts of a workload, as proofs call them.
-use Rattle.std.specs.Prelude.{ℕ, ◌+◌, ◌*◌, List, [], ◌∷◌, nat_lt, if◌then◌else◌}
+use Rattle.std.specs.Prelude.{ℕ, ◌+◌, ◌*◌, List, [], ◌∷◌, ◌++◌, nat_lt, if◌then◌else◌}
 use Rattle.std.specs.List.{flat_map}
 use Rattle.rand_core.specs.Stream.{Stream}
 use Rattle.rand_core.specs.Steps.{stream_of}
@@ -14,6 +14,10 @@ use Rattle.load_maker.specs.Texts.{node_id, arcs_between, vehicle_row, report_ro
 -- rows, one behind another
 abbrev pub csv_lines : List (List Field) → List ℕ
 csv_lines rows = flat_map csv_line rows
+
+-- a text: its header line, then its rows, one behind another
+abbrev pub text_under : List ℕ → List (List Field) → List ℕ
+text_under header rows = header ++ 10 ∷ csv_lines rows
 
 -- the draws of a SplitMix64 generator with this state
 abbrev pub draws_of : ℕ → Stream

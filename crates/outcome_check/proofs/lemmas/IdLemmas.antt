@@ -1,6 +1,6 @@
 -- In a snapshot nobody is in two places, so ids tell riders and passengers apart.
 use Rattle.std.proofs.Common.{◌≡◌, ◌≢◌, ℕ, zero, suc, ◌+◌, ◌-◌, ◌<◌, ◌≤◌, List, [], ◌∷◌, ◌++◌, length, get_or, map, None, refl, sym, ap, ◌∙◌, subst, arith, ⊎_elim}
-use Rattle.outcome_check.proofs.Common.{cases_eq, cases_lt, get_or_append_left, get_or-append_right, get_or-map, length-map, Batch, IsKept, IsOnce, riders_aboard, IsPlaced, IsSettled, Settings, Settled, vehicle_at, IsSound, rider_id, HasOwnIds}
+use Rattle.outcome_check.proofs.Common.{cases_eq, cases_lt, get_or_append_left, get_or-append_right, get_or-map, length-map, Batch, IsKept, IsOnce, riders_aboard, once_apart, IsPlaced, IsSettled, Settings, Settled, vehicle_at, IsSound, rider_id, HasOwnIds}
 use Rattle.std.specs.List.{flat_map}
 use Rattle.std.proofs.lemmas.List.{length-append}
 use Rattle.std.proofs.lemmas.Option.{slice_get-get_or}
@@ -82,7 +82,7 @@ module _ (settings : Settings) (points : List ℕ) (k places : ℕ) (tau : ℕ �
       let back : place - length riders ≡ stands.from + j = omega arith in
       let there : get_or (riders ++ all) place 0 ≡ get_or (aboard_of (get_or batch.vehicles v no_vehicle)) j 0 =
       get_or-append_right riders all (length riders) place 0 refl (omega arith) ∙ ap (λ (n : ℕ). get_or all n 0) back ∙ stands.at j inside in
-      kept.once r place (omega (arith, low)) (omega (arith, whole, inner))
+      once_apart batch kept r place (omega (arith, low)) (omega (arith, whole, inner))
       (get_or_append_left riders all 0 r low ∙ sym (told_id r a) ∙ e ∙ ap (λ (xs : List ℕ). get_or xs j 0) ids ∙ sym there)
 
   pub own_ids : HasOwnIds settled
@@ -94,7 +94,7 @@ module _ (settings : Settings) (points : List ℕ) (k places : ℕ) (tau : ℕ �
     passengers = λ v i j h a b e.
         let ids = ids_at v h in
         let riders : List ℕ = map (λ (x : Rider). x.id) batch.riders in
-        once_in (aboard_of (get_or batch.vehicles v no_vehicle)) (riders ++ riders_aboard batch.vehicles) kept.once
+        once_in (aboard_of (get_or batch.vehicles v no_vehicle)) (riders ++ riders_aboard batch.vehicles) (once_apart batch kept)
         (stands_behind riders (aboard_of (get_or batch.vehicles v no_vehicle)) (riders_aboard batch.vehicles) (stands_at v h)) i j
         (subst (λ (xs : List ℕ). i < length xs) ids a) (subst (λ (xs : List ℕ). j < length xs) ids b)
         (sym (ap (λ (xs : List ℕ). get_or xs i 0) ids) ∙ e ∙ ap (λ (xs : List ℕ). get_or xs j 0) ids);

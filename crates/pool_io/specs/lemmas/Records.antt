@@ -2,11 +2,15 @@ use Rattle.std.specs.Prelude.{ℕ, Bool, List, ◌==◌, not, length, Result, Ok
 use Rattle.std.specs.Str.{bytes_eq}
 use Rattle.std.specs.Cmp.Lexicographic.{pointwise}
 use Rattle.csv.specs.Reading.{records, default_config, strip_bom}
-use Rattle.std.specs.List.{position_from}
+use Rattle.std.specs.List.{position_from, slice_split}
 use Rattle.std.specs.Option.{option_map_or}
 use Rattle.pool_io.specs.declared.records.RowFault.{RowFault}
 use Rattle.pool_io.specs.declared.records.RowFault.TheVariants.{UnequalLength}
 use Rattle.pool_io.specs.Table.{Table}
+
+-- the fields of a header line, which commas part
+abbrev pub header_fields : List ℕ → List (List ℕ)
+header_fields header = slice_split (λ byte. byte == 44) header
 
 -- the rows, or the first with another number of fields; rows count from 1
 abbrev pub even_rows : ℕ → List (List (List ℕ)) → Result Table RowFault

@@ -1,7 +1,7 @@
 -- The batch of a seal: what it shows, and what it keeps.
-use Rattle.std.proofs.Common.{◌≡◌, ℕ, zero, suc, ◌+◌, ◌<◌, ◌≤◌, Bool, true, false, cond, leb, List, [], ◌∷◌, ◌++◌, length, map, Option, Some, None, refl, sym, ap, subst, ◌∙◌, arith, is_some, option_map, option_and_then, count_by}
-use Rattle.request_book.proofs.Common.{cons_option, nat_tests, IsStrictlyIncreasing, length-map, sum_by-cons, IsKept, IsOnce, riders_aboard, Passenger, Rider, Vehicle, BookRider, Expired, State, IsConsistent, seat_in, look_up, by_key, KeysRise, KeysDiffer, changed_in_turn, pool_id, is_active, pool_promise, shown, with_status, is_over, after_seal, batch_of, asking, over_id, find_rider, find_vehicle, find_passenger}
-use Rattle.std.specs.List.{filter_map, All, Contains}
+use Rattle.std.proofs.Common.{◌≡◌, ◌≢◌, ℕ, zero, suc, ◌+◌, ◌<◌, ◌≤◌, Bool, true, false, cond, leb, List, [], ◌∷◌, ◌++◌, length, map, Option, Some, None, refl, sym, ap, subst, ◌∙◌, arith, is_some, option_map, option_and_then, count_by}
+use Rattle.request_book.proofs.Common.{cons_option, nat_tests, IsStrictlyIncreasing, length-map, sum_by-cons, IsKept, riders_aboard, Passenger, Rider, Vehicle, BookRider, Expired, State, IsConsistent, seat_in, look_up, by_key, KeysRise, KeysDiffer, changed_in_turn, pool_id, is_active, pool_promise, shown, with_status, is_over, after_seal, batch_of, asking, over_id, find_rider, find_vehicle, find_passenger}
+use Rattle.std.specs.List.{filter_map, All, AllPairs}
 use Rattle.std.proofs.lemmas.Bool.{leb-true}
 use Rattle.std.proofs.lemmas.List.{map-id, get_or-map}
 use Rattle.batch_snapshot.specs.declared.promise.Promise.{Promise}
@@ -78,12 +78,12 @@ increasing_from_rise key (x ∷ xs) up k in' =
     omega (arith, pairs_from_rise key (x ∷ xs) up k (k + 1) x (omega arith) within, get_or-map key (x ∷ xs) k x 0 (omega arith), get_or-map key (x ∷ xs) (k + 1) x 0 within)
 
 -- numbers of which none is found twice
-once_from_differ : (ids : List ℕ) → KeysDiffer (λ n. n) ids → IsOnce ids
+once_from_differ : (ids : List ℕ) → KeysDiffer (λ n. n) ids → AllPairs (λ id other. id ≢ other) ids
 unfolding KeysDiffer look_up
-once_from_differ [] d i j lt in' e = omega arith
-once_from_differ (x ∷ xs) d i zero lt in' e = omega arith
-once_from_differ (x ∷ xs) d zero (suc j) lt in' e = grind (arith, nat_tests, d.0, look_up-at (λ n. n) j xs 0 d.1)
-once_from_differ (x ∷ xs) d (suc i) (suc j) lt in' e = once_from_differ xs d.1 i j (omega arith) (omega arith) e
+once_from_differ [] differ i j d lt in' e = omega arith
+once_from_differ (x ∷ xs) differ i zero d lt in' e = omega arith
+once_from_differ (x ∷ xs) differ zero (suc j) d lt in' e = grind (arith, nat_tests, differ.0, look_up-at (λ n. n) j xs d differ.1)
+once_from_differ (x ∷ xs) differ (suc i) (suc j) d lt in' e = once_from_differ xs differ.1 i j d (omega arith) (omega arith) e
 
 look_up-append_none : (k : ℕ) (xs ys : List ℕ) → look_up (λ n. n) k xs ≡ None → look_up (λ n. n) k ys ≡ None → look_up (λ n. n) k (xs ++ ys) ≡ None
 unfolding look_up
@@ -194,18 +194,16 @@ module _ (wait now : ℕ) (s : State) (kept : IsConsistent s) where
   expired-found : (k : ℕ) → look_up (λ n. n) k expired-list ≡ option_and_then (over_id wait now) (find_rider k s.riders)
   expired-found k = expired-order.found k ∙ look_up-filter_map (λ (r : BookRider). r.id) (λ n. n) (over_id wait now) (λ r n e. (over-is wait now r n e).0) k s.riders kept.riders_differ
 
-  expired-listed : (id : ℕ) → Contains expired-list id → look_up (λ n. n) id expired-list ≡ Some id
-  expired-listed id in' =
-      let at = look_up-at (λ n. n) in'.0 expired-list id (KeysDiffer-from_rise (λ n. n) expired-list expired-order.rise) in'.1 in
-      subst (λ j. look_up (λ n. n) j expired-list ≡ Some j) in'.2 at
-
-  -- who still waits is not among those whose wait is over
-  batch-apart : All (λ y. ¬ (Contains expired-list y.id)) batch-list
-  batch-apart = batch-each (λ (y : Rider). ¬ (Contains expired-list y.id)) (λ k r y found is in'.
-      let id : k ≡ y.id = sym (look_up-key (λ (r : BookRider). r.id) k s.riders r found) ∙ sym is.id in
-      let none : look_up (λ n. n) k expired-list ≡ None = expired-found k ∙ ap (option_and_then (over_id wait now)) found ∙ ap (λ b. cond b (Some r.id) None) is.waits in
-      let some = expired-listed y.id in' in
-      absurd cc)
+  -- whose wait is over doesn't wait in the batch
+  unlisted : (k : ℕ) → look_up (λ n. n) k expired-list ≡ Some k → look_up (λ n. n) k (map (λ r. r.id) batch-list) ≡ None
+  unlisted k listed = look_up-keys (λ (y : Rider). y.id) k batch-list ∙ ap (option_map (λ (y : Rider). y.id)) (by (look_up (λ (y : Rider). y.id) k batch-list) refl)
+    where
+      by : (o : Option Rider) → look_up (λ r. r.id) k batch-list ≡ o → o ≡ None
+      by None e = refl
+      by (Some y) e =
+          let at = batch-found k y e in
+          let none : look_up (λ n. n) k expired-list ≡ None = expired-found k ∙ ap (option_and_then (over_id wait now)) at.1 ∙ ap (λ b. cond b (Some at.0.id) None) at.2.waits in
+          absurd cc
 
   vehicles-differ : KeysDiffer (λ v. v.id) s.vehicles
   vehicles-differ = KeysDiffer-from_rise (λ (v : Vehicle). v.id) s.vehicles kept.vehicles_rise
@@ -214,13 +212,12 @@ module _ (wait now : ℕ) (s : State) (kept : IsConsistent s) where
   passengers-differ =
       aboard-differ s.riders s.vehicles vehicles-differ batch-seated (λ x v found. All-look_up (λ (v : Vehicle). v.id) (λ (u : Vehicle). KeysDiffer (λ p. p.rider) u.aboard.items) x s.vehicles v kept.passengers found)
 
-  batch-once : IsOnce (map (λ r. r.id) batch-list ++ riders_aboard s.vehicles)
-  batch-once =
-      once_from_differ (map (λ r. r.id) batch-list ++ riders_aboard s.vehicles)
-      (differ-append (map (λ r. r.id) batch-list) (riders_aboard s.vehicles)
+  batch-differ : KeysDiffer (λ n. n) (map (λ r. r.id) batch-list ++ riders_aboard s.vehicles)
+  batch-differ =
+      differ-append (map (λ r. r.id) batch-list) (riders_aboard s.vehicles)
       (differ-keys (λ (y : Rider). y.id) batch-list (KeysDiffer-from_rise (λ (y : Rider). y.id) batch-list batch-rise))
       passengers-differ
-      (λ k found. nobody s.riders k s.vehicles vehicles-differ batch-seated (λ x v at. waiting k (look_up (λ (y : Rider). y.id) k batch-list) refl found x)))
+      (λ k found. nobody s.riders k s.vehicles vehicles-differ batch-seated (λ x v at. waiting k (look_up (λ (y : Rider). y.id) k batch-list) refl found x))
     where
       waiting : (k : ℕ) (o : Option Rider) → look_up (λ r. r.id) k batch-list ≡ o → look_up (λ n. n) k (map (λ r. r.id) batch-list) ≡ Some k → (x : ℕ) → option_and_then (seat_in x) (find_rider k s.riders) ≡ None
       waiting k None e found x = let none = look_up-keys (λ (y : Rider). y.id) k batch-list ∙ ap (option_map (λ (y : Rider). y.id)) e in absurd cc
@@ -234,13 +231,12 @@ module _ (wait now : ℕ) (s : State) (kept : IsConsistent s) where
       by None e = absurd cc
       by (Some r) e = seatless r x (over-is wait now r k e).1
 
-  batch-aboard_apart : All (λ id. ¬ (Contains expired-list id)) (riders_aboard s.vehicles)
-  batch-aboard_apart =
-      All-from_look_up (λ n. n) (λ id. ¬ (Contains expired-list id)) (riders_aboard s.vehicles) passengers-differ
-      (λ k id found in'.
-      let own : id ≡ k = look_up-key (λ n. n) k (riders_aboard s.vehicles) id found in
-      let none = nobody s.riders id s.vehicles vehicles-differ batch-seated (λ x v at. over-seatless id (expired-listed id in') x) in
-      absurd cc)
+  batch-once : AllPairs (λ id other. id ≢ other) (expired-list ++ (map (λ r. r.id) batch-list ++ riders_aboard s.vehicles))
+  batch-once =
+      once_from_differ (expired-list ++ (map (λ r. r.id) batch-list ++ riders_aboard s.vehicles))
+      (differ-append expired-list (map (λ r. r.id) batch-list ++ riders_aboard s.vehicles) (KeysDiffer-from_rise (λ n. n) expired-list expired-order.rise) batch-differ
+      (λ k listed. look_up-append_none k (map (λ r. r.id) batch-list) (riders_aboard s.vehicles) (unlisted k listed)
+      (nobody s.riders k s.vehicles vehicles-differ batch-seated (λ x v at. over-seatless k listed x))))
 
   pub batch-kept : IsKept (batch_of wait s now)
   unfolding batch_of
@@ -253,8 +249,6 @@ module _ (wait now : ℕ) (s : State) (kept : IsConsistent s) where
     seats = kept.seats;
     asked = batch-each (λ (y : Rider). y.time ≤ now) (λ k r y found is. is.asked);
     once = batch-once;
-    apart = batch-apart;
-    aboard_apart = batch-aboard_apart;
   }
 
 -- what a seal makes of the riders and the pool

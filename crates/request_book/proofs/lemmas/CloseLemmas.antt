@@ -1,6 +1,6 @@
 -- What a close makes of the riders.
-use Rattle.std.proofs.Common.{◌≡◌, ℕ, ◌+◌, ◌<◌, ◌≤◌, true, false, cond, eqb, List, [], ◌∷◌, ◌++◌, length, get_or, drop, map, Some, Result, Ok, Err, refl, sym, ap, subst, ◌∙◌, inl, inr, arith, is_some, is_ok}
-use Rattle.request_book.proofs.Common.{nat_tests, IsBinarySearchResult, IsSearchInRange, cases_lt, at_drop_more, drop_all, searchable_from_sorted, Rider, ChosenTrip, PlannedStop, BookRider, Pick, picks, trip_picks, after_plan, after_answer, waits_again, takes_promise, promised_in_turn, Answer, Overflow, pool_id, look_up, changed_at, KeysRise, KeysDiffer, changed_in_turn, is_active}
+use Rattle.std.proofs.Common.{◌≡◌, ℕ, ◌+◌, ◌<◌, ◌≤◌, true, false, cond, eqb, List, [], ◌∷◌, ◌++◌, length, get_or, drop, map, Some, None, Result, Ok, Err, refl, sym, ap, subst, ◌∙◌, inl, inr, arith, is_some, is_ok}
+use Rattle.request_book.proofs.Common.{cons_option, nat_tests, IsBinarySearchResult, IsSearchInRange, cases_lt, at_drop_more, drop_all, searchable_from_sorted, Rider, ChosenTrip, PlannedStop, BookRider, Pick, picks, trip_picks, after_plan, after_answer, waits_again, takes_promise, promised_in_turn, Answer, Overflow, pool_id, look_up, changed_at, KeysRise, KeysDiffer, changed_in_turn, is_active}
 use Rattle.std.specs.List.Sorted.{IsSortedBy}
 use Rattle.std.specs.Ordering.{nat_cmp, is_lt}
 use Rattle.std.specs.Cmp.{nat_cmp_total}
@@ -77,7 +77,7 @@ module _ (batch : List Rider) (vehicle : ℕ) where
       let s = get_or stops i d in
       let p : Pick = record { rider = s.rider; promise = record { vehicle = vehicle; pickup = s.second } } in
       let rest = trip_picks vehicle (drop (i + 1) stops) in
-      sym (at_drop_more (λ l. promised_in_turn batch (trip_picks vehicle l) riders) stops i d in' ∙ ap (λ b. promised_in_turn batch (cond b (p ∷ rest) rest) riders) pick)
+      sym (at_drop_more (λ l. promised_in_turn batch (trip_picks vehicle l) riders) stops i d in' ∙ ap (λ b. promised_in_turn batch (cons_option (cond b (Some p) None) rest) riders) pick)
 
   pub stops-drop : (stops : List PlannedStop) (i : ℕ) (d : PlannedStop) (riders : List BookRider) → i < length stops → (get_or stops i d).pick ≡ false
       → promised_in_turn batch (trip_picks vehicle (drop (i + 1) stops)) riders ≡ promised_in_turn batch (trip_picks vehicle (drop i stops)) riders
@@ -86,7 +86,7 @@ module _ (batch : List Rider) (vehicle : ℕ) where
       let s = get_or stops i d in
       let p : Pick = record { rider = s.rider; promise = record { vehicle = vehicle; pickup = s.second } } in
       let rest = trip_picks vehicle (drop (i + 1) stops) in
-      sym (at_drop_more (λ l. promised_in_turn batch (trip_picks vehicle l) riders) stops i d in' ∙ ap (λ b. promised_in_turn batch (cond b (p ∷ rest) rest) riders) pick)
+      sym (at_drop_more (λ l. promised_in_turn batch (trip_picks vehicle l) riders) stops i d in' ∙ ap (λ b. promised_in_turn batch (cons_option (cond b (Some p) None) rest) riders) pick)
 
   pub stops-all : (stops : List PlannedStop) (i : ℕ) (riders : List BookRider) → length stops ≤ i → promised_in_turn batch (trip_picks vehicle (drop i stops)) riders ≡ riders
   unfolding trip_picks promised_in_turn
@@ -94,7 +94,7 @@ module _ (batch : List Rider) (vehicle : ℕ) where
 
 pub trips-more : (batch : List Rider) (chosen : List ChosenTrip) (i : ℕ) (d : ChosenTrip) (riders : List BookRider) → i < length chosen
     → promised_in_turn batch (picks (drop (i + 1) chosen)) (promised_in_turn batch (trip_picks (get_or chosen i d).vehicle (get_or chosen i d).stops.items) riders) ≡ promised_in_turn batch (picks (drop i chosen)) riders
-unfolding picks
+unfolding picks trip_picks
 trips-more batch chosen i d riders in' =
     let t = get_or chosen i d in
     sym (at_drop_more (λ l. promised_in_turn batch (picks l) riders) chosen i d in' ∙ promised-append batch (trip_picks t.vehicle t.stops.items) (picks (drop (i + 1) chosen)) riders)

@@ -1,6 +1,6 @@
 -- The step table is what the register works: refusals as a list of those that hold.
 use Rattle.std.proofs.Common.{arith, ◌≡◌, ℕ, true, false, List, Option, Some, None, sym, ap, subst, ◌∙◌, is_some}
-use Rattle.request_book.proofs.Common.{one_more, Command, Answer, BookRefusal, Reply, Accepted, Cancelled, Placed, Picked, Dropped, Sealed, Closed, BookRider, Waiting, State, would_seal, batch_of, sealed_state, submit, cancel, report, pickup, dropoff, seal, close, answered, step, closed_state, first_of, submit_step, cancel_step, report_step, pickup_step, dropoff_step, seal_refusal, seal_step, close_step, table_step, batch_unless}
+use Rattle.request_book.proofs.Common.{one_more, Command, Answer, BookRefusal, Reply, Accepted, Cancelled, Placed, Picked, Dropped, Sealed, Closed, BookRider, Waiting, State, would_seal, batch_of, sealed_state, submit, cancel, report, pickup, dropoff, seal, close, answered, step, closed_state, after_answer, without, first_of, submit_step, cancel_step, report_step, pickup_step, dropoff_step, seal_refusal, seal_step, close_step, table_step, batch_unless}
 use Rattle.request_book.specs.declared.command.Command.TheVariants as command
 
 submit-table : (nodes : List ℕ) (s : State) (r : BookRider) → answered s Accepted (submit nodes s r) ≡ submit_step nodes s r
@@ -20,20 +20,20 @@ unfolding pickup pickup_step first_of
 pickup-table s vehicle rider time = grind arith
 
 dropoff-table : (s : State) (vehicle rider time : ℕ) → answered s Dropped (dropoff s vehicle rider time) ≡ dropoff_step s vehicle rider time
-unfolding dropoff dropoff_step first_of
+unfolding dropoff dropoff_step first_of without
 dropoff-table s vehicle rider time = grind arith
 
 seal-table : (wait : ℕ) (s : State) (now : ℕ) → answered s (Sealed (one_more s.batches)) (seal wait s now) ≡ seal_step wait s now
-unfolding seal seal_step first_of
+unfolding seal seal_step sealed_state first_of
 seal-table wait s now = grind arith
 
 -- what a seal would show, by its refusal
 pub would_seal-table : (wait : ℕ) (s : State) (now : ℕ) → would_seal wait s now ≡ batch_unless (seal_refusal s now) (batch_of wait s now)
-unfolding seal sealed_state first_of
+unfolding seal first_of
 would_seal-table wait s now = grind arith
 
 close-table : (s : State) (batch : ℕ) (a : Answer) → answered s Closed (close s batch a) ≡ close_step s batch a
-unfolding close close_step closed_state first_of
+unfolding close close_step closed_state after_answer first_of
 close-table s batch a = grind arith
 
 -- a step of the book is what the register works

@@ -1,16 +1,34 @@
-use Rattle.std.specs.Prelude.{ℕ, Bool, List, Option, None, is_some, if◌then◌else◌, ◌∷◌, ◌++◌, option_map, nat_le, unwrap_or, []}
+use Rattle.std.specs.Prelude.{ℕ, Bool, List, Option, Some, None, count_by, is_some, map, if◌then◌else◌, ◌∷◌, ◌++◌, option_map, nat_le, unwrap_or, []}
+use Rattle.batch_snapshot.specs.declared.promise.Promise.{Promise}
 use Rattle.batch_snapshot.specs.declared.rider.Rider.{Rider}
 use Rattle.batch_snapshot.specs.declared.vehicle.Vehicle.{Vehicle}
 use Rattle.request_book.specs.declared.rider.BookRider.{BookRider}
-use Rattle.request_book.specs.Keyed.{look_up, without}
-use Rattle.request_book.specs.Rider.{passenger_of, pool_promise, shown}
+use Rattle.request_book.specs.Keyed.{look_up}
+use Rattle.request_book.specs.Rider.{is_active, passenger_of, pool_promise}
+use Rattle.request_book.specs.Sealing.{after_seal, batch_of}
+use Rattle.request_book.specs.lemmas.Keyed.{without}
+use Rattle.pool_io.specs.Faults.{one_more}
 use Rattle.request_book.specs.declared.rider.Status.{Status}
 use Rattle.request_book.specs.declared.rider.Status.TheVariants.{Waiting, Promised}
+use Rattle.request_book.specs.declared.state.State.{State}
 use Rattle.request_book.specs.Closing.{Pick}
 
 -- the first pick stop of a rider promises; without one the rider waits
 abbrev pub planned_status : List Pick → ℕ → Status
 planned_status ps id = unwrap_or (option_map (λ p. Promised p.promise) (look_up (λ p. p.rider) id ps)) Waiting
+
+-- the rider as the snapshot of a batch shows them
+abbrev pub shown : BookRider → Option Promise → Rider
+shown r promise = record { id = r.id; origin = r.origin; destination = r.destination; time = r.time; party = r.party; promise = promise }
+
+-- how many riders wait or have a promise
+abbrev pub pool_count : List BookRider → ℕ
+pool_count riders = count_by (λ r. is_active r.status) riders
+
+-- the state after a seal
+unfoldable pub sealed_state : ℕ → State → ℕ → State
+sealed_state wait s now =
+    record { riders = map (after_seal wait now) s.riders; vehicles = s.vehicles; last_seal = Some now; sealed = Some (batch_of wait s now); batches = one_more s.batches }
 
 -- a rider of the pool who asked by now, as a snapshot shows them
 abbrev pub asking : ℕ → BookRider → Option Rider

@@ -9,7 +9,7 @@ use Rattle.request_book.specs.declared.reply.BookRefusal.TheVariants.{DuplicateR
 use Rattle.request_book.specs.declared.rider.BookRider.{BookRider}
 use Rattle.request_book.specs.declared.rider.Status.{Status}
 use Rattle.request_book.specs.declared.rider.Status.TheVariants.{Waiting, Promised, Aboard, Cancelled, Delivered, Expired}
-use Rattle.request_book.specs.State.{pool_count}
+use Rattle.request_book.specs.lemmas.Named.{pool_count}
 use Rattle.road_network.specs.Roads.{has_node}
 
 -- the first refusal of a list of those that hold

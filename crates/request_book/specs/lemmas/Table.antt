@@ -13,11 +13,10 @@ use Rattle.request_book.specs.declared.rider.Status.TheVariants.{Waiting, Aboard
 use Rattle.request_book.specs.declared.state.State.{State}
 use Rattle.request_book.specs.State.{find_rider, find_vehicle}
 use Rattle.request_book.specs.lemmas.Refusals.{first_of, duplicate_rider, unknown_node, same_place, pool_full, book_full, unknown_rider, is_aboard, has_ended, unknown_vehicle, time_back, not_promised, vehicle_full, not_aboard, batch_open, clock_back, not_this_batch}
-use Rattle.request_book.specs.Sealing.{sealed_state}
+use Rattle.request_book.specs.lemmas.Named.{sealed_state, stands_at, takes_in, lets_out}
 use Rattle.pool_io.specs.Faults.{one_more}
 use Rattle.request_book.specs.lemmas.Closing.{closed_state}
 use Rattle.request_book.specs.Step.{rider_becomes, vehicle_becomes}
-use Rattle.request_book.specs.lemmas.Named.{stands_at, takes_in, lets_out}
 
 -- a refusal changes nothing; without one the reply and the new state are these
 abbrev pub answer : State → Option BookRefusal → Reply → State → State × Reply

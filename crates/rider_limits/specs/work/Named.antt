@@ -1,8 +1,13 @@
-use Rattle.std.specs.Prelude.{ℕ, ◌+◌, List, Option, length, take, slice_index_or, []}
+use Rattle.std.specs.Prelude.{ℕ, ◌+◌, Bool, ◌&&◌, List, Option, is_none, length, take, slice_index_or, [], ◌∷◌}
+use Rattle.std.specs.List.{find}
 use Rattle.pool_base.specs.InOrder.{first_fault}
 use Rattle.rider_limits.specs.declared.subcommand.Subcommand.{Subcommand}
 use Rattle.rider_limits.specs.declared.word_fault.WordFault.{WordFault}
-use Rattle.rider_limits.specs.Words.{option_of, option_fault}
+use Rattle.pool_base.specs.Which as file
+use Rattle.pool_base.specs.declared.which.Which.{Which}
+use Rattle.pool_base.specs.declared.which.Which.TheVariants.{Network, Fleet, Script, Report}
+use Rattle.rider_limits.specs.Key.{reads}
+use Rattle.rider_limits.specs.Words.{text_given, option_of, option_fault}
 
 -- Parts of the words and keys, as proofs call them.
 
@@ -13,3 +18,11 @@ fault_at command words place = option_fault (take place words) (place + 2) (opti
 -- the first fault of the words behind a command
 abbrev pub words_fault : Subcommand → List (List ℕ) → Option WordFault
 words_fault command words = first_fault (fault_at command words) (length words)
+
+-- no word names a file
+abbrev pub is_missing : List (List ℕ) → Which → Bool
+is_missing words which = is_none (text_given (file.file_name which) words)
+
+-- the first file that a command reads and these words don't name
+abbrev pub missing_file : Subcommand → List (List ℕ) → Option Which
+missing_file command words = find (λ which. reads command which && is_missing words which) (Network ∷ Fleet ∷ Script ∷ Report ∷ [])

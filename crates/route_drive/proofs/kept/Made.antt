@@ -116,7 +116,7 @@ module _ (settings : Settings) (roads : Roads) (s : State) (stops : ℕ → List
   -- what is planned for a rider of a trip, and for one of none
   pub member_status : (k : ℕ) (own : HasTrip k) (i : ℕ) (h : i < length (riders_at good.graph own.is.row))
       → planned_status (picks planned.chosen) (request_at b.riders (get_or (riders_at good.graph own.is.row) i 0)).id ≡ Promised (record { vehicle = own.x.id; pickup = (member_promised k own i h).second })
-  unfolding picks
+  unfolding picks trip_picks
   member_status k own i h =
       let low = member_low k own i h in
       let one = member_promised k own i h in
@@ -133,7 +133,7 @@ module _ (settings : Settings) (roads : Roads) (s : State) (stops : ℕ → List
 
   pub left_status : (r : ℕ) → r < length b.riders → ((k row : ℕ) → k < length settled.vehicles → choice_at (good.holds point.Plan).chosen k ≡ Some row → has_node (riders_at good.graph row) r ≡ true → ⊥)
       → planned_status (picks planned.chosen) (request_at b.riders r).id ≡ Waiting
-  unfolding picks
+  unfolding picks trip_picks
   left_status r low out =
       ap (λ o. unwrap_or (option_map (λ (p : PlanPick). Promised p.promise) o) Waiting)
       (none_among (λ (p : PlanPick). p.rider) (request_at b.riders r).id (λ (t : ChosenTrip). trip_picks t.vehicle t.stops.items) planned.chosen

@@ -19,11 +19,10 @@ use Rattle.batch_snapshot.specs.Vehicle.{persons_aboard}
 use Rattle.batch_snapshot.specs.declared.promise.Promise.{Promise}
 use Rattle.batch_snapshot.specs.declared.rider.Rider.{Rider}
 use Rattle.batch_snapshot.specs.declared.vehicle.Vehicle.{Vehicle}
-use Rattle.request_book.specs.Closing.{after_answer}
+use Rattle.request_book.specs.lemmas.Closing.{after_answer}
 use Rattle.request_book.specs.Consistent.{IsConsistent, NamesNodes}
 use Rattle.request_book.specs.Keyed.{look_up, KeysRise}
-use Rattle.request_book.specs.Rider.{shown}
-use Rattle.request_book.specs.lemmas.Named.{asking}
+use Rattle.request_book.specs.lemmas.Named.{shown, asking}
 use Rattle.request_book.specs.State.{find_rider, find_vehicle}
 use Rattle.request_book.specs.Step.{step}
 use Rattle.request_book.specs.declared.command.Command.{Command}

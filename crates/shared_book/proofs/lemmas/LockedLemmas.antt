@@ -6,7 +6,8 @@ use Rattle.batch_snapshot.specs.Points.{named_nodes}
 use Rattle.request_book.specs.Book.{BookView, IsApplied, IsBook}
 use Rattle.request_book.specs.Consistent.{IsNode}
 use Rattle.request_book.specs.Replay.{state_after}
-use Rattle.request_book.specs.Sealing.{batch_of, sealed_state}
+use Rattle.request_book.specs.Sealing.{batch_of}
+use Rattle.request_book.specs.lemmas.Named.{sealed_state}
 use Rattle.request_book.specs.Step.{step, seal}
 use Rattle.request_book.specs.declared.command.Command.{Command}
 use Rattle.request_book.specs.declared.journal.Entry.{Entry}

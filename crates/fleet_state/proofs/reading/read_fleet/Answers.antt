@@ -31,12 +31,11 @@ returns-in_default-clause-refused c =
     let few : length records ≤ 500 = omega arith in
     let within : row < length records = omega arith in
     let is = sym c.in_ok-vehicle.ensures in
-    let new = IsNewVehicle-vehicle_in nodes (row + 1) (record_at c.args.rows.now row) vehicle is in
     let there : has_vehicle c.loop-row.vehicles.items vehicle.id ≡ true =
     ap (λ vs. has_vehicle vs vehicle.id) (sym c.deref.ensures.value) ∙ c.in_default.ensures in
     λ _.
     vehicles_of-refused nodes records row kept.vehicles _ few within kept.read
-    (vehicle_of_row-duplicate nodes records row c.loop-row.vehicles.items vehicle is new.id kept.known there)
+    (vehicle_of_row-duplicate nodes records row c.loop-row.vehicles.items vehicle is kept.known there)
 
 pub loop-row-preserved : goal.loop-row-preserved
 loop-row-preserved c =
@@ -55,7 +54,7 @@ loop-row-preserved c =
     let new = IsNewVehicle-vehicle_in nodes (row + 1) (record_at c.args.rows.now row) vehicle is in
     record {
       vehicles = kept.vehicles ++ vehicle ∷ [];
-      read = all_or_first-ok (vehicle_of_row nodes records) row kept.vehicles vehicle kept.read (vehicle_of_row-new nodes records row old vehicle is new.id kept.known at.new);
+      read = all_or_first-ok (vehicle_of_row nodes records) row kept.vehicles vehicle kept.read (vehicle_of_row-new nodes records row old vehicle is kept.known at.new);
       members = λ v. subst (λ vs. Contains vs v ↔ Contains (kept.vehicles ++ vehicle ∷ []) v) (sym items) (same_members-insert kept.vehicles old place vehicle kept.members v);
       known = λ id. ap (λ vs. has_vehicle vs id) items ∙ known_more records row old place vehicle within new.id kept.known id;
       fleet = subst IsFleet (sym items) (IsFleet-insert old vehicle place kept.fleet (omega (arith, kept.count)) at new.seats new.empty);
@@ -75,5 +74,6 @@ returns-clause-accepted c =
     subst (IsFleetOf nodes records) (sym c.of.ensures) (record {
       vehicles = kept.vehicles;
       read = vehicles_of-all nodes records c.loop-row.row kept.vehicles few all kept.read;
-      sorted = record { rising = kept.fleet.rise; members = kept.members };
+      rising = kept.fleet.rise;
+      members = kept.members;
     })

@@ -1,11 +1,11 @@
 use Rattle.std.proofs.Common.{◌≡◌, suc, ◌+◌, ◌<◌, ◌≤◌, [], ◌∷◌, ◌++◌, length, refl, Ok, Err, sym, ap, subst, ◌∙◌, arith}
 use Rattle.script_rows.proofs.Common.{err_from_is_err_and, record_at, all_or_first-ok, round_before, line_at}
-use Rattle.script_rows.proofs.lemmas.LineLemmas.{IsRead-line_in}
+use Rattle.script_rows.proofs.lemmas.LineLemmas.{IsRead-line_in, round_before-first}
 use Rattle.script_rows.proofs.ScriptLemmas.{Built, Built-none, Built-more, line_at-read, script_of-refused, script_of-all}
 use Rattle.script_rows.proofs.reading.read_script.Goals as goal
 
 pub loop-row-init : goal.loop-row-init
-loop-row-init c = record { lines = []; read = refl; built = subst (Built [] 0) (sym c.new-rounds.ensures.items) Built-none; before = refl }
+loop-row-init c = record { lines = []; read = refl; built = subst (Built [] 0) (sym c.new-rounds.ensures.items) Built-none; before = sym (round_before-first c.args.rows.now.records) }
 
 pub returns-in_err-line-clause-refused : goal.returns-in_err-line-clause-refused
 returns-in_err-line-clause-refused c =

@@ -26,7 +26,7 @@ loop-vehicle-preserved c =
     let rows = c.loop-vehicle.rows.items in
     let held = c.loop-vehicle.held.items in
     let inv = c.loop-vehicle.invariant in
-    let few : most ≤ 6 = (let r = c.args.settings.now.in_range.trip_most in omega arith) in
+    let few : most ≤ 6 = (let r = c.args.settings.now.in_range.trip_range.1 in omega arith) in
     let count = ap length c.as_slice-vehicles.ensures in
     let less : v < length settled.vehicles = (let t = c.loop-vehicle-test.true in omega arith) in
     let items : c.add_vehicle.new.rows.items ≡ rows ++ vehicle_rows levels v = c.in_ok-add_vehicle.ensures in
@@ -55,7 +55,7 @@ held_row-requires-clause-few c =
     let total = step.total_more most tau c.args.settled.now v levels c.loop-vehicle.rows.items c.requires.levels (let t = c.loop-vehicle-test.true in omega arith) c.loop-vehicle.invariant.total in
     let few = step.total_few levels (v + 1) in
     let bound = c.requires.few in
-    let range = c.args.settings.now.in_range.pairs_most in
+    let range = c.args.settings.now.in_range.pairs_range.1 in
     let long = ap length (c.deref.ensures.value ∙ items) in
     omega arith
 
@@ -73,7 +73,7 @@ memory_of-requires c =
     let end = c.loop-vehicle.auto.vehicle-end in
     let stop = c.loop-vehicle-test.false in
     let e : c.loop-vehicle.vehicle ≡ length settled.vehicles = omega arith in
-    faults.memory_only most (point_count c.args.times.now) tau settled c.sub_trips_are_servable.ensures.servable c.delays_are_small.ensures (let r = c.args.settings.now.in_range.trip_most in omega arith) c.args.times.now.table.times c.requires.sound
+    faults.memory_only most (point_count c.args.times.now) tau settled c.sub_trips_are_servable.ensures.servable c.delays_are_small.ensures (let r = c.args.settings.now.in_range.trip_range.1 in omega arith) c.args.times.now.table.times c.requires.sound
     (record { vehicles = vehicles; riders = riders; penalty = c.args.settings.now.penalty; rows = rows; held = held }) count (ap length c.as_slice-riders.ensures)
     (subst (λ (n : ℕ). AreRowsUpTo most tau settled n rows) e inv.exact)
     (subst (λ (n : ℕ). HoldRows settled n rows held) e inv.hold)
@@ -89,7 +89,7 @@ new-requires c =
       vehicles = (let a = ap length c.as_slice-vehicles.ensures in let b = c.requires.sound.vehicle_count in omega arith);
       riders = (let a = ap length c.as_slice-riders.ensures in let b = c.requires.sound.rider_count in omega arith);
       penalty = (let a = range.penalty_most in omega arith);
-      rows = (let a = range.pairs_most in omega arith);
+      rows = (let a = range.pairs_range.1 in omega arith);
     }
 
 pub returns-in-Ok : goal.returns-in-Ok
