@@ -5,7 +5,6 @@ pub use Rattle.std.proofs.lemmas.List.Elements.{All-cons, All-contains, All-map,
 pub use Rattle.std.proofs.lemmas.List.Sorted.{All-permutation, Contains-permutation, IsPermutation-insert, IsPermutation-map, length_permutation}
 pub use Rattle.pool_base.specs.Times.{point_count, travel_time}
 pub use Rattle.pool_base.specs.TravelTime.{IsTravelTime, longest, never}
-pub use Rattle.small_routing.specs.Apart.{with_leg}
 pub use Rattle.small_routing.specs.declared.candidate.Candidate.{Candidate}
 pub use Rattle.small_routing.specs.declared.label.Label.{Label}
 pub use Rattle.small_routing.specs.work.Ahead.{CanStill, PassengerCan, RiderCan, late_at_once, least_ahead, passenger_late, rider_late}

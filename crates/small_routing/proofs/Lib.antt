@@ -4,5 +4,4 @@ mod CostLemmas
 pub mod LabelLemmas
 pub mod SearchLemmas
 pub mod UnlimitedLemmas
-mod ApartLemmas
 pub mod Common

@@ -3,5 +3,4 @@ pub mod Ahead
 pub mod Kept
 pub mod Search
 pub mod Unlimited
-pub mod Apart
 pub mod Cost

@@ -35,7 +35,7 @@ pub(crate) fn look_ahead(task: &Task, times: &Times, label: &Label) -> Option<u6
 
 /// The delay of one rider where the vehicle goes there at once; `None` exactly where that is too late.
 #[inline(always)]
-pub(crate) fn late_if_at_once(
+fn late_if_at_once(
     times: &Times,
     dwell: u16,
     leg: &Leg,

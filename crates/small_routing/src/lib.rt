@@ -25,7 +25,6 @@
 #![tactic(auto)]
 
 mod ahead;
-mod apart;
 mod candidate;
 mod cost;
 mod kept;
@@ -34,7 +33,6 @@ mod least;
 mod search;
 mod unlimited;
 
-pub use apart::are_apart;
 pub use cost::least_cost_with;
 pub use kept::Workspace;
 pub use least::{least_delay, least_delay_with};

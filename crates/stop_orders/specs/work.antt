@@ -1,3 +1,4 @@
 pub mod Rest
 pub mod Plain
 pub mod Position
+pub mod PairList

@@ -55,6 +55,20 @@ pub(crate) fn has_sibling(rows: &[TripOf], row: usize, front: usize) -> bool
     have_same_front(riders, other, front)
 }
 
+/// Whether the pairs leave it possible that the vehicle can serve these riders and one more: of trips of two they
+/// tell. `near` is where they were looked up before.
+pub(crate) fn may_share(
+    growth: &Growth<'_>,
+    near: &mut usize,
+    riders: &[usize],
+    rider: usize,
+) -> bool
+    requires { CanGrow growth.now }
+    ensures { IsFalse result → serves growth.now (riders.now ++ rider ∷ []) → ⊥ }
+{
+    riders.len() != 1 || growth.pairs.has(near, riders[0], rider)
+}
+
 /// Whether the smaller trips leave it possible that the vehicle can serve the trip. The two smaller trips
 /// without one of the last two riders are known to be rows.
 pub(crate) fn is_possible(growth: &Growth<'_>, rows: &[TripOf], trip: &[usize]) -> bool
@@ -64,9 +78,6 @@ pub(crate) fn is_possible(growth: &Growth<'_>, rows: &[TripOf], trip: &[usize]) 
     requires size { length trip.now ≤ 6 }
     ensures { IsFalse result → serves growth.now trip.now → ⊥ }
 {
-    if trip.len() == 2 && !growth.pairs.has(trip[0], trip[1]) {
-        return false;
-    }
     for place in 0..trip.len().saturating_sub(2) {
         if !has_trip(rows, without_rider(trip, place).as_slice()) {
             return false;

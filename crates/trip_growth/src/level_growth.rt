@@ -4,6 +4,7 @@ ghost use Rattle.stop_orders.specs.Settled.{IsRrEdge};
 ghost use Rattle.stop_orders.specs.Sound.{IsSound};
 ghost use Rattle.trip_growth.specs.Rows.{AreRowsOfSize, IsLevelOf};
 
+use crate::growing::Growing;
 use crate::growth::Growth;
 use crate::level::Level;
 use crate::row_growth::grow_size;
@@ -81,16 +82,13 @@ pub fn grow_level<L: Ledger>(
         vehicle,
         room,
     };
-    let mut workspace = Workspace::new(alloc);
-    let mut found = Vec::new(alloc);
-    let all = grow_size(
-        &mut workspace,
-        &growth,
-        below.rows(),
-        level as usize,
-        &mut found,
-        steps,
-    )?;
+    let mut growing = Growing {
+        workspace: Workspace::new(alloc),
+        found: Vec::new(alloc),
+        near: 0,
+    };
+    let all = grow_size(&growth, below.rows(), level as usize, &mut growing, steps)?;
+    let Growing { found, .. } = growing;
     if all {
         Ok(Level::All(VehicleTrips::of(found)))
     } else {

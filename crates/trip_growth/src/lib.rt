@@ -33,6 +33,7 @@
 #![tactic(auto)]
 
 mod candidate;
+mod growing;
 mod grown;
 mod growth;
 mod level;

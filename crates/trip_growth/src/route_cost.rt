@@ -1,10 +1,10 @@
-ghost use Rattle.std.specs.Prelude.{◌≡◌, ◌+◌, ◌<◌, IfOk, IfSome, IfNone, IsTrue, OnOk, length};
+ghost use Rattle.std.specs.Prelude.{◌≡◌, ◌+◌, ◌<◌, IfOk, IfSome, IfNone, OnOk, length};
 ghost use Rattle.pool_base.specs.Times.{point_count, travel_time};
 ghost use Rattle.stop_orders.specs.Task.{IsTask, IsServable, IsLeastDelay};
 ghost use Rattle.trip_growth.specs.work.Growth.{task_with};
 
 use pool_base::{OutOfMemory, Steps, Times};
-use small_routing::{Workspace, are_apart, least_cost_with};
+use small_routing::{Workspace, least_cost_with};
 use std::sync::ledger::Ledger;
 use stop_orders::{Leg, Task};
 
@@ -29,12 +29,4 @@ pub(crate) fn cost_with<L: Ledger>(
     let cost = least_cost_with(workspace, task, times, steps)?;
     task.riders.pop();
     Ok(cost)
-}
-
-/// Whether it is seen at once that no order serves the task with one more rider, where that is the second.
-pub(crate) fn are_apart_with(task: &Task, leg: &Leg, times: &Times) -> bool
-    requires { IsTask (point_count times.now) (task_with task.now leg.now) }
-    ensures { IsTrue result → IsServable (travel_time times.now) (task_with task.now leg.now) → ⊥ }
-{
-    task.riders.len() == 1 && are_apart(task, leg, times)
 }

@@ -83,9 +83,8 @@ module _ (rows : List TripOf) (trip : List ℕ) (sized : All (λ row. length row
         | inr ge ↦ subst (λ (v : List ℕ). IsLower trip v) is (after k (omega arith) kn)
       ])
 
--- a trip of two is its two riders
-pub two_riders : (t : List ℕ) → length t ≡ 2 → t ≡ get_or t 0 0 ∷ get_or t 1 0 ∷ []
-two_riders [] e = absurd (omega arith)
-two_riders (x ∷ []) e = absurd (omega arith)
-two_riders (x ∷ (y ∷ [])) e = refl
-two_riders (x ∷ (y ∷ (z ∷ zs))) e = absurd (omega arith)
+-- a trip of one is its rider
+pub one_rider : (t : List ℕ) → length t ≡ 1 → t ≡ get_or t 0 0 ∷ []
+one_rider [] e = absurd (omega arith)
+one_rider (x ∷ []) e = refl
+one_rider (x ∷ (y ∷ ys)) e = absurd (omega arith)

@@ -4,21 +4,11 @@ use Rattle.trip_growth.proofs.Levels.{taken, passed}
 use Rattle.trip_growth.proofs.RowGrowth.{row_of, one_too_many, longer_task}
 use Rattle.trip_growth.proofs.row_growth.add_trip.Goals as goal
 
-pub are_apart_with-requires : goal.are_apart_with-requires
-are_apart_with-requires g c =
-    let growth = c.args.growth.now in
-    let longer = length_push c.args.riders.now c.args.rider in
-    let same = longer_task growth.settled.now growth.vehicle c.args.task.now c.args.riders.now c.args.rider c.as_slice.result.now c.index-as_slice-rider.result c.requires.task c.as_slice.ensures c.requires.trip in
-    subst (IsTask (point_count growth.times.now)) (sym same)
-    ((c.requires.can.sound.each growth.vehicle c.requires.can.vehicle).tasks (c.args.riders.now ++ c.args.rider ∷ []) c.requires.trip (omega arith))
-
-pub returns-then-are_apart_with-clause-answer : goal.returns-then-are_apart_with-clause-answer
-returns-then-are_apart_with-clause-answer g c =
-    let growth = c.args.growth.now in
-    let same = longer_task growth.settled.now growth.vehicle c.args.task.now c.args.riders.now c.args.rider c.as_slice.result.now c.index-as_slice-rider.result c.requires.task c.as_slice.ensures c.requires.trip in
-    let apart = c.are_apart_with.ensures c.if-are_apart_with.true in (
-      passed (rider_count growth) (serves growth) (costs growth) c.requires.can.rule c.args.riders.now c.args.rider c.args.found.now.items
-          (λ s. apart (subst (IsServable (travel_time growth.times.now)) (sym same) s.servable)) c.requires.upto,
+pub returns-then-not-may_share-clause-answer : goal.returns-then-not-may_share-clause-answer
+returns-then-not-may_share-clause-answer g c =
+    let growth = c.args.growth.now in (
+      passed (rider_count growth) (serves growth) (costs growth) c.requires.can.rule c.args.riders.now c.args.rider c.args.growing.now.found.items
+          (c.may_share.ensures c.if-not-may_share.true) c.requires.upto,
       c.requires.room,
     )
 
@@ -26,7 +16,7 @@ pub returns-then-not-is_possible-clause-answer : goal.returns-then-not-is_possib
 returns-then-not-is_possible-clause-answer g c =
     let growth = c.args.growth.now in
     let is = c.as_slice-trip.ensures.value ∙ c.with_rider-longer.ensures in (
-      passed (rider_count growth) (serves growth) (costs growth) c.requires.can.rule c.args.riders.now c.args.rider c.args.found.now.items
+      passed (rider_count growth) (serves growth) (costs growth) c.requires.can.rule c.args.riders.now c.args.rider c.args.growing.now.found.items
           (λ s. c.is_possible.ensures c.if-not-is_possible.true (subst (serves growth) (sym is) s)) c.requires.upto,
       c.requires.room,
     )
@@ -36,7 +26,7 @@ returns-in_default-clause-answer g c =
     let growth = c.args.growth.now in
     let same = longer_task growth.settled.now growth.vehicle c.args.task.now c.args.riders.now c.args.rider c.as_slice.result.now c.index-as_slice-rider.result c.requires.task c.as_slice.ensures c.requires.trip in
     let none = rw c.in_default.is at c.in_ok-cost.ensures.none in (
-      passed (rider_count growth) (serves growth) (costs growth) c.requires.can.rule c.args.riders.now c.args.rider c.args.found.now.items
+      passed (rider_count growth) (serves growth) (costs growth) c.requires.can.rule c.args.riders.now c.args.rider c.args.growing.now.found.items
           (λ s. none (subst (IsServable (travel_time growth.times.now)) (sym same) s.servable)) c.requires.upto,
       c.requires.room,
     )
@@ -48,8 +38,8 @@ returns-then-len-growth-clause-answer g c =
     let least = subst (λ t. IsLeastDelay (travel_time growth.times.now) t c.in-Some.cost) same (rw c.in-Some.is at c.in_ok-cost.ensures.least) in
     let good = row_of (serves growth) (costs growth) (c.args.riders.now ++ c.args.rider ∷ []) (record { riders = c.with_rider-longer.result; cost = c.in-Some.cost }) c.with_rider-longer.ensures
     (record { vehicle = c.requires.can.vehicle; riders = c.requires.trip; size = omega (arith, length_push c.args.riders.now c.args.rider); servable = (least.stops, least.serves) }) least in
-    one_too_many (serves growth) (costs growth) _ growth.room _ c.args.found.now.items _
-    (taken (rider_count growth) (serves growth) (costs growth) c.requires.can.rule c.args.riders.now c.args.rider c.args.found.now.items _ c.with_rider-longer.ensures good c.requires.upto) (omega arith)
+    one_too_many (serves growth) (costs growth) _ growth.room _ c.args.growing.now.found.items _
+    (taken (rider_count growth) (serves growth) (costs growth) c.requires.can.rule c.args.riders.now c.args.rider c.args.growing.now.found.items _ c.with_rider-longer.ensures good c.requires.upto) (omega arith)
 
 pub returns-clause-answer : goal.returns-clause-answer
 returns-clause-answer g c =
@@ -59,8 +49,8 @@ returns-clause-answer g c =
     let good = row_of (serves growth) (costs growth) (c.args.riders.now ++ c.args.rider ∷ []) (record { riders = c.with_rider-longer.result; cost = c.in-Some.cost }) c.with_rider-longer.ensures
     (record { vehicle = c.requires.can.vehicle; riders = c.requires.trip; size = omega (arith, length_push c.args.riders.now c.args.rider); servable = (least.stops, least.serves) }) least in
     rw c.in_ok-push.ensures.items (
-      taken (rider_count growth) (serves growth) (costs growth) c.requires.can.rule c.args.riders.now c.args.rider c.args.found.now.items _ c.with_rider-longer.ensures good c.requires.upto,
-      omega (arith, length_push c.args.found.now.items (record { riders = c.with_rider-longer.result; cost = c.in-Some.cost })),
+      taken (rider_count growth) (serves growth) (costs growth) c.requires.can.rule c.args.riders.now c.args.rider c.args.growing.now.found.items _ c.with_rider-longer.ensures good c.requires.upto,
+      omega (arith, length_push c.args.growing.now.found.items (record { riders = c.with_rider-longer.result; cost = c.in-Some.cost })),
     )
 
 pub cost_with-requires-clause-valid : goal.cost_with-requires-clause-valid

@@ -8,7 +8,7 @@ use Rattle.trip_growth.proofs.row_growth.grow_first.Goals as goal
 pub returns-then-is_empty-clause-answer : goal.returns-then-is_empty-clause-answer
 returns-then-is_empty-clause-answer g c =
     let growth = c.args.growth.now in (
-      none_first (rider_count growth) (serves growth) (costs growth) c.args.rows.now c.args.found.now.items c.requires.can.rule c.requires.below (grind (arith, nat_tests)) c.requires.none,
+      none_first (rider_count growth) (serves growth) (costs growth) c.args.rows.now c.args.growing.now.found.items c.requires.can.rule c.requires.below (grind (arith, nat_tests)) c.requires.none,
       rw c.requires.none (omega arith),
     )
 
@@ -36,8 +36,8 @@ pub returns-clause-answer : goal.returns-clause-answer
 returns-clause-answer g c =
     let growth = c.args.growth.now in
     let all = ap length c.as_slice-rider-end.ensures in (
-      ended (rider_count growth) (serves growth) (costs growth) c.requires.can.rule 1 c.loop-rider.found.items (omega arith)
-          (subst (λ (v : ℕ). IsLevelUpTo (serves growth) (costs growth) 1 (v ∷ []) c.loop-rider.found.items) (omega arith) c.loop-rider.invariant.upto),
+      ended (rider_count growth) (serves growth) (costs growth) c.requires.can.rule 1 c.loop-rider.growing.found.items (omega arith)
+          (subst (λ (v : ℕ). IsLevelUpTo (serves growth) (costs growth) 1 (v ∷ []) c.loop-rider.growing.found.items) (omega arith) c.loop-rider.invariant.upto),
       c.loop-rider.invariant.room,
     )
 

@@ -4,8 +4,8 @@ use Rattle.trip_growth.proofs.row_growth.grow_first.Given as goal
 
 abbrev pub invariant-loop-rider : goal.invariant-loop-rider
 invariant-loop-rider g l = record {
-  upto : IsLevelUpTo (serves l.growth) (costs l.growth) 1 (l.rider ∷ []) l.found.items;
-  room : length l.found.items ≤ l.growth.room;
+  upto : IsLevelUpTo (serves l.growth) (costs l.growth) 1 (l.rider ∷ []) l.growing.found.items;
+  room : length l.growing.found.items ≤ l.growth.room;
   task : l.task ≡ task_of_trip l.growth [];
   cost : l.steps ≤ l.fn.steps + l.rider;
 }

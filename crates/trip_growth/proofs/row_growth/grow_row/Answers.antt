@@ -6,7 +6,7 @@ use Rattle.trip_growth.proofs.row_growth.grow_row.Goals as goal
 
 pub returns-then-not-has_sibling-clause-answer : goal.returns-then-not-has_sibling-clause-answer
 returns-then-not-has_sibling-clause-answer g c =
-    let growth = c.args.growth.now in let rows = c.args.rows.now in let row = c.args.row in let found = c.args.found.now.items in
+    let growth = c.args.growth.now in let rows = c.args.rows.now in let row = c.args.row in let found = c.args.growing.now.found.items in
     let opened = opened_at (rider_count growth) (serves growth) (costs growth) c.requires.can.rule c.args.size rows c.requires.below row found c.requires.row c.requires.upto in (
       closed_at (rider_count growth) (serves growth) (costs growth) c.requires.can.rule c.args.size rows c.requires.below row row found (omega arith) c.requires.row refl
           (c.has_sibling.ensures c.if-not-has_sibling.true) opened,
@@ -20,7 +20,7 @@ loop-at-init g c =
       from = omega arith;
       within = c.requires.row;
       same = refl;
-      upto = opened_at (rider_count growth) (serves growth) (costs growth) c.requires.can.rule c.args.size c.args.rows.now c.requires.below c.args.row c.args.found.now.items c.requires.row c.requires.upto;
+      upto = opened_at (rider_count growth) (serves growth) (costs growth) c.requires.can.rule c.args.size c.args.rows.now c.requires.below c.args.row c.args.growing.now.found.items c.requires.row c.requires.upto;
       room = c.requires.room;
       task = c.task_of-task.ensures;
       cost = omega arith;
@@ -31,7 +31,7 @@ returns-then-not-have_same_front-clause-answer g c =
     let growth = c.args.growth.now in let rows = c.args.rows.now in let m = c.args.size in
     let es = read_at rows c.args.row _ _ c.requires.row c.as_slice-riders.ensures.value in
     let ed = read_at rows (c.loop-at.at + 1) _ _ c.loop-at-test.true c.as_slice-other.ensures.value in (
-      closed_at (rider_count growth) (serves growth) (costs growth) c.requires.can.rule m rows c.requires.below c.args.row c.loop-at.at c.loop-at.found.items
+      closed_at (rider_count growth) (serves growth) (costs growth) c.requires.can.rule m rows c.requires.below c.args.row c.loop-at.at c.loop-at.growing.found.items
           c.loop-at.invariant.from c.loop-at.invariant.within c.loop-at.invariant.same
           (λ _ e.
           let yes = c.have_same_front.ensures.1 (ap (λ (v : List ℕ). take m v) es ∙ sym e ∙ ap (λ (v : List ℕ). take m v) (sym ed)) in
@@ -72,8 +72,8 @@ add_trip-requires-clause-upto g c =
     let es = read_at rows c.args.row _ _ c.requires.row c.as_slice-riders.ensures.value in
     let ed = read_at rows (c.loop-at.at + 1) _ _ c.loop-at-test.true c.as_slice-other.ensures.value in
     let next = same_front m _ _ _ _ es ed (c.have_same_front.ensures.0 c.if-not-have_same_front.false) in
-    upto_as_read (rider_count growth) (serves growth) (costs growth) c.requires.can.rule m rows c.requires.below c.args.row (c.loop-at.at + 1) _ _ c.loop-at.found.items c.requires.row es ed
-    (advanced_at (rider_count growth) (serves growth) (costs growth) c.requires.can.rule m rows c.requires.below c.args.row c.loop-at.at c.loop-at.found.items
+    upto_as_read (rider_count growth) (serves growth) (costs growth) c.requires.can.rule m rows c.requires.below c.args.row (c.loop-at.at + 1) _ _ c.loop-at.growing.found.items c.requires.row es ed
+    (advanced_at (rider_count growth) (serves growth) (costs growth) c.requires.can.rule m rows c.requires.below c.args.row c.loop-at.at c.loop-at.growing.found.items
     c.requires.row c.loop-at-test.true c.loop-at.invariant.same next c.loop-at.invariant.upto)
 
 pub returns-in_err-add_trip-clause-steps : goal.returns-in_err-add_trip-clause-steps
@@ -133,7 +133,7 @@ loop-at-preserved g c =
 pub returns-clause-answer : goal.returns-clause-answer
 returns-clause-answer g c =
     let growth = c.args.growth.now in let rows = c.args.rows.now in (
-      closed_at (rider_count growth) (serves growth) (costs growth) c.requires.can.rule c.args.size rows c.requires.below c.args.row c.loop-at.at c.loop-at.found.items
+      closed_at (rider_count growth) (serves growth) (costs growth) c.requires.can.rule c.args.size rows c.requires.below c.args.row c.loop-at.at c.loop-at.growing.found.items
           c.loop-at.invariant.from c.loop-at.invariant.within c.loop-at.invariant.same
           (λ k _. absurd (let over = c.loop-at-test.false in omega arith))
           c.loop-at.invariant.upto,

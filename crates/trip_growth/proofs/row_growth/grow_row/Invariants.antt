@@ -8,8 +8,8 @@ invariant-loop-at g l =
       from : l.row ≤ l.at;
       within : l.at < length l.rows;
       same : take l.size there ≡ take l.size here;
-      upto : IsLevelUpTo (serves l.growth) (costs l.growth) (l.size + 2) (here ++ (slice_index there l.size + 1) ∷ []) l.found.items;
-      room : length l.found.items ≤ l.growth.room;
+      upto : IsLevelUpTo (serves l.growth) (costs l.growth) (l.size + 2) (here ++ (slice_index there l.size + 1) ∷ []) l.growing.found.items;
+      room : length l.growing.found.items ≤ l.growth.room;
       task : l.task ≡ task_of_trip l.growth l.riders;
       cost : l.steps + slice_index here l.size ≤ l.fn.steps + slice_index there l.size;
     }

@@ -15,6 +15,6 @@ loop-row-init g c =
 pub returns-clause-answer : goal.returns-clause-answer
 returns-clause-answer g c =
     let growth = c.args.growth.now in (
-      ended_at (rider_count growth) (serves growth) (costs growth) c.requires.can.rule c.args.size c.args.rows.now c.requires.below c.loop-row.found.items c.loop-row.row (omega arith) c.loop-row.invariant.upto,
+      ended_at (rider_count growth) (serves growth) (costs growth) c.requires.can.rule c.args.size c.args.rows.now c.requires.below c.loop-row.growing.found.items c.loop-row.row (omega arith) c.loop-row.invariant.upto,
       c.loop-row.invariant.room,
     )

@@ -1,7 +1,7 @@
 use Rattle.std.proofs.Common.{◌≡◌, ℕ, ◌<◌, ◌≤◌, List, length, slice_index_or, refl, subst, ◌∙◌, arith, inl, inr, Contains}
 use Rattle.stop_orders.proofs.Common.{get_or_default, cases_lt, ArePairs, IsBefore}
 use Rattle.stop_orders.proofs.PairLemmas.{pairs_before}
-use Rattle.stop_orders.proofs.pair_list.has_pair.Goals as goal
+use Rattle.stop_orders.proofs.pair_list.has_at.Goals as goal
 
 not_before_itself : (p : ℕ × ℕ) → IsBefore p p → ⊥
 not_before_itself p h = omega (arith, h.1 refl)
@@ -28,13 +28,13 @@ pub returns-then-place-pairs : goal.returns-then-place-pairs
 returns-then-place-pairs c = (
   λ f. absurd cc,
   λ found.
-      let there = stands_there c.args.pairs.now (c.args.a, c.args.b) c.first_not_before-place.result c.requires c.first_not_before-place.ensures.before c.first_not_before-place.ensures.after found in
+      let there = stands_there c.args.pairs.now (c.args.a, c.args.b) c.args.place c.requires.pairs c.requires.first.before c.requires.first.after found in
       absurd (omega (arith, there.0, c.if-place-pairs.true)),
 )
 
 pub returns : goal.returns
 returns c =
-    let place = c.first_not_before-place.result in (
+    let place = c.args.place in (
       λ is. (place, c.if-place-pairs.false, get_or_default c.args.pairs.now place (c.args.a, c.args.b) (0, 0) c.if-place-pairs.false ∙ c.is_pair.ensures.0 is),
-      λ found. c.is_pair.ensures.1 (stands_there c.args.pairs.now (c.args.a, c.args.b) place c.requires c.first_not_before-place.ensures.before c.first_not_before-place.ensures.after found).1,
+      λ found. c.is_pair.ensures.1 (stands_there c.args.pairs.now (c.args.a, c.args.b) place c.requires.pairs c.requires.first.before c.requires.first.after found).1,
     )
