@@ -1,5 +1,5 @@
 -- After a node's search, labels have the hubs of one rank more.
-use Rattle.std.proofs.Common.{◌≡◌, ℕ, ◌+◌, ◌<◌, ◌≤◌, ◌⊎◌, List, [], ◌∷◌, ◌++◌, length, get_or, slice_index, All, Contains, sym, ap, ◌∙◌, subst, ⊎_elim, arith}
+use Rattle.std.proofs.Common.{◌≡◌, ℕ, ◌+◌, ◌<◌, ◌≤◌, ◌⊎◌, List, [], ◌∷◌, ◌++◌, length, get_or, slice_index, All, Contains, sym, ap, ◌∙◌, subst, inl, inr, arith}
 use Rattle.hub_labels.proofs.Cited.{cases_lt, get_or_append_left, get_or_push, length_push, All-push, All-weaker, Contains-append_left, Contains-push, never, longest, Arc, IsArcAmong, Hub, IsRankedHub, IsLabelBelow, AreLabelsBelow, IsToldAt, IsPruned, IsSpread, GainsHub}
 use Rattle.hub_labels.proofs.Times.{AreTimes, start_within}
 use Rattle.hub_labels.proofs.Found.{IsOwnLabel, hub_found, found_hub}
@@ -16,16 +16,12 @@ module _ {arcs : List Arc} {n : ℕ} {time : ℕ → ℕ → ℕ} {rank : List �
       record {
         rising = lab.rising;
         sound = All-weaker (λ (hub : Hub). IsRankedHub arcs rank b hub.node hub.seconds × (slice_index rank hub.node < slice_index rank h)) (λ (hub : Hub). IsRankedHub arcs rank b hub.node hub.seconds × (slice_index rank hub.node < slice_index rank h + 1)) (λ hub both. (both.0, omega (arith, both.1))) (get_or labels b []) lab.sound;
-        complete = λ hub ranked low. ⊎_elim
-            (λ (lower : slice_index rank hub.node < slice_index rank h). lab.complete hub ranked lower)
-            (λ (high : slice_index rank h ≤ slice_index rank hub.node).
-            let is : hub.node ≡ h = is_start b hb hub ranked low high in
-            let found = hub_found among few are hh below of_start spread pruned b hub.seconds hb (rw is at ranked) in
-            ⊎_elim
-            (λ (far : slice_index seconds b ≡ never). let e : slice_index seconds b ≡ hub.seconds = found.0 in let l : hub.seconds ≤ longest = found.1 in absurd (omega arith))
-            (λ told. absurd (found.2 (subst (λ (most : ℕ). IsToldAt labels via b most) found.0 told)))
-            neither)
-            (cases_lt (slice_index rank hub.node) (slice_index rank h));
+        complete = λ hub ranked low. elim (cases_lt (slice_index rank hub.node) (slice_index rank h)) [
+          | inl lower ↦ lab.complete hub ranked lower
+          | inr high ↦
+              let found = hub_found among few are hh below of_start spread pruned b hub.seconds hb (rw (is_start b hb hub ranked low high) at ranked) in
+              elim neither [ inl far ↦ absurd (omega (arith, far, found.0, found.1)) | inr told ↦ absurd (found.2 (rw found.0 at told)) ]
+        ];
       }
 
   -- where the start is one more hub
@@ -36,33 +32,29 @@ module _ {arcs : List Arc} {n : ℕ} {time : ℕ → ℕ → ℕ} {rank : List �
       let old : List Hub = get_or labels b [] in
       let hub : Hub = record { node = h; seconds = slice_index seconds b } in
       let ranked : IsRankedHub arcs rank b h (slice_index seconds b) = found_hub among few are hh below of_start spread pruned b hb finite new in
-      let long : length (get_or labels b [] ++ hub ∷ []) ≡ length (get_or labels b []) + 1 = length_push (get_or labels b []) hub in
+      let long = length_push old hub in
       record {
-        rising = λ i j d lt inside. ⊎_elim
-            (λ (before : j < length (get_or labels b [])).
-            rw (get_or_append_left old (hub ∷ []) d i (omega arith), get_or_append_left old (hub ∷ []) d j before) (lab.rising i j d lt before))
-            (λ (past : length (get_or labels b []) ≤ j).
-            let last : length (get_or labels b []) ≡ j = omega arith in
-            rw (get_or_append_left old (hub ∷ []) d i (omega arith), get_or_push old hub d j last) ((lab.sound i d (omega arith)).1))
-            (cases_lt j (length (get_or labels b [])));
+        rising = λ i j d lt inside. elim (cases_lt j (length old)) [
+          | inl before ↦ rw (get_or_append_left old (hub ∷ []) d i (omega arith), get_or_append_left old (hub ∷ []) d j before) (lab.rising i j d lt before)
+          | inr past ↦
+              let last : length old ≡ j = omega (arith, past, inside, long) in
+              rw (get_or_append_left old (hub ∷ []) d i (omega (arith, lt, last)), get_or_push old hub d j last) ((lab.sound i d (omega (arith, lt, last))).1)
+        ];
         sound = All-push (λ (o : Hub). IsRankedHub arcs rank b o.node o.seconds × (slice_index rank o.node < slice_index rank h + 1)) old hub
             (All-weaker (λ (o : Hub). IsRankedHub arcs rank b o.node o.seconds × (slice_index rank o.node < slice_index rank h)) (λ (o : Hub). IsRankedHub arcs rank b o.node o.seconds × (slice_index rank o.node < slice_index rank h + 1)) (λ o both. (both.0, omega (arith, both.1))) old lab.sound)
             (ranked, omega arith);
-        complete = λ other is_hub low. ⊎_elim
-            (λ (lower : slice_index rank other.node < slice_index rank h). Contains-append_left old (hub ∷ []) other (lab.complete other is_hub lower))
-            (λ (high : slice_index rank h ≤ slice_index rank other.node).
-            let is : other.node ≡ h = is_start b hb other is_hub low high in
-            let found = hub_found among few are hh below of_start spread pruned b other.seconds hb (rw is at is_hub) in
-            let same : hub ≡ other = let e : slice_index seconds b ≡ other.seconds = found.0 in ap (λ (s : ℕ). let r : Hub = record { node = h; seconds = s } in r) e ∙ ap (λ (v : ℕ). let r : Hub = record { node = v; seconds = other.seconds } in r) (sym is) in
-            subst (λ (o : Hub). Contains (old ++ hub ∷ []) o) same (Contains-push old hub))
-            (cases_lt (slice_index rank other.node) (slice_index rank h));
+        complete = λ other is_hub low. elim (cases_lt (slice_index rank other.node) (slice_index rank h)) [
+          | inl lower ↦ Contains-append_left old (hub ∷ []) other (lab.complete other is_hub lower)
+          | inr high ↦
+              let is : other.node ≡ h = is_start b hb other is_hub low high in
+              let found = hub_found among few are hh below of_start spread pruned b other.seconds hb (rw is at is_hub) in
+              let same : hub ≡ other = ap (λ (s : ℕ). let r : Hub = record { node = h; seconds = s } in r) found.0 ∙ ap (λ (v : ℕ). let r : Hub = record { node = v; seconds = other.seconds } in r) (sym is) in
+              subst (λ (o : Hub). Contains (old ++ hub ∷ []) o) same (Contains-push old hub)
+        ];
       }
 
   pub hubs_added : (after : List (List Hub)) → length after ≡ length labels → ((b : ℕ) → b < n → GainsHub h via (slice_index seconds b) (get_or labels b []) (get_or after b [])) → AreLabelsBelow arcs rank n (slice_index rank h + 1) after
   hubs_added after each gains = record {
     each = each ∙ below.each;
-    labelled = λ b hb. ⊎_elim
-        (λ same. rw same.1 (kept b hb same.0))
-        (λ more. rw more.2 (gained b hb more.0 more.1))
-        (gains b hb);
+    labelled = λ b hb. elim (gains b hb) [ inl same ↦ rw same.1 (kept b hb same.0) | inr more ↦ rw more.2 (gained b hb more.0 more.1) ];
   }

@@ -1,6 +1,6 @@
 -- The searches of one node, put together.
-use Rattle.std.proofs.Common.{◌≡◌, ◌≢◌, ℕ, ◌<◌, ◌≤◌, ◌⊎◌, List, [], length, get_or, slice_index, All, Contains, sym, ap, ◌∙◌, subst, inl, inr, ⊎_elim, arith}
-use Rattle.hub_labels.proofs.Cited.{get_or_default, never, longest, Arc, Hop, IsArcAmong, HasWalkOf, Hub, AreNodeHops, IsLabelBelow, AreLabelsBelow, IsRankedHub, IsPruned, IsSpread, HasSpread, GainsHub, HandsOver, AddsHub}
+use Rattle.std.proofs.Common.{◌≡◌, ◌≢◌, ℕ, ◌<◌, ◌≤◌, ◌⊎◌, List, [], length, get_or, slice_index, All, Contains, sym, ap, ◌∙◌, subst, inl, inr, arith}
+use Rattle.hub_labels.proofs.Cited.{get_or_default, never, longest, Arc, Hop, IsArcAmong, Hub, AreNodeHops, IsLabelBelow, AreLabelsBelow, IsRankedHub, IsPruned, IsSpread, HasSpread, GainsHub, HandsOver, AddsHub}
 use Rattle.hub_labels.proofs.Times.{times_of, start_within}
 use Rattle.hub_labels.proofs.Turned.{own_label}
 use Rattle.hub_labels.proofs.Added.{hubs_added}
@@ -9,38 +9,32 @@ use Rattle.hub_labels.proofs.Added.{hubs_added}
 spread_of_label : (n : ℕ) (rank : List ℕ) (IsHub : ℕ → ℕ → Type 0) (bound : ℕ) (label : List Hub) (via : List ℕ) → length via ≡ n → IsLabelBelow rank IsHub bound label → HasSpread label (length label) via → IsSpread n label via
 spread_of_label n rank IsHub bound label via each below spread = record {
   each = each;
-  sound = λ node h. ⊎_elim
-      (λ (far : slice_index via node ≡ never). inl far)
-      (λ at.
-      let hub : Hub = record { node = node; seconds = slice_index via node } in
-      inr (at.0, at.2, get_or_default label at.0 hub (record { node = 0; seconds = 0 }) at.2 ∙ at.3))
-      (spread.sound node (omega arith));
+  sound = λ node h. elim (spread.sound node (omega (arith, h, each))) [
+    | inl far ↦ inl far
+    | inr at ↦ inr (at.0, at.2, get_or_default label at.0 (record { node = node; seconds = slice_index via node }) (record { node = 0; seconds = 0 }) at.2 ∙ at.3)
+  ];
   complete = λ hub (k, inside, is).
       let apart : (j : ℕ) (e : Hub) → k < j → j < length label → (get_or label j e).node ≢ (get_or label k hub).node = λ j e lt h same.
-      let rises : slice_index rank (get_or label k e).node < slice_index rank (get_or label j e).node = below.rising k j e lt h in
-      let one : (get_or label k e).node ≡ (get_or label k hub).node = ap (λ (x : Hub). x.node) (get_or_default label k e hub inside) in
-      let two : slice_index rank (get_or label k e).node ≡ slice_index rank (get_or label j e).node = ap (slice_index rank) (one ∙ sym same) in
-      omega arith in
-      let read = spread.complete k hub inside inside apart in
-      sym (ap (slice_index via) (ap (λ (x : Hub). x.node) is)) ∙ read ∙ ap (λ (x : Hub). x.seconds) is;
+      omega (arith, below.rising k j e lt h, ap (slice_index rank) (ap (λ (x : Hub). x.node) (get_or_default label k e hub inside) ∙ sym same)) in
+      sym (ap (slice_index via) (ap (λ (x : Hub). x.node) is)) ∙ spread.complete k hub inside inside apart ∙ ap (λ (x : Hub). x.seconds) is;
 }
 
 -- every node that was found was handed over
 pub handed : (n start : ℕ) (via taken seconds : List ℕ) (labels : List (List Hub)) (after : List ℕ) (labels' : List (List Hub)) → length seconds ≡ n → ((node : ℕ) → node < n → (slice_index seconds node ≡ never) ⊎ (slice_index seconds node ≤ longest))
     → ((node : ℕ) → node < length seconds → slice_index seconds node < never → Contains taken node) → HandsOver start via taken (length taken) seconds labels after labels'
     → (node : ℕ) → node < n → (slice_index after node ≡ never) × GainsHub start via (slice_index seconds node) (get_or labels node []) (get_or labels' node [])
-handed n start via taken seconds labels after labels' each range noted hands node h = ⊎_elim
-    (λ done. done)
-    (λ left. ⊎_elim
-    (λ (far : slice_index seconds node ≡ never). (left.0 ∙ far, inl (inl far, left.1)))
-    (λ (found : slice_index seconds node ≤ longest).
-    let has : Contains taken node = noted node (omega arith) (omega arith) in
-    absurd (left.2 has.0 has.1 has.1 (get_or_default taken has.0 0 node has.1 ∙ has.2)))
-    (range node h))
-    (hands.each node (omega arith))
+handed n start via taken seconds labels after labels' each range noted hands node h = elim (hands.each node (omega (arith, h, each))) [
+  | inl done ↦ done
+  | inr left ↦ elim (range node h) [
+    | inl far ↦ (left.0 ∙ far, inl (inl far, left.1))
+    | inr found ↦
+        let has = noted node (omega (arith, h, each)) (omega (arith, found)) in
+        absurd (left.2 has.0 has.1 has.1 (get_or_default taken has.0 0 node has.1 ∙ has.2))
+  ]
+]
 
 pub found_range : (arcs : List Arc) (n start : ℕ) (labels : List (List Hub)) (via seconds : List ℕ) → IsPruned arcs n start labels via seconds → (node : ℕ) → node < n → (slice_index seconds node ≡ never) ⊎ (slice_index seconds node ≤ longest)
-found_range arcs n start labels via seconds pruned node h = ⊎_elim (λ (far : slice_index seconds node ≡ never). inl far) (λ (found : (slice_index seconds node ≤ longest) × HasWalkOf arcs start node (slice_index seconds node)). inr found.0) (pruned.sound node h)
+found_range arcs n start labels via seconds pruned node h = elim (pruned.sound node h) [ inl far ↦ inl far | inr found ↦ inr found.0 ]
 
 pub adds_hub : (hops : List (List Hop)) (own : List (List Hub)) (start : ℕ) (before after : List (List Hub)) (via taken seconds seconds' : List ℕ) → length hops ≤ 100000 → start < length hops → length via ≡ length hops
     → HasSpread (get_or own start []) (length (get_or own start [])) via
@@ -58,6 +52,6 @@ adds_hub hops own start before after via taken seconds seconds' few hs via_each 
 -- hubs are nodes of the network
 pub labels_within : (arcs : List Arc) (n : ℕ) (rank : List ℕ) (bound : ℕ) (labels : List (List Hub)) → All (IsArcAmong n) arcs → AreLabelsBelow arcs rank n bound labels → All (λ label. All (λ (hub : Hub). hub.node < n) label) labels
 labels_within arcs n rank bound labels among below b d h =
-    let hb : b < n = let e : length labels ≡ n = below.each in omega arith in
+    let hb : b < n = omega (arith, below.each, h) in
     subst (λ (label : List Hub). All (λ (hub : Hub). hub.node < n) label) (get_or_default labels b [] d h)
     (λ k e inside. let hub = ((below.labelled b hb).sound k e inside).0 in start_within arcs hub.time.walk n (get_or (get_or labels b []) k e).node b among hub.time.walks hb)

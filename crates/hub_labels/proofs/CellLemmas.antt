@@ -1,15 +1,7 @@
 -- Cells of a table, row by row.
-use Rattle.std.proofs.Common.{◌≡◌, ℕ, ◌+◌, ◌*◌, ◌/◌, ◌%◌, ◌<◌, ◌≤◌, List, length, slice_index, ap, ◌∙◌, subst, ⊎_elim, arith}
-use Rattle.hub_labels.proofs.Cited.{cases_lt, Arc, IsTimeBetween, AreCells}
-use Rattle.std.proofs.Math.Nat.{mul-le-mul_right, div-mul-le_self}
+use Rattle.std.proofs.Common.{◌≡◌, ℕ, ◌+◌, ◌*◌, ◌/◌, ◌%◌, ◌<◌, List, length, slice_index, ap, ◌∙◌, subst, arith}
+use Rattle.hub_labels.proofs.Cited.{Arc, IsTimeBetween, AreCells}
 use Rattle.std.proofs.lemmas.Nat.{mul-add-lt, div-mul-add, mod-mul-add}
-
--- a cell stands in one of the rows
-pub row_within : (n cell : ℕ) → cell < n * n → cell / n < n
-row_within n cell lt = ⊎_elim
-    (λ (h : cell / n < n). h)
-    (λ (h : n ≤ cell / n). let low : cell / n * n ≤ cell = div-mul-le_self cell n in let high : n * n ≤ cell / n * n = mul-le-mul_right n h in absurd (omega arith))
-    (cases_lt (cell / n) n)
 
 -- the cell in row i and column j has the time between these points
 pub times_of_cells : (arcs : List Arc) (points cells : List ℕ) → length cells ≡ length points * length points → AreCells arcs points 0 cells

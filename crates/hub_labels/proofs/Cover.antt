@@ -1,5 +1,5 @@
 -- Two nodes that a node of low rank joins have a common hub that joins them as well (canonical labels cover).
-use Rattle.std.proofs.Common.{◌≡◌, ◌≢◌, ℕ, zero, suc, ◌+◌, ◌<◌, ◌≤◌, ◌⊎◌, inl, inr, ⊎_elim, arith}
+use Rattle.std.proofs.Common.{◌≡◌, ◌≢◌, ℕ, zero, suc, ◌+◌, ◌<◌, ◌≤◌, ◌⊎◌, inl, inr, arith}
 use Rattle.hub_labels.proofs.Cited.{cases_eq, cases_lt, never, longest}
 use Rattle.hub_labels.proofs.Times.{IsMetric}
 
@@ -11,21 +11,17 @@ IsClear n time rank p q bound = (w : ℕ) → w < n → rank w < bound → time 
 lower_or_none : (time : ℕ → ℕ → ℕ) (rank : ℕ → ℕ) (p q bound k : ℕ) → ((w : ℕ) × (w < k) × (rank w < bound) × (time p w + time w q ≡ time p q)) ⊎ IsClear k time rank p q bound
 lower_or_none time rank p q bound zero = inr (λ w h. absurd (omega arith))
 lower_or_none time rank p q bound (suc k) =
-    ⊎_elim
-    (λ (found : (w : ℕ) × (w < k) × (rank w < bound) × (time p w + time w q ≡ time p q)). inl (found.0, omega (arith, found.1), found.2, found.3))
-    (λ (none : IsClear k time rank p q bound).
-    let past : (rank k < bound → time p k + time k q ≢ time p q) → IsClear (suc k) time rank p q bound = λ here w h low. ⊎_elim
-    (λ (before : w < k). none w before low)
-    (λ (after : k ≤ w). let is : k ≡ w = omega arith in (rw is at here) low)
-    (cases_lt w k) in
-    ⊎_elim
-    (λ (low : rank k < bound). ⊎_elim
-    (λ (e : time p k + time k q ≡ time p q). inl (k, omega arith, low, e))
-    (λ (ne : time p k + time k q ≢ time p q). inr (past (λ _. ne)))
-    (cases_eq (time p k + time k q) (time p q)))
-    (λ (high : bound ≤ rank k). inr (past (λ low. absurd (omega arith))))
-    (cases_lt (rank k) bound))
-    (lower_or_none time rank p q bound k)
+    let past : IsClear k time rank p q bound → (rank k < bound → time p k + time k q ≢ time p q) → IsClear (suc k) time rank p q bound = λ none here w h low. elim (cases_lt w k) [
+      | inl before ↦ none w before low
+      | inr after ↦ let is : k ≡ w = omega arith in (rw is at here) low
+    ] in
+    elim (lower_or_none time rank p q bound k) [
+      | inl found ↦ inl (found.0, omega (arith, found.1), found.2, found.3)
+      | inr none ↦ elim (cases_lt (rank k) bound) [
+        | inl low ↦ elim (cases_eq (time p k + time k q) (time p q)) [ inl e ↦ inl (k, omega arith, low, e) | inr ne ↦ inr (past none (λ _. ne)) ]
+        | inr high ↦ inr (past none (λ low. absurd (omega arith)))
+      ]
+    ]
 
 -- a common hub of two nodes, that joins them within so many seconds
 pub record IsCover (n : ℕ) (time : ℕ → ℕ → ℕ) (rank : ℕ → ℕ) (a b v most : ℕ) : Type 0 where
@@ -40,29 +36,20 @@ pub cover : (n : ℕ) (time : ℕ → ℕ → ℕ) (rank : ℕ → ℕ) → IsMe
     → (v : ℕ) × (rank v ≤ rank w) × IsCover n time rank a b v (time a w + time w b)
 cover n time rank metric zero a b w ha hb hw short from to = absurd (omega arith)
 cover n time rank metric (suc fuel) a b w ha hb hw short from to =
+    let finite : (p q : ℕ) → p < n → q < n → time p q < never → time p q ≤ longest = λ p q hp hq less. elim (metric.range p q hp hq) [ inl h ↦ h | inr e ↦ absurd (omega (arith, e)) ] in
     let again : (v : ℕ) → v < n → rank v < rank w → time a v ≤ longest → time v b ≤ longest → time a v + time v b ≤ time a w + time w b
     → (u : ℕ) × (rank u ≤ rank w) × IsCover n time rank a b u (time a w + time w b) = λ v hv low av vb less.
     let found = cover n time rank metric fuel a b v ha hb hv (omega arith) av vb in
-    let lower : rank found.0 ≤ rank v = found.1 in
-    let least : time a found.0 + time found.0 b ≤ time a v + time v b = found.2.least in
-    (found.0, omega arith, record { within = found.2.within; from = found.2.from; from_clear = found.2.from_clear; to = found.2.to; to_clear = found.2.to_clear; least = omega arith }) in
-    ⊎_elim
-    (λ (lower : (v : ℕ) × (v < n) × (rank v < rank w) × (time a v + time v w ≡ time a w)).
-    let v : ℕ = lower.0 in
-    let hv : lower.0 < n = lower.1 in
-    let sum : time a lower.0 + time lower.0 w ≡ time a w = lower.3 in
-    let detour : time lower.0 b ≤ time lower.0 w + time w b = metric.triangle lower.0 w b hv hw hb in
-    let finite : time lower.0 b ≤ longest = ⊎_elim (λ (h : time lower.0 b ≤ longest). h) (λ (e : time lower.0 b ≡ never). absurd (omega arith)) (metric.range lower.0 b hv hb) in
-    again v hv lower.2 (omega arith) finite (omega arith))
-    (λ (from_clear : IsClear n time rank a w (rank w)). ⊎_elim
-    (λ (lower : (v : ℕ) × (v < n) × (rank v < rank w) × (time w v + time v b ≡ time w b)).
-    let v : ℕ = lower.0 in
-    let hv : lower.0 < n = lower.1 in
-    let sum : time w lower.0 + time lower.0 b ≡ time w b = lower.3 in
-    let detour : time a lower.0 ≤ time a w + time w lower.0 = metric.triangle a w lower.0 ha hw hv in
-    let finite : time a lower.0 ≤ longest = ⊎_elim (λ (h : time a lower.0 ≤ longest). h) (λ (e : time a lower.0 ≡ never). absurd (omega arith)) (metric.range a lower.0 ha hv) in
-    again v hv lower.2 finite (omega arith) (omega arith))
-    (λ (to_clear : IsClear n time rank w b (rank w)).
-    (w, omega arith, record { within = hw; from = from; from_clear = from_clear; to = to; to_clear = to_clear; least = omega arith }))
-    (lower_or_none time rank w b (rank w) n))
-    (lower_or_none time rank a w (rank w) n)
+    let c = found.2 in
+    (found.0, omega (arith, found.1), record { within = c.within; from = c.from; from_clear = c.from_clear; to = c.to; to_clear = c.to_clear; least = omega (arith, c.least) }) in
+    elim (lower_or_none time rank a w (rank w) n) [
+      | inl lower ↦
+          let detour = metric.triangle lower.0 w b lower.1 hw hb in
+          again lower.0 lower.1 lower.2 (omega (arith, lower.3)) (finite lower.0 b lower.1 hb (omega (arith, lower.3, detour))) (omega (arith, lower.3, detour))
+      | inr from_clear ↦ elim (lower_or_none time rank w b (rank w) n) [
+        | inl lower ↦
+            let detour = metric.triangle a w lower.0 ha hw lower.1 in
+            again lower.0 lower.1 lower.2 (finite a lower.0 ha lower.1 (omega (arith, lower.3, detour))) (omega (arith, lower.3)) (omega (arith, lower.3, detour))
+        | inr to_clear ↦ (w, omega arith, record { within = hw; from = from; from_clear = from_clear; to = to; to_clear = to_clear; least = omega arith })
+      ]
+    ]

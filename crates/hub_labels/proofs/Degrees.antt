@@ -1,7 +1,6 @@
 -- Degrees, counted node by node.
 use Rattle.std.proofs.Common.{◌≡◌, ℕ, ◌+◌, ◌<◌, ◌≤◌, ◌&&◌, Bool, true, false, cond, eqb, ltb, List, [], ◌∷◌, length, map, count_by, All, refl, arith}
-use Rattle.hub_labels.proofs.Cited.{nat_tests, All-head, All-tail, sum_by-cons, length-filter, count_by-le-length, Arc, Hop, IsArcAmong, hop_of, leaving, degree, reaching_before}
-use Rattle.std.proofs.lemmas.Bool.{lt-ltb, le-ltb}
+use Rattle.hub_labels.proofs.Cited.{nat_tests, All-head, All-tail, sum_by-cons, length-filter, count_by-le-length, Arc, Hop, IsArcAmong, hop_of, leaving, degree, reaching_before, lt-ltb, le-ltb}
 
 -- 1 where a test passes
 abbrev one_if : Bool → ℕ
@@ -26,30 +25,25 @@ kept false node arc rest = omega arith
 pub reaching_none : (arcs : List Arc) (node : ℕ) → reaching_before arcs 0 node ≡ 0
 reaching_none [] node = refl
 reaching_none (arc ∷ rest) node =
-    let onward : reaching_before rest 0 node ≡ 0 = reaching_none rest node in
     let more : reaching_before (arc ∷ rest) 0 node ≡ cond (eqb arc.to node && ltb arc.from 0) 1 0 + reaching_before rest 0 node = sum_by-cons (λ (a : Arc). cond (eqb a.to node && ltb a.from 0) 1 0) arc rest in
     let zero_here : one_if (eqb arc.to node && ltb arc.from 0) ≡ 0 = elim (eqb arc.to node) as (λ b. one_if (b && ltb arc.from 0) ≡ 0) [ true ↦ none_below arc.from | false ↦ refl ] in
-    omega (arith, more, onward, zero_here)
+    omega (arith, more, reaching_none rest node, zero_here)
 
 pub reaching_more : (arcs : List Arc) (k node : ℕ) → reaching_before arcs (k + 1) node ≡ reaching_before arcs k node + count_by (λ (hop : Hop). eqb hop.to node) (map hop_of (leaving k arcs))
 reaching_more [] k node = refl
 reaching_more (arc ∷ rest) k node =
-    let onward = reaching_more rest k node in
     let more = sum_by-cons (λ (a : Arc). cond (eqb a.to node && ltb a.from (k + 1)) 1 0) arc rest in
     let before = sum_by-cons (λ (a : Arc). cond (eqb a.to node && ltb a.from k) 1 0) arc rest in
-    let hops = kept (eqb arc.from k) node arc (leaving k rest) in
-    let here = step (eqb arc.to node) arc.from k in
-    omega (arith, onward, more, before, hops, here)
+    omega (arith, reaching_more rest k node, more, before, kept (eqb arc.from k) node arc (leaving k rest), step (eqb arc.to node) arc.from k)
 
 pub reaching_all : (arcs : List Arc) (n node : ℕ) → All (IsArcAmong n) arcs → reaching_before arcs n node ≡ count_by (λ (arc : Arc). eqb arc.to node) arcs
 reaching_all [] n node among = refl
 reaching_all (arc ∷ rest) n node among =
-    let onward = reaching_all rest n node (All-tail (IsArcAmong n) arc rest among) in
     let within : arc.from < n = (All-head (IsArcAmong n) arc rest among).0 in
     let first = sum_by-cons (λ (a : Arc). cond (eqb a.to node && ltb a.from n) 1 0) arc rest in
     let second = sum_by-cons (λ (a : Arc). cond (eqb a.to node) 1 0) arc rest in
     let here : one_if (eqb arc.to node && ltb arc.from n) ≡ one_if (eqb arc.to node) = rw (lt-ltb arc.from n within) (elim (eqb arc.to node) as (λ b. one_if (b && true) ≡ one_if b) [ true ↦ refl | false ↦ refl ]) in
-    omega (arith, onward, first, second, here)
+    omega (arith, reaching_all rest n node (All-tail (IsArcAmong n) arc rest among), first, second, here)
 
 pub leaving_few : (arcs : List Arc) (node : ℕ) → length (leaving node arcs) ≤ length arcs
 leaving_few arcs node = rw (length-filter (λ (a : Arc). eqb a.from node) arcs) (count_by-le-length (λ (a : Arc). eqb a.from node) arcs)
@@ -60,5 +54,4 @@ reaching_few arcs k node = count_by-le-length (λ (a : Arc). eqb a.to node && lt
 pub degree_is : (arcs : List Arc) (n node : ℕ) → All (IsArcAmong n) arcs → length (leaving node arcs) + reaching_before arcs n node ≡ degree arcs node
 degree_is arcs n node among =
     let a = length-filter (λ (a : Arc). eqb a.from node) arcs in
-    let b = reaching_all arcs n node among in
-    omega (arith, a, b)
+    omega (arith, a, reaching_all arcs n node among)

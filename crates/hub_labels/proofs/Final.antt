@@ -10,8 +10,7 @@ is_label : (arcs : List Arc) (n : ℕ) (rank : List ℕ) (bound : ℕ) (IsHub Is
 is_label arcs n rank bound IsHub IsRanked label ranking past inside to from below = record {
   by_rank = λ i j d lt h.
       let one = below.sound i d (omega arith) in
-      let two = below.sound j d h in
-      (ranking.lower (get_or label i d).node (get_or label j d).node (inside _ _ one.0) (inside _ _ two.0)).1 (below.rising i j d lt h);
+      (ranking.lower (get_or label i d).node (get_or label j d).node (inside _ _ one.0) (inside _ _ (below.sound j d h).0)).1 (below.rising i j d lt h);
   hubs = λ hub. (
     (λ (k, h, is). to hub.node hub.seconds ((rw is at (below.sound k hub h)).0)),
     (λ of. let ranked = from hub.node hub.seconds of in below.complete hub ranked (past hub.node (inside hub.node hub.seconds ranked))),
@@ -19,51 +18,43 @@ is_label arcs n rank bound IsHub IsRanked label ranking past inside to from belo
 }
 
 module _ {arcs : List Arc} {n : ℕ} {rank : List ℕ} (among : All (IsArcAmong n) arcs) (ranking : IsRanking arcs n rank) where
+  inside : (b h s : ℕ) → b < n → IsLeastTime arcs h b s → h < n
+  inside b h s hb least = start_within arcs least.walk n h b among least.walks hb
+
   backward_to : (b h s : ℕ) → b < n → IsRankedHub arcs rank b h s → IsBackwardHub arcs b h s
-  backward_to b h s hb hub =
-      let hh : h < n = start_within arcs hub.time.walk n h b among hub.time.walks hb in
-      record {
-        time = hub.time;
-        first = λ w before after low from to. hub.first w before after ((ranking.lower w h (start_within arcs to.walk n w b among to.walks hb) hh).0 low) from to;
-      }
+  backward_to b h s hb hub = record {
+    time = hub.time;
+    first = λ w before after low from to. hub.first w before after ((ranking.lower w h (inside b w after hb to) (inside b h s hb hub.time)).0 low) from to;
+  }
 
   backward_from : (b h s : ℕ) → b < n → IsBackwardHub arcs b h s → IsRankedHub arcs rank b h s
-  backward_from b h s hb hub =
-      let hh : h < n = start_within arcs hub.time.walk n h b among hub.time.walks hb in
-      record {
-        time = hub.time;
-        first = λ w before after low from to. hub.first w before after ((ranking.lower w h (start_within arcs to.walk n w b among to.walks hb) hh).1 low) from to;
-      }
+  backward_from b h s hb hub = record {
+    time = hub.time;
+    first = λ w before after low from to. hub.first w before after ((ranking.lower w h (inside b w after hb to) (inside b h s hb hub.time)).1 low) from to;
+  }
+
+  turned_there : (v w t : ℕ) → IsLeastTime arcs v w t → IsLeastTime (map turned arcs) w v t
+  turned_there v w t least = IsLeastTime-turned arcs (map turned arcs) v w t (turn_there arcs) (turn_back arcs) least
+
+  turned_back : (v w t : ℕ) → IsLeastTime (map turned arcs) v w t → IsLeastTime arcs w v t
+  turned_back v w t least = IsLeastTime-turned (map turned arcs) arcs v w t (turn_back arcs) (turn_there arcs) least
+
+  goal_inside : (a h s : ℕ) → a < n → IsLeastTime arcs a h s → h < n
+  goal_inside a h s ha least = goal_within arcs least.walk n a h among least.walks ha
 
   forward_to : (a h s : ℕ) → a < n → IsRankedHub (map turned arcs) rank a h s → IsForwardHub arcs a h s
-  forward_to a h s ha hub =
-      let there : (v w t : ℕ) → IsLeastTime arcs v w t → IsLeastTime (map turned arcs) w v t = λ v w t least. IsLeastTime-turned arcs (map turned arcs) v w t (turn_there arcs) (turn_back arcs) least in
-      let time : IsLeastTime arcs a h s = IsLeastTime-turned (map turned arcs) arcs h a s (turn_back arcs) (turn_there arcs) hub.time in
-      let hh : h < n = goal_within arcs time.walk n a h among time.walks ha in
-      record {
-        time = time;
-        first = λ w before after low from to e.
-            hub.first w after before ((ranking.lower w h (goal_within arcs from.walk n a w among from.walks ha) hh).0 low) (there w h after to) (there a w before from)
-            (let x : after + before ≡ s = omega arith in x);
-      }
+  forward_to a h s ha hub = record {
+    time = turned_back h a s hub.time;
+    first = λ w before after low from to e.
+        hub.first w after before ((ranking.lower w h (goal_inside a w before ha from) (goal_inside a h s ha (turned_back h a s hub.time))).0 low) (turned_there w h after to) (turned_there a w before from) (omega (arith, e));
+  }
 
   forward_from : (a h s : ℕ) → a < n → IsForwardHub arcs a h s → IsRankedHub (map turned arcs) rank a h s
-  forward_from a h s ha hub =
-      let back : (v w t : ℕ) → IsLeastTime (map turned arcs) v w t → IsLeastTime arcs w v t = λ v w t least. IsLeastTime-turned (map turned arcs) arcs v w t (turn_back arcs) (turn_there arcs) least in
-      let hh : h < n = goal_within arcs hub.time.walk n a h among hub.time.walks ha in
-      record {
-        time = IsLeastTime-turned arcs (map turned arcs) a h s (turn_there arcs) (turn_back arcs) hub.time;
-        first = λ w before after low from to e.
-            let onward : IsLeastTime arcs a w after = back w a after to in
-            hub.first w after before ((ranking.lower w h (goal_within arcs onward.walk n a w among onward.walks ha) hh).1 low) onward (back h w before from)
-            (let x : after + before ≡ s = omega arith in x);
-      }
-
-  forward_inside : (a h s : ℕ) → a < n → IsRankedHub (map turned arcs) rank a h s → h < n
-  forward_inside a h s ha hub = start_within (map turned arcs) hub.time.walk n h a (among_directed true arcs n among) hub.time.walks ha
-
-  backward_inside : (b h s : ℕ) → b < n → IsRankedHub arcs rank b h s → h < n
-  backward_inside b h s hb hub = start_within arcs hub.time.walk n h b among hub.time.walks hb
+  forward_from a h s ha hub = record {
+    time = turned_there a h s hub.time;
+    first = λ w before after low from to e.
+        hub.first w after before ((ranking.lower w h (goal_inside a w after ha (turned_back w a after to)) (goal_inside a h s ha hub.time)).1 low) (turned_back w a after to) (turned_back h w before from) (omega (arith, e));
+  }
 
 pub labels_of_network : (roads : Roads) (rank : List ℕ) (bound : ℕ) (forward backward : List (List Hub)) → IsNetwork roads → IsRanking roads.arcs (length roads.nodes) rank → ((v : ℕ) → v < length roads.nodes → slice_index rank v < bound)
     → AreLabelsBelow (map turned roads.arcs) rank (length roads.nodes) bound forward → AreLabelsBelow roads.arcs rank (length roads.nodes) bound backward → AreLabelsOf roads (record { forward = forward; backward = backward })
@@ -74,24 +65,21 @@ labels_of_network roads rank bound forward backward network ranking past ahead b
       network = network;
       forward_each = ahead.each;
       backward_each = back.each;
-      forward = λ a ha. is_label arcs n rank bound (IsForwardHub arcs a) (IsRankedHub (map turned arcs) rank a) (get_or forward a []) ranking past (λ v s. forward_inside network.arcs ranking a v s ha) (λ v s. forward_to network.arcs ranking a v s ha) (λ v s. forward_from network.arcs ranking a v s ha) (ahead.labelled a ha);
-      backward = λ b hb. is_label arcs n rank bound (IsBackwardHub arcs b) (IsRankedHub arcs rank b) (get_or backward b []) ranking past (λ v s. backward_inside network.arcs ranking b v s hb) (λ v s. backward_to network.arcs ranking b v s hb) (λ v s. backward_from network.arcs ranking b v s hb) (back.labelled b hb);
+      forward = λ a ha. is_label arcs n rank bound (IsForwardHub arcs a) (IsRankedHub (map turned arcs) rank a) (get_or forward a []) ranking past (λ v s hub. goal_inside network.arcs ranking a v s ha (turned_back network.arcs ranking v a s hub.time)) (λ v s. forward_to network.arcs ranking a v s ha) (λ v s. forward_from network.arcs ranking a v s ha) (ahead.labelled a ha);
+      backward = λ b hb. is_label arcs n rank bound (IsBackwardHub arcs b) (IsRankedHub arcs rank b) (get_or backward b []) ranking past (λ v s hub. inside network.arcs ranking b v s hb hub.time) (λ v s. backward_to network.arcs ranking b v s hb) (λ v s. backward_from network.arcs ranking b v s hb) (back.labelled b hb);
     }
 
 -- labels so far rise by rank
 pub labels_rise : (arcs : List Arc) (n : ℕ) (rank : List ℕ) (bound : ℕ) (labels : List (List Hub)) → All (IsArcAmong n) arcs → n ≤ 100000 → length rank ≡ n → AreLabelsBelow arcs rank n bound labels → All (IsRising rank) labels
 labels_rise arcs n rank bound labels among few each below b d inside =
-    let times = times_of arcs n among few in
-    let hb : b < n = let e : length labels ≡ n = below.each in omega arith in
+    let hb : b < n = omega (arith, below.each, inside) in
     let lab = below.labelled b hb in
     subst (λ (label : List Hub). IsRising rank label) (get_or_default labels b [] d inside) (record {
       within = λ k e h.
           let ranked = (lab.sound k e h).0 in
           let hub : Hub = get_or (get_or labels b []) k e in
-          let hv : (get_or (get_or labels b []) k e).node < n = start_within arcs ranked.time.walk n hub.node b among ranked.time.walks hb in
-          let is = time_is among few times.1 hub.node b hub.seconds hv hb ranked.time in
-          let same : (get_or (get_or labels b []) k e).seconds ≡ times.0 (get_or (get_or labels b []) k e).node b = is.0 in
-          let finite : times.0 (get_or (get_or labels b []) k e).node b ≤ longest = is.1 in
-          (omega arith, omega arith);
+          let hv : hub.node < n = start_within arcs ranked.time.walk n hub.node b among ranked.time.walks hb in
+          let is = time_is among few (times_of arcs n among few).1 hub.node b hub.seconds hv hb ranked.time in
+          (omega (arith, hv, each), omega (arith, is.0, is.1));
       rising = lab.rising;
     })

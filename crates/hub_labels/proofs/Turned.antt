@@ -17,11 +17,6 @@ turn_back arcs arc (k, inside, is) =
     let e : turned (get_or arcs k (turned arc)) ≡ arc = sym (get_or-map turned arcs k (turned arc) arc within) ∙ is in
     (k, within, ap turned e)
 
--- the arcs of a direction, and those of the other
-pub other_way : Bool → Bool
-other_way true = false
-other_way false = true
-
 -- arcs of the network are so in both directions
 pub among_directed : (reversed : Bool) (arcs : List Arc) (n : ℕ) → All (IsArcAmong n) arcs → All (IsArcAmong n) (directed reversed arcs)
 among_directed false arcs n among = among
@@ -40,11 +35,7 @@ IsWalk-turned arcs others (arc ∷ rest) start goal turn walks =
 
 walk_seconds-turned : (walk : List Arc) → walk_seconds (turned_walk walk) ≡ walk_seconds walk
 walk_seconds-turned [] = refl
-walk_seconds-turned (arc ∷ rest) =
-    let a : walk_seconds (turned_walk rest ++ turned arc ∷ []) ≡ walk_seconds (turned_walk rest) + arc.seconds = walk_seconds-push (turned_walk rest) (turned arc) in
-    let b : walk_seconds (turned_walk rest) ≡ walk_seconds rest = walk_seconds-turned rest in
-    let c : walk_seconds (arc ∷ rest) ≡ arc.seconds + walk_seconds rest = sum_by-cons (λ (a : Arc). a.seconds) arc rest in
-    omega arith
+walk_seconds-turned (arc ∷ rest) = omega (arith, walk_seconds-push (turned_walk rest) (turned arc), walk_seconds-turned rest, sum_by-cons (λ (a : Arc). a.seconds) arc rest)
 
 -- the least time is the same the other way round
 pub IsLeastTime-turned : (arcs others : List Arc) (a b s : ℕ) → IsTurnOf arcs others → IsTurnOf others arcs → IsLeastTime arcs a b s → IsLeastTime others b a s
@@ -52,10 +43,7 @@ IsLeastTime-turned arcs others a b s turn back least = record {
   walk = turned_walk least.walk;
   walks = IsWalk-turned arcs others least.walk a b turn least.walks;
   takes = walk_seconds-turned least.walk ∙ least.takes;
-  least = λ other walks.
-      let le : s ≤ walk_seconds (turned_walk other) = least.least (turned_walk other) (IsWalk-turned others arcs other b a back walks) in
-      let e : walk_seconds (turned_walk other) ≡ walk_seconds other = walk_seconds-turned other in
-      omega arith;
+  least = λ other walks. omega (arith, least.least (turned_walk other) (IsWalk-turned others arcs other b a back walks), walk_seconds-turned other);
 }
 
 -- the label of the other direction is the start's own
@@ -75,9 +63,7 @@ own_label arcs others n time rank h bound labels turn back among among' few are 
             time = IsLeastTime-turned arcs others h w (time h w) turn back (least_is among few are h w hh hw finite);
             first = λ v before after lower from to e.
                 let hv : v < n = start_within others to.walk n v h among' to.walks hh in
-                let f : before ≡ time v w = (time_is among few are v w before hv hw (IsLeastTime-turned others arcs w v before back turn from)).0 in
-                let g : after ≡ time h v = (time_is among few are h v after hh hv (IsLeastTime-turned others arcs v h after back turn to)).0 in
-                clear v hv lower (let x : time h v + time v w ≡ time h w = omega arith in x);
+                clear v hv lower (omega (arith, e, (time_is among few are v w before hv hw (IsLeastTime-turned others arcs w v before back turn from)).0, (time_is among few are h v after hh hv (IsLeastTime-turned others arcs v h after back turn to)).0));
           })
           (omega arith);
     }

@@ -1,13 +1,10 @@
 -- The definition names one label: lists by rank that have the same hubs are the same.
-use Rattle.std.proofs.Common.{◌≡◌, ℕ, zero, suc, ◌<◌, ◌⊎◌, List, [], ◌∷◌, length, get_or, Contains, refl, sym, ap, ◌∙◌, subst, inl, inr, ⊎_elim, arith}
+use Rattle.std.proofs.Common.{◌≡◌, ℕ, zero, suc, ◌<◌, ◌⊎◌, List, [], ◌∷◌, length, get_or, Contains, refl, sym, ap, ◌∙◌, subst, inl, inr, arith}
 use Rattle.hub_labels.proofs.Cited.{Arc, Hub, degree, IsOfLowerRank, IsFirstWrong, IsLabel, IsFirstDifference}
 
 -- of two nodes at most one is of lower rank
 lower_apart : (arcs : List Arc) (a b : ℕ) → IsOfLowerRank arcs a b → IsOfLowerRank arcs b a → ⊥
-lower_apart arcs a b one other = ⊎_elim
-    (λ (more : degree arcs b < degree arcs a). ⊎_elim (λ (more' : degree arcs a < degree arcs b). omega arith) (λ same. let e : degree arcs b ≡ degree arcs a = same.0 in omega arith) other)
-    (λ same. let e : degree arcs a ≡ degree arcs b = same.0 in let l : a < b = same.1 in ⊎_elim (λ (more' : degree arcs a < degree arcs b). omega arith) (λ same'. let l' : b < a = same'.1 in omega arith) other)
-    one
+lower_apart arcs a b one other = grind arith
 
 -- hubs by rank
 abbrev IsByRank : List Arc → List Hub → Type 0
@@ -35,26 +32,23 @@ not_in_nothing y (k, inside, is) = omega arith
 
 -- what later hubs of one list are, those of the other are
 tail_has : (arcs : List Arc) (x : Hub) (xs ys : List Hub) → IsByRank arcs (x ∷ xs) → ((z : Hub) → Contains (x ∷ xs) z → Contains (x ∷ ys) z) → (z : Hub) → Contains xs z → Contains ys z
-tail_has arcs x xs ys by has z in' = ⊎_elim
-    (λ (e : x ≡ z). let l = head_lower arcs x xs by z in' in absurd (lower_apart arcs x.node x.node (rw (← e) at l) (rw (← e) at l)))
-    (λ found. found)
-    (head_or_tail x ys z (has z (later x xs z in')))
+tail_has arcs x xs ys by has z in' = elim (head_or_tail x ys z (has z (later x xs z in'))) [
+  | inl e ↦ let l = head_lower arcs x xs by z in' in absurd (lower_apart arcs x.node x.node (rw (← e) at l) (rw (← e) at l))
+  | inr found ↦ found
+]
 
 same_by_rank : (arcs : List Arc) (xs ys : List Hub) → IsByRank arcs xs → IsByRank arcs ys → ((z : Hub) → Contains xs z → Contains ys z) → ((z : Hub) → Contains ys z → Contains xs z) → xs ≡ ys
 same_by_rank arcs [] [] by by' there back = refl
 same_by_rank arcs [] (y ∷ ys) by by' there back = absurd (not_in_nothing y (back y (has_head y ys)))
 same_by_rank arcs (x ∷ xs) [] by by' there back = absurd (not_in_nothing x (there x (has_head x xs)))
 same_by_rank arcs (x ∷ xs) (y ∷ ys) by by' there back =
-    let first : y ≡ x = ⊎_elim
-    (λ (e : y ≡ x). e)
-    (λ in'. ⊎_elim
-    (λ (e : x ≡ y). sym e)
-    (λ in''. absurd (lower_apart arcs y.node x.node (head_lower arcs y ys by' x in') (head_lower arcs x xs by y in'')))
-    (head_or_tail x xs y (back y (has_head y ys))))
-    (head_or_tail y ys x (there x (has_head x xs))) in
-    let by'' : IsByRank arcs (x ∷ ys) = subst (λ (h : Hub). IsByRank arcs (h ∷ ys)) first by' in
-    let there' : (z : Hub) → Contains (x ∷ xs) z → Contains (x ∷ ys) z = subst (λ (h : Hub). (z : Hub) → Contains (x ∷ xs) z → Contains (h ∷ ys) z) first there in
-    let back' : (z : Hub) → Contains (x ∷ ys) z → Contains (x ∷ xs) z = subst (λ (h : Hub). (z : Hub) → Contains (h ∷ ys) z → Contains (x ∷ xs) z) first back in
+    let first : y ≡ x = elim (head_or_tail y ys x (there x (has_head x xs))) [
+      | inl e ↦ e
+      | inr in' ↦ elim (head_or_tail x xs y (back y (has_head y ys))) [ inl e ↦ sym e | inr in'' ↦ absurd (lower_apart arcs y.node x.node (head_lower arcs y ys by' x in') (head_lower arcs x xs by y in'')) ]
+    ] in
+    let by'' : IsByRank arcs (x ∷ ys) = rw first at by' in
+    let there' : (z : Hub) → Contains (x ∷ xs) z → Contains (x ∷ ys) z = rw first at there in
+    let back' : (z : Hub) → Contains (x ∷ ys) z → Contains (x ∷ xs) z = rw first at back in
     ap (λ (t : List Hub). x ∷ t) (same_by_rank arcs xs ys (tail_by_rank arcs x xs by) (tail_by_rank arcs x ys by'') (tail_has arcs x xs ys by there') (tail_has arcs x ys xs by'' back'))
     ∙ ap (λ (h : Hub). h ∷ ys) (sym first)
 
@@ -65,7 +59,7 @@ one_label arcs IsHub one other a b = same_by_rank arcs one other a.by_rank b.by_
 pub first_wrong : (arcs : List Arc) (n : ℕ) (IsHub : ℕ → ℕ → ℕ → Type 0) (labels others : List (List Hub)) (node : ℕ) → length labels ≡ n → ((a : ℕ) → a < n → IsLabel arcs (IsHub a) (get_or labels a [])) → IsFirstDifference labels others node
     → IsFirstWrong n (λ a. IsLabel arcs (IsHub a) (get_or others a [])) node
 first_wrong arcs n IsHub labels others node each right differs =
-    let within : node < n = let l : node < length labels = differs.within in omega arith in
+    let within : node < n = omega (arith, each, differs.within) in
     record {
       within = within;
       wrong = λ other. differs.differ (one_label arcs (IsHub node) (get_or labels node []) (get_or others node []) (right node within) other);

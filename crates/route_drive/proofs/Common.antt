@@ -1,17 +1,22 @@
 -- The names that the proofs of this crate cite from elsewhere, passed on from one place. Declares nothing.
 pub use Rattle.std.proofs.Math.Seq.{get_or-append_seam}
-pub use Rattle.std.proofs.lemmas.Bool.{MatchBool-at_false, MatchBool-at_true, and_from, and_parts, cases_Bool, cases_eq, cases_lt, cond-false, cond-true, false≢true, lt-leb}
-pub use Rattle.std.proofs.lemmas.List.{get_or-map, get_or-replicate, get_or_append_left, get_or_default, get_or_read, length-map, length-replicate, map-append, reverse-append, take_more}
-pub use Rattle.std.proofs.lemmas.List.Elements.{All-append, All-cons, All-contains, All-from_get_or, All-from_recursion, All-head, All-nil, All-push, All-tail, Contains-get_or, filter-append, filter_passes, recursion_from_All}
+pub use Rattle.std.proofs.lemmas.Bool.Decides.{nat_tests}
+pub use Rattle.std.proofs.lemmas.Bool.{MatchBool-at_false, MatchBool-at_true, and_from, and_parts, cases_Bool, cases_eq, cases_lt, cond-false, cond-true, cond_both, eq-eqb, eqb-true, false≢true, le-leb, le-ltb, leb-true, lt-leb, lt-ltb, ltb-false, ne_eqb, not_from_false, not_from_true, or_parts, true≢false}
+pub use Rattle.std.proofs.lemmas.List.{append-nil, drop_more, flat_map_more, get_or-append-add, get_or-map, get_or-replicate, get_or-set_other, get_or-set_same, get_or_append_left, get_or_default, get_or_past, get_or_read, length-map, length-replicate, length-set, length-take, map-append, map_push, reverse-append, take_all, take_at, take_more}
+pub use Rattle.std.proofs.lemmas.List.Elements.{All-append, All-cons, All-contains, All-from_get_or, All-from_recursion, All-head, All-nil, All-push, All-tail, Contains-get_or, filter-append, filter_more, filter_passes, recursion_from_All}
 pub use Rattle.std.proofs.lemmas.List.Filters.{length-filter_both}
-pub use Rattle.std.proofs.lemmas.List.Folds.{Any-from_list_any, sum_by-replicate}
+pub use Rattle.std.proofs.lemmas.List.Folds.{Any-from_list_any, flat_map-map, sum_by-replicate}
 pub use Rattle.std.proofs.lemmas.List.FromFn.{get_or-range_with_len, length-range_with_len}
 pub use Rattle.std.proofs.lemmas.List.Sums.{passes_at_first, sum_by-cons, sum_by-set, sum_by_push}
-pub use Rattle.std.proofs.lemmas.Option.{get_or_from_slice_get, slice_get-get_or, slice_get_cases, slice_get_within}
+pub use Rattle.std.proofs.lemmas.Map.Keys.{below_from_sorted, sorted_from_strictly_increasing}
+pub use Rattle.std.proofs.lemmas.Option.{cond_some, get_or_from_slice_get, gets, slice_get-get_or, slice_get_cases, slice_get_within}
+pub use Rattle.std.proofs.lemmas.Simd.{map-map}
+pub use Rattle.std.proofs.lemmas.Slice.Zip.{all_zipped_more, length-zip}
 unfoldable pub use Rattle.std.specs.List.{IsDistinct}
-pub use Rattle.std.specs.List.{AllByRecursion, AllZip, list_any, position_or_len, range_with_len}
+pub use Rattle.std.specs.List.{All, AllByRecursion, AllZip, Any, filter_map, flat_map, list_any, position, position_or_len, range_with_len, sum_by, zip}
 pub use Rattle.std.specs.Option.{option_map_or, option_or}
 pub use Rattle.batch_snapshot.specs.Batch.{Batch}
+pub use Rattle.batch_snapshot.specs.Kept.{IsFleet}
 pub use Rattle.batch_snapshot.specs.Vehicle.{HasSeats, persons_aboard}
 pub use Rattle.batch_snapshot.specs.declared.passenger.Passenger.{Passenger}
 pub use Rattle.batch_snapshot.specs.declared.promise.Promise.{Promise}
@@ -20,9 +25,11 @@ pub use Rattle.batch_snapshot.specs.declared.vehicle.Vehicle.{Vehicle}
 pub use Rattle.batch_solver.specs.Outcome.{AnswersWith, HasGraphsWith, IsGoodOutcome, IsGoodPlan}
 pub use Rattle.batch_solver.specs.Told.{rider_id, told_stop}
 pub use Rattle.batch_solver.specs.Trips.{IsLate, IsTripOf}
+pub use Rattle.dispatch_engine.proofs.lemmas.LaneLemmas.{IsQuiet, plain-quiet}
 unfoldable pub use Rattle.dispatch_engine.specs.Lane.{ClosesAreGood}
 pub use Rattle.dispatch_engine.specs.Lane.{IsCloseOf, IsGoodClose, IsLaneRun, IsLaneRunFrom, of_lane}
 pub use Rattle.dispatch_engine.specs.Run.{IsReady, IsRoundRun, IsRun, IsSameRun, journal_of, position_after_run, state_after_run}
+pub use Rattle.dispatch_engine.specs.lemmas.Lanes.{IsPlain}
 pub use Rattle.dispatch_report.specs.declared.day.DayCounts.{DayCounts}
 pub use Rattle.plan_rules.proofs.lemmas.GraphLemmas.{in_choice, times_served_as_count, times_served_found, times_served_some}
 pub use Rattle.plan_rules.specs.Graph.{IsRowOf, choice_at, must_be_served, no_row, riders_at}
@@ -53,7 +60,7 @@ pub use Rattle.request_book.specs.Command.{closed_outcome}
 pub use Rattle.request_book.specs.Consistent.{IsConsistent, IsNode, NamesNodes, seat_in}
 unfoldable pub use Rattle.request_book.specs.Keyed.{KeysDiffer, changed_at, look_up}
 unfoldable pub use Rattle.request_book.specs.lemmas.Keyed.{without}
-pub use Rattle.request_book.specs.Keyed.{by_key}
+pub use Rattle.request_book.specs.Keyed.{KeysRise, by_key}
 unfoldable pub use Rattle.request_book.specs.Replay.{RepliesAreSteps, state_after}
 pub use Rattle.request_book.specs.Rider.{is_active, passenger_of, pool_promise, vehicle_of, with_status}
 pub use Rattle.request_book.specs.lemmas.Named.{shown, asking, in_batch, lets_out, planned_status, stands_at, takes_in}
@@ -70,11 +77,12 @@ pub use Rattle.request_book.specs.declared.journal.Journal.{Journal}
 pub use Rattle.request_book.specs.declared.outcome.Answer.{Answer}
 pub use Rattle.request_book.specs.declared.outcome.ChosenTrip.{ChosenTrip}
 pub use Rattle.request_book.specs.declared.outcome.MoveLine.{MoveLine}
+pub use Rattle.request_book.specs.declared.outcome.Outcome.{Outcome}
 pub use Rattle.request_book.specs.declared.outcome.Planned.{Planned}
 pub use Rattle.request_book.specs.declared.outcome.PlannedStop.{PlannedStop}
 pub use Rattle.request_book.specs.declared.reply.BookRefusal.{BookRefusal}
 pub use Rattle.request_book.specs.declared.reply.Reply.{Reply}
-pub use Rattle.request_book.specs.declared.reply.Reply.TheVariants.{Accepted, Closed, Dropped, Picked, Placed, Sealed}
+pub use Rattle.request_book.specs.declared.reply.Reply.TheVariants.{Accepted, Cancelled, Closed, Dropped, Picked, Placed, Sealed}
 pub use Rattle.request_book.specs.declared.rider.BookRider.{BookRider}
 pub use Rattle.request_book.specs.declared.rider.Status.{Status}
 pub use Rattle.request_book.specs.declared.rider.Status.TheVariants.{Aboard, Delivered, Expired, Promised, Waiting}
@@ -90,7 +98,7 @@ pub use Rattle.road_network.specs.declared.arc.Arc.{Arc}
 pub use Rattle.road_network.specs.declared.hop.Hop.{Hop}
 pub use Rattle.route_drive.specs.Counts.{AreCounts, IsDelayOf, dropped_among, entries_of, ideal_dropoff, is_dropped, is_picked, picked_among, wait_of}
 pub use Rattle.route_drive.specs.Day.{day_fault, first_seal, is_of_day, is_seal_command, lane_fault, latest_seal, round_fault, seal_of, seals_fault}
-pub use Rattle.route_drive.specs.Driven.{AreDriven, HasDrivenToTheEnd, IsDrivenDay, IsDrivenRound, IsLateAnswer, IsNewBook, IsPrecededBy, IsTooLateDay, courses_after, courses_from, courses_left, first_courses, left_course, number_after, plan_in, planned_course, planned_in}
+pub use Rattle.route_drive.specs.Driven.{AreDriven, ComesTooLate, HasDrivenToTheEnd, IsDrivenDay, IsDrivenRound, IsLateAnswer, IsNewBook, IsPrecededBy, IsTooLateDay, courses_after, courses_from, courses_left, first_courses, left_course, number_after, plan_in, planned_course, planned_in}
 pub use Rattle.route_drive.specs.Entering.{AreEntered, EntersTooLate, IsEntered, IsReported, arrived, due, goal_of, is_cut_off, left_commands, second_of, standing_after, stop_command, to_come, walk_end, walks}
 pub use Rattle.route_drive.specs.Promises.{DaysKeep, EntriesKeep, EntryKeeps, IsClosedInTime, IsDroppedInTime, IsKeptDay, IsPickedBy, IsRunOfDay, StateKeeps}
 pub use Rattle.route_drive.specs.Walk.{IsShortestWalk, steps_of}
@@ -122,4 +130,5 @@ pub use Rattle.stop_orders.specs.declared.stop.Stop.{Stop}
 pub use Rattle.stop_orders.specs.declared.stop.Stop.TheVariants.{Alight, Drop, Pick}
 pub use Rattle.stop_orders.specs.declared.task.Task.{Task}
 pub use Rattle.stop_orders.specs.declared.visit.Visit.{Visit}
+pub use Rattle.travel_times.proofs.lemmas.WalkLemmas.{IsWalk-append, goal_within, short_walk, walk_seconds-append}
 pub use Rattle.travel_times.specs.Table.{AreTravelTimes}

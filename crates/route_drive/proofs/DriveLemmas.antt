@@ -1,8 +1,6 @@
 -- A day under way, round by round.
-use Rattle.std.proofs.lemmas.List.{get_or_past, map_push}
 use Rattle.std.proofs.Common.{◌≡◌, ◌≢◌, ℕ, zero, suc, ◌+◌, ◌-◌, ◌<◌, List, [], ◌∷◌, ◌++◌, length, get_or, map, take, drop, replicate, Option, None, Some, inl, inr, refl, sym, ap, ◌∙◌, subst, arith, append-nil, All}
-use Rattle.route_drive.proofs.Common.{option_map_or, cases_lt, get_or-replicate, length-map, length-replicate, BookView, IsBook, next_position, state_after, Command, Entry, Journal, Planned, State, Settings, Roads, NumberedLanes, empty_round, lane_at, IsReady, IsRoundRun, IsRun, IsSameRun, journal_of, position_after_run, state_after_run, Course, DayRound, DayCounts, DriveFault, AreDriven, HasDrivenToTheEnd, IsDrivenRound, IsLateAnswer, IsTooLateDay, IsNewBook, courses_after, courses_from, courses_left, first_courses, left_course, number_after, plan_in, planned_course, AreCounts, entries_of, seal_of, EntersTooLate, IsInTime, left_commands, AddsServed, AreServed, HasCome, HasEnded, IsCounted, IsLastOn, IsLateAt, IsRoundOn, IsStoppedAt, IsTaken, IsUnderWay, Takes, second_of, longest}
-use Rattle.std.specs.List.{Any}
+use Rattle.route_drive.proofs.Common.{option_map_or, cases_lt, get_or-replicate, length-map, length-replicate, BookView, IsBook, next_position, state_after, Command, Entry, Journal, Planned, State, Settings, Roads, NumberedLanes, empty_round, lane_at, IsReady, IsRoundRun, IsRun, IsSameRun, journal_of, position_after_run, state_after_run, Course, DayRound, DayCounts, DriveFault, AreDriven, ComesTooLate, HasDrivenToTheEnd, IsDrivenRound, IsLateAnswer, IsTooLateDay, IsNewBook, courses_after, courses_from, courses_left, first_courses, left_course, number_after, plan_in, planned_course, AreCounts, entries_of, seal_of, EntersTooLate, IsInTime, left_commands, AddsServed, AreServed, HasCome, HasEnded, IsCounted, IsLastOn, IsLateAt, IsRoundOn, IsStoppedAt, IsTaken, IsUnderWay, Takes, second_of, longest, get_or_past, map_push, Any}
 use Rattle.dispatch_engine.proofs.lemmas.RunLemmas.{position-more, run-more, state-more}
 use Rattle.route_drive.proofs.LeaveLemmas.{count_stays}
 use Rattle.route_drive.proofs.EntryLemmas.{served_more}
@@ -118,7 +116,6 @@ module _ (settings : Settings) (roads : Roads) where
         let number = number_after rounds in
         let end : NumberedLanes = record on.driven { number = number } in
         let run : IsRoundRun settings roads end j = record { replies = on.taken.run.replies; closes = on.taken.run.closes; lanes = on.taken.run.lanes } in
-        let more = made_more number j in
         let from : drive.book.state ≡ on.journal.base = sym way.base ∙ sym on.taken.base in
         let left : left_commands drive.book.state.vehicles drive.courses.items ≡ left_commands j.base.vehicles (courses_from settings roads s rounds made) =
         ap (λ (t : State). left_commands t.vehicles drive.courses.items) from ∙ ap (left_commands j.base.vehicles) way.courses_are in
@@ -136,7 +133,7 @@ module _ (settings : Settings) (roads : Roads) where
           };
           in_time = subst (All IsInTime) left on.in_time;
           numbers = numbers_more number j;
-          run = rw more (run_on end j run on.taken.base on.taken.first);
+          run = rw (made_more number j) (run_on end j run on.taken.base on.taken.first);
         }
 
     -- the book is left in the state that the journals lead to
@@ -146,33 +143,18 @@ module _ (settings : Settings) (roads : Roads) where
         on.taken.state ∙ ap (λ (t : State). state_after roads.nodes settings.wait t on.journal.entries) (way.base ∙ way.state) ∙ sym (state-more settings roads s js on.journal)
         ∙ sym (ap (state_after_run settings roads s) (made_more (number_after rounds) on.journal))
 
-    -- the last round is too late
-    last_late : (n : ℕ) → n ≡ number_after rounds → Any (λ (c : Command). longest < second_of c) (left_commands drive.book.state.vehicles drive.courses.items) → IsTooLateDay settings roads s rounds n made
-    last_late n is late = record {
+    -- the next round is too late, or the last one
+    late_at : (all rest : List NumberedLanes) (n : ℕ) → all ≡ rounds ++ rest → ComesTooLate settings roads drive.book.state.vehicles drive.courses.items rest n → (rest ≡ [] → n ≡ number_after all) → IsTooLateDay settings roads s all n made
+    late_at all rest n parts late end = record {
       before = rounds;
-      rest = [];
-      parts = sym (append-nil rounds);
-      script = way.script;
-      driven = way.driven;
-      numbers = way.numbers;
-      run = way.run;
-      late = rw (← way.state, ← way.courses_are) late;
-      end = λ _. is;
-    }
-
-    -- a round is too late
-    next_late : (all rest : List NumberedLanes) (round : NumberedLanes) (n : ℕ) → all ≡ rounds ++ round ∷ rest → n ≡ round.number
-        → (now : ℕ) × (seal_of round ≡ Some now) × EntersTooLate roads settings.dwell now drive.book.state.vehicles drive.courses.items → IsTooLateDay settings roads s all n made
-    next_late all rest round n parts is late = record {
-      before = rounds;
-      rest = round ∷ rest;
+      rest = rest;
       parts = parts;
       script = way.script;
       driven = way.driven;
       numbers = way.numbers;
       run = way.run;
-      late = rw (← way.state, ← way.courses_are) (sym is, late);
-      end = λ none. absurd (let e : suc (length rest) ≡ 0 = ap length none in omega (arith, e));
+      late = rw (← way.state, ← way.courses_are) late;
+      end = end;
     }
 
   module _ (s : State) (rounds : List NumberedLanes) (Before After : List DayRound → Type 0) (drive : Drive) (come : HasCome Before settings roads s rounds drive) where
@@ -187,11 +169,11 @@ module _ (settings : Settings) (roads : Roads) where
         }
 
     pub end_late : (answer : DriveFault) → IsLateAt (number_after rounds) (Any (λ (c : Command). longest < second_of c) (left_commands drive.book.state.vehicles drive.courses.items)) Before After answer → IsLateAnswer settings roads After s rounds answer
-    end_late (fault.TooLate n) late = (come.made, late.1 come.made come.taken, last_late s rounds drive come.made come.way n late.0 late.2)
+    end_late (fault.TooLate n) late = (come.made, late.1 come.made come.taken, late_at s rounds drive come.made come.way rounds [] n (sym (append-nil rounds)) late.2 (λ _. late.0))
     end_late fault.OutOfMemory late = tt
 
     pub round_late : (all rest : List NumberedLanes) (round : NumberedLanes) (answer : DriveFault) → all ≡ rounds ++ round ∷ rest → IsLateAt round.number ((now : ℕ) × (seal_of round ≡ Some now) × EntersTooLate roads settings.dwell now drive.book.state.vehicles drive.courses.items) Before After answer → IsLateAnswer settings roads After s all answer
-    round_late all rest round (fault.TooLate n) parts late = (come.made, late.1 come.made come.taken, next_late s rounds drive come.made come.way all rest round n parts late.0 late.2)
+    round_late all rest round (fault.TooLate n) parts late = (come.made, late.1 come.made come.taken, late_at s rounds drive come.made come.way all (round ∷ rest) n parts (sym late.0, late.2) (λ none. absurd (let e : suc (length rest) ≡ 0 = ap length none in omega (arith, e))))
     round_late all rest round fault.OutOfMemory parts late = tt
 
 -- a list at the round of a number

@@ -1,13 +1,9 @@
 -- What is entered, stop by stop and vehicle by vehicle.
 use Rattle.std.proofs.Common.{◌≡◌, ℕ, zero, suc, ◌+◌, ◌<◌, ◌≤◌, Bool, true, false, List, [], ◌∷◌, ◌++◌, length, get_or, map, filter, take, drop, Some, Result, Ok, Err, refl, sym, ap, ◌∙◌, inl, inr, subst, arith, append_assoc, append-nil, length-append, IsSome, All, Contains, IfOk, MatchResult, find, IfErr, min}
-use Rattle.route_drive.proofs.Common.{AllZip, cond-true, cond-false, take_more, get_or_append_left, All-nil, All-cons, All-push, Vehicle, Command, PlannedStop, Roads, NumberedLanes, lane_at, Course, NodeAt, Stay, WalkStep, longest, Pickup, Dropoff, Report, AreEntered, EntersTooLate, IsInTime, due, left_commands, standing_after, stop_command, walk_end, step_from, ArePlaced, heading_of, headings_of, told_by, told_of, Adds, second_of}
+use Rattle.route_drive.proofs.Common.{AllZip, cond-true, cond-false, take_more, get_or_append_left, All-nil, All-cons, All-push, Vehicle, Command, PlannedStop, Roads, NumberedLanes, lane_at, Course, NodeAt, Stay, WalkStep, longest, Pickup, Dropoff, Report, AreEntered, EntersTooLate, IsInTime, due, left_commands, standing_after, stop_command, walk_end, step_from, ArePlaced, heading_of, headings_of, told_by, told_of, Adds, second_of, cond_both, le-leb, drop_more, flat_map_more, length-take, map_push, filter_more, length-zip}
 use Rattle.std.specs.List.{Any}
 use Rattle.std.specs.List.{flat_map, zip}
-use Rattle.std.proofs.lemmas.Bool.{cond_both, le-leb}
-use Rattle.std.proofs.lemmas.List.{drop_more, flat_map_more, length-take, map_push}
-use Rattle.std.proofs.lemmas.List.Elements.{filter_more}
 use Rattle.std.proofs.lemmas.List.Quantifiers.{Any-push}
-use Rattle.std.proofs.lemmas.Slice.Zip.{length-zip}
 use Rattle.std.proofs.lemmas.Bool.Decides.{leb_tells}
 
 module _ {X : Type 0} where
@@ -72,10 +68,8 @@ told-more now vehicles courses places k v c there size each h is_v is_c is_p =
     let pairs : List (Vehicle × Course) = zip (take k vehicles) (take k courses) in
     let more = zip-more vehicles courses k v c size h is_v is_c in
     let ps : take (k + 1) places ≡ take k places ++ there ∷ [] = take_more places k there (omega (arith, each, h)) ∙ ap (λ y. take k places ++ y ∷ []) (sym is_p) in
-    let a = length-zip (take k vehicles) (take k courses) in
-    let b = same_takes vehicles courses k size in
     let d = same_takes vehicles places k each in
-    rw (more, ps) (ap (flat_map F) (zip-push pairs (take k places) (v, c) there (omega (arith, a, b, d))) ∙ sym (flat_map_more F [] (zip pairs (take k places)) ((v, c), there)))
+    rw (more, ps) (ap (flat_map F) (zip-push pairs (take k places) (v, c) there (omega (arith, length-zip (take k vehicles) (take k courses), same_takes vehicles courses k size, d))) ∙ sym (flat_map_more F [] (zip pairs (take k places)) ((v, c), there)))
 
 pub headings-more : (dwell now : ℕ) (vehicles : List Vehicle) (courses : List Course) (k : ℕ) (v : Vehicle) (c : Course) → length courses ≡ length vehicles → k < length vehicles → v ≡ get_or vehicles k v → c ≡ get_or courses k c
     → headings_of dwell now (take (k + 1) vehicles) (take (k + 1) courses) ≡ headings_of dwell now (take k vehicles) (take k courses) ++ heading_of dwell now v c ∷ []
@@ -94,16 +88,12 @@ left-more vehicles courses k v c size h is_v is_c =
 module _ (roads : Roads) (dwell now : ℕ) where
   pub placed-size : (vehicles : List Vehicle) (courses : List Course) (places : List NodeAt) → length courses ≡ length vehicles → ArePlaced roads dwell now vehicles courses places → length places ≡ length vehicles
   placed-size [] courses [] size placed = refl
-  placed-size [] courses (z ∷ places) size placed = absurd placed
-  placed-size (x ∷ vehicles) [] places size placed = absurd (omega (arith, size))
-  placed-size (x ∷ vehicles) (y ∷ courses) [] size placed = absurd placed
   placed-size (x ∷ vehicles) (y ∷ courses) (z ∷ places) size placed = ap suc (placed-size vehicles courses places (omega (arith, size)) placed.1)
+  placed-size vehicles courses places size placed = grind arith
 
   pub placed_entered : (vehicles : List Vehicle) (courses : List Course) (places : List NodeAt) → length courses ≡ length vehicles → ArePlaced roads dwell now vehicles courses places
       → AreEntered roads dwell now vehicles courses (told_by now vehicles courses places)
   placed_entered [] courses places size placed = refl
-  placed_entered (x ∷ vehicles) [] places size placed = absurd (omega (arith, size))
-  placed_entered (x ∷ vehicles) (y ∷ courses) [] size placed = absurd placed
   placed_entered (x ∷ vehicles) (y ∷ courses) (z ∷ places) size placed = (
     told_of now x.id y z,
     told_by now vehicles courses places,
@@ -111,6 +101,7 @@ module _ (roads : Roads) (dwell now : ℕ) where
     placed_entered vehicles courses places (omega (arith, size)) placed.1,
     refl,
   )
+  placed_entered vehicles courses places size placed = grind arith
 
   -- whoever is placed too late is entered too late
   pub placed_late : (vehicles : List Vehicle) (courses : List Course) (places : List NodeAt) → length courses ≡ length vehicles → ArePlaced roads dwell now vehicles courses places
@@ -136,12 +127,11 @@ any_right P (z ∷ xs) ys any = let rest = any_right P xs ys any in (suc rest.0,
 -- a stop of one vehicle is among the stops left of all
 pub left_late : (P : Command → Type 0) (vehicles : List Vehicle) (courses : List Course) (k : ℕ) (v : Vehicle) (c : Course) → k < length vehicles → k < length courses
     → v ≡ get_or vehicles k v → c ≡ get_or courses k c → Any P (map (stop_command v.id) c.stops.items) → Any P (left_commands vehicles courses)
-left_late P [] courses k v c h g is_v is_c any = absurd (omega arith)
-left_late P (x ∷ vehicles) [] k v c h g is_v is_c any = absurd (omega arith)
 left_late P (x ∷ vehicles) (y ∷ courses) zero v c h g is_v is_c any =
     any_left P (map (stop_command x.id) y.stops.items) (left_commands vehicles courses) (rw (← is_v, ← is_c) any)
 left_late P (x ∷ vehicles) (y ∷ courses) (suc k) v c h g is_v is_c any =
     any_right P (map (stop_command x.id) y.stops.items) (left_commands vehicles courses) (left_late P vehicles courses k v c (omega arith) (omega arith) is_v is_c any)
+left_late P vehicles courses k v c h g is_v is_c any = absurd (omega arith)
 
 -- one among those of a map
 pub any_mapped : (P : Command → Type 0) (f : PlannedStop → Command) (stops : List PlannedStop) (k : ℕ) (s : PlannedStop) → k < length stops → s ≡ get_or stops k s → P (f s) → Any P (map f stops)

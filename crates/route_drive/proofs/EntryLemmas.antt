@@ -1,8 +1,6 @@
 -- Who is served by entries that follow one another, and the counts of them.
 use Rattle.std.proofs.Common.{◌≡◌, ℕ, ◌+◌, ◌^◌, ◌<◌, max, Bool, List, [], ◌∷◌, ◌++◌, length, get_or, map, filter, take, refl, sym, ap, ◌∙◌, subst, arith, eqb, append_assoc, append-nil, Contains, min, ◌-◌}
-use Rattle.route_drive.proofs.Common.{AllZip, take_more, get_or_default, length-map, map-append, Any-from_list_any, filter-append, IsNode, Entry, Reply, BookRider, Roads, ServedRider, DayRound, greatest, AreCounts, IsDelayOf, dropped_among, entries_of, is_dropped, is_picked, picked_among, wait_of, AddsServed, AreServed, IsDelayed, all_served_by, served_by, waited}
-use Rattle.std.proofs.lemmas.Bool.{eqb-true}
-use Rattle.std.proofs.lemmas.List.{flat_map_more, map_push}
+use Rattle.route_drive.proofs.Common.{AllZip, take_more, get_or_default, length-map, map-append, Any-from_list_any, filter-append, IsNode, Entry, Reply, BookRider, Roads, ServedRider, DayRound, greatest, AreCounts, IsDelayOf, dropped_among, entries_of, is_dropped, is_picked, picked_among, wait_of, AddsServed, AreServed, IsDelayed, all_served_by, served_by, waited, eqb-true, flat_map_more, map_push}
 use Rattle.route_drive.specs.declared.counts.Served.{Served}
 
 pub greatest-push : (xs : List ℕ) (x : ℕ) → greatest (xs ++ x ∷ []) ≡ max (greatest xs) x

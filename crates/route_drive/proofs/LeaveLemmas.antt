@@ -1,10 +1,8 @@
 -- What each step leaves: riders who they are, so that the waits and delays that are told at the end of a day are those of
 -- its pickups and drop-offs, and the vehicles by their ids.
 use Rattle.std.proofs.Common.{◌≡◌, ℕ, Bool, true, false, cond, List, [], ◌∷◌, ◌++◌, length, map, Option, None, Some, refl, sym, ap, ◌∙◌, option_map, ◌==◌, ◌&&◌}
-use Rattle.route_drive.proofs.Common.{false≢true, length-map, Batch, Rider, Vehicle, look_up-map, look_up-push_found, map-changed_at, after_answer, after_plan, picks, in_batch, planned_status, closed_state, changed_at, state_after, is_active, with_status, sealed_state, after_seal, is_over, find_rider, step, answer, picked_up, dropped_off, stands_at, takes_in, lets_out, rider_becomes, vehicle_becomes, submit_step, submit_refusal, cancel_step, report_step, pickup_step, dropoff_step, seal_step, close_step, table_step, by-table, one_more, Command, Submit, Cancel, Report, Pickup, Dropoff, Seal, Close, Answer, BookRefusal, Entry, Reply, Accepted, Placed, Picked, Dropped, Sealed, Closed, BookRider, Status, Waiting, Aboard, Delivered, Expired, State, is_dropped, is_picked}
-use Rattle.request_book.specs.declared.outcome.Outcome.{Outcome}
+use Rattle.route_drive.proofs.Common.{false≢true, length-map, Batch, Rider, Vehicle, look_up-map, look_up-push_found, map-changed_at, after_answer, after_plan, picks, in_batch, planned_status, closed_state, changed_at, state_after, is_active, with_status, sealed_state, after_seal, is_over, find_rider, step, answer, picked_up, dropped_off, stands_at, takes_in, lets_out, rider_becomes, vehicle_becomes, submit_step, submit_refusal, cancel_step, report_step, pickup_step, dropoff_step, seal_step, close_step, table_step, by-table, one_more, Command, Submit, Cancel, Report, Pickup, Dropoff, Seal, Close, Answer, BookRefusal, Entry, Reply, Accepted, Placed, Picked, Dropped, Sealed, Closed, BookRider, Status, Waiting, Aboard, Delivered, Expired, State, is_dropped, is_picked, Outcome, Cancelled}
 use Rattle.request_book.specs.declared.outcome.Answer.TheVariants as answers
-use Rattle.request_book.specs.declared.reply.Reply.TheVariants.{Cancelled}
 use Rattle.request_book.specs.declared.rider.Status.TheVariants.{Cancelled as GivenUp}
 
 -- a rider of whatever status

@@ -1,11 +1,9 @@
 -- The suffix law: what remains of a serving order serves.
 use Rattle.std.proofs.Common.{◌≡◌, ℕ, suc, ◌+◌, ◌<◌, ◌≤◌, Bool, true, false, eqb, List, [], ◌∷◌, ◌++◌, length, map, filter, drop, refl, sym, ap, ◌∙◌, subst, arith, inl, inr, length-append, All, remove, slice_index_or, not}
-use Rattle.route_drive.proofs.Common.{AllByRecursion, cases_Bool, cases_lt, cond-true, cond-false, false≢true, get_or_append_left, get_or-append_seam, All-append, All-cons, All-nil, sum_by_push, sum_by-cons, longest, Leg, Task, Stop, Pick, Drop, Alight, Visit, is_of_rider, is_of_passenger, IsKnown, place_of, boarding_of, room_after, ServesFrom, seconds_from, no_leg, leg_at, persons, IsLeg, IsTask, visit_at, visits_of, free_seats, IsOrderOf, Serves, seconds_of}
-use Rattle.std.proofs.lemmas.Bool.{eq-eqb, ne_eqb, eqb-true, not_from_false, not_from_true}
+use Rattle.route_drive.proofs.Common.{AllByRecursion, cases_Bool, cases_lt, cond-true, cond-false, false≢true, get_or_append_left, get_or-append_seam, All-append, All-cons, All-nil, sum_by_push, sum_by-cons, longest, Leg, Task, Stop, Pick, Drop, Alight, Visit, is_of_rider, is_of_passenger, IsKnown, place_of, boarding_of, room_after, ServesFrom, seconds_from, no_leg, leg_at, persons, IsLeg, IsTask, visit_at, visits_of, free_seats, IsOrderOf, Serves, seconds_of, eq-eqb, ne_eqb, eqb-true, not_from_false, not_from_true, map-map, nat_tests}
 use Rattle.std.proofs.lemmas.List.Edits.{length-remove}
 use Rattle.stop_orders.specs.declared.visit.Visit.TheVariants.{Pickup, Dropoff}
 use Rattle.stop_orders.specs.Laws.{number_without, stop_without_passenger, without_passenger}
-use Rattle.std.proofs.lemmas.Simd.{map-map}
 use Rattle.stop_orders.proofs.lemmas.DeletionLemmas.{old_number, not_same, renumbered, renumbered_back, old_number-ne, old_number-lt, number_without-lt, leg_without, All-remove, order_without_passenger, persons_without, valid_without_passenger, visit_without_passenger, visits_renumbered}
 use Rattle.route_drive.proofs.kept.Lists.{all_mapped, both, filter_all, filter_filter, filter_renamed, map_agrees, skips, takes}
 use Rattle.route_drive.specs.Rest.{task_after, stop_after, rest_of, MeetsNext, RestServes}
@@ -13,14 +11,9 @@ use Rattle.route_drive.specs.Rest.{task_after, stop_after, rest_of, MeetsNext, R
 -- what holds of all that a filter keeps, and of all that it doesn't, holds of all
 all_of_filter : (P : Stop → Type 0) (p : Stop → Bool) (xs : List Stop) → AllByRecursion P (filter p xs) → ((x : Stop) → p x ≡ false → P x) → AllByRecursion P xs
 all_of_filter P p [] kept others = tt
-all_of_filter P p (x ∷ xs) kept others = elim (cases_Bool (p x)) [
-  | inl e ↦ let own = subst (λ ys. AllByRecursion P ys) (takes p x xs e) kept in (own.0, all_of_filter P p xs own.1 others)
-  | inr e ↦ (others x e, all_of_filter P p xs (subst (λ ys. AllByRecursion P ys) (skips p x xs e) kept) others)
-]
-
--- the renamed are seen as before
-map_renamed : (vis old : Stop → Visit) (g : Stop → Stop) (P : Stop → Type 0) → ((s : Stop) → P s → vis (g s) ≡ old s) → (xs : List Stop) → AllByRecursion P xs → map vis (map g xs) ≡ map old xs
-map_renamed vis old g P same xs all = map-map vis g xs ∙ map_agrees (λ x. vis (g x)) old P same xs all
+all_of_filter P p (x ∷ xs) kept others =
+    let rest : AllByRecursion P (filter p xs) → AllByRecursion P xs = λ all. all_of_filter P p xs all others in
+    grind (arith, nat_tests, others x)
 
 -- what a task keeps after its first stop
 record Onward (points : ℕ) (task : Task) (stop : Stop) (stops : List Stop) : Type 0 where
@@ -33,14 +26,12 @@ record Onward (points : ℕ) (task : Task) (stop : Stop) (stops : List Stop) : T
 got_out : (points : ℕ) (task : Task) (j : ℕ) (stops : List Stop) → IsTask points task → IsOrderOf task (Alight j ∷ stops) → Onward points task (Alight j) stops
 got_out points task j stops valid order =
     let within : j < length task.aboard.items = order.known.0 in
-    let less = persons_without points task valid j within in
-    let seated = valid.seated in
     record {
       valid = valid_without_passenger points task valid j within;
       order = subst (λ ss. IsOrderOf (without_passenger j task) (map (stop_without_passenger j) ss)) first_left (order_without_passenger points task valid j within (Alight j ∷ stops) order);
       visits = subst (λ ss. map (visit_at (without_passenger j task)) (map (stop_without_passenger j) ss) ≡ map (visit_at task) ss) all_left
           (visits_renumbered (visit_at (without_passenger j task)) (visit_at task) (stop_without_passenger j) (is_of_passenger j) (visit_without_passenger points task valid j within) stops);
-      room = omega (arith, less, seated);
+      room = omega (arith, persons_without points task valid j within, valid.seated);
     }
   where
     -- nobody else is this passenger
@@ -67,10 +58,7 @@ drops i stop = elim stop [ Pick k ↦ false | Drop k ↦ eqb k i | Alight k ↦ 
 persons-least : (points : ℕ) (legs : List Leg) → All (IsLeg points) legs → length legs ≤ persons legs
 persons-least points [] all = omega arith
 persons-least points (leg ∷ legs) all =
-    let first : 1 ≤ leg.party = (all 0 leg (omega arith)).someone in
-    let rest : length legs ≤ persons legs = persons-least points legs (λ k d h. all (suc k) d (omega arith)) in
-    let more : persons (leg ∷ legs) ≡ leg.party + persons legs = sum_by-cons (λ (l : Leg). l.party) leg legs in
-    omega arith
+    omega (arith, (all 0 leg (omega arith)).someone, persons-least points legs (λ k d h. all (suc k) d (omega arith)), sum_by-cons (λ (l : Leg). l.party) leg legs)
 
 -- a rider gets in
 module _ (points : ℕ) (task : Task) (valid : IsTask points task) (i : ℕ) (stops : List Stop) (order : IsOrderOf task (Pick i ∷ stops)) (boards : (leg_at task.riders.items i).party ≤ free_seats task) where
@@ -106,8 +94,7 @@ module _ (points : ℕ) (task : Task) (valid : IsTask points task) (i : ℕ) (st
   not_picked : (x : Stop) → is_of_rider i x ≡ false → picks i x ≡ false
   unfolding picks
   not_picked (Pick k) e = e
-  not_picked (Drop k) e = refl
-  not_picked (Alight k) e = refl
+  not_picked s e = refl
 
   after : AllByRecursion After stops
   unfolding picks
@@ -161,9 +148,8 @@ module _ (points : ℕ) (task : Task) (valid : IsTask points task) (i : ℕ) (st
 
   is_drop : (s : Stop) → drops i s ≡ true → is_of_rider i s ≡ true
   unfolding drops
-  is_drop (Pick n) e = absurd (false≢true e)
   is_drop (Drop n) e = e
-  is_drop (Alight n) e = absurd (false≢true e)
+  is_drop s e = absurd (false≢true e)
 
   the_drop : filter (drops i) stops ≡ Drop i ∷ []
   unfolding drops
@@ -192,13 +178,12 @@ module _ (points : ℕ) (task : Task) (valid : IsTask points task) (i : ℕ) (st
 
   picked_alights : (k : ℕ) → k < length aboard' → filter (is_of_passenger k) (map g stops) ≡ Alight k ∷ []
   picked_alights k h =
-      let q = more in
       elim (cases_lt k (length task.aboard.items)) [
         | inl lt ↦
             filter_renamed (is_of_passenger k) (is_of_passenger k) g After (passenger_tests k lt) stops after
             ∙ ap (map g) (sym (skips (is_of_passenger k) (Pick i) stops refl) ∙ order.alights k lt)
         | inr ge ↦
-            let e : k ≡ length task.aboard.items = omega (arith, q) in
+            let e : k ≡ length task.aboard.items = omega (arith, more) in
             subst (λ n. filter (is_of_passenger n) (map g stops) ≡ Alight n ∷ []) (sym e)
             (filter_renamed (is_of_passenger (length task.aboard.items)) (drops i) g After last_tests stops after
             ∙ ap (map g) the_drop
@@ -208,12 +193,9 @@ module _ (points : ℕ) (task : Task) (valid : IsTask points task) (i : ℕ) (st
   got_in : Onward points task (Pick i) stops
   got_in =
       let a = more in
-      let b = persons_more in
-      let c = less in
-      let fits : persons aboard' ≤ task.seats = omega (arith, b, boards, valid.seated) in
+      let fits : persons aboard' ≤ task.seats = omega (arith, persons_more, boards, valid.seated) in
       let all : All (IsLeg points) aboard' = All-append (IsLeg points) task.aboard.items (leg_at task.riders.items i ∷ []) valid.passengers
       (All-cons (IsLeg points) (leg_at task.riders.items i) [] (valid.riders i no_leg among) (All-nil (IsLeg points))) in
-      let many : length aboard' ≤ persons aboard' = persons-least points aboard' all in
       record {
         valid = record {
           start = valid.start;
@@ -221,8 +203,8 @@ module _ (points : ℕ) (task : Task) (valid : IsTask points task) (i : ℕ) (st
           dwell = valid.dwell;
           seats = valid.seats;
           seated = fits;
-          passenger_count = omega (arith, many, fits, valid.seats);
-          rider_count = omega (arith, c, valid.rider_count);
+          passenger_count = omega (arith, persons-least points aboard' all, fits, valid.seats);
+          rider_count = omega (arith, less, valid.rider_count);
           passengers = all;
           riders = All-remove (IsLeg points) task.riders.items i valid.riders;
         };
@@ -231,8 +213,8 @@ module _ (points : ℕ) (task : Task) (valid : IsTask points task) (i : ℕ) (st
           alights = picked_alights;
           known = all_mapped After (IsKnown (length (remove task.riders.items i)) (length aboard')) g picked_known stops after;
         };
-        visits = map_renamed (visit_at (task_after (Pick i) task)) (visit_at task) g After picked_visit stops after;
-        room = omega (arith, b);
+        visits = map-map (visit_at (task_after (Pick i) task)) g stops ∙ map_agrees (λ s. visit_at (task_after (Pick i) task) (g s)) (visit_at task) After picked_visit stops after;
+        room = omega (arith, persons_more);
       }
 
 -- one stop on
@@ -256,8 +238,7 @@ record GoesOn (points : ℕ) (tau : ℕ → ℕ → ℕ) (dwell : ℕ) (visits :
 
 same_dwell : (stop : Stop) (task : Task) → (task_after stop task).dwell ≡ task.dwell
 same_dwell (Pick i) task = refl
-same_dwell (Drop i) task = refl
-same_dwell (Alight i) task = refl
+same_dwell stop task = refl
 
 goes_on : (points : ℕ) (tau : ℕ → ℕ → ℕ) (dwell : ℕ) (k : ℕ) (task : Task) (place free : ℕ) (stops : List Stop) → task.dwell ≡ dwell → IsTask points task → IsOrderOf task stops
     → ServesFrom tau dwell place free (free_seats task) (visits_of task stops)

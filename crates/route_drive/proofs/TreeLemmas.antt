@@ -1,10 +1,6 @@
 -- Searches for shortest walks.
 use Rattle.std.proofs.Common.{IfNone, IfOk, IsSome, MatchOption, Result, Ok, Err, ◌≡◌, ℕ, Option, None, Some, rules, nat_lt, ◌+◌, ◌*◌, ◌<◌, ◌≤◌, ◌⊎◌, Bool, true, false, cond, not, List, [], ◌∷◌, ◌++◌, length, get_or, slice_index, set, replicate, map, reverse, count_by, All, refl, sym, ap, ◌∙◌, inl, inr, subst, arith, length-append}
-use Rattle.route_drive.proofs.Common.{position_or_len, cases_Bool, cases_eq, cases_lt, get_or_append_left, reverse-append, get_or-replicate, length-replicate, All-contains, sum_by-replicate, sum_by-set, sum_by-cons, get_or-append_seam, never, Arc, Hop, Roads, index_in, IsArcAmong, IsNetwork, hop_of, leaving, IsWalk, walk_seconds, HasNoWalk, Found, WalkStep, IsShortestWalk, no_found, found_at, is_seen, IsTight, IsTree, AreHopsOpened, IsOpened, Grows, IsGrowing, IsWalkBack}
-use Rattle.std.specs.List.{position}
-use Rattle.std.proofs.lemmas.Bool.{true≢false}
-use Rattle.std.proofs.lemmas.List.{length-set, get_or-set_same, get_or-set_other, get_or_past, get_or_default}
-use Rattle.travel_times.proofs.lemmas.WalkLemmas.{IsWalk-append, walk_seconds-append, short_walk}
+use Rattle.route_drive.proofs.Common.{position_or_len, cases_Bool, cases_eq, cases_lt, get_or_append_left, reverse-append, get_or-replicate, length-replicate, All-contains, sum_by-replicate, sum_by-set, sum_by-cons, get_or-append_seam, never, Arc, Hop, Roads, index_in, IsArcAmong, IsNetwork, hop_of, leaving, IsWalk, walk_seconds, HasNoWalk, Found, WalkStep, IsShortestWalk, no_found, found_at, is_seen, IsTight, IsTree, AreHopsOpened, IsOpened, Grows, IsGrowing, IsWalkBack, true≢false, length-set, get_or-set_same, get_or-set_other, get_or_past, get_or_default, position, IsWalk-append, walk_seconds-append, short_walk, nat_tests}
 use Rattle.travel_times.proofs.lemmas.SearchLemmas.{arc_of_hop, hop_of_arc, hops_among}
 use Rattle.travel_times.specs.Near.{AreTimesUpTo}
 
@@ -89,8 +85,7 @@ IsOpened-all arcs times most seen node all arc among from near tight =
     let hop = hop_of_arc arcs node arc among from in
     let d : Hop = hop_of arc in
     let at : get_or (map hop_of (leaving node arcs)) hop.0 d ≡ hop_of arc = hop.2 d in
-    let own = all hop.0 d hop.1 hop.1 in
-    (rw at at own) near tight
+    (rw at at (all hop.0 d hop.1 hop.1)) near tight
 
 -- a tight hop is a tight arc
 IsTight-own : (arcs : List Arc) (times : List ℕ) (node k : ℕ) (d : Hop) → k < length (map hop_of (leaving node arcs))
@@ -172,11 +167,10 @@ module _ (arcs : List Arc) (n start goal : ℕ) (times : List ℕ) (among : All 
     | inl to ↦
         let whole = IsWalk-append arcs to.walk walk start via node to.walks walks in
         let sum = walk_seconds-append to.walk walk in
-        let takes = to.takes in
         elim (cases_lt (slice_index times goal) (slice_index times node)) [
-          | inl beyond ↦ let longer = timed.far node hn beyond (to.walk ++ walk) whole in absurd (omega (arith, sum, takes, longer))
+          | inl beyond ↦ let longer = timed.far node hn beyond (to.walk ++ walk) whole in absurd (omega (arith, sum, to.takes, longer))
           | inr there ↦ elim (timed.near node hn there) [
-            | inl on ↦ let least = on.least (to.walk ++ walk) whole in omega (arith, sum, takes, least)
+            | inl on ↦ let least = on.least (to.walk ++ walk) whole in omega (arith, sum, to.takes, least)
             | inr none ↦ absurd (none.0 (to.walk ++ walk) whole)
           ]
         ]
@@ -228,9 +222,8 @@ module _ (arcs : List Arc) (n start goal : ℕ) (times : List ℕ) (among : All 
     pub is_found : slice_index times goal < never → is_seen seen goal ≡ true
     is_found near = elim (timed.near goal within (omega arith)) [
       | inl to ↦
-          let zero_at = start_is_near in
           let first : is_seen seen start ≡ true = rw (← full.first) full.tree.first_marked in
-          follow to.walk start inside near to.walks (let t = to.takes in omega (arith, zero_at, t)) first
+          follow to.walk start inside near to.walks (let t = to.takes in omega (arith, start_is_near, t)) first
       | inr none ↦ let far = none.1 in absurd (omega arith)
     ]
 
@@ -246,12 +239,11 @@ pub IsWalkBack-more : (roads : Roads) (times : List ℕ) (from via to : ℕ) (st
 IsWalkBack-more roads times from via to steps tight back =
     let arc : Arc = tight.arc in
     let split : walk_seconds (tight.arc ∷ back.walk) ≡ tight.arc.seconds + walk_seconds back.walk = sum_by-cons (λ (a : Arc). a.seconds) tight.arc back.walk in
-    let rises = tight.rises in
     let takes = back.takes in
     record {
       walk = tight.arc ∷ back.walk;
       walks = (tight.among, tight.leaves, rw tight.ends back.walks);
-      takes = omega (arith, split, rises, takes);
+      takes = omega (arith, split, tight.rises, takes);
       told = ap (λ ss. (record { node = slice_index roads.nodes from; seconds = slice_index times from }) ∷ ss) (rw (tight.ends, tight.rises) back.told);
     }
 
@@ -263,12 +255,11 @@ pub walk_told : (roads : Roads) (from to start goal : ℕ) (times : List ℕ) �
 walk_told roads from to start goal times among few is_start is_goal inside within timed items (Err fault) told = tt
 walk_told roads from to start goal times among few is_start is_goal inside within timed items (Ok None) told = rw (is_start, is_goal) told
 walk_told roads from to start goal times among few is_start is_goal inside within timed items (Ok (Some steps)) back =
-    let zero_at = start_is_near roads.arcs (length roads.nodes) start goal times among few inside within timed in
     record {
       walk = back.walk;
       walks = rw (is_start, is_goal) back.walks;
       least = rw (is_start, is_goal) (is_least roads.arcs (length roads.nodes) start goal times among few inside within timed back.walk back.takes);
-      told = rw is_start (rw zero_at at back.told);
+      told = rw is_start (rw (start_is_near roads.arcs (length roads.nodes) start goal times among few inside within timed) at back.told);
     }
 
 pub reverse-push : (steps : List WalkStep) (step : WalkStep) → reverse (steps ++ step ∷ []) ≡ step ∷ reverse steps
@@ -276,12 +267,8 @@ reverse-push steps step = reverse-append steps (step ∷ [])
 
 -- what can't be nothing is something
 pub some_unless : (o : Option ℕ) (P : Type 0) → IfNone o P → (P → ⊥) → IsSome o
-some_unless None P none never_so = absurd (never_so none)
-some_unless (Some x) P none never_so = search rules
+some_unless o P none never_so = grind arith
 
 -- the place at which a look-up found something
 pub position-is : {X : Type 0} (p : X → Bool) (xs : List X) (i : ℕ) → position p xs ≡ Some i → position_or_len p xs ≡ i
-position-is p xs i h = elim (cases_Bool (nat_lt (position_or_len p xs) (length xs))) [
-  | inl found ↦ let e : Some (position_or_len p xs) ≡ Some i = rw found at h in cc
-  | inr lost ↦ let e : None ≡ Some i = rw lost at h in cc
-]
+position-is p xs i h = grind (arith, nat_tests)

@@ -1,7 +1,6 @@
 -- The worst wait and the worst delay that are told at the end of a day are within the limits that its entries keep.
 use Rattle.std.proofs.Common.{◌≡◌, ℕ, ◌-◌, ◌≤◌, List, [], ◌∷◌, ◌++◌, map, Option, sym, ap, ◌∙◌, subst, arith, MatchOption, refl}
-use Rattle.route_drive.proofs.Common.{AllZip, option_map_or, rounds-join, next_position, RepliesAreSteps, state_after, step, Command, Pickup, Dropoff, Entry, Reply, BookRider, State, Settings, Roads, index_in, IsTimeBetween, NumberedLanes, DayCounts, IsRun, state_after_run, DayRound, greatest, AreCounts, entries_of, IsDelayOf, dropped_among, ideal_dropoff, is_dropped, is_picked, picked_among, wait_of, EntriesKeep, EntryKeeps, IsKeptDay, IsRunOfDay}
-use Rattle.std.proofs.lemmas.Bool.{cond_both}
+use Rattle.route_drive.proofs.Common.{AllZip, option_map_or, rounds-join, next_position, RepliesAreSteps, state_after, step, Command, Pickup, Dropoff, Entry, Reply, BookRider, State, Settings, Roads, index_in, IsTimeBetween, NumberedLanes, DayCounts, IsRun, state_after_run, DayRound, greatest, AreCounts, entries_of, IsDelayOf, dropped_among, ideal_dropoff, is_dropped, is_picked, picked_among, wait_of, EntriesKeep, EntryKeeps, IsKeptDay, IsRunOfDay, cond_both}
 use Rattle.route_drive.proofs.LeaveLemmas.{IsPickup, IsDropoff, Keeps, keeps_self, keeps_trans, riders_stay, step-leaves}
 use Rattle.route_drive.proofs.kept.Walks.{between_unique}
 
@@ -12,9 +11,7 @@ module _ (settings : Settings) (roads : Roads) where
   entry_wait s later (Pickup vehicle rider second) reply lane is kept keeps =
       let there = keeps rider kept.1 kept.2 in
       let told : wait_of later (record { lane = lane; command = Pickup vehicle rider second; reply = reply }) ≡ second - there.0.time = ap (λ (o : Option BookRider). option_map_or (λ (r : BookRider). second - r.time) o 0) there.1 in
-      let same = there.2.time in
-      let in_wait = kept.3 in
-      omega (arith, told, same, in_wait)
+      omega (arith, told, there.2.time, kept.3)
   entry_wait s later command reply lane is kept keeps = absurd is
 
   -- the delay of one that is answered `dropped`
@@ -31,9 +28,7 @@ module _ (settings : Settings) (roads : Roads) where
       let time : known.0 ≡ kept.3.seconds = between_unique roads.arcs (index_in roads.nodes own.origin) (index_in roads.nodes own.destination) known.0 kept.3.seconds between kept.3.between in
       let ideal : ideal_dropoff there.0.time known.0 ≡ ideal_dropoff own.time kept.3.seconds =
       ap (λ (t : ℕ). ideal_dropoff t known.0) there.2.time ∙ ap (ideal_dropoff own.time) time in
-      let is_delay = known.2 in
-      let limit = kept.3.in_time in
-      omega (arith, is_delay, ideal, limit)
+      omega (arith, known.2, ideal, kept.3.in_time)
   entry_delay s later d command reply lane is kept keeps delayed = absurd is
 
   -- the riders of a state are found after the entries that follow
@@ -59,9 +54,7 @@ module _ (settings : Settings) (roads : Roads) where
       → AllZip (IsDelayOf roads later) (e ∷ dropped_among es) ds → greatest ds ≤ settings.delay
   delay_first s e es later [] is kept keeps rest are = absurd are
   delay_first s e es later (d ∷ ds) is kept keeps rest are =
-      let one = entry_delay s later d e.command e.reply e.lane is kept keeps are.0 in
-      let others = rest ds are.1 in
-      omega (arith, one, others)
+      omega (arith, entry_delay s later d e.command e.reply e.lane is kept keeps are.0, rest ds are.1)
 
   -- the worst delay is within the delay
   delays_within : (s : State) (es : List Entry) (later : List BookRider) (ds : List ℕ) → RepliesAreSteps roads.nodes settings.wait s es → EntriesKeep settings roads s es
@@ -104,11 +97,7 @@ module _ (settings : Settings) (roads : Roads) where
       let keeps : Keeps (state_after roads.nodes settings.wait s (entries_of made)).riders later =
       subst (λ (t : State). Keeps t.riders later) (sym (run_state s made)) (keeps_self later) in
       let replies = run_replies s position script made ran in
-      let waits = waits_within s (entries_of made) later replies kept keeps in
-      let delays = delays_within s (entries_of made) later counts.delays replies kept keeps counts.delays_are in
-      let wait_is = counts.wait_is in
-      let delay_is = counts.delay_is in
-      (omega (arith, waits, wait_is), omega (arith, delays, delay_is))
+      (omega (arith, waits_within s (entries_of made) later replies kept keeps, counts.wait_is), omega (arith, delays_within s (entries_of made) later counts.delays replies kept keeps counts.delays_are, counts.delay_is))
 
   -- a day that keeps its promises, with its counts
   pub day_in_time : (s : State) (rounds : List NumberedLanes) (made : List DayRound) (run : DayCounts) → IsKeptDay settings roads s rounds made

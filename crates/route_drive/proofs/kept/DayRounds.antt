@@ -1,8 +1,6 @@
 -- The rounds of a day: requests, and in lane 0 a seal before them.
 use Rattle.std.proofs.Common.{◌≡◌, ℕ, ◌+◌, ◌<◌, ◌≤◌, max, Bool, true, false, not, cond, ltb, List, [], ◌∷◌, ◌++◌, length, drop, get_or, Option, Some, None, unwrap_or, refl, sym, ap, ◌∙◌, subst, arith, inl, inr, append_assoc, length-append, All, option_and_then}
-use Rattle.route_drive.proofs.Common.{AllByRecursion, list_any, option_or, cases_lt, All-head, All-tail, recursion_from_All, first_fault, first_fault-each, Command, Submit, Seal, IsRound, MayStand, NumberedLanes, empty_round, lane_at, day_fault, first_seal, is_of_day, is_seal_command, lane_fault, latest_seal, round_fault, seal_of, seals_fault, fault_at}
-use Rattle.std.proofs.lemmas.Bool.{ltb-false, true≢false, or_parts}
-use Rattle.std.proofs.lemmas.List.{get_or-append-add, take_at, get_or_past}
+use Rattle.route_drive.proofs.Common.{AllByRecursion, list_any, option_or, cases_lt, All-head, All-tail, recursion_from_All, first_fault, first_fault-each, Command, Submit, Seal, IsRound, MayStand, NumberedLanes, empty_round, lane_at, day_fault, first_seal, is_of_day, is_seal_command, lane_fault, latest_seal, round_fault, seal_of, seals_fault, fault_at, ltb-false, true≢false, or_parts, get_or-append-add, take_at, get_or_past, nat_tests}
 use Rattle.route_drive.proofs.DayLemmas.{latest-push}
 use Rattle.route_drive.proofs.kept.Lists.{both, all_weaker}
 use Rattle.route_drive.proofs.kept.Mixed.{IsRequest}
@@ -23,16 +21,14 @@ AreDayRounds latest [] = Unit {0}
 AreDayRounds latest (round ∷ rounds) = IsDayRound latest round × AreDayRounds (unwrap_or (seal_of round) latest) rounds
 
 neither : {X : Type 0} (o p : Option X) → option_or o p ≡ None → (o ≡ None) × (p ≡ None)
-neither None p e = (refl, e)
-neither (Some x) p e = absurd cc
+neither o p e = grind arith
 
 none_any : {X : Type 0} (p : X → Bool) (xs : List X) → list_any p xs ≡ false → AllByRecursion (λ x. p x ≡ false) xs
 none_any p [] e = tt
-none_any p (x ∷ xs) e = let both = or_parts (p x) (list_any p xs) e in (both.0, none_any p xs both.1)
+none_any p (x ∷ xs) e = grind (arith, nat_tests, none_any p xs)
 
 untold : {X : Type 0} (b : Bool) (x : X) → cond b (Some x) None ≡ None → b ≡ false
-untold true x e = absurd cc
-untold false x e = refl
+untold b x e = grind arith
 
 -- a command of a day in a lane other than 0 is a request
 asks_elsewhere : (lane : ℕ) → (lane ≡ 0 → ⊥) → (c : Command) → (not (is_of_day c) ≡ false) × MayStand lane c → IsRequest c
@@ -41,9 +37,7 @@ asks_elsewhere lane other (Seal now) two = absurd (other two.1)
 asks_elsewhere lane other command two = absurd (true≢false two.0)
 
 asks_later : (c : Command) → (not (is_of_day c) ≡ false) × (is_seal_command c ≡ false) → IsRequest c
-asks_later (Submit rider origin destination time party) two = tt
-asks_later (Seal now) two = absurd (true≢false two.1)
-asks_later command two = absurd (true≢false two.0)
+asks_later c two = grind arith
 
 -- a lane in which nothing is foreign to a day
 lane_of_day : (round : NumberedLanes) (lane : ℕ) → first_fault (lane_fault round) (length round.lanes) ≡ None → AllByRecursion (λ c. not (is_of_day c) ≡ false) (lane_at round lane)
@@ -66,8 +60,7 @@ own_lane latest before round le of_day unsealed back = by (lane_at round 0) refl
     in_order : (now : ℕ) → seal_of round ≡ Some now → before ≤ now
     in_order now is =
         let told : cond (ltb now latest) (Some (fault.SealBack round.number)) None ≡ None = ap (option_and_then (λ now. cond (ltb now latest) (Some (fault.SealBack round.number)) None)) (sym is) ∙ back in
-        let ge = ltb-false now latest (untold (ltb now latest) (fault.SealBack round.number) told) in
-        omega (arith, ge, le)
+        omega (arith, ltb-false now latest (untold (ltb now latest) (fault.SealBack round.number) told), le)
 
     by : (cs : List Command) → lane_at round 0 ≡ cs → AllByRecursion (λ c. not (is_of_day c) ≡ false) cs → AllByRecursion (λ c. is_seal_command c ≡ false) (drop 1 cs) → IsDayLane before round
     by [] e day sealed = IsDayLane.asks (ap first_seal e) (subst (AllByRecursion IsRequest) (sym e) tt)
@@ -90,8 +83,7 @@ day_round latest before round le is none =
 
 -- the second behind which the next round comes
 next_latest : (o : Option ℕ) (before latest : ℕ) → before ≤ latest → unwrap_or o before ≤ max (unwrap_or o 0) latest
-next_latest None before latest le = omega (arith, le)
-next_latest (Some now) before latest le = omega arith
+next_latest o before latest le = grind arith
 
 fault_front : (before : List NumberedLanes) (r : NumberedLanes) (rest : List NumberedLanes) → fault_at (before ++ r ∷ rest) (length before) ≡ round_fault (latest_seal before) r
 fault_front before r rest =
@@ -102,12 +94,9 @@ fault_front before r rest =
 rounds_on : (rest before : List NumberedLanes) (latest : ℕ) → latest ≤ latest_seal before → ((k : ℕ) → k < length (before ++ rest) → fault_at (before ++ rest) k ≡ None) → All IsRound rest → AreDayRounds latest rest
 rounds_on [] before latest le none all = tt
 rounds_on (r ∷ rest) before latest le none all =
-    let same : (before ++ r ∷ []) ++ rest ≡ before ++ r ∷ rest = append_assoc before (r ∷ []) rest in
-    let more : latest_seal (before ++ r ∷ []) ≡ max (unwrap_or (seal_of r) 0) (latest_seal before) = latest-push before r in
-    let next : unwrap_or (seal_of r) latest ≤ max (unwrap_or (seal_of r) 0) (latest_seal before) = next_latest (seal_of r) latest (latest_seal before) le in
-    let here : fault_at (before ++ r ∷ rest) (length before) ≡ None = none (length before) (grind (arith, length-append)) in (
-      day_round (latest_seal before) latest r le (All-head IsRound r rest all) (sym (fault_front before r rest) ∙ here),
-      rounds_on rest (before ++ r ∷ []) (unwrap_or (seal_of r) latest) (subst (λ n. unwrap_or (seal_of r) latest ≤ n) (sym more) next)
+    let same : (before ++ r ∷ []) ++ rest ≡ before ++ r ∷ rest = append_assoc before (r ∷ []) rest in (
+      day_round (latest_seal before) latest r le (All-head IsRound r rest all) (sym (fault_front before r rest) ∙ none (length before) (grind (arith, length-append))),
+      rounds_on rest (before ++ r ∷ []) (unwrap_or (seal_of r) latest) (subst (λ n. unwrap_or (seal_of r) latest ≤ n) (sym (latest-push before r)) (next_latest (seal_of r) latest (latest_seal before) le))
           (subst (λ l. (k : ℕ) → k < length l → fault_at l k ≡ None) (sym same) none) (All-tail IsRound r rest all),
     )
 

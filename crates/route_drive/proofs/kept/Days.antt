@@ -1,9 +1,7 @@
 -- A driven day, round by round.
 use Rattle.std.proofs.Common.{◌≡◌, ℕ, ◌≤◌, cond, eqb, List, [], ◌∷◌, ◌++◌, length, map, Option, Some, None, unwrap_or, refl, sym, ap, ◌∙◌, subst, arith, inl, inr, All, MatchOption, true, false}
-use Rattle.route_drive.proofs.Common.{AllByRecursion, option_map_or, cases_eq, cond-true, cond-false, Vehicle, next_position, look_up, RepliesAreSteps, state_after, find_vehicle, Command, Seal, Entry, Journal, ChosenTrip, Planned, PlannedStop, BookRider, State, look_up-here, look_up-there, look_up-nil, rounds-join, Settings, Roads, IsNetwork, NumberedLanes, lane_at, ClosesAreGood, IsRoundRun, IsRun, Course, seal_of, AreDriven, IsDrivenRound, IsPrecededBy, courses_after, courses_left, left_course, plan_in, planned_course, AreEntered, to_come, course_of, IsKept, IsServing, chosen_stops, stops_with, longest, second_of}
-use Rattle.std.proofs.lemmas.Bool.{eq-eqb, ne_eqb}
+use Rattle.route_drive.proofs.Common.{AllByRecursion, option_map_or, cases_eq, cond-true, cond-false, Vehicle, next_position, look_up, RepliesAreSteps, state_after, find_vehicle, Command, Seal, Entry, Journal, ChosenTrip, Planned, PlannedStop, BookRider, State, look_up-here, look_up-there, look_up-nil, rounds-join, Settings, Roads, IsNetwork, NumberedLanes, lane_at, ClosesAreGood, IsRoundRun, IsRun, Course, seal_of, AreDriven, IsDrivenRound, IsPrecededBy, courses_after, courses_left, left_course, plan_in, planned_course, AreEntered, to_come, course_of, IsKept, IsServing, chosen_stops, stops_with, longest, second_of, eq-eqb, ne_eqb, flat_map, nat_tests}
 use Rattle.route_drive.proofs.kept.DayRounds.{AreDayRounds, IsDayLane, IsDayRound}
-use Rattle.std.specs.List.{flat_map}
 use Rattle.route_drive.proofs.DriveLemmas.{courses_each}
 use Rattle.route_drive.proofs.LeaveLemmas.{count_stays, ids_stay}
 use Rattle.route_drive.proofs.kept.Keeping.{AllKeep, all_append}
@@ -18,7 +16,7 @@ course_by_ids (x ∷ xs) (y ∷ ys) [] id same = refl
 course_by_ids (x ∷ xs) (y ∷ ys) (course ∷ courses) id same =
     let head : x.id ≡ y.id = cc in
     let tail : map (λ (v : Vehicle). v.id) xs ≡ map (λ (v : Vehicle). v.id) ys = cc in
-    ap (λ k. cond (eqb k id) course (course_of xs courses id)) head ∙ ap (λ c. cond (eqb y.id id) course c) (course_by_ids xs ys courses id tail)
+    grind (arith, nat_tests, course_by_ids xs ys courses id tail)
 course_by_ids xs ys courses id same = absurd cc
 
 -- a change of all courses that leaves nothing as it is
@@ -26,31 +24,17 @@ course_mapped : (f : Course → Course) → f (record { stops = record { items =
     → course_of vehicles (map f courses) id ≡ f (course_of vehicles courses id)
 course_mapped f none [] courses id = sym none
 course_mapped f none (v ∷ vehicles) [] id = sym none
-course_mapped f none (v ∷ vehicles) (course ∷ courses) id = elim (eqb v.id id) as (λ b. cond b (f course) (course_of vehicles (map f courses) id) ≡ f (cond b course (course_of vehicles courses id))) [
-  | true ↦ refl
-  | false ↦ course_mapped f none vehicles courses id
-]
+course_mapped f none (v ∷ vehicles) (course ∷ courses) id = grind (arith, nat_tests, course_mapped f none vehicles courses id)
 
 -- courses made of the vehicles
 course_made : (f : Vehicle → Course) (vehicles : List Vehicle) (id : ℕ) (v : Vehicle) → find_vehicle id vehicles ≡ Some v → course_of vehicles (map f vehicles) id ≡ f v
-course_made f [] id v found = absurd (let n = look_up-nil (λ (v : Vehicle). v.id) id in cc)
-course_made f (w ∷ vehicles) id v found = elim (cases_eq w.id id) [
-  | inl e ↦
-      let here = look_up-here (λ (v : Vehicle). v.id) id w vehicles e in
-      let is : w ≡ v = cc in
-      cond-true (eqb w.id id) (f w) (course_of vehicles (map f vehicles) id) (eq-eqb w.id id e) ∙ ap f is
-  | inr ne ↦
-      cond-false (eqb w.id id) (f w) (course_of vehicles (map f vehicles) id) (ne_eqb w.id id ne)
-      ∙ course_made f vehicles id v (sym (look_up-there (λ (v : Vehicle). v.id) id w vehicles ne) ∙ found)
-]
+unfolding look_up
+course_made f [] id v found = absurd cc
+course_made f (w ∷ vehicles) id v found = grind (arith, nat_tests, course_made f vehicles id v)
 
 -- the stops of a plan
 planned_stops : (riders : List BookRider) (planned : Planned) (v : Vehicle) → (planned_course riders planned v).stops.items ≡ chosen_stops planned v.id
-planned_stops riders planned v =
-    elim (look_up (λ (trip : ChosenTrip). trip.vehicle) v.id planned.chosen) as (λ (o : Option ChosenTrip). (option_map_or (λ trip. trip.stops) o (record { items = [] })).items ≡ option_map_or (λ trip. trip.stops.items) o []) [
-      | None ↦ refl
-      | Some trip ↦ refl
-    ]
+planned_stops riders planned v = grind arith
 
 -- the stops that are left after a seal, if there is one
 abbrev pub left_stops : Option ℕ → List PlannedStop → List PlannedStop

@@ -1,33 +1,19 @@
 -- Stops that are entered: what each leaves of what the vehicles have to do.
 use Rattle.std.proofs.Common.{◌≡◌, ℕ, ◌+◌, ◌-◌, ◌≤◌, Bool, true, false, List, [], ◌∷◌, ◌++◌, length, Some, None, refl, sym, ap, ◌∙◌, subst, arith, inl, inr, length-append}
-use Rattle.route_drive.proofs.Common.{AllByRecursion, option_map_or, cases_eq, MatchBool-at_true, MatchBool-at_false, sum_by-cons, sum_by_push, persons_aboard, Passenger, Vehicle, look_up, without, KeysDiffer, with_status, passenger_of, find_rider, find_passenger, takes_in, lets_out, PlannedStop, BookRider, Status, Promised, Aboard, Delivered, look_up-here, look_up-there, look_up-nil, without_key-absent, Settings, Roads, IsDroppedInTime, AreReached, party_at, seats_after, IsRightPickup, IsRightDropoff, IsRightStop, IsOfVehicle, calls_of, HasCalls, IsServing}
-use Rattle.std.specs.List.{sum_by}
-use Rattle.std.proofs.lemmas.Bool.{eq-eqb, ne_eqb}
+use Rattle.route_drive.proofs.Common.{AllByRecursion, option_map_or, cases_eq, MatchBool-at_true, MatchBool-at_false, sum_by-cons, sum_by_push, persons_aboard, Passenger, Vehicle, look_up, without, KeysDiffer, with_status, passenger_of, find_rider, find_passenger, takes_in, lets_out, PlannedStop, BookRider, Status, Promised, Aboard, Delivered, look_up-here, look_up-there, look_up-nil, without_key-absent, Settings, Roads, IsDroppedInTime, AreReached, party_at, seats_after, IsRightPickup, IsRightDropoff, IsRightStop, IsOfVehicle, calls_of, HasCalls, IsServing, eq-eqb, ne_eqb, sum_by, nat_tests}
 use Rattle.route_drive.proofs.kept.Lists.{both, all_weaker, all_from}
 use Rattle.route_drive.proofs.kept.Riders.{changed, find_other, find_same, same_party, seats_by_party, calls_own, calls_other, no_pickup, no_stop, right_elsewhere, serves_elsewhere}
 
 -- a passenger who gets out leaves one passenger less, and the seats of their party
 fewer : (x : ℕ) (ps : List Passenger) (p : Passenger) → KeysDiffer (λ p. p.rider) ps → find_passenger x ps ≡ Some p
     → (length (without (λ p. p.rider) x ps) + 1 ≡ length ps) × (sum_by (λ p. p.party) (without (λ p. p.rider) x ps) + p.party ≡ sum_by (λ p. p.party) ps)
-unfolding KeysDiffer without
-fewer x [] p differ found = absurd (let n = look_up-nil (λ (p : Passenger). p.rider) x in cc)
+unfolding KeysDiffer without look_up
+fewer x [] p differ found = absurd cc
 fewer x (q ∷ ps) p differ found =
-    let all : sum_by (λ (p : Passenger). p.party) (q ∷ ps) ≡ q.party + sum_by (λ (p : Passenger). p.party) ps = sum_by-cons (λ (p : Passenger). p.party) q ps in
-    elim (cases_eq q.rider x) [
-      | inl e ↦
-          let none : look_up (λ (p : Passenger). p.rider) x ps ≡ None = subst (λ k. look_up (λ (p : Passenger). p.rider) k ps ≡ None) e differ.0 in
-          let here : look_up (λ (p : Passenger). p.rider) x (q ∷ ps) ≡ Some q = look_up-here (λ (p : Passenger). p.rider) x q ps e in
-          let is : q ≡ p = cc in
-          let party : q.party ≡ p.party = ap (λ (p : Passenger). p.party) is in
-          let left = without_key-absent (λ (p : Passenger). p.rider) x ps none in (
-            rw (eq-eqb q.rider x e) (ap (λ qs. length qs + 1) left ∙ omega arith),
-            rw (eq-eqb q.rider x e) (ap (λ qs. sum_by (λ (p : Passenger). p.party) qs + p.party) left ∙ omega (arith, all, party)),
-          )
-      | inr ne ↦
-          let ih = fewer x ps p differ.1 (sym (look_up-there (λ (p : Passenger). p.rider) x q ps ne) ∙ found) in
-          let rest : sum_by (λ (p : Passenger). p.party) (q ∷ without (λ (p : Passenger). p.rider) x ps) ≡ q.party + sum_by (λ (p : Passenger). p.party) (without (λ (p : Passenger). p.rider) x ps) = sum_by-cons (λ (p : Passenger). p.party) q (without (λ (p : Passenger). p.rider) x ps) in
-          (rw (ne_eqb q.rider x ne) (omega (arith, ih.0)), rw (ne_eqb q.rider x ne) (omega (arith, ih.1, all, rest)))
-    ]
+    let ih = fewer x ps p differ.1 in
+    let all = sum_by-cons (λ (p : Passenger). p.party) q ps in
+    let rest = sum_by-cons (λ (p : Passenger). p.party) q (without (λ (p : Passenger). p.rider) x ps) in
+    grind (arith, nat_tests, without_key-absent (λ (p : Passenger). p.rider) x ps)
 
 module _ (settings : Settings) (roads : Roads) (riders : List BookRider) where
   -- a vehicle goes on serving where the status of a rider of another vehicle changes
@@ -67,7 +53,6 @@ module _ (settings : Settings) (roads : Roads) (riders : List BookRider) where
       let e : stop.pick ∷ calls_of stop.rider stops ≡ true ∷ false ∷ [] = sym (calls_own stop.rider stop stops refl) ∙ own in ap tail e in
       let party : party_at riders stop ≡ r.party = ap (λ o. option_map_or (λ (r : BookRider). r.party) o 0) found in
       let persons : persons_aboard (takes_in r stop.second v) ≡ persons_aboard v + r.party = sum_by_push (λ (p : Passenger). p.party) v.aboard.items (passenger_of r) in
-      let count : length (v.aboard.items ++ passenger_of r ∷ []) ≡ length v.aboard.items + 1 = length-append v.aboard.items (passenger_of r ∷ []) in
       let after : seats_after riders stop (v.seats - persons_aboard v) ≡ v.seats - persons_aboard v - party_at riders stop = rw pick refl in
       record {
         reached = subst (λ n. AreReached roads settings.dwell n (stop.second + settings.dwell) stops) node serves.reached.1;
@@ -98,7 +83,7 @@ module _ (settings : Settings) (roads : Roads) (riders : List BookRider) where
               subst (λ (q : BookRider). HasCalls v.id q.status (calls_of y stops)) is (λ same. subst (λ k. calls_of k stops ≡ false ∷ []) e later)
           | inr ne ↦ subst (HasCalls v.id q.status) (calls_other y stop stops ne) (serves.calls y q (sym (find_other riders stop.rider (Aboard v.id) y ne) ∙ at))
         ];
-        few = let f = serves.few in omega (arith, f, count);
+        few = let f = serves.few in omega (arith, f, length-append v.aboard.items (passenger_of r ∷ []));
       }
     where
       tail : List Bool → List Bool

@@ -1,7 +1,7 @@
 -- What entries keep, gathered one by one.
-use Rattle.std.proofs.Common.{◌≡◌, ℕ, arith, Bool, true, false, cond, List, [], ◌∷◌, ◌++◌, Some, refl, sym, ap, subst, All}
+use Rattle.std.proofs.Common.{◌≡◌, ℕ, arith, Bool, true, false, cond, List, [], ◌∷◌, ◌++◌, Some, refl, sym, ap, subst, All, inl, inr}
 use Rattle.route_drive.proofs.Common.{All-nil, All-cons, HasSeats, state_after, find_rider, step, Command, Report, Pickup, Dropoff, Entry, PlannedStop, Reply, Placed, Picked, Dropped, BookRider, State, Settings, Roads, stop_command, EntryKeeps, EntriesKeep, IsPickedBy, StateKeeps, IsBound, IsBoundBy, IsDayState, IsDone, IsRightStop, KeepsBounds}
-use Rattle.route_drive.proofs.kept.Enter.{picked_up_right, dropped_right}
+use Rattle.route_drive.proofs.kept.Riders.{right_cases}
 
 -- what one entry keeps, and what it leaves to those after it
 pub record OneKeeps (settings : Settings) (roads : Roads) (s : State) (command : Command) (reply : Reply) : Type 0 where
@@ -50,23 +50,20 @@ module _ (settings : Settings) (roads : Roads) where
 
   -- a vehicle's next stop
   pub stop_keeps : (s : State) (v : ℕ) (stop : PlannedStop) → IsRightStop settings roads s.riders v stop → EntryKeeps settings roads s (stop_command v stop) (cond stop.pick Picked Dropped)
-  stop_keeps s v stop own = by stop.pick refl
-    where
-      by : (b : Bool) → stop.pick ≡ b → EntryKeeps settings roads s (cond b (Pickup v stop.rider stop.second) (Dropoff v stop.rider stop.second)) (cond b Picked Dropped)
-      by true e = let right = picked_up_right settings roads s.riders v stop e own in (refl, right.rider, right.found, right.in_time)
-      by false e = let right = dropped_right settings roads s.riders v stop e own in (refl, right.rider, right.found, right.in_time)
+  stop_keeps s v stop own = elim (right_cases settings roads s.riders v stop own) [
+    | inl right ↦ rw right.0 (refl, right.1.rider, right.1.found, right.1.in_time)
+    | inr right ↦ rw right.0 (refl, right.1.rider, right.1.found, right.1.in_time)
+  ]
 
   stop_by : (s : State) (v : ℕ) (stop : PlannedStop) → IsRightStop settings roads s.riders v stop → (rider limit : ℕ) → IsBound s rider limit → IsPickedBy rider limit (stop_command v stop)
-  stop_by s v stop own rider limit bound = by stop.pick refl
-    where
-      by : (b : Bool) → stop.pick ≡ b → IsPickedBy rider limit (cond b (Pickup v stop.rider stop.second) (Dropoff v stop.rider stop.second))
-      by true e = λ same.
-          let right = picked_up_right settings roads s.riders v stop e own in
-          let found : find_rider rider s.riders ≡ Some right.rider = subst (λ k. find_rider k s.riders ≡ Some right.rider) same right.found in
-          let there = bound.found in
-          let is : bound.of ≡ right.rider = cc in
-          subst (IsBoundBy limit) right.status (subst (λ (r : BookRider). IsBoundBy limit r.status) is bound.bound)
-      by false e = tt
+  stop_by s v stop own rider limit bound = elim (right_cases settings roads s.riders v stop own) [
+    | inl right ↦ rw right.0 (λ same.
+        let found : find_rider rider s.riders ≡ Some right.1.rider = subst (λ k. find_rider k s.riders ≡ Some right.1.rider) same right.1.found in
+        let there = bound.found in
+        let is : bound.of ≡ right.1.rider = cc in
+        subst (IsBoundBy limit) right.1.status (subst (λ (r : BookRider). IsBoundBy limit r.status) is bound.bound))
+    | inr right ↦ rw right.0 tt
+  ]
 
   pub stop_one : (s : State) (v vehicle node time free : ℕ) (stop : PlannedStop) (stops : List PlannedStop) → IsDayState roads s → IsRightStop settings roads s.riders v stop
       → IsDone settings roads s (stop_command v stop) (cond stop.pick Picked Dropped) vehicle node time free stops

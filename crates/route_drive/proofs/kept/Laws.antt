@@ -1,8 +1,6 @@
 -- The laws of driven days.
 use Rattle.std.proofs.Common.{[], arith, ◌≡◌, ℕ, ◌+◌, ◌≤◌, Bool, true, false, cond, List, ◌∷◌, All, Some, ap, refl, None, IfSome}
-use Rattle.route_drive.proofs.Common.{travel_time, AnswersWith, IsGoodOutcome, IsGoodPlan, Batch, Vehicle, after_answer, opening, find_vehicle, step, Pickup, Dropoff, Close, Answer, PlannedStop, Reply, Picked, Dropped, Closed, State, look_up-nil, reached-consistent, IsNode, state_after, BookRider, All-nil, Settings, Roads, IsKept, IsDayState, IsDone, IsServing, KeepsBounds, ShowsRiders, AreReported, IsClosedInTime, closed, planned_in, stops_with}
-use Rattle.batch_snapshot.specs.Kept.{IsFleet}
-use Rattle.request_book.specs.declared.outcome.Outcome.{Outcome}
+use Rattle.route_drive.proofs.Common.{travel_time, AnswersWith, IsGoodOutcome, IsGoodPlan, Batch, Vehicle, after_answer, opening, find_vehicle, step, Pickup, Dropoff, Close, Answer, PlannedStop, Reply, Picked, Dropped, Closed, State, look_up-nil, reached-consistent, IsNode, state_after, BookRider, All-nil, Settings, Roads, IsKept, IsDayState, IsDone, IsServing, KeepsBounds, ShowsRiders, AreReported, IsClosedInTime, closed, planned_in, stops_with, IsFleet, Outcome}
 use Rattle.route_drive.proofs.kept.Replies.{close_is}
 use Rattle.route_drive.proofs.kept.States.{pickup_done, dropoff_done, stepped}
 use Rattle.route_drive.proofs.kept.Trips.{all_in_time, nothing_lapses}

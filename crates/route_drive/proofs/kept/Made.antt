@@ -1,7 +1,6 @@
 -- A close with a good plan on a driven day: the chosen trips are what the vehicles now serve, and the state after it is kept.
 use Rattle.std.proofs.Common.{◌≡◌, ◌⊎◌, ℕ, ◌+◌, ◌<◌, ◌≤◌, Bool, true, false, cond, List, [], ◌∷◌, length, get_or, map, Option, Some, None, refl, sym, ap, ◌∙◌, subst, arith, inl, inr, slice_get, is_some, option_map, option_and_then, unwrap_or, ◌&&◌, min, ◌-◌, ◌*◌, MatchBool, max, zero, suc, Contains}
-use Rattle.route_drive.proofs.Common.{AllByRecursion, cases_Bool, slice_get_within, get_or_from_slice_get, slice_get-get_or, travel_time, Times, Batch, Promise, Rider, Vehicle, HasGraphsWith, IsGoodPlan, request_at, IsSettled, HasRightLimit, shown, find_rider, find_vehicle, PlannedStop, Planned, State, Settings, Roads, index_in, Settled, vehicle_at, rider_at, AreTravelTimes, IsKept, option_map_or, cases_lt, false≢true, get_or-map, length-map, persons_aboard, Passenger, rider_id, told_stop, IsTripOf, times_served_some, times_served_found, in_choice, choice_at, riders_at, is_in, IsLegOf, no_request, IsPlaced, picks, trip_picks, after_plan, in_batch, planned_status, look_up, KeysDiffer, with_status, passenger_of, is_active, ChosenTrip, BookRider, Status, Waiting, Promised, Aboard, look_up-at, KeysDiffer-from_rise, has_node, Leg, Stop, Pick, Drop, Alight, IsKnown, trip_task, no_leg, leg_at, visit_at, free_seats, calls_of, find_passenger, and_from, and_parts, cond-true, times_chosen, ideal_second, Task, look_up-map, look_up-key, latest_of, Visit, ideal_dropoff, IsDroppedInTime, AreReached, party_at, HasSeatsFor, IsRightPickup, IsRightDropoff, IsRightStop, IsOfVehicle, HasCalls, IsServing, seat_in, persons, ShowsRiders, get_or_default, is_promised_to, IsLive, Delivered, MatchBool-at_false, must_be_served, promised_limit, IsPromiseKept, step, Command, Reply, look_up-here, look_up-there, chosen_stops, IsBoundBy, IsBound, KeepsBounds}
-use Rattle.std.proofs.lemmas.Bool.{eq-eqb, true≢false, lt-ltb}
+use Rattle.route_drive.proofs.Common.{AllByRecursion, cases_Bool, slice_get_within, get_or_from_slice_get, slice_get-get_or, travel_time, Times, Batch, Promise, Rider, Vehicle, HasGraphsWith, IsGoodPlan, request_at, IsSettled, HasRightLimit, shown, find_rider, find_vehicle, PlannedStop, Planned, State, Settings, Roads, index_in, Settled, vehicle_at, rider_at, AreTravelTimes, IsKept, option_map_or, cases_lt, false≢true, get_or-map, length-map, persons_aboard, Passenger, rider_id, told_stop, IsTripOf, times_served_some, times_served_found, in_choice, choice_at, riders_at, is_in, IsLegOf, no_request, IsPlaced, picks, trip_picks, after_plan, in_batch, planned_status, look_up, KeysDiffer, with_status, passenger_of, is_active, ChosenTrip, BookRider, Status, Waiting, Promised, Aboard, look_up-at, KeysDiffer-from_rise, has_node, Leg, Stop, Pick, Drop, Alight, IsKnown, trip_task, no_leg, leg_at, visit_at, free_seats, calls_of, find_passenger, and_from, and_parts, cond-true, times_chosen, ideal_second, Task, look_up-map, look_up-key, latest_of, Visit, ideal_dropoff, IsDroppedInTime, AreReached, party_at, HasSeatsFor, IsRightPickup, IsRightDropoff, IsRightStop, IsOfVehicle, HasCalls, IsServing, seat_in, persons, ShowsRiders, get_or_default, is_promised_to, IsLive, Delivered, MatchBool-at_false, must_be_served, promised_limit, IsPromiseKept, step, Command, Reply, look_up-here, look_up-there, chosen_stops, IsBoundBy, IsBound, KeepsBounds, eq-eqb, true≢false, lt-ltb, gets, nat_tests}
 use Rattle.route_drive.proofs.kept.Batches.{found_at, same_place, IsAsking, IsRiderAboard, same_persons, other_id}
 use Rattle.route_drive.proofs.kept.Served.{request_rider, vehicle_found}
 use Rattle.route_drive.proofs.kept.Trips.{vehicle_of_number, not_late, number_of_vehicle, promise_is_held, trip_of, trip_back, trip_is, one_trip, told_id, row_of, rider_aboard, known, member_calls, passenger_calls, other_calls}
@@ -23,7 +22,7 @@ all_each P [] each = tt
 all_each P (x ∷ xs) each = (λ a. (each a).0, all_each P xs (λ a. (each a).1))
 
 in_points : (points : List ℕ) (o n : ℕ) → slice_get points o ≡ Some n → slice_get points o ≡ Some (get_or points o 0)
-in_points points o n e = e ∙ ap Some (sym (get_or_from_slice_get points o n 0 e))
+in_points points o n e = grind (arith, gets)
 
 -- whoever isn't of the batch, or isn't in the pool, stays; the others get what was planned
 pub after_is : (batch : List Rider) (ps : List PlanPick) (r : BookRider) → is_active r.status ≡ true → in_batch batch r.id ≡ true → after_plan batch ps r ≡ with_status (planned_status ps r.id) r
@@ -34,9 +33,10 @@ after_stays batch ps r active = rw active refl
 
 -- the element of a key, where no other has it
 look_up_only : {X : Type 0} (key : X → ℕ) (xs : List X) (i : ℕ) (x : X) → slice_get xs i ≡ Some x → ((j : ℕ) (y : X) → slice_get xs j ≡ Some y → key y ≡ key x → j ≡ i) → look_up key (key x) xs ≡ Some x
+unfolding look_up
 look_up_only key [] i x at only = absurd cc
-look_up_only key (y ∷ ys) zero x at only = let is : y ≡ x = cc in look_up-here key (key x) y ys (ap key is) ∙ ap Some is
-look_up_only key (y ∷ ys) (suc i) x at only = look_up-there key (key x) y ys (λ e. absurd (let h : 0 ≡ suc i = only 0 y refl e in omega arith)) ∙ look_up_only key ys i x at (λ j z e k. let h : suc j ≡ suc i = only (suc j) z e k in omega arith)
+look_up_only key (y ∷ ys) zero x at only = grind (arith, nat_tests)
+look_up_only key (y ∷ ys) (suc i) x at only = grind (arith, nat_tests, only 0 y refl, look_up_only key ys i x at (λ j z e k. omega (arith, only (suc j) z e k)))
 
 -- a request of the batch by its rider's id
 number_in_batch : (batch : List Rider) (id : ℕ) → in_batch batch id ≡ true → (n : ℕ) × (n < length batch) × ((request_at batch n).id ≡ id)
@@ -118,16 +118,14 @@ module _ (settings : Settings) (roads : Roads) (s : State) (stops : ℕ → List
       → planned_status (picks planned.chosen) (request_at b.riders (get_or (riders_at good.graph own.is.row) i 0)).id ≡ Promised (record { vehicle = own.x.id; pickup = (member_promised k own i h).second })
   unfolding picks trip_picks
   member_status k own i h =
-      let low = member_low k own i h in
-      let one = member_promised k own i h in
       let has : has_node (riders_at good.graph own.is.row) (get_or (riders_at good.graph own.is.row) i 0) ≡ true = is_node_at (riders_at good.graph own.is.row) i h in
       let found : look_up (λ (p : PlanPick). p.rider) (request_at b.riders (get_or (riders_at good.graph own.is.row) i 0)).id (picks planned.chosen)
       ≡ Some (record { rider = (request_at b.riders (get_or (riders_at good.graph own.is.row) i 0)).id; promise = record { vehicle = own.t.vehicle; pickup = (member_promised k own i h).second } }) =
       found_among (λ (p : PlanPick). p.rider) (request_at b.riders (get_or (riders_at good.graph own.is.row) i 0)).id (λ (t : ChosenTrip). trip_picks t.vehicle t.stops.items) planned.chosen k own.t own.chosen
-      (λ j u e ne. out_of_trip j u (get_or (riders_at good.graph own.is.row) i 0) e low (λ row choose t.
+      (λ j u e ne. out_of_trip j u (get_or (riders_at good.graph own.is.row) i 0) e (member_low k own i h) (λ row choose t.
       let back = trip_back settings roads s stops b settled points times kept shows early limits table planned good j u e in
       ne (one_trip settings roads s stops b settled points times kept shows early limits table planned good j k row own.is.row (get_or (riders_at good.graph own.is.row) i 0) back.0 own.within choose own.is.chooses t has)))
-      ∙ one.found in
+      ∙ (member_promised k own i h).found in
       ap (λ o. unwrap_or (option_map (λ (p : PlanPick). Promised p.promise) o) Waiting) found
       ∙ ap (λ v. Promised (record { vehicle = v; pickup = (member_promised k own i h).second })) (trip_vehicle k own)
 
@@ -147,9 +145,7 @@ module _ (settings : Settings) (roads : Roads) (s : State) (stops : ℕ → List
   pub rides_once : (r : ℕ) → 1 ≤ times_chosen good.graph (good.holds point.Plan).chosen r → IsPlaced' r
   rides_once r h =
       let some = times_served_found good.graph (good.holds point.Plan).chosen good.graph.vehicles r h in
-      let c = good.exact.vehicle_total in
-      let l = some.1 in
-      let own = has_trip some.0 (omega (arith, c, l)) in
+      let own = has_trip some.0 (omega (arith, good.exact.vehicle_total, some.1)) in
       let choice = in_choice good.graph (choice_at (good.holds point.Plan).chosen some.0) r some.2 in
       let same : choice.0 ≡ own.is.row = (let e : Some choice.0 ≡ Some own.is.row = sym choice.1 ∙ own.is.chooses in cc) in
       let has : has_node (riders_at good.graph own.is.row) r ≡ true = subst (λ row. has_node (riders_at good.graph row) r ≡ true) same choice.2 in
@@ -159,8 +155,7 @@ module _ (settings : Settings) (roads : Roads) (s : State) (stops : ℕ → List
   where_is r = elim (cases_lt 0 (times_chosen good.graph (good.holds point.Plan).chosen r)) [
     | inl some ↦ rides_once r (omega (arith, some))
     | inr none ↦ stays (λ k row h choose has.
-        let c = good.exact.vehicle_total in
-        let one = times_served_some good.graph (good.holds point.Plan).chosen good.graph.vehicles r k (omega (arith, c, h)) (ap (λ o. is_in good.graph o r) choose ∙ has) in
+        let one = times_served_some good.graph (good.holds point.Plan).chosen good.graph.vehicles r k (omega (arith, good.exact.vehicle_total, h)) (ap (λ o. is_in good.graph o r) choose ∙ has) in
         omega (arith, one, none))
   ]
 
@@ -175,8 +170,7 @@ module _ (settings : Settings) (roads : Roads) (s : State) (stops : ℕ → List
   -- whoever is promised something before the plan is in the batch
   promised_in_batch : (z : ℕ) (r : BookRider) (p : Promise) → find_rider z s.riders ≡ Some r → r.status ≡ Promised p → in_batch b.riders r.id ≡ true
   promised_in_batch z r p found status =
-      let there = shows.promised z r p found status in
-      ap (λ z. is_some (look_up (λ (r : Rider). r.id) z b.riders)) (found_id z s.riders r found) ∙ ap is_some there
+      ap (λ z. is_some (look_up (λ (r : Rider). r.id) z b.riders)) (found_id z s.riders r found) ∙ ap is_some (shows.promised z r p found status)
 
   module _ (k : ℕ) (own : HasTrip k) where
     abbrev trip : List ℕ
@@ -232,7 +226,6 @@ module _ (settings : Settings) (roads : Roads) (s : State) (stops : ℕ → List
         let of = planned_rider (get_or trip i 0) low in
         let leg = limits.legs (get_or trip i 0) (request_at b.riders (get_or trip i 0)) (slice_get-get_or b.riders (get_or trip i 0) no_request low) in
         let is : request_at b.riders (get_or trip i 0) ≡ shown of.0 of.2.promise = of.2.is in
-        let c = limits.rider_count in
         subst (HasLeg (get_or trip i 0)) (sym (leg_is i h)) (record {
           r = of.0;
           found = of.1;
@@ -242,7 +235,7 @@ module _ (settings : Settings) (roads : Roads) (s : State) (stops : ℕ → List
           ideal = leg.ideal ∙ ap (λ (q : Rider). ideal_second (travel_time times) q.time (rider_at settled (get_or trip i 0)).leg.origin (rider_at settled (get_or trip i 0)).leg.destination) is;
           latest_dropoff = leg.latest_dropoff;
           party = leg.size ∙ ap (λ (q : Rider). q.party) is;
-          latest_pickup = let l = limit_low (get_or trip i 0) (omega (arith, low, c)) in subst (λ m. (rider_at settled (get_or trip i 0)).leg.latest_pickup ≤ m + settings.wait) (ap (λ (q : Rider). q.time) is) l;
+          latest_pickup = let l = limit_low (get_or trip i 0) (omega (arith, low, limits.rider_count)) in subst (λ m. (rider_at settled (get_or trip i 0)).leg.latest_pickup ≤ m + settings.wait) (ap (λ (q : Rider). q.time) is) l;
         })
 
     told_name : (i : ℕ) → i < length trip → rider_id settled (get_or trip i 0) ≡ (request_at b.riders (get_or trip i 0)).id
@@ -279,26 +272,24 @@ module _ (settings : Settings) (roads : Roads) (s : State) (stops : ℕ → List
         by (Drop i) h =
             let leg = member_leg i h in
             let party : (second : ℕ) → party_at riders' (told (Drop i, second)) ≡ leg.r.party = λ second. party_is (request_at b.riders (get_or trip i 0)).id leg.r (planned_status (picks planned.chosen) (request_at b.riders (get_or trip i 0)).id) (told (Drop i, second)) (told_name i h) leg.now_found in
-            let same = leg.party in
             record {
               second = λ second. refl;
               pick = λ second. refl;
               node = λ second. in_points points (leg_at (map (λ r. (rider_at settled r).leg) trip) i).destination leg.r.destination leg.destination;
               boards = λ second pick. absurd (false≢true pick);
-              room = λ second room. ap (λ n. room + n) (same ∙ sym (party second));
+              room = λ second room. ap (λ n. room + n) (leg.party ∙ sym (party second));
             }
         by (Alight j) h =
             let leg = passenger_leg j h in
             let of = aboard_at j h in
             let found = passenger_stays (get_or (map (λ (p : Passenger). p.rider) own.x.aboard.items) j 0) of.rider own.x.id of.found of.status in
             let party : (second : ℕ) → party_at riders' (told (Alight j, second)) ≡ of.rider.party = λ second. party_is (get_or (map (λ (p : Passenger). p.rider) own.x.aboard.items) j 0) of.rider of.rider.status (told (Alight j, second)) (told_aboard j) found in
-            let same = leg.size in
             record {
               second = λ second. refl;
               pick = λ second. refl;
               node = λ second. in_points points (leg_at (vehicle_at settled k).aboard.items j).destination of.rider.destination leg.destination_place;
               boards = λ second pick. absurd (false≢true pick);
-              room = λ second room. ap (λ n. room + n) (same ∙ sym (party second));
+              room = λ second room. ap (λ n. room + n) (leg.size ∙ sym (party second));
             }
 
     -- a told stop by the second at which it is in time
@@ -329,14 +320,13 @@ module _ (settings : Settings) (roads : Roads) (s : State) (stops : ℕ → List
         by (Pick i) second h le =
             let leg = member_leg i h in
             let same : (leg_at (map (λ r. (rider_at settled r).leg) trip) i).latest_pickup ≡ (rider_at settled (get_or trip i 0)).leg.latest_pickup = ap (λ (leg : Leg). leg.latest_pickup) (leg_is i h) in
-            let low = leg.latest_pickup in
             inl (record {
               i = i;
               within = h;
               rider = told_name i h;
               pick = refl;
               node = at_point (leg_at (map (λ r. (rider_at settled r).leg) trip) i).origin leg.r.origin leg.origin;
-              in_time = omega (arith, le, low);
+              in_time = omega (arith, le, leg.latest_pickup);
               in_limit = omega (arith, le, same);
             })
         by (Drop i) second h le =
@@ -456,8 +446,7 @@ module _ (settings : Settings) (roads : Roads) (s : State) (stops : ℕ → List
         let row = row_of settings roads s stops b settled points times kept shows early limits table planned good k own.is.row own.within own.is.chooses in
         let six = (good.exact.good.rows own.is.row row.within).few in
         let l : length own.is.stops ≤ length (map (λ r. (rider_at settled r).leg) trip) * 2 + length (vehicle_at settled k).aboard.items = length-IsOrder (length (map (λ r. (rider_at settled r).leg) trip)) (length (vehicle_at settled k).aboard.items) own.is.stops (omega (arith, six, legs)) own.is.serves.order in
-        let c : length (vehicle_at settled k).aboard.items ≡ length own.x.aboard.items = placed.aboard_count in
-        omega (arith, a, legs, size, l, c)
+        omega (arith, a, legs, size, l, placed.aboard_count)
 
     -- the vehicle serves the stops that the plan gives it
     pub serves_chosen : IsServing settings roads riders' own.x own.x.time own.t.stops.items
@@ -564,11 +553,9 @@ module _ (settings : Settings) (roads : Roads) (s : State) (stops : ℕ → List
       let at : get_or (vehicle_at settled v).held.items listed.0 0 ≡ n = get_or_default (vehicle_at settled v).held.items listed.0 0 n listed.1 ∙ listed.2 in
       let has : has_node (riders_at good.graph row.0) n ≡ true =
       subst (λ xs. has_node xs n ≡ true) (sym row.2.trip) (subst (λ m. has_node (vehicle_at settled v).held.items m ≡ true) at (is_node_at (vehicle_at settled v).held.items listed.0 listed.1)) in
-      let c = good.exact.vehicle_total in
-      let served = times_served_some good.graph good.graph.held good.graph.vehicles n v (omega (arith, c, within)) (ap (λ o. is_in good.graph o n) row.1 ∙ has) in
+      let served = times_served_some good.graph good.graph.held good.graph.vehicles n v (omega (arith, good.exact.vehicle_total, within)) (ap (λ o. is_in good.graph o n) row.1 ∙ has) in
       let must : must_be_served good.graph n ≡ true = lt-ltb 0 _ (omega (arith, served)) in
-      let one : times_chosen good.graph (good.holds point.Plan).chosen n ≡ 1 = (good.holds point.Plan).holds.lawful.kept n must in
-      omega (arith, one)
+      omega (arith, (good.holds point.Plan).holds.lawful.kept n must)
 
   pub closed_bounds : KeepsBounds s planned_state
   closed_bounds z limit was = by was.of.status refl was.bound
@@ -582,12 +569,9 @@ module _ (settings : Settings) (roads : Roads) (s : State) (stops : ℕ → List
       again : (p : Promise) → was.of.status ≡ Promised p → p.pickup ≤ limit → (n : ℕ) → (low : n < length b.riders) → (request_at b.riders n).id ≡ was.of.id → (request_at b.riders n).promise ≡ Some p
           → IsPlaced' n → IsBound planned_state z limit
       again p t le n low name promise (stays out) = absurd (
-          let one = kept_in_plan n p low promise in
-          let some = times_served_found good.graph (good.holds point.Plan).chosen good.graph.vehicles n one in
-          let c = good.exact.vehicle_total in
-          let l = some.1 in
+          let some = times_served_found good.graph (good.holds point.Plan).chosen good.graph.vehicles n (kept_in_plan n p low promise) in
           let choice = in_choice good.graph (choice_at (good.holds point.Plan).chosen some.0) n some.2 in
-          out some.0 choice.0 (omega (arith, c, l)) choice.1 choice.2)
+          out some.0 choice.0 (omega (arith, good.exact.vehicle_total, some.1)) choice.1 choice.2)
       again p t le n low name promise (rides j other i l at) =
           let id : (request_at b.riders (get_or (riders_at good.graph other.is.row) i 0)).id ≡ was.of.id = ap (λ m. (request_at b.riders m).id) at ∙ name in
           let status = member_status j other i l in
@@ -599,13 +583,11 @@ module _ (settings : Settings) (roads : Roads) (s : State) (stops : ℕ → List
           (both (λ stop. IsMemberPickup j other stop ⊎ ((stop.pick ≡ false) × IsRightDropoff roads settings.delay riders' other.x.id stop))
           (λ (stop : PlannedStop). stop.rider ≡ (request_at b.riders (get_or (riders_at good.graph other.is.row) i 0)).id → stop.pick ≡ true → stop.second ≡ (member_promised j other i l).second)
           other.t.stops.items (items_told j other) (member_promised j other i l).at) in
-          let second : call.0.second ≡ (member_promised j other i l).second = call.3.1 call.1 call.2 in
-          let low_limit : call.0.second ≤ (rider_at settled n).leg.latest_pickup = limit_of call.0 call.1 call.2 call.3.0 in
           let keeps : (rider_at settled n).leg.latest_pickup ≤ p.pickup = by_promise (limits.limits n (let c = limits.rider_count in omega (arith, low, c))) in
           record {
             of = with_status (planned_status (picks planned.chosen) was.of.id) was.of;
             found = find' ∙ ap Some (after_is b.riders (picks planned.chosen) was.of (ap is_active t) (promised_in_batch z was.of p was.found t));
-            bound = subst (IsBoundBy limit) (sym (ap (planned_status (picks planned.chosen)) (sym id) ∙ status)) (omega (arith, second, low_limit, keeps, le));
+            bound = subst (IsBoundBy limit) (sym (ap (planned_status (picks planned.chosen)) (sym id) ∙ status)) (omega (arith, call.3.1 call.1 call.2, limit_of call.0 call.1 call.2 call.3.0, keeps, le));
           }
         where
           limit_of : (stop : PlannedStop) → stop.rider ≡ (request_at b.riders (get_or (riders_at good.graph other.is.row) i 0)).id → stop.pick ≡ true
@@ -619,9 +601,8 @@ module _ (settings : Settings) (roads : Roads) (s : State) (stops : ℕ → List
 
           by_promise : HasRightLimit settings b.riders settled n → (rider_at settled n).leg.latest_pickup ≤ p.pickup
           by_promise (inl live) =
-              let e = live.1 in
               let f : promised_limit settings.wait (request_at b.riders n) ≡ min p.pickup ((request_at b.riders n).time + settings.wait) = rw promise refl in
-              omega (arith, e, f)
+              omega (arith, live.1, f)
           by_promise (inr lapsed) = absurd (lapsed.0 (promise_is_held settings roads s stops b settled points times kept shows early limits table n p.vehicle low (rw promise (eq-eqb p.vehicle p.vehicle refl))))
 
       by : (t : Status) → was.of.status ≡ t → IsBoundBy limit t → IsBound planned_state z limit

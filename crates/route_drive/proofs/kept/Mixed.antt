@@ -1,9 +1,6 @@
 -- The entries of a round in one order: those of lane 0, with requests of any lanes between.
-use Rattle.std.proofs.Common.{◌≡◌, ◌⊎◌, ℕ, true, eqb, List, [], ◌∷◌, Option, Some, None, refl, sym, subst, inl, inr}
-use Rattle.route_drive.proofs.Common.{AllByRecursion, cases_eq, RepliesAreSteps, step, Command, Submit, Entry, State, sealed_by, IsCloseOf, IsLaneRun, IsLaneRunFrom, of_lane}
-use Rattle.std.proofs.lemmas.Bool.{eq-eqb, ne_eqb}
-use Rattle.dispatch_engine.proofs.lemmas.LaneLemmas.{plain-quiet}
-use Rattle.dispatch_engine.specs.lemmas.Lanes.{IsPlain}
+use Rattle.std.proofs.Common.{◌≡◌, ◌⊎◌, ℕ, true, eqb, List, [], ◌∷◌, Option, Some, None, refl, sym, subst, inl, inr, arith}
+use Rattle.route_drive.proofs.Common.{AllByRecursion, cases_eq, RepliesAreSteps, step, Command, Submit, Entry, State, sealed_by, IsCloseOf, IsLaneRun, IsLaneRunFrom, of_lane, plain-quiet, IsPlain, eq-eqb, ne_eqb}
 use Rattle.route_drive.proofs.kept.Lists.{all_filtered, all_weaker, skips, takes}
 
 -- a request
@@ -74,8 +71,7 @@ of_others P (e ∷ es) all = (λ other. first (all e.lane other), of_others P es
 
 -- a request is neither a seal nor a close, and so isn't answered with a batch
 pub asked_plain : (c : Command) → IsRequest c → IsPlain c
-asked_plain (Submit rider origin destination time party) is = tt
-asked_plain command is = absurd is
+asked_plain c is = grind arith
 
 pub asked_only : (nodes : List ℕ) (wait : ℕ) (s : State) (es : List Entry) → RepliesAreSteps nodes wait s es → AllByRecursion IsAskedOnly es
 unfolding RepliesAreSteps

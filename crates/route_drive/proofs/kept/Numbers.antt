@@ -1,7 +1,6 @@
 -- Stops by riders' ids, as an order of numbered riders and passengers.
 use Rattle.std.proofs.Common.{◌≡◌, ℕ, ◌+◌, ◌*◌, ◌<◌, ◌≤◌, Bool, true, false, cond, not, eqb, nat_eq, List, [], ◌∷◌, length, get_or, map, filter, refl, sym, ap, ◌∙◌, subst, arith, inl, inr}
-use Rattle.route_drive.proofs.Common.{AllByRecursion, IsDistinct, cases_eq, false≢true, length-filter_both, PlannedStop, index_in, has_node, Stop, Pick, Drop, Alight, is_of_rider, is_of_passenger, IsKnown, IsOrder, is_stop_of, calls_of}
-use Rattle.std.proofs.lemmas.Bool.{eq-eqb, ne_eqb, eqb-true}
+use Rattle.route_drive.proofs.Common.{AllByRecursion, IsDistinct, cases_eq, false≢true, length-filter_both, PlannedStop, index_in, has_node, Stop, Pick, Drop, Alight, is_of_rider, is_of_passenger, IsKnown, IsOrder, is_stop_of, calls_of, eq-eqb, ne_eqb, eqb-true, nat_tests}
 use Rattle.route_drive.proofs.kept.Lists.{filter_renamed, filter_filter, all_filtered, all_mapped, all_weaker, many_apart}
 use Rattle.route_drive.proofs.kept.Walks.{has_index, index_at, name_at, is_node_at}
 
@@ -31,10 +30,7 @@ module _ (riders passengers : List ℕ) where
 
 -- the test of an index is a test of the name
 index_test : (names : List ℕ) (i : ℕ) (x : ℕ) → IsDistinct nat_eq names → i < length names → has_node names x ≡ true → eqb (index_in names x) i ≡ eqb x (get_or names i 0)
-index_test names i x apart h is = elim (cases_eq x (get_or names i 0)) [
-  | inl e ↦ eq-eqb (index_in names x) i (ap (index_in names) e ∙ index_at names i apart h) ∙ sym (eq-eqb x (get_or names i 0) e)
-  | inr ne ↦ ne_eqb (index_in names x) i (λ e. ne (sym (name_at names x (has_index names x is)) ∙ ap (λ k. get_or names k 0) e)) ∙ sym (ne_eqb x (get_or names i 0) ne)
-]
+index_test names i x apart h is = grind (arith, nat_tests, index_at names i apart h, name_at names x (has_index names x is))
 
 module _ (riders passengers : List ℕ) (distinct : IsDistinct nat_eq riders) (distinct_passengers : IsDistinct nat_eq passengers)
     (apart : (x : ℕ) → has_node riders x ≡ true → has_node passengers x ≡ false) (stops : List PlannedStop) (all : AllByRecursion (IsNumbered riders passengers) stops)
@@ -57,8 +53,6 @@ module _ (riders passengers : List ℕ) (distinct : IsDistinct nat_eq riders) (d
   passenger_test j h stop (alights e p) = ap (is_of_passenger j) (number_alights riders passengers stop e p) ∙ index_test passengers j stop.rider distinct_passengers h p
 
   two_stops : (i : ℕ) → i < length riders → (own : List PlannedStop) → map (λ (s : PlannedStop). s.pick) own ≡ true ∷ false ∷ [] → AllByRecursion (λ (s : PlannedStop). is_stop_of (get_or riders i 0) s ≡ true) own → map number own ≡ Pick i ∷ Drop i ∷ []
-  two_stops i h [] e all = absurd cc
-  two_stops i h (a ∷ []) e all = absurd cc
   two_stops i h (a ∷ b ∷ []) e all =
       let pick : a.pick ≡ true = cc in
       let drop : b.pick ≡ false = cc in
@@ -68,16 +62,15 @@ module _ (riders passengers : List ℕ) (distinct : IsDistinct nat_eq riders) (d
       let one : number a ≡ Pick i = number_picks riders passengers a pick ∙ ap (λ x. Pick (index_in riders x)) first ∙ ap Pick (index_at riders i distinct h) in
       let two : number b ≡ Drop i = number_drops riders passengers b drop none ∙ ap (λ x. Drop (index_in riders x)) second ∙ ap Drop (index_at riders i distinct h) in
       ap (λ x. x ∷ number b ∷ []) one ∙ ap (λ x. Pick i ∷ x ∷ []) two
-  two_stops i h (a ∷ b ∷ c ∷ more) e all = absurd cc
+  two_stops i h own e all = absurd cc
 
   one_stop : (j : ℕ) → j < length passengers → (own : List PlannedStop) → map (λ (s : PlannedStop). s.pick) own ≡ false ∷ [] → AllByRecursion (λ (s : PlannedStop). is_stop_of (get_or passengers j 0) s ≡ true) own → map number own ≡ Alight j ∷ []
-  one_stop j h [] e all = absurd cc
   one_stop j h (a ∷ []) e all =
       let drop : a.pick ≡ false = cc in
       let same : a.rider ≡ get_or passengers j 0 = eqb-true a.rider (get_or passengers j 0) all.0 in
       let has : has_node passengers a.rider ≡ true = ap (has_node passengers) same ∙ is_node_at passengers j h in
       ap (λ x. x ∷ []) (number_alights riders passengers a drop has ∙ ap (λ x. Alight (index_in passengers x)) same ∙ ap Alight (index_at passengers j distinct_passengers h))
-  one_stop j h (a ∷ b ∷ more) e all = absurd cc
+  one_stop j h own e all = absurd cc
 
   pass : (x : ℕ) → AllByRecursion (λ (s : PlannedStop). is_stop_of x s ≡ true) (filter (is_stop_of x) stops)
   pass x = all_weaker (λ (s : PlannedStop). IsNumbered riders passengers s × (is_stop_of x s ≡ true)) (λ s. is_stop_of x s ≡ true) (λ s h. h.1) (filter (is_stop_of x) stops) (all_filtered (IsNumbered riders passengers) (is_stop_of x) stops all)

@@ -1,9 +1,8 @@
 -- What is entered of a vehicle before a seal, command by command.
 use Rattle.std.proofs.Common.{◌≡◌, ◌⊎◌, ℕ, ◌+◌, ◌<◌, ◌≤◌, true, false, cond, leb, ltb, List, [], ◌∷◌, ◌++◌, map, Option, Some, refl, sym, ap, ◌∙◌, subst, arith, inl, inr}
-use Rattle.route_drive.proofs.Common.{AllByRecursion, cases_Bool, cases_lt, lt-leb, Vehicle, IsNode, find_rider, find_vehicle, step, Command, Report, PlannedStop, Reply, Placed, Picked, Dropped, BookRider, State, All-look_up, Settings, Roads, IsNetwork, has_node, NodeAt, IsReported, due, goal_of, standing_after, stop_command, to_come, AreReached, IsRightStop, IsServing, IsDayState, IsDone}
-use Rattle.std.proofs.lemmas.Bool.{lt-ltb, le-ltb, le-leb}
+use Rattle.route_drive.proofs.Common.{AllByRecursion, cases_Bool, cases_lt, lt-leb, Vehicle, IsNode, find_rider, find_vehicle, step, Command, Report, PlannedStop, Reply, Placed, Picked, Dropped, BookRider, State, All-look_up, Settings, Roads, IsNetwork, has_node, NodeAt, IsReported, due, goal_of, standing_after, stop_command, to_come, AreReached, IsRightStop, IsServing, IsDayState, IsDone, lt-ltb, le-ltb, le-leb, nat_tests}
 use Rattle.route_drive.proofs.kept.Lists.{takes, skips, all_weaker}
-use Rattle.route_drive.proofs.kept.Enter.{picked_up_right, dropped_right}
+use Rattle.route_drive.proofs.kept.Riders.{right_cases}
 use Rattle.route_drive.proofs.kept.Keeping.{OneKeeps, report_one, stop_one}
 use Rattle.route_drive.proofs.kept.States.{report_done, vehicle_id}
 use Rattle.route_drive.proofs.kept.Laws.{stops_are_answered}
@@ -21,25 +20,17 @@ pub data IsPending (settings : Settings) (roads : Roads) (now : ℕ) (riders : L
 all_later : (roads : Roads) (dwell now node free : ℕ) (stops : List PlannedStop) → now < free → AreReached roads dwell node free stops → AllByRecursion (λ stop. now < stop.second) stops
 all_later roads dwell now node free [] late reached = tt
 all_later roads dwell now node free (stop ∷ stops) late reached =
-    let e : stop.second ≡ free + reached.0.seconds = reached.0.reached in
-    (omega (arith, e, late), all_later roads dwell now stop.node (stop.second + dwell) stops (omega (arith, e, late)) reached.1)
+    (omega (arith, reached.0.reached, late), all_later roads dwell now stop.node (stop.second + dwell) stops (omega (arith, reached.0.reached, late)) reached.1)
 
 later_from : (roads : Roads) (dwell now node free : ℕ) (stop : PlannedStop) (stops : List PlannedStop) → now < stop.second → AreReached roads dwell node free (stop ∷ stops) → AllByRecursion (λ stop. now < stop.second) (stop ∷ stops)
 later_from roads dwell now node free stop stops late reached = (late, all_later roads dwell now stop.node (stop.second + dwell) stops (omega (arith, late)) reached.1)
 
 none_due : (now : ℕ) (stops : List PlannedStop) → AllByRecursion (λ stop. now < stop.second) stops → (due now stops ≡ []) × (to_come now stops ≡ stops)
 none_due now [] all = (refl, refl)
-none_due now (stop ∷ stops) all =
-    let rest = none_due now stops all.1 in (
-      skips (λ (stop : PlannedStop). leb stop.second now) stop stops (lt-leb stop.second now all.0) ∙ rest.0,
-      takes (λ (stop : PlannedStop). ltb now stop.second) stop stops (lt-ltb now stop.second all.0) ∙ ap (λ ss. stop ∷ ss) rest.1,
-    )
+none_due now (stop ∷ stops) all = grind (arith, nat_tests, all.0, none_due now stops all.1)
 
 first_due : (now : ℕ) (stop : PlannedStop) (stops : List PlannedStop) → stop.second ≤ now → (due now (stop ∷ stops) ≡ stop ∷ due now stops) × (to_come now (stop ∷ stops) ≡ to_come now stops)
-first_due now stop stops le = (
-  takes (λ (stop : PlannedStop). leb stop.second now) stop stops (le-leb stop.second now le),
-  skips (λ (stop : PlannedStop). ltb now stop.second) stop stops (le-ltb now stop.second le),
-)
+first_due now stop stops le = grind (arith, nat_tests)
 
 -- the stops of a vehicle that are still to be entered, once no report follows them
 pub record IsRunning (settings : Settings) (roads : Roads) (riders : List BookRider) (v : Vehicle) (commands : List Command) : Type 0 where
@@ -96,14 +87,13 @@ run_next settings roads s day v free (stop ∷ stops) command commands at early 
 module _ (settings : Settings) (roads : Roads) (net : IsNetwork roads) (now : ℕ) (s : State) (day : IsDayState roads s) where
   -- the stops of a vehicle are nodes of the network
   stops_named : (v : ℕ) (stops : List PlannedStop) → AllByRecursion (IsRightStop settings roads s.riders v) stops → AllByRecursion (λ (stop : PlannedStop). has_node roads.nodes stop.node ≡ true) stops
-  stops_named v stops right = all_weaker (IsRightStop settings roads s.riders v) (λ (stop : PlannedStop). has_node roads.nodes stop.node ≡ true) (λ stop own. by stop own (cases_Bool stop.pick)) stops right
+  stops_named v stops right = all_weaker (IsRightStop settings roads s.riders v) (λ (stop : PlannedStop). has_node roads.nodes stop.node ≡ true) (λ stop own. elim (right_cases settings roads s.riders v stop own) [
+    | inl right ↦ subst (λ n. has_node roads.nodes n ≡ true) (sym right.1.node) (named stop.rider right.1.rider right.1.found).0
+    | inr right ↦ subst (λ n. has_node roads.nodes n ≡ true) (sym right.1.node) (named stop.rider right.1.rider right.1.found).1
+  ]) stops right
     where
       named : (x : ℕ) (r : BookRider) → find_rider x s.riders ≡ Some r → IsNode roads.nodes r.origin × IsNode roads.nodes r.destination
       named x r found = All-look_up (λ (r : BookRider). r.id) (λ (r : BookRider). IsNode roads.nodes r.origin × IsNode roads.nodes r.destination) x s.riders r day.named.riders found
-
-      by : (stop : PlannedStop) → IsRightStop settings roads s.riders v stop → (stop.pick ≡ true) ⊎ (stop.pick ≡ false) → has_node roads.nodes stop.node ≡ true
-      by stop own (inl pick) = let right = picked_up_right settings roads s.riders v stop pick own in subst (λ n. has_node roads.nodes n ≡ true) (sym right.node) (named stop.rider right.rider right.found).0
-      by stop own (inr drop) = let right = dropped_right settings roads s.riders v stop drop own in subst (λ n. has_node roads.nodes n ≡ true) (sym right.node) (named stop.rider right.rider right.found).1
 
   report_next : (v : Vehicle) (free : ℕ) (target : Option ℕ) (stops : List PlannedStop) (there : NodeAt) (command : Command) (commands : List Command) (left : List PlannedStop)
       → find_vehicle v.id s.vehicles ≡ Some v → v.time ≤ free → IsServing settings roads s.riders v free stops → AllByRecursion (λ stop. now < stop.second) stops

@@ -1,7 +1,6 @@
 -- A driven day keeps its promises.
 use Rattle.std.proofs.Common.{◌≡◌, ℕ, eqb, List, [], ◌∷◌, ◌++◌, map, None, refl, sym, ap, ◌∙◌, subst, All}
-use Rattle.route_drive.proofs.Common.{length-map, Vehicle, BookView, IsBook, opening, IsNode, RepliesAreSteps, state_after, Entry, Journal, State, rounds-join, Settings, Roads, IsNetwork, IsRound, NumberedLanes, empty_round, IsRun, Course, DayRound, entries_of, day_fault, HasDrivenToTheEnd, IsDrivenDay, IsNewBook, IsPrecededBy, courses_from, first_courses, number_after, at_rest, left_commands, course_of, DaysKeep, EntriesKeep, IsKept, IsServing, AllByRecursion, lane_at, ClosesAreGood, HasSeats}
-use Rattle.batch_snapshot.specs.Kept.{IsFleet}
+use Rattle.route_drive.proofs.Common.{length-map, Vehicle, BookView, IsBook, opening, IsNode, RepliesAreSteps, state_after, Entry, Journal, State, rounds-join, Settings, Roads, IsNetwork, IsRound, NumberedLanes, empty_round, IsRun, Course, DayRound, entries_of, day_fault, HasDrivenToTheEnd, IsDrivenDay, IsNewBook, IsPrecededBy, courses_from, first_courses, number_after, at_rest, left_commands, course_of, DaysKeep, EntriesKeep, IsKept, IsServing, AllByRecursion, lane_at, ClosesAreGood, HasSeats, IsFleet, cond_both, append-nil, map_push, flat_map-map}
 use Rattle.route_drive.proofs.kept.DayRounds.{AreDayRounds, are_day_rounds}
 use Rattle.route_drive.proofs.kept.Days.{AreOver, IsOnDay, entries_in, rounds_over}
 use Rattle.route_drive.proofs.kept.Keeping.{all_append, entries_keep}
@@ -10,9 +9,6 @@ use Rattle.route_drive.proofs.kept.Mixed.{IsMixed, IsRequest, mixed}
 use Rattle.route_drive.proofs.kept.Rounds.{Ends, last_round}
 use Rattle.route_drive.proofs.DriveLemmas.{nothing_at}
 use Rattle.route_drive.proofs.EntryLemmas.{entries_of-push}
-use Rattle.std.proofs.lemmas.Bool.{cond_both}
-use Rattle.std.proofs.lemmas.List.{append-nil, map_push}
-use Rattle.std.proofs.lemmas.List.Folds.{flat_map-map}
 
 -- at first nothing is on its way
 at_rest_all : (vehicles : List Vehicle) (id : ℕ) → course_of vehicles (map (λ v. at_rest) vehicles) id ≡ at_rest

@@ -1,9 +1,6 @@
 -- Where a vehicle is reported at a seal, its stops to come are still reached at their seconds.
 use Rattle.std.proofs.Common.{◌≡◌, ℕ, ◌+◌, ◌<◌, ◌≤◌, Bool, true, false, cond, leb, List, [], ◌∷◌, length, get_or, max, find, Contains, Option, Some, refl, sym, ap, ◌∙◌, subst, arith}
-use Rattle.route_drive.proofs.Common.{AllByRecursion, sum_by-cons, never, PlannedStop, Arc, Roads, IsNetwork, index_in, has_node, IsWalk, walk_seconds, IsLeastTime, NodeAt, Stay, WalkStep, IsReported, goal_of, walk_end, steps_of, AreReached}
-use Rattle.std.proofs.lemmas.Bool.{leb-true}
-use Rattle.std.proofs.lemmas.Option.{cond_some}
-use Rattle.travel_times.proofs.lemmas.WalkLemmas.{goal_within}
+use Rattle.route_drive.proofs.Common.{AllByRecursion, sum_by-cons, never, PlannedStop, Arc, Roads, IsNetwork, index_in, has_node, IsWalk, walk_seconds, IsLeastTime, NodeAt, Stay, WalkStep, IsReported, goal_of, walk_end, steps_of, AreReached, leb-true, cond_some, goal_within}
 use Rattle.route_drive.proofs.kept.Walks.{rest_is_least, has_index, index_at, is_node_at, node_from_index, contains_node}
 
 -- a step of a walk parts it
@@ -16,9 +13,6 @@ record IsOnWay (roads : Roads) (from goal acc : ℕ) (walk : List Arc) (step : W
   whole : walk_seconds before + walk_seconds rest ≡ walk_seconds walk
   node : step.node ≡ get_or roads.nodes via 0
   seconds : step.seconds ≡ acc + walk_seconds before
-
-more_seconds : (arc : Arc) (walk : List Arc) → walk_seconds (arc ∷ walk) ≡ arc.seconds + walk_seconds walk
-more_seconds arc walk = sum_by-cons (λ (a : Arc). a.seconds) arc walk
 
 on_way : (roads : Roads) (from goal acc : ℕ) (walk : List Arc) (test : WalkStep → Bool) (step : WalkStep) → IsWalk roads.arcs from walk goal → find test (steps_of roads.nodes from acc walk) ≡ Some step
     → IsOnWay roads from goal acc walk step × (test step ≡ true)
@@ -35,20 +29,25 @@ on_way roads from goal acc (arc ∷ walk) test step walks found = by (on_way roa
         (record { via = from; before = []; rest = arc ∷ walk; there = refl; onward = walks; whole = omega arith; node = sym (ap (λ (s : WalkStep). s.node) is); seconds = sym (ap (λ (s : WalkStep). s.seconds) is) ∙ omega arith }, ap test (sym is) ∙ e)
     by later false e f =
         let on = later f in
-        let a = more_seconds arc walk in
-        let b = more_seconds arc on.0.before in
-        let w = on.0.whole in
-        let s = on.0.seconds in
-        (record { via = on.0.via; before = arc ∷ on.0.before; rest = on.0.rest; there = (walks.0, walks.1, on.0.there); onward = on.0.onward; whole = omega (arith, a, b, w); node = on.0.node; seconds = omega (arith, b, s) }, on.1)
+        let more = sum_by-cons (λ (a : Arc). a.seconds) arc in (
+          record {
+            via = on.0.via;
+            before = arc ∷ on.0.before;
+            rest = on.0.rest;
+            there = (walks.0, walks.1, on.0.there);
+            onward = on.0.onward;
+            whole = omega (arith, more walk, more on.0.before, on.0.whole);
+            node = on.0.node;
+            seconds = omega (arith, more on.0.before, on.0.seconds);
+          },
+          on.1,
+        )
 
 -- the last step is reached after all seconds of the walk
 end_is : (nodes : List ℕ) (from acc : ℕ) (walk : List Arc) → walk_end (steps_of nodes from acc walk) ≡ acc + walk_seconds walk
 end_is nodes from acc [] = omega arith
-end_is nodes from acc (arc ∷ []) = let a = more_seconds arc [] in omega (arith, a)
-end_is nodes from acc (arc ∷ next ∷ walk) =
-    let rest : walk_end (steps_of nodes arc.to (acc + arc.seconds) (next ∷ walk)) ≡ acc + arc.seconds + walk_seconds (next ∷ walk) = end_is nodes arc.to (acc + arc.seconds) (next ∷ walk) in
-    let a = more_seconds arc (next ∷ walk) in
-    rest ∙ omega (arith, a)
+end_is nodes from acc (arc ∷ []) = omega (arith, sum_by-cons (λ (a : Arc). a.seconds) arc [])
+end_is nodes from acc (arc ∷ next ∷ walk) = omega (arith, end_is nodes arc.to (acc + arc.seconds) (next ∷ walk), sum_by-cons (λ (a : Arc). a.seconds) arc (next ∷ walk))
 
 -- what a report leaves: the stops to come are reached from there
 pub record IsThere (roads : Roads) (dwell now : ℕ) (at : Stay) (stops : List PlannedStop) (there : NodeAt) : Type 0 where
@@ -91,23 +90,17 @@ module _ (roads : Roads) (net : IsNetwork roads) (dwell now : ℕ) (at : Stay) (
       from_step (s ∷ stops) way l reached goal =
           let e : s.node ≡ to = cc in
           let index : index_in roads.nodes step.node ≡ way.via = ap (index_in roads.nodes) way.node ∙ index_at roads.nodes way.via net.distinct l in
-          let leads_walk : IsWalk roads.arcs (index_in roads.nodes at.node) reached.0.least.walk (index_in roads.nodes to) = subst (λ n. IsWalk roads.arcs (index_in roads.nodes at.node) reached.0.least.walk (index_in roads.nodes n)) e reached.0.least.walks in
-          let short_walk : IsWalk roads.arcs (index_in roads.nodes at.node) shortest.walk (index_in roads.nodes s.node) = subst (λ n. IsWalk roads.arcs (index_in roads.nodes at.node) shortest.walk (index_in roads.nodes n)) (sym e) shortest.walks in
-          let a : walk_seconds shortest.walk ≤ walk_seconds reached.0.least.walk = shortest.least reached.0.least.walk leads_walk in
-          let b : reached.0.seconds ≤ walk_seconds shortest.walk = reached.0.least.least shortest.walk short_walk in
-          let takes : walk_seconds reached.0.least.walk ≡ reached.0.seconds = reached.0.least.takes in
-          let whole : walk_seconds way.before + walk_seconds way.rest ≡ walk_seconds shortest.walk = way.whole in
-          let gone : step.seconds ≡ 0 + walk_seconds way.before = way.seconds in
-          let second : s.second ≡ at.free + reached.0.seconds = reached.0.reached in
-          let short : reached.0.seconds < never = reached.0.short in
+          let leads_walk = subst (λ n. IsWalk roads.arcs (index_in roads.nodes at.node) reached.0.least.walk (index_in roads.nodes n)) e reached.0.least.walks in
+          let short_walk = subst (λ n. IsWalk roads.arcs (index_in roads.nodes at.node) shortest.walk (index_in roads.nodes n)) (sym e) shortest.walks in
+          let a : walk_seconds shortest.walk ≡ reached.0.seconds = omega (arith, shortest.least reached.0.least.walk leads_walk, reached.0.least.least shortest.walk short_walk, reached.0.least.takes) in
           let rest : IsLeastTime roads.arcs way.via (index_in roads.nodes to) (walk_seconds way.rest) =
-          rest_is_least roads.arcs way.before way.rest (index_in roads.nodes at.node) way.via (index_in roads.nodes to) way.there way.onward (λ other walks. let o = shortest.least other walks in omega (arith, o, whole)) in (
+          rest_is_least roads.arcs way.before way.rest (index_in roads.nodes at.node) way.via (index_in roads.nodes to) way.there way.onward (λ other walks. omega (arith, shortest.least other walks, way.whole)) in (
             record {
               seconds = walk_seconds way.rest;
               least = subst (λ n. IsLeastTime roads.arcs (index_in roads.nodes step.node) (index_in roads.nodes n) (walk_seconds way.rest)) (sym e)
                   (subst (λ i. IsLeastTime roads.arcs i (index_in roads.nodes to) (walk_seconds way.rest)) (sym index) rest);
-              short = omega (arith, a, b, takes, whole, short);
-              reached = omega (arith, a, b, takes, whole, gone, second);
+              short = omega (arith, a, way.whole, reached.0.short);
+              reached = omega (arith, a, way.whole, way.seconds, reached.0.reached);
             },
             reached.1,
           )
@@ -116,9 +109,5 @@ module _ (roads : Roads) (net : IsNetwork roads) (dwell now : ℕ) (at : Stay) (
       subst (IsThere roads dwell now at []) (sym is) (record { reached = tt; named = node_from_index roads.nodes to l; by = omega arith; later = omega arith })
   reported_there (s ∷ stops) named later reached (IsReported.arrived to steps le goal shortest done is) =
       let e : s.node ≡ to = cc in
-      let short_walk : IsWalk roads.arcs (index_in roads.nodes at.node) shortest.walk (index_in roads.nodes s.node) = subst (λ n. IsWalk roads.arcs (index_in roads.nodes at.node) shortest.walk (index_in roads.nodes n)) (sym e) shortest.walks in
-      let b : reached.0.seconds ≤ walk_seconds shortest.walk = reached.0.least.least shortest.walk short_walk in
-      let second : s.second ≡ at.free + reached.0.seconds = reached.0.reached in
-      let end : walk_end steps ≡ 0 + walk_seconds shortest.walk = ap walk_end shortest.told ∙ end_is roads.nodes (index_in roads.nodes at.node) 0 shortest.walk in
-      let over = later.0 in
-      absurd (omega (arith, b, second, end, over, done))
+      let short_walk = subst (λ n. IsWalk roads.arcs (index_in roads.nodes at.node) shortest.walk (index_in roads.nodes n)) (sym e) shortest.walks in
+      absurd (omega (arith, reached.0.least.least shortest.walk short_walk, reached.0.reached, ap walk_end shortest.told ∙ end_is roads.nodes (index_in roads.nodes at.node) 0 shortest.walk, later.0, done))

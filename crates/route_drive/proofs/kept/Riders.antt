@@ -1,7 +1,6 @@
 -- What a change of one rider's status, or of one vehicle, leaves.
 use Rattle.std.proofs.Common.{◌≡◌, ◌⊎◌, ℕ, ◌-◌, ◌≤◌, Bool, true, false, List, [], ◌∷◌, map, Option, Some, None, refl, sym, ap, ◌∙◌, subst, arith, inl, inr, option_map, MatchBool}
-use Rattle.route_drive.proofs.Common.{AllByRecursion, option_map_or, cases_Bool, cases_eq, MatchBool-at_true, MatchBool-at_false, persons_aboard, Vehicle, changed_at, with_status, find_rider, PlannedStop, BookRider, Status, Promised, Aboard, look_up-key, look_up-changed_here, look_up-changed_there, Settings, Roads, party_at, seats_after, HasSeatsFor, IsRightPickup, IsRightDropoff, IsRightStop, IsOfVehicle, is_stop_of, calls_of, HasCalls, IsServing}
-use Rattle.std.proofs.lemmas.Bool.{eq-eqb, ne_eqb}
+use Rattle.route_drive.proofs.Common.{AllByRecursion, option_map_or, cases_Bool, cases_eq, MatchBool-at_true, MatchBool-at_false, persons_aboard, Vehicle, changed_at, with_status, find_rider, PlannedStop, BookRider, Status, Promised, Aboard, look_up-key, look_up-changed_here, look_up-changed_there, Settings, Roads, party_at, seats_after, HasSeatsFor, IsRightPickup, IsRightDropoff, IsRightStop, IsOfVehicle, is_stop_of, calls_of, HasCalls, IsServing, eq-eqb, ne_eqb, nat_tests}
 use Rattle.route_drive.proofs.kept.Lists.{skips, takes, all_weaker}
 
 -- what is found has the id that was looked for
@@ -34,14 +33,9 @@ module _ (riders : List BookRider) (x : ℕ) (status : Status) where
 pub seats_by_party : (riders others : List BookRider) (room more : ℕ) → room ≤ more → (stops : List PlannedStop) → AllByRecursion (λ stop. party_at others stop ≡ party_at riders stop) stops
     → HasSeatsFor riders room stops → HasSeatsFor others more stops
 seats_by_party riders others room more le [] same has = tt
-seats_by_party riders others room more le (stop ∷ stops) same has = (
-  λ pick. let h : party_at riders stop ≤ room = has.0 pick in let e : party_at others stop ≡ party_at riders stop = same.0 in omega arith,
-  seats_by_party riders others (seats_after riders stop room) (seats_after others stop more) (on (cases_Bool stop.pick)) stops same.1 has.1,
-)
-  where
-    on : (stop.pick ≡ true) ⊎ (stop.pick ≡ false) → seats_after riders stop room ≤ seats_after others stop more
-    on (inl e) = let p : party_at others stop ≡ party_at riders stop = same.0 in rw e (omega (arith, p, le))
-    on (inr e) = let p : party_at others stop ≡ party_at riders stop = same.0 in rw e (omega (arith, p, le))
+seats_by_party riders others room more le (stop ∷ stops) same has =
+    let on : seats_after riders stop room ≤ seats_after others stop more = grind (arith, nat_tests, same.0) in
+    (λ pick. omega (arith, has.0 pick, same.0), seats_by_party riders others (seats_after riders stop room) (seats_after others stop more) on stops same.1 has.1)
 
 -- a party is read by who is found
 pub party_by_found : (riders others : List BookRider) (stop : PlannedStop) → find_rider stop.rider others ≡ find_rider stop.rider riders → party_at others stop ≡ party_at riders stop
@@ -49,59 +43,51 @@ party_by_found riders others stop e = ap (λ o. option_map_or (λ (r : BookRider
 
 -- a rider's calls at the front of the stops
 pub calls_own : (x : ℕ) (stop : PlannedStop) (stops : List PlannedStop) → stop.rider ≡ x → calls_of x (stop ∷ stops) ≡ stop.pick ∷ calls_of x stops
-calls_own x stop stops e = ap (map (λ (s : PlannedStop). s.pick)) (takes (is_stop_of x) stop stops (eq-eqb stop.rider x e))
+calls_own x stop stops e = grind (arith, nat_tests)
 
 pub calls_other : (x : ℕ) (stop : PlannedStop) (stops : List PlannedStop) → (stop.rider ≡ x → ⊥) → calls_of x (stop ∷ stops) ≡ calls_of x stops
-calls_other x stop stops ne = ap (map (λ (s : PlannedStop). s.pick)) (skips (is_stop_of x) stop stops (ne_eqb stop.rider x ne))
+calls_other x stop stops ne = grind (arith, nat_tests)
 
 -- where none of a rider's calls is a pickup, none of the stops is a pickup of theirs
 pub no_pickup : (x : ℕ) (stops : List PlannedStop) → AllByRecursion (λ b. b ≡ false) (calls_of x stops) → AllByRecursion (λ (s : PlannedStop). s.rider ≡ x → s.pick ≡ false) stops
 no_pickup x [] all = tt
-no_pickup x (stop ∷ stops) all = elim (cases_eq stop.rider x) [
-  | inl e ↦ let own = subst (λ bs. AllByRecursion (λ b. b ≡ false) bs) (calls_own x stop stops e) all in ((λ same. own.0), no_pickup x stops own.1)
-  | inr ne ↦ ((λ same. absurd (ne same)), no_pickup x stops (subst (λ bs. AllByRecursion (λ b. b ≡ false) bs) (calls_other x stop stops ne) all))
-]
+no_pickup x (stop ∷ stops) all = grind (arith, nat_tests, no_pickup x stops)
 
 pub no_stop : (x : ℕ) (stops : List PlannedStop) → calls_of x stops ≡ [] → AllByRecursion (λ (s : PlannedStop). s.rider ≡ x → ⊥) stops
 no_stop x [] none = tt
-no_stop x (stop ∷ stops) none = elim (cases_eq stop.rider x) [
-  | inl e ↦ absurd (let own : stop.pick ∷ calls_of x stops ≡ [] = sym (calls_own x stop stops e) ∙ none in cc)
-  | inr ne ↦ (ne, no_stop x stops (sym (calls_other x stop stops ne) ∙ none))
-]
+no_stop x (stop ∷ stops) none = grind (arith, nat_tests, no_stop x stops)
 
 -- a status of no vehicle, or of another one
 pub of_one : (v w : ℕ) (status : Status) → IsOfVehicle v status → IsOfVehicle w status → v ≡ w
-of_one v w (Promised p) h k = sym h ∙ k
-of_one v w (Aboard u) h k = sym h ∙ k
-of_one v w status h k = absurd h
+of_one v w status h k = grind arith
 
 -- without calls of their own a rider of another vehicle asks for none
 pub calls_of_others : (w : ℕ) (status : Status) (calls : List Bool) → (IsOfVehicle w status → ⊥) → HasCalls w status calls
-calls_of_others w (Promised p) calls not = λ e. absurd (not e)
-calls_of_others w (Aboard u) calls not = λ e. absurd (not e)
-calls_of_others w status calls not = tt
+calls_of_others w status calls not = grind arith
+
+-- a right stop is a right pickup or a right drop-off
+pub right_cases : (settings : Settings) (roads : Roads) (riders : List BookRider) (w : ℕ) (stop : PlannedStop) → IsRightStop settings roads riders w stop
+    → ((stop.pick ≡ true) × IsRightPickup settings.wait riders w stop) ⊎ ((stop.pick ≡ false) × IsRightDropoff roads settings.delay riders w stop)
+right_cases settings roads riders w stop right = elim (cases_Bool stop.pick) [
+  | inl e ↦ inl (e, MatchBool-at_true (IsRightPickup settings.wait riders w stop) (IsRightDropoff roads settings.delay riders w stop) e right)
+  | inr e ↦ inr (e, MatchBool-at_false (IsRightPickup settings.wait riders w stop) (IsRightDropoff roads settings.delay riders w stop) e right)
+]
 
 -- a right stop is of a rider of the vehicle
 pub stop_of_vehicle : (settings : Settings) (roads : Roads) (riders : List BookRider) (w : ℕ) (stop : PlannedStop) → IsRightStop settings roads riders w stop
     → (r : BookRider) × (find_rider stop.rider riders ≡ Some r) × IsOfVehicle w r.status
-stop_of_vehicle settings roads riders w stop right = by (cases_Bool stop.pick)
-  where
-    by : (stop.pick ≡ true) ⊎ (stop.pick ≡ false) → (r : BookRider) × (find_rider stop.rider riders ≡ Some r) × IsOfVehicle w r.status
-    by (inl e) =
-        let own = MatchBool-at_true (IsRightPickup settings.wait riders w stop) (IsRightDropoff roads settings.delay riders w stop) e right in
-        (own.rider, own.found, subst (IsOfVehicle w) (sym own.status) refl)
-    by (inr e) =
-        let own = MatchBool-at_false (IsRightPickup settings.wait riders w stop) (IsRightDropoff roads settings.delay riders w stop) e right in
-        (own.rider, own.found, own.own)
+stop_of_vehicle settings roads riders w stop right = elim (right_cases settings roads riders w stop right) [
+  | inl own ↦ (own.1.rider, own.1.found, subst (IsOfVehicle w) (sym own.1.status) refl)
+  | inr own ↦ (own.1.rider, own.1.found, own.1.own)
+]
 
 -- a right stop stays so where its rider is found as before
 pub right_elsewhere : (settings : Settings) (roads : Roads) (riders others : List BookRider) (w : ℕ) (stop : PlannedStop) → find_rider stop.rider others ≡ find_rider stop.rider riders
     → IsRightStop settings roads riders w stop → IsRightStop settings roads others w stop
-right_elsewhere settings roads riders others w stop same right = by stop.pick refl right
-  where
-    by : (b : Bool) → stop.pick ≡ b → MatchBool b (IsRightPickup settings.wait riders w stop) (IsRightDropoff roads settings.delay riders w stop) → IsRightStop settings roads others w stop
-    by true e own = rw e (record { rider = own.rider; found = same ∙ own.found; status = own.status; node = own.node; in_time = own.in_time })
-    by false e own = rw e (record { rider = own.rider; found = same ∙ own.found; own = own.own; node = own.node; in_time = own.in_time })
+right_elsewhere settings roads riders others w stop same right = elim (right_cases settings roads riders w stop right) [
+  | inl own ↦ rw own.0 (record { rider = own.1.rider; found = same ∙ own.1.found; status = own.1.status; node = own.1.node; in_time = own.1.in_time })
+  | inr own ↦ rw own.0 (record { rider = own.1.rider; found = same ∙ own.1.found; own = own.1.own; node = own.1.node; in_time = own.1.in_time })
+]
 
 -- a status is of the vehicle, or isn't
 pub cases_of : (w : ℕ) (status : Status) → IsOfVehicle w status ⊎ (IsOfVehicle w status → ⊥)

@@ -1,9 +1,6 @@
 -- A round of a driven day, from its last entry to its first.
 use Rattle.std.proofs.Common.{◌≡◌, ◌⊎◌, ℕ, ◌≤◌, List, [], ◌∷◌, ◌++◌, length, map, filter, Option, Some, None, refl, sym, ap, ◌∙◌, subst, arith, inl, inr, option_and_then}
-use Rattle.route_drive.proofs.Common.{AllByRecursion, option_or, recursion_from_All, Batch, Vehicle, IsGoodOutcome, one_more, KeysDiffer, RepliesAreSteps, state_after, batch_of, sealed_state, find_rider, find_vehicle, step, Command, Submit, Seal, Close, Entry, Answer, PlannedStop, Reply, Closed, Sealed, BookRider, Promised, Waiting, State, KeysDiffer-from_rise, look_up-at, Settings, Roads, IsNetwork, sealed_by, ClosesAreGood, IsCloseOf, IsGoodClose, Course, plan_in, planned_in, AreEntered, to_come, IsClosedInTime, AreReported, IsReadyForSeal, closed, course_of, IsDayState, IsKept, KeepsBounds, LeavesAll, ShowsRiders, stops_with, IsServing, left_commands, IsEntered, closed_outcome, stop_command}
-use Rattle.std.proofs.lemmas.List.{append-nil}
-use Rattle.dispatch_engine.proofs.lemmas.LaneLemmas.{IsQuiet, plain-quiet}
-use Rattle.dispatch_engine.specs.lemmas.Lanes.{IsPlain}
+use Rattle.route_drive.proofs.Common.{AllByRecursion, option_or, recursion_from_All, Batch, Vehicle, IsGoodOutcome, one_more, KeysDiffer, RepliesAreSteps, state_after, batch_of, sealed_state, find_rider, find_vehicle, step, Command, Submit, Seal, Close, Entry, Answer, PlannedStop, Reply, Closed, Sealed, BookRider, Promised, Waiting, State, KeysDiffer-from_rise, look_up-at, Settings, Roads, IsNetwork, sealed_by, ClosesAreGood, IsCloseOf, IsGoodClose, Course, plan_in, planned_in, AreEntered, to_come, IsClosedInTime, AreReported, IsReadyForSeal, closed, course_of, IsDayState, IsKept, KeepsBounds, LeavesAll, ShowsRiders, stops_with, IsServing, left_commands, IsEntered, closed_outcome, stop_command, IsQuiet, plain-quiet, IsPlain, append-nil}
 use Rattle.route_drive.proofs.LeaveLemmas.{step-leaves}
 use Rattle.route_drive.proofs.kept.Keeping.{AllKeep, OneKeeps}
 use Rattle.route_drive.proofs.kept.Laws.{closes_keep, no_promise_lapses}
@@ -30,12 +27,7 @@ asked_plans (e ∷ es) all = ap (λ o. option_or o (plan_in es)) (plain_plan e.c
 
 -- what is entered of a vehicle is neither a seal nor a close
 owned_plain : (c : Command) (id : ℕ) → vehicle_in c ≡ Some id → IsPlain c
-owned_plain (Seal now) id e = absurd cc
-owned_plain (Close batch outcome) id e = absurd cc
-owned_plain command id e = tt
-
-pub owned_reply : (nodes : List ℕ) (wait : ℕ) (s : State) (c : Command) (id : ℕ) → vehicle_in c ≡ Some id → sealed_by (step nodes wait s c).1 ≡ None
-owned_reply nodes wait s c id e = (plain-quiet nodes wait s c (owned_plain c id e)).told
+owned_plain c id e = grind arith
 
 module _ (settings : Settings) (roads : Roads) where
   -- entries from a state to the end of a round: each keeps what it must, and every vehicle serves its stops at the end

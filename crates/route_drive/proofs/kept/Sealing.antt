@@ -1,8 +1,6 @@
 -- Requests and seals: what they leave of the riders on a driven day, and whom the batch shows.
 use Rattle.std.proofs.Common.{◌≡◌, ◌⊎◌, ℕ, ◌+◌, ◌<◌, ◌≤◌, Bool, true, false, cond, leb, List, [], ◌∷◌, ◌++◌, map, Option, Some, None, refl, sym, ap, ◌∙◌, subst, arith, inl, inr, option_map, option_and_then}
-use Rattle.route_drive.proofs.Common.{AllByRecursion, cases_eq, Promise, Rider, Vehicle, look_up, by_key, KeysDiffer, with_status, shown, pool_promise, is_over, after_seal, batch_of, sealed_state, asking, find_rider, find_vehicle, step, Command, Submit, Seal, PlannedStop, Reply, BookRider, Status, Waiting, Promised, Aboard, Delivered, Expired, State, after_seal-id, look_up-key, look_up-map, look_up-push_there, look_up-push_here, look_up-push_found, look_up-filter_map, by_key-order, KeysDiffer-map, KeysDiffer-filter_map, Settings, Roads, IsOfVehicle, IsRightStop, IsServing, IsDayState, IsKept, HasCalls, calls_of, IsBoundBy, IsBound, KeepsBounds, LeavesAll, ShowsRiders}
-use Rattle.std.specs.List.{filter_map}
-use Rattle.std.proofs.lemmas.Bool.{le-ltb, le-leb}
+use Rattle.route_drive.proofs.Common.{AllByRecursion, cases_eq, Promise, Rider, Vehicle, look_up, by_key, KeysDiffer, with_status, shown, pool_promise, is_over, after_seal, batch_of, sealed_state, asking, find_rider, find_vehicle, step, Command, Submit, Seal, PlannedStop, Reply, BookRider, Status, Waiting, Promised, Aboard, Delivered, Expired, State, after_seal-id, look_up-key, look_up-map, look_up-push_there, look_up-push_here, look_up-push_found, look_up-filter_map, by_key-order, KeysDiffer-map, KeysDiffer-filter_map, Settings, Roads, IsOfVehicle, IsRightStop, IsServing, IsDayState, IsKept, HasCalls, calls_of, IsBoundBy, IsBound, KeepsBounds, LeavesAll, ShowsRiders, le-ltb, le-leb, filter_map, nat_tests}
 use Rattle.route_drive.proofs.kept.Lists.{both}
 use Rattle.route_drive.proofs.kept.Riders.{calls_own, calls_other, serves_elsewhere}
 use Rattle.route_drive.proofs.kept.Enter.{picked_up_right}
@@ -14,9 +12,6 @@ not_waiting w status e own = subst (IsOfVehicle w) e own
 
 -- one more rider, who waits
 module _ (settings : Settings) (roads : Roads) (riders : List BookRider) (q : BookRider) (new : find_rider q.id riders ≡ None) (waits : q.status ≡ Waiting) where
-  more : List BookRider
-  more = riders ++ q ∷ []
-
   pub still_found : (x : ℕ) (r : BookRider) → find_rider x riders ≡ Some r → find_rider x (riders ++ q ∷ []) ≡ Some r
   still_found x r e = look_up-push_found (λ (r : BookRider). r.id) x q r riders e
 
@@ -40,12 +35,6 @@ pub submit_done : (settings : Settings) (roads : Roads) (s : State) (rider origi
     → LeavesAll settings roads s (step roads.nodes settings.wait s (Submit rider origin destination time party)).0
 submit_done settings roads s rider origin destination time party day = by (submit_is roads.nodes settings.wait s rider origin destination time party)
   where
-    command : Command
-    command = Submit rider origin destination time party
-
-    t : State
-    t = (step roads.nodes settings.wait s (Submit rider origin destination time party)).0
-
     q : BookRider
     q = record { id = rider; origin = origin; destination = destination; time = time; party = party; status = Waiting }
 
@@ -71,8 +60,8 @@ pub first_call : (P : PlannedStop → Type 0) (x : ℕ) (b : Bool) (bs : List Bo
     → (stop : PlannedStop) × (stop.rider ≡ x) × (stop.pick ≡ b) × P stop
 first_call P x b bs [] e all = absurd cc
 first_call P x b bs (stop ∷ stops) e all = elim (cases_eq stop.rider x) [
-  | inl same ↦ let f : stop.pick ∷ calls_of x stops ≡ b ∷ bs = sym (calls_own x stop stops same) ∙ e in (stop, same, cc, all.0)
-  | inr ne ↦ first_call P x b bs stops (sym (calls_other x stop stops ne) ∙ e) all.1
+  | inl same ↦ (stop, same, grind (arith, nat_tests), all.0)
+  | inr ne ↦ first_call P x b bs stops (grind (arith, nat_tests)) all.1
 ]
 
 -- a seal on a driven day: all stops are later, and so nobody who is promised or aboard expires
@@ -96,9 +85,7 @@ module _ (settings : Settings) (roads : Roads) (s : State) (stops : ℕ → List
           let same : find_rider x s.riders ≡ Some right.rider = subst (λ k. find_rider k s.riders ≡ Some right.rider) first.1 right.found in
           let is : right.rider ≡ r = cc in
           let time : right.rider.time ≡ r.time = ap (λ (r : BookRider). r.time) is in
-          let in_time = right.in_time in
-          let late = first.3.1 in
-          rw (f, le-ltb (r.time + settings.wait) now (omega (arith, time, in_time, late))) refl
+          rw (f, le-ltb (r.time + settings.wait) now (omega (arith, time, right.in_time, first.3.1))) refl
       by (Aboard u) f h = rw f refl
       by status f h = absurd h
 
@@ -113,29 +100,13 @@ module _ (settings : Settings) (roads : Roads) (s : State) (stops : ℕ → List
 
   -- whoever isn't expired after the seal was the same before
   find_was : (x : ℕ) (q : BookRider) → find_rider x after ≡ Some q → (q.status ≡ Expired → ⊥) → find_rider x s.riders ≡ Some q
-  find_was x q e not = by (find_rider x s.riders) refl (sym (find_after x) ∙ e)
-    where
-      same : (r : BookRider) (o : Bool) → cond o (with_status Expired r) r ≡ q → r ≡ q
-      same r true f = absurd (not (sym (ap (λ (q : BookRider). q.status) f)))
-      same r false f = f
-
-      by : (o : Option BookRider) → find_rider x s.riders ≡ o → option_map (after_seal settings.wait now) o ≡ Some q → find_rider x s.riders ≡ Some q
-      by None f g = absurd cc
-      by (Some r) f g = f ∙ ap Some (same r (is_over settings.wait now r) (let h : Some (after_seal settings.wait now r) ≡ Some q = g in cc))
+  find_was x q e not = grind (arith, nat_tests, find_after x)
 
   not_expired : (w : ℕ) (status : Status) → IsOfVehicle w status → status ≡ Expired → ⊥
   not_expired w status own e = subst (IsOfVehicle w) e own
 
   asking_id : (r : BookRider) (y : Rider) → asking now r ≡ Some y → y.id ≡ r.id
-  asking_id r y e = by (leb r.time now) e
-    where
-      in_pool : (o : Option (Option Promise)) → option_map (shown r) o ≡ Some y → y.id ≡ r.id
-      in_pool None f = absurd cc
-      in_pool (Some p) f = let is : shown r p ≡ y = cc in sym (ap (λ (y : Rider). y.id) is)
-
-      by : (b : Bool) → cond b (option_map (shown r) (pool_promise r.status)) None ≡ Some y → y.id ≡ r.id
-      by true f = in_pool (pool_promise r.status) f
-      by false f = absurd cc
+  asking_id r y e = grind (arith, nat_tests)
 
   differ : KeysDiffer (λ (r : BookRider). r.id) after
   differ = KeysDiffer-map (λ (r : BookRider). r.id) (after_seal settings.wait now) (after_seal-id settings.wait now) s.riders kept.state.consistent.riders_differ
@@ -155,8 +126,7 @@ module _ (settings : Settings) (roads : Roads) (s : State) (stops : ℕ → List
   sealed_kept reply is = record {
     state = stepped settings roads s (sealed_state settings.wait s now) (Seal now) kept.state (ap (λ (p : State × Reply). p.0) is) (λ x r promise e t.
         let was = kept.state.promises x r promise (find_was x r e (λ h. let f : Promised promise ≡ Expired = sym t ∙ h in absurd cc)) t in
-        let on = after_time was.last was.sealed in
-        record { last = now; sealed = refl; asked = let a = was.asked in omega (arith, a, on); vehicle = was.vehicle; at = was.at });
+        record { last = now; sealed = refl; asked = let a = was.asked in omega (arith, a, after_time was.last was.sealed); vehicle = was.vehicle; at = was.at });
     each = λ id v at. serves_elsewhere settings roads s.riders after v v.time (stops id)
         (λ x r e own. find_kept x r id v e at (subst (λ k. IsOfVehicle k r.status) (look_up-key (λ (v : Vehicle). v.id) id s.vehicles v at) own) ∙ sym e)
         (λ x r e own. find_was x r e (not_expired v.id r.status own))
@@ -182,8 +152,7 @@ module _ (settings : Settings) (roads : Roads) (s : State) (stops : ℕ → List
     shows = λ x y e. by x y (find_rider x after) refl (sym (shown_in x) ∙ e);
     promised = λ x r p e t.
         let was = kept.state.promises x r p (find_was x r e (λ h. let f : Promised p ≡ Expired = sym t ∙ h in absurd cc)) t in
-        let on = after_time was.last was.sealed in
-        let early : r.time ≤ now = let a = was.asked in omega (arith, a, on) in
+        let early : r.time ≤ now = let a = was.asked in omega (arith, a, after_time was.last was.sealed) in
         shown_in x ∙ ap (option_and_then (asking now)) e ∙ rw (le-leb r.time now early, t) refl;
     vehicles = refl;
     last = refl;

@@ -1,8 +1,6 @@
 -- All that is entered before a seal, with requests of any lanes between.
 use Rattle.std.proofs.Common.{◌≡◌, ℕ, ◌<◌, ◌≤◌, Bool, false, eqb, List, [], ◌∷◌, ◌++◌, length, map, filter, Option, Some, None, refl, sym, ap, ◌∙◌, subst, arith, inl, inr}
-use Rattle.route_drive.proofs.Common.{AllByRecursion, cases_eq, cond-true, cond-false, option_map_or, filter-append, Vehicle, KeysDiffer, find_vehicle, step, Command, Report, Pickup, Dropoff, PlannedStop, Reply, BookRider, State, look_up-here, look_up-there, look_up-nil, Settings, Roads, IsNetwork, Course, AreEntered, IsEntered, due, stop_command, IsServing, IsDayState, course_of, IsReadyForSeal, LeavesAll, left_commands}
-use Rattle.std.proofs.lemmas.Bool.{eq-eqb, ne_eqb, cond_both}
-use Rattle.std.proofs.lemmas.List.{append-nil}
+use Rattle.route_drive.proofs.Common.{AllByRecursion, cases_eq, cond-true, cond-false, option_map_or, filter-append, Vehicle, KeysDiffer, find_vehicle, step, Command, Report, Pickup, Dropoff, PlannedStop, Reply, BookRider, State, look_up-here, look_up-there, look_up-nil, Settings, Roads, IsNetwork, Course, AreEntered, IsEntered, due, stop_command, IsServing, IsDayState, course_of, IsReadyForSeal, LeavesAll, left_commands, eq-eqb, ne_eqb, cond_both, append-nil, nat_tests, look_up}
 use Rattle.route_drive.proofs.kept.Lists.{skips, takes, all_weaker}
 use Rattle.route_drive.proofs.kept.States.{vehicle_id}
 use Rattle.route_drive.proofs.kept.Keeping.{OneKeeps}
@@ -104,17 +102,15 @@ IsOwned s command = (id : ℕ) × (v : Vehicle) × (vehicle_in command ≡ Some 
 
 -- lists with the same ids have the same vehicles to find
 pub found_by_ids : (xs ys : List Vehicle) (id : ℕ) (v : Vehicle) → map (λ v. v.id) ys ≡ map (λ v. v.id) xs → find_vehicle id xs ≡ Some v → (u : Vehicle) × (find_vehicle id ys ≡ Some u)
-found_by_ids [] ys id v same found = absurd (let n = look_up-nil (λ (v : Vehicle). v.id) id in cc)
-found_by_ids (x ∷ xs) [] id v same found = absurd cc
+unfolding look_up
 found_by_ids (x ∷ xs) (y ∷ ys) id v same found =
     let head : y.id ≡ x.id = cc in
     let tail : map (λ (v : Vehicle). v.id) ys ≡ map (λ (v : Vehicle). v.id) xs = cc in
     elim (cases_eq x.id id) [
-      | inl e ↦ (y, look_up-here (λ (v : Vehicle). v.id) id y ys (head ∙ e))
-      | inr ne ↦
-          let rest = found_by_ids xs ys id v tail (sym (look_up-there (λ (v : Vehicle). v.id) id x xs ne) ∙ found) in
-          (rest.0, look_up-there (λ (v : Vehicle). v.id) id y ys (λ e. ne (sym head ∙ e)) ∙ rest.1)
+      | inl e ↦ (y, grind (arith, nat_tests))
+      | inr ne ↦ let rest = found_by_ids xs ys id v tail (grind (arith, nat_tests)) in (rest.0, grind (arith, nat_tests))
     ]
+found_by_ids xs ys id v same found = absurd cc
 
 -- a way of entering what vehicles still have to do: it stays to be entered where a vehicle goes on serving, and the first
 -- of a vehicle's commands is answered
@@ -170,10 +166,9 @@ module _ (settings : Settings) (roads : Roads) (P : List BookRider → ℕ → V
               subst (λ j. P done.t.riders j w (filter (is_for j) entered)) e (subst (λ w. P done.t.riders owned.0 w (filter (is_for owned.0) entered)) own next.pending)
           | inr ne ↦
               let ne' : owned.1.id ≡ j → ⊥ = λ e. ne (sym same ∙ e) in
-              let was = done.others.found j w ne' found in
               let rest : filter (is_for j) (command ∷ entered) ≡ filter (is_for j) entered = skips (is_for j) command entered (for_one j owned.0 command owned.2 ∙ ne_eqb owned.0 j ne) in
               way.stays s.riders done.t.riders j w (filter (is_for j) entered) (λ free stops serves. done.others.serve j w free stops ne' found serves)
-              (subst (P s.riders j w) rest (pending j w was))
+              (subst (P s.riders j w) rest (pending j w (done.others.found j w ne' found)))
         ]);
       }
 

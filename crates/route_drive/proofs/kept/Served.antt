@@ -1,13 +1,11 @@
 -- At a seal the stops of a vehicle serve, by the batch's table, its passengers and the riders promised to it.
 use Rattle.std.proofs.Common.{◌≡◌, ◌⊎◌, ℕ, ◌+◌, ◌-◌, ◌*◌, ◌<◌, ◌≤◌, true, false, eqb, nat_eq, List, [], ◌∷◌, length, get_or, map, filter, max, min, Option, Some, None, refl, sym, ap, ◌∙◌, subst, arith, inl, inr, option_and_then, slice_get, Contains}
-use Rattle.route_drive.proofs.Common.{option_map_or, AllByRecursion, IsDistinct, range_with_len, cases_Bool, false≢true, get_or-map, length-map, get_or_default, filter_passes, slice_get_within, get_or_from_slice_get, slice_get-get_or, travel_time, Times, Batch, persons_aboard, Passenger, Promise, Rider, Vehicle, IsLegOf, request_at, ideal_second, no_request, promised_limit, is_promised_to, promised_to, kept_legs, kept_leg, IsPlaced, IsSettled, filter_range_has, promised_trip, seat_in, look_up, KeysDiffer, shown, passenger_of, find_rider, find_vehicle, find_passenger, PlannedStop, BookRider, Status, Promised, Aboard, State, look_up-at, KeysDiffer-from_rise, All-look_up, Settings, Roads, index_in, has_node, Leg, Settled, Stop, Pick, Drop, Alight, Task, Visit, IsOrder, vehicle_at, rider_at, no_rider, vehicle_task, IsTrip, no_leg, leg_at, persons, visit_at, visits_of, free_seats, IsServable, soon_there, ServesFrom, boarding_of, AreTravelTimes, ideal_dropoff, IsDroppedInTime, party_at, IsRightStop, IsRightPickup, IsRightDropoff, IsOfVehicle, IsServing, IsKept, HasCalls, calls_of, ShowsRiders}
-use Rattle.std.proofs.lemmas.Bool.{eq-eqb, eqb-true}
-use Rattle.std.proofs.lemmas.Simd.{map-map}
+use Rattle.route_drive.proofs.Common.{option_map_or, AllByRecursion, IsDistinct, range_with_len, cases_Bool, false≢true, get_or-map, length-map, get_or_default, filter_passes, slice_get_within, get_or_from_slice_get, slice_get-get_or, travel_time, Times, Batch, persons_aboard, Passenger, Promise, Rider, Vehicle, IsLegOf, request_at, ideal_second, no_request, promised_limit, is_promised_to, promised_to, kept_legs, kept_leg, IsPlaced, IsSettled, filter_range_has, promised_trip, seat_in, look_up, KeysDiffer, shown, passenger_of, find_rider, find_vehicle, find_passenger, PlannedStop, BookRider, Status, Promised, Aboard, State, look_up-at, KeysDiffer-from_rise, All-look_up, Settings, Roads, index_in, has_node, Leg, Settled, Stop, Pick, Drop, Alight, Task, Visit, IsOrder, vehicle_at, rider_at, no_rider, vehicle_task, IsTrip, no_leg, leg_at, persons, visit_at, visits_of, free_seats, IsServable, soon_there, ServesFrom, boarding_of, AreTravelTimes, ideal_dropoff, IsDroppedInTime, party_at, IsRightStop, IsRightPickup, IsRightDropoff, IsOfVehicle, IsServing, IsKept, HasCalls, calls_of, ShowsRiders, eq-eqb, eqb-true, map-map}
 use Rattle.stop_orders.specs.declared.settled_vehicle.SettledVehicle.{SettledVehicle}
 use Rattle.stop_orders.specs.declared.visit.Visit.TheVariants.{Pickup, Dropoff}
 use Rattle.route_drive.proofs.kept.Lists.{all_weaker, both, map_agrees, all_filtered, all_from}
 use Rattle.route_drive.proofs.kept.Walks.{has_index, name_at, is_node_at}
-use Rattle.route_drive.proofs.kept.Riders.{found_id}
+use Rattle.route_drive.proofs.kept.Riders.{found_id, right_cases}
 use Rattle.route_drive.proofs.kept.Enter.{picked_up_right, dropped_right}
 use Rattle.route_drive.proofs.kept.Numbers.{number_of, IsNumbered, number_picks, number_drops, number_alights, numbers_are_order, alights_only, passengers_order, order_length}
 use Rattle.route_drive.proofs.kept.Tables.{IsSeen, ideal_is, serves_by_table, sub_serves}
@@ -24,13 +22,12 @@ leg_drop settings roads points times table riders r leg stop is drop node found 
   ideal = leg.ideal;
   node = is.destination_place ∙ ap Some (sym node);
   in_time =
-      let a = in_time.in_time in
       let b : leg.ideal ≡ ideal_second (travel_time times) r.time leg.origin leg.destination = is.ideal in
       let c : ideal_second (travel_time times) r.time leg.origin leg.destination ≡ ideal_dropoff r.time in_time.seconds = ideal_is roads points times table leg.origin leg.destination r.origin r.destination in_time.seconds r.time is.origin_place is.destination_place in_time.between in
       let e : leg.ideal ≡ ideal_dropoff r.time in_time.seconds = b ∙ c in
       let d : leg.latest_dropoff ≡ leg.ideal + settings.delay = is.latest_dropoff in
       let f : leg.latest_dropoff ≡ ideal_dropoff r.time in_time.seconds + settings.delay = d ∙ ap (λ n. n + settings.delay) e in
-      subst (λ n. stop.second ≤ n) (sym f) a;
+      subst (λ n. stop.second ≤ n) (sym f) in_time.in_time;
   is =
       let party : party_at riders stop ≡ r.party = ap (λ o. option_map_or (λ (r : BookRider). r.party) o 0) found in
       let same : leg.party ≡ party_at riders stop = is.size ∙ sym party in
@@ -82,9 +79,6 @@ module _ (settings : Settings) (roads : Roads) (s : State) (stops : ℕ → List
           record { rider = r; found = found; promise = p; status = promise_status r.status p (asks.pool ∙ ap Some e); own = eqb-true p.vehicle vehicle own; is = is }
 
   module _ (k : ℕ) (x : Vehicle) (at : slice_get b.vehicles k ≡ Some x) where
-    y : SettledVehicle
-    y = vehicle_at settled k
-
     placed : IsPlaced settings points (travel_time times) b.sealed_at x (vehicle_at settled k)
     placed = limits.placed k x at
 
@@ -140,23 +134,19 @@ module _ (settings : Settings) (roads : Roads) (s : State) (stops : ℕ → List
     named : (z : ℕ) → has_node names z ≡ true → (i : ℕ) × (i < length numbers) × ((request_at b.riders (get_or numbers i 0)).id ≡ z) × (index_in names z ≡ i)
     named z h =
         let l : index_in names z < length names = has_index names z h in
-        let e = names_length in
-        let li : index_in names z < length numbers = omega (arith, l, e) in
+        let li : index_in names z < length numbers = omega (arith, l, names_length) in
         (index_in names z, li, sym (name_is (index_in names z) li) ∙ name_at names z l, refl)
 
     to_named : (z : ℕ) (r : BookRider) (p : Promise) → find_rider z s.riders ≡ Some r → r.status ≡ Promised p → p.vehicle ≡ x.id → has_node names z ≡ true
     to_named z r p found status own =
-        let shown_there = shows.promised z r p found status in
-        let place = found_at (λ (r : Rider). r.id) z b.riders (shown r (Some p)) shown_there in
+        let place = found_at (λ (r : Rider). r.id) z b.riders (shown r (Some p)) (shows.promised z r p found status) in
         let is : request_at b.riders place.0 ≡ shown r (Some p) = place.2 no_request in
         let to : is_promised_to (vehicle_at settled k).id (request_at b.riders place.0) ≡ true =
         ap (is_promised_to (vehicle_at settled k).id) is ∙ eq-eqb p.vehicle (vehicle_at settled k).id (own ∙ sym placed.id) in
         let has : Contains numbers place.0 = filter_range_has (λ n. is_promised_to (vehicle_at settled k).id (request_at b.riders n)) (length b.riders) place.0 place.1 to in
         let n : get_or numbers has.0 0 ≡ place.0 = sym (get_or_default numbers has.0 place.0 0 has.1) ∙ has.2 in
         let name : get_or names has.0 0 ≡ z = name_is has.0 has.1 ∙ ap (λ n. (request_at b.riders n).id) n ∙ ap (λ (q : Rider). q.id) is ∙ found_id z s.riders r found in
-        let e = names_length in
-        let l = has.1 in
-        subst (λ z. has_node names z ≡ true) name (is_node_at names has.0 (omega (arith, l, e)))
+        subst (λ z. has_node names z ≡ true) name (is_node_at names has.0 (omega (arith, has.1, names_length)))
 
     pub passenger_rider : (z : ℕ) (p : Passenger) → find_passenger z x.aboard.items ≡ Some p → IsRiderAboard s x.id z p
     passenger_rider z p e =
@@ -175,8 +165,7 @@ module _ (settings : Settings) (roads : Roads) (s : State) (stops : ℕ → List
         → (index_in passenger_names z < length x.aboard.items) × IsRiderAboard s x.id z (get_or x.aboard.items (index_in passenger_names z) no_passenger)
     passenger_at_name z h =
         let l : index_in passenger_names z < length passenger_names = has_index passenger_names z h in
-        let e = passengers_length in
-        let lj : index_in passenger_names z < length x.aboard.items = omega (arith, l, e) in
+        let lj : index_in passenger_names z < length x.aboard.items = omega (arith, l, passengers_length) in
         let name : (get_or x.aboard.items (index_in passenger_names z) no_passenger).rider ≡ z =
         sym (get_or-map (λ (p : Passenger). p.rider) x.aboard.items (index_in passenger_names z) no_passenger 0 lj) ∙ name_at passenger_names z l in
         let found : find_passenger (get_or x.aboard.items (index_in passenger_names z) no_passenger).rider x.aboard.items ≡ Some (get_or x.aboard.items (index_in passenger_names z) no_passenger) =
@@ -189,9 +178,7 @@ module _ (settings : Settings) (roads : Roads) (s : State) (stops : ℕ → List
         ap (option_and_then (λ (v : Vehicle). find_passenger z v.aboard.items)) (sym vehicle_found) ∙ kept.state.consistent.aboard x.id z ∙ ap (option_and_then (seat_in x.id)) found ∙ rw (status, eq-eqb x.id x.id refl) refl in
         let place = found_at (λ (p : Passenger). p.rider) z x.aboard.items (passenger_of r) at_z in
         let name : get_or passenger_names place.0 0 ≡ z = get_or-map (λ (p : Passenger). p.rider) x.aboard.items place.0 no_passenger 0 place.1 ∙ ap (λ (p : Passenger). p.rider) (place.2 no_passenger) ∙ found_id z s.riders r found in
-        let e = passengers_length in
-        let l = place.1 in
-        subst (λ z. has_node passenger_names z ≡ true) name (is_node_at passenger_names place.0 (omega (arith, l, e)))
+        subst (λ z. has_node passenger_names z ≡ true) name (is_node_at passenger_names place.0 (omega (arith, place.1, passengers_length)))
 
     -- nobody is promised and aboard
     names_apart : (z : ℕ) → has_node names z ≡ true → has_node passenger_names z ≡ false
@@ -210,20 +197,15 @@ module _ (settings : Settings) (roads : Roads) (s : State) (stops : ℕ → List
             absurd cc
 
     stops_numbered : AllByRecursion (IsNumbered names passenger_names) (stops x.id)
-    stops_numbered = all_weaker (IsRightStop settings roads s.riders x.id) (IsNumbered names passenger_names) (λ stop right. by stop right (cases_Bool stop.pick)) (stops x.id) serves.right
+    stops_numbered = all_weaker (IsRightStop settings roads s.riders x.id) (IsNumbered names passenger_names) (λ stop right. elim (right_cases settings roads s.riders x.id stop right) [
+      | inl own ↦ IsNumbered.picks own.0 (to_named stop.rider own.1.rider (record { vehicle = x.id; pickup = stop.second }) own.1.found own.1.status refl)
+      | inr own ↦ drop_by stop own.1.rider own.0 own.1.found own.1.rider.status refl own.1.own
+    ]) (stops x.id) serves.right
       where
         drop_by : (stop : PlannedStop) (r : BookRider) → stop.pick ≡ false → find_rider stop.rider s.riders ≡ Some r → (t : Status) → r.status ≡ t → IsOfVehicle x.id t → IsNumbered names passenger_names stop
         drop_by stop r drop found (Promised p) e own = let h = to_named stop.rider r p found e own in IsNumbered.drops drop h (names_apart stop.rider h)
         drop_by stop r drop found (Aboard u) e own = IsNumbered.alights drop (to_passenger stop.rider r found (e ∙ ap Aboard own))
         drop_by stop r drop found status e own = absurd own
-
-        by : (stop : PlannedStop) → IsRightStop settings roads s.riders x.id stop → (stop.pick ≡ true) ⊎ (stop.pick ≡ false) → IsNumbered names passenger_names stop
-        by stop right (inl pick) =
-            let own = picked_up_right settings roads s.riders x.id stop pick right in
-            IsNumbered.picks pick (to_named stop.rider own.rider (record { vehicle = x.id; pickup = stop.second }) own.found own.status refl)
-        by stop right (inr drop) =
-            let own = dropped_right settings roads s.riders x.id stop drop right in
-            drop_by stop own.rider drop own.found own.rider.status refl own.own
 
     rides : (z : ℕ) → has_node names z ≡ true → calls_of z (stops x.id) ≡ true ∷ false ∷ []
     rides z h =
@@ -252,9 +234,6 @@ module _ (settings : Settings) (roads : Roads) (s : State) (stops : ℕ → List
         subst (λ n. IsOrder n (length (vehicle_at settled k).aboard.items) order) a
         (subst (λ m. IsOrder (length names) m order) c (numbers_are_order names passenger_names names_distinct passengers_distinct names_apart (stops x.id) stops_numbered rides leaves))
 
-    vis : PlannedStop → Visit
-    vis stop = visit_at task (number_of names passenger_names stop)
-
     -- each stop is seen by the task as what it is
     seen_pick : (stop : PlannedStop) → stop.pick ≡ true → has_node names stop.rider ≡ true → IsRightPickup settings.wait s.riders x.id stop → IsSeen points s.riders stop (visit_at task (number_of names passenger_names stop))
     seen_pick stop pick has own =
@@ -273,8 +252,7 @@ module _ (settings : Settings) (roads : Roads) (s : State) (stops : ℕ → List
         let leg' : IsLegOf settings points (travel_time times) own.rider.origin own.rider.destination own.rider.time own.rider.party (record (rider_at settled (get_or numbers place.0 0)).leg { latest_pickup = (request_at b.riders (get_or numbers place.0 0)).time + settings.wait }) =
         subst (λ (q : Rider). IsLegOf settings points (travel_time times) q.origin q.destination q.time q.party (record (rider_at settled (get_or numbers place.0 0)).leg { latest_pickup = (request_at b.riders (get_or numbers place.0 0)).time + settings.wait })) is leg in
         let limit : promised_limit settings.wait (request_at b.riders (get_or numbers place.0 0)) ≡ min stop.second (own.rider.time + settings.wait) = ap (promised_limit settings.wait) is in
-        let late = own.in_time in
-        let in_time : stop.second ≤ promised_limit settings.wait (request_at b.riders (get_or numbers place.0 0)) = subst (λ n. stop.second ≤ n) (sym limit) (omega (arith, late)) in
+        let in_time : stop.second ≤ promised_limit settings.wait (request_at b.riders (get_or numbers place.0 0)) = subst (λ n. stop.second ≤ n) (sym limit) (omega (arith, own.in_time)) in
         let leg_is : leg_at task.riders.items place.0 ≡ kept_leg settings.wait (request_at b.riders (get_or numbers place.0 0)) (rider_at settled (get_or numbers place.0 0)).leg =
         get_or-map (λ n. kept_leg settings.wait (request_at b.riders n) (get_or settled.riders n no_rider).leg) numbers place.0 0 no_leg place.1 in
         let visit : visit_at task (number_of names passenger_names stop) ≡ Pickup (rider_at settled (get_or numbers place.0 0)).leg.origin (promised_limit settings.wait (request_at b.riders (get_or numbers place.0 0))) (rider_at settled (get_or numbers place.0 0)).leg.party =
@@ -373,8 +351,4 @@ module _ (settings : Settings) (roads : Roads) (s : State) (stops : ℕ → List
     pub few_promised : length (promised_to (vehicle_at settled k).id b.riders) ≤ settings.trip
     few_promised =
         let two : 2 * length (kept_legs settings.wait b.riders settled.riders numbers) + length (vehicle_at settled k).aboard.items ≤ length order = order_length (length (kept_legs settings.wait b.riders settled.riders numbers)) (length (vehicle_at settled k).aboard.items) order is_order in
-        let l : length order ≡ length (stops x.id) = length-map (stops x.id) (number_of names passenger_names) in
-        let f = serves.few in
-        let a : length (kept_legs settings.wait b.riders settled.riders numbers) ≡ length (promised_to (vehicle_at settled k).id b.riders) = legs_length in
-        let c : length (vehicle_at settled k).aboard.items ≡ length x.aboard.items = placed.aboard_count in
-        omega (arith, two, l, f, a, c)
+        omega (arith, two, length-map (stops x.id) (number_of names passenger_names), serves.few, legs_length, placed.aboard_count)

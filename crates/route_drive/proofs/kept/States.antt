@@ -1,13 +1,21 @@
 -- What an entry of a driven day leaves of a state: a stop that is entered, a report, a request.
 use Rattle.std.proofs.Common.{◌≡◌, ℕ, ◌+◌, ◌-◌, ◌≤◌, true, false, List, ◌∷◌, Some, refl, sym, ap, ◌∙◌, subst, arith, inl, inr, option_map, option_and_then}
-use Rattle.route_drive.proofs.Common.{option_map_or, cases_eq, persons_aboard, HasSeats, Passenger, Promise, Vehicle, IsConsistent, NamesNodes, seat_in, KeysDiffer, with_status, passenger_of, find_rider, find_vehicle, find_passenger, step, rider_becomes, vehicle_becomes, stands_at, takes_in, lets_out, Command, Report, Pickup, Dropoff, PlannedStop, Reply, Placed, Picked, Dropped, BookRider, Status, Promised, Aboard, Delivered, State, step-consistent, step-named, look_up-key, look_up-changed_here, look_up-changed_there, All-look_up, Settings, Roads, has_node, AreReached, party_at, IsOfVehicle, IsServing, IsPromiseKept, IsDayState, IsBoundBy, KeepsBounds, LeavesOthers, IsDone}
-use Rattle.std.proofs.lemmas.Bool.{eq-eqb}
+use Rattle.route_drive.proofs.Common.{option_map_or, cases_eq, persons_aboard, HasSeats, Passenger, Promise, Vehicle, IsConsistent, NamesNodes, seat_in, KeysDiffer, with_status, passenger_of, find_rider, find_vehicle, find_passenger, step, rider_becomes, vehicle_becomes, stands_at, takes_in, lets_out, Command, Report, Pickup, Dropoff, PlannedStop, Reply, Placed, Picked, Dropped, BookRider, Status, Promised, Aboard, Delivered, State, step-consistent, step-named, look_up-key, look_up-changed_here, look_up-changed_there, All-look_up, Settings, Roads, has_node, AreReached, party_at, IsOfVehicle, IsServing, IsPromiseKept, IsDayState, IsBoundBy, KeepsBounds, LeavesOthers, IsDone, eq-eqb}
 use Rattle.route_drive.proofs.kept.Riders.{changed, find_other, find_same, found_id, of_one}
 use Rattle.route_drive.proofs.kept.Enter.{others_serve, picked_up_right, dropped_right, serves_on_picked, dropped_is_aboard, serves_on_dropped}
 use Rattle.route_drive.proofs.kept.Replies.{pickup_is, dropoff_is, report_is}
 
 pub vehicle_id : (id : ℕ) (vehicles : List Vehicle) (v : Vehicle) → find_vehicle id vehicles ≡ Some v → v.id ≡ id
 vehicle_id id vehicles v e = look_up-key (λ (v : Vehicle). v.id) id vehicles v e
+
+-- the state after a step, where its promises are kept
+pub stepped : (settings : Settings) (roads : Roads) (s t : State) (command : Command) → IsDayState roads s → (step roads.nodes settings.wait s command).0 ≡ t
+    → ((x : ℕ) (r : BookRider) (promise : Promise) → find_rider x t.riders ≡ Some r → r.status ≡ Promised promise → IsPromiseKept t r promise) → IsDayState roads t
+stepped settings roads s t command day is promises = record {
+  consistent = subst IsConsistent is (step-consistent roads.nodes settings.wait s command day.consistent);
+  named = subst (NamesNodes roads.nodes) is (step-named roads.nodes settings.wait s command day.consistent day.named);
+  promises = promises;
+}
 
 -- the state after a change of a rider's status and of a vehicle
 module _ (settings : Settings) (roads : Roads) (s : State) (day : IsDayState roads s) (x : ℕ) (r : BookRider) (status : Status) (vehicle : ℕ) (v : Vehicle) (f : Vehicle → Vehicle)
@@ -56,14 +64,16 @@ module _ (settings : Settings) (roads : Roads) (s : State) (day : IsDayState roa
         (λ h. ne (of_one vehicle w.id r.status own h ∙ is)) (λ h. ne (next w.id h ∙ is)) serves;
   }
 
--- the state after a step, where its promises are kept
-pub stepped : (settings : Settings) (roads : Roads) (s t : State) (command : Command) → IsDayState roads s → (step roads.nodes settings.wait s command).0 ≡ t
-    → ((x : ℕ) (r : BookRider) (promise : Promise) → find_rider x t.riders ≡ Some r → r.status ≡ Promised promise → IsPromiseKept t r promise) → IsDayState roads t
-stepped settings roads s t command day is promises = record {
-  consistent = subst IsConsistent is (step-consistent roads.nodes settings.wait s command day.consistent);
-  named = subst (NamesNodes roads.nodes) is (step-named roads.nodes settings.wait s command day.consistent day.named);
-  promises = promises;
-}
+  next_done : (command : Command) (reply : Reply) (free : ℕ) (stops : List PlannedStop) → step roads.nodes settings.wait s command ≡ (next_state, reply) → IsServing settings roads next_state.riders (f v) free stops
+      → ((limit : ℕ) → IsBoundBy limit status) → IsDone settings roads s command reply vehicle (f v).node (f v).time free stops
+  next_done command reply free stops is serves bound = record {
+    t = next_state;
+    is = is;
+    state = stepped settings roads s next_state command day (ap (λ (p : State × Reply). p.0) is) next_promises;
+    own = record { v = f v; at = vehicle_there; there = refl; by = refl; serves = serves };
+    others = next_others;
+    bounds = next_bounds bound;
+  }
 
 module _ (settings : Settings) (roads : Roads) (s : State) (day : IsDayState roads s) (v : Vehicle) (at : find_vehicle v.id s.vehicles ≡ Some v) where
   has_seats : HasSeats v
@@ -73,34 +83,16 @@ module _ (settings : Settings) (roads : Roads) (s : State) (day : IsDayState roa
       → IsDone settings roads s (Pickup v.id stop.rider stop.second) Picked v.id stop.node stop.second (stop.second + settings.dwell) stops
   pickup_done free stop stops early pick serves =
       let right = picked_up_right settings roads s.riders v.id stop pick serves.right.0 in
-      let r : BookRider = right.rider in
       let promise : Promise = record { vehicle = v.id; pickup = stop.second } in
-      let reached : stop.second ≡ free + serves.reached.0.seconds = serves.reached.0.reached in
-      let enough : persons_aboard v ≤ v.seats = has_seats.enough in
       let party : party_at s.riders stop ≡ right.rider.party = ap (λ o. option_map_or (λ (r : BookRider). r.party) o 0) right.found in
       let room : party_at s.riders stop ≤ v.seats - persons_aboard v = serves.seats.0 pick in
-      let id : right.rider.id ≡ stop.rider = found_id stop.rider s.riders right.rider right.found in
-      let next : State = vehicle_becomes (rider_becomes s stop.rider (Aboard v.id)) v.id (takes_in right.rider stop.second) in
-      let is : step roads.nodes settings.wait s (Pickup v.id stop.rider stop.second) ≡ (next, Picked) =
-      pickup_is roads.nodes settings.wait s v.id stop.rider stop.second v right.rider promise at right.found right.status refl (omega arith) (omega arith)
-      ∙ ap (λ k. (vehicle_becomes (rider_becomes s k (Aboard v.id)) v.id (takes_in right.rider stop.second), Picked)) id in
-      let held : IsOfVehicle v.id right.rider.status = subst (IsOfVehicle v.id) (sym right.status) refl in
-      let after : (p : Promise) → Aboard v.id ≡ Promised p → ⊥ = λ p e. absurd cc in
-      record {
-        t = next;
-        is = is;
-        state = stepped settings roads s next (Pickup v.id stop.rider stop.second) day (ap (λ (p : State × Reply). p.0) is)
-            (next_promises settings roads s day stop.rider right.rider (Aboard v.id) v.id v (takes_in right.rider stop.second) right.found at (λ v. refl) held after (λ w h. h));
-        own = record {
-          v = takes_in right.rider stop.second v;
-          at = vehicle_there settings roads s day stop.rider right.rider (Aboard v.id) v.id v (takes_in right.rider stop.second) right.found at (λ v. refl) held after (λ w h. h);
-          there = sym right.node;
-          by = refl;
-          serves = serves_on_picked settings roads s.riders v free stop stops right.rider pick right.found right.status right.node (omega arith) serves;
-        };
-        others = next_others settings roads s day stop.rider right.rider (Aboard v.id) v.id v (takes_in right.rider stop.second) right.found at (λ v. refl) held after (λ w h. h);
-        bounds = next_bounds settings roads s day stop.rider right.rider (Aboard v.id) v.id v (takes_in right.rider stop.second) right.found at (λ v. refl) held after (λ w h. h) (λ limit. tt);
-      }
+      let is : step roads.nodes settings.wait s (Pickup v.id stop.rider stop.second) ≡ (vehicle_becomes (rider_becomes s stop.rider (Aboard v.id)) v.id (takes_in right.rider stop.second), Picked) =
+      pickup_is roads.nodes settings.wait s v.id stop.rider stop.second v right.rider promise at right.found right.status refl (omega (arith, early, serves.reached.0.reached)) (omega (arith, has_seats.enough, party, room))
+      ∙ ap (λ k. (vehicle_becomes (rider_becomes s k (Aboard v.id)) v.id (takes_in right.rider stop.second), Picked)) (found_id stop.rider s.riders right.rider right.found) in
+      subst (λ n. IsDone settings roads s (Pickup v.id stop.rider stop.second) Picked v.id n stop.second (stop.second + settings.dwell) stops) (sym right.node)
+      (next_done settings roads s day stop.rider right.rider (Aboard v.id) v.id v (takes_in right.rider stop.second) right.found at (λ v. refl) (subst (IsOfVehicle v.id) (sym right.status) refl) (λ p e. absurd cc) (λ w h. h)
+      (Pickup v.id stop.rider stop.second) Picked (stop.second + settings.dwell) stops is
+      (serves_on_picked settings roads s.riders v free stop stops right.rider pick right.found right.status right.node (omega (arith, party, room)) serves) (λ limit. tt))
 
   -- the passenger of a rider aboard
   passenger_found : (x : ℕ) (r : BookRider) → find_rider x s.riders ≡ Some r → r.status ≡ Aboard v.id → find_passenger x v.aboard.items ≡ Some (passenger_of r)
@@ -111,31 +103,16 @@ module _ (settings : Settings) (roads : Roads) (s : State) (day : IsDayState roa
       → IsDone settings roads s (Dropoff v.id stop.rider stop.second) Dropped v.id stop.node stop.second (stop.second + settings.dwell) stops
   dropoff_done free stop stops early pick serves =
       let right = dropped_right settings roads s.riders v.id stop pick serves.right.0 in
-      let reached : stop.second ≡ free + serves.reached.0.seconds = serves.reached.0.reached in
-      let enough : persons_aboard v ≤ v.seats = has_seats.enough in
-      let id : right.rider.id ≡ stop.rider = found_id stop.rider s.riders right.rider right.found in
+      let id = found_id stop.rider s.riders right.rider right.found in
       let aboard = dropped_is_aboard settings roads s.riders v.id stop stops right.rider pick right.own (serves.calls stop.rider right.rider right.found) in
-      let next : State = vehicle_becomes (rider_becomes s stop.rider Delivered) v.id (lets_out right.rider stop.second) in
-      let is : step roads.nodes settings.wait s (Dropoff v.id stop.rider stop.second) ≡ (next, Dropped) =
-      dropoff_is roads.nodes settings.wait s v.id stop.rider stop.second v right.rider at right.found aboard.0 (omega arith)
+      let is : step roads.nodes settings.wait s (Dropoff v.id stop.rider stop.second) ≡ (vehicle_becomes (rider_becomes s stop.rider Delivered) v.id (lets_out right.rider stop.second), Dropped) =
+      dropoff_is roads.nodes settings.wait s v.id stop.rider stop.second v right.rider at right.found aboard.0 (omega (arith, early, serves.reached.0.reached))
       ∙ ap (λ k. (vehicle_becomes (rider_becomes s k Delivered) v.id (lets_out right.rider stop.second), Dropped)) id in
-      let after : (p : Promise) → Delivered ≡ Promised p → ⊥ = λ p e. absurd cc in
-      let differ : KeysDiffer (λ (p : Passenger). p.rider) v.aboard.items = All-look_up (λ (v : Vehicle). v.id) (λ (v : Vehicle). KeysDiffer (λ p. p.rider) v.aboard.items) v.id s.vehicles v day.consistent.passengers at in
-      record {
-        t = next;
-        is = is;
-        state = stepped settings roads s next (Dropoff v.id stop.rider stop.second) day (ap (λ (p : State × Reply). p.0) is)
-            (next_promises settings roads s day stop.rider right.rider Delivered v.id v (lets_out right.rider stop.second) right.found at (λ v. refl) right.own after (λ w h. absurd h));
-        own = record {
-          v = lets_out right.rider stop.second v;
-          at = vehicle_there settings roads s day stop.rider right.rider Delivered v.id v (lets_out right.rider stop.second) right.found at (λ v. refl) right.own after (λ w h. absurd h);
-          there = sym right.node;
-          by = refl;
-          serves = serves_on_dropped settings roads s.riders v free stop stops right.rider (passenger_of right.rider) pick right.found id aboard.1 right.node differ (passenger_found stop.rider right.rider right.found aboard.0) refl (omega arith) serves;
-        };
-        others = next_others settings roads s day stop.rider right.rider Delivered v.id v (lets_out right.rider stop.second) right.found at (λ v. refl) right.own after (λ w h. absurd h);
-        bounds = next_bounds settings roads s day stop.rider right.rider Delivered v.id v (lets_out right.rider stop.second) right.found at (λ v. refl) right.own after (λ w h. absurd h) (λ limit. tt);
-      }
+      let differ = All-look_up (λ (v : Vehicle). v.id) (λ (v : Vehicle). KeysDiffer (λ p. p.rider) v.aboard.items) v.id s.vehicles v day.consistent.passengers at in
+      subst (λ n. IsDone settings roads s (Dropoff v.id stop.rider stop.second) Dropped v.id n stop.second (stop.second + settings.dwell) stops) (sym right.node)
+      (next_done settings roads s day stop.rider right.rider Delivered v.id v (lets_out right.rider stop.second) right.found at (λ v. refl) right.own (λ p e. absurd cc) (λ w h. absurd h)
+      (Dropoff v.id stop.rider stop.second) Dropped (stop.second + settings.dwell) stops is
+      (serves_on_dropped settings roads s.riders v free stop stops right.rider (passenger_of right.rider) pick right.found id aboard.1 right.node differ (passenger_found stop.rider right.rider right.found aboard.0) refl has_seats.enough serves) (λ limit. tt))
 
   -- a report, at a node from which the next stop is reached at its second
   pub report_done : (free node time : ℕ) (stops : List PlannedStop) → has_node roads.nodes node ≡ true → v.time ≤ time → IsServing settings roads s.riders v free stops

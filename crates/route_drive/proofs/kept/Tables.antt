@@ -39,17 +39,13 @@ module _ (roads : Roads) (points : List ℕ) (times : Times) (table : AreTravelT
       → ServesFrom (travel_time times) dwell place free room (map vis stops)
   serves_by_table riders dwell vis [] place node free room at reached seats seen = tt
   serves_by_table riders dwell vis (stop ∷ stops) place node free room at reached seats seen =
-      let leads = reached.0 in
-      let short = leads.short in
       let tau : travel_time times place seen.0.place ≡ reached.0.seconds = time_is place seen.0.place node stop.node reached.0.seconds at seen.0.node (inl reached.0.least) in
       let where_ : place_of (vis stop) ≡ seen.0.place = of_place stop.pick seen.0.is in
-      let late : latest_of (vis stop) ≡ seen.0.latest = of_latest stop.pick seen.0.is in
       let hop : travel_time times place (place_of (vis stop)) ≡ reached.0.seconds = ap (travel_time times place) where_ ∙ tau in
-      let second : stop.second ≡ free + reached.0.seconds = reached.0.reached in
-      let then : free + travel_time times place (place_of (vis stop)) + dwell ≡ stop.second + dwell = omega (arith, hop, second) in
+      let then : free + travel_time times place (place_of (vis stop)) + dwell ≡ stop.second + dwell = omega (arith, hop, reached.0.reached) in
       let in_time = seen.0.in_time in (
-        omega (arith, hop, short),
-        omega (arith, hop, second, in_time, late),
+        omega (arith, hop, reached.0.short),
+        omega (arith, hop, reached.0.reached, in_time, of_latest stop.pick seen.0.is),
         fits stop.pick refl seen.0.is,
         subst (λ p. ServesFrom (travel_time times) dwell p (free + travel_time times place (place_of (vis stop)) + dwell) (room_after (vis stop) room) (map vis stops)) (sym where_)
             (subst (λ f. ServesFrom (travel_time times) dwell seen.0.place f (room_after (vis stop) room) (map vis stops)) (sym then)
@@ -80,12 +76,10 @@ sub_serves points tau dwell vis keep travel nobody [] p f room q g other soon se
 sub_serves points tau dwell vis keep travel nobody (s ∷ stops) p f room q g other soon serves = elim (cases_Bool (keep s)) [
   | inl k ↦
       let sooner = soon.soon (place_of (vis s)) serves.0 in
-      let late = serves.1 in
-      let none = nobody s k in
       subst (λ ss. ServesFrom tau dwell p f room (map vis ss)) (sym (takes keep s stops k)) (
         sooner.0,
-        omega (arith, sooner.1, late),
-        omega (arith, none),
+        omega (arith, sooner.1, serves.1),
+        omega (arith, nobody s k),
         sub_serves points tau dwell vis keep travel nobody stops (place_of (vis s)) (f + tau p (place_of (vis s)) + dwell) (room_after (vis s) room) (place_of (vis s)) (g + tau q (place_of (vis s)) + dwell) (room_after (vis s) other)
             (soon_there tau (place_of (vis s)) (f + tau p (place_of (vis s)) + dwell) (g + tau q (place_of (vis s)) + dwell) (omega (arith, sooner.1))) serves.3,
       )

@@ -1,8 +1,6 @@
 -- The stops that a plan tells of a serving order: their seconds, their seats, whose they are, and what they promise.
 use Rattle.std.proofs.Common.{◌≡◌, ℕ, zero, suc, ◌+◌, ◌≤◌, Bool, true, false, List, [], ◌∷◌, ◌++◌, length, map, filter, Some, None, refl, sym, ap, ◌∙◌, subst, arith, inl, inr, slice_get}
-use Rattle.route_drive.proofs.Common.{AllByRecursion, cases_Bool, cases_eq, travel_time, Times, trip_picks, look_up, PlannedStop, BookRider, look_up-here, look_up-there, look_up-nil, Roads, index_in, Stop, Drop, Alight, Visit, place_of, latest_of, boarding_of, room_after, seconds_from, ServesFrom, AreTravelTimes, AreReached, party_at, seats_after, HasSeatsFor, is_stop_of, calls_of}
-use Rattle.std.specs.List.{zip, flat_map}
-use Rattle.std.proofs.lemmas.Bool.{true≢false}
+use Rattle.route_drive.proofs.Common.{AllByRecursion, cases_Bool, cases_eq, travel_time, Times, trip_picks, look_up, PlannedStop, BookRider, look_up-here, look_up-there, look_up-nil, Roads, index_in, Stop, Drop, Alight, Visit, place_of, latest_of, boarding_of, room_after, seconds_from, ServesFrom, AreTravelTimes, AreReached, party_at, seats_after, HasSeatsFor, is_stop_of, calls_of, true≢false, zip, flat_map, nat_tests}
 use Rattle.request_book.specs.Closing.{Pick}
 use Rattle.stop_orders.specs.declared.stop.Stop.TheVariants.{Pick as PickStop}
 use Rattle.route_drive.proofs.kept.Lists.{takes, skips, all_weaker}
@@ -13,8 +11,7 @@ use Rattle.route_drive.proofs.kept.Tables.{time_between}
 -- whether a stop is a pickup
 abbrev pub is_pick : Stop → Bool
 is_pick (PickStop k) = true
-is_pick (Drop k) = false
-is_pick (Alight k) = false
+is_pick stop = false
 
 -- what the telling of a stop keeps of its visit
 pub record IsTold (points : List ℕ) (riders : List BookRider) (vis : Stop → Visit) (told : Stop × ℕ → PlannedStop) (s : Stop) : Type 0 where
@@ -73,17 +70,13 @@ module _ (roads : Roads) (points : List ℕ) (times : Times) (table : AreTravelT
       → (stops : List Stop) (place free : ℕ) → AllByRecursion P stops → calls_of x (told_from place free stops) ≡ map is_pick (filter test stops)
   told_calls x test P same kind [] place free all = refl
   told_calls x test P same kind (s ∷ stops) place free all =
-      let ih = told_calls x test P same kind stops (place_of (vis s)) (free + travel_time times place (place_of (vis s)) + dwell) all.1 in
-      let t = same s (free + travel_time times place (place_of (vis s))) all.0 in
-      elim (cases_Bool (test s)) [
-        | inl e ↦
-            ap (map (λ (s : PlannedStop). s.pick)) (takes (is_stop_of x) (told (s, free + travel_time times place (place_of (vis s)))) (told_from (place_of (vis s)) (free + travel_time times place (place_of (vis s)) + dwell) stops) (t ∙ e))
-            ∙ ap (λ b. b ∷ calls_of x (told_from (place_of (vis s)) (free + travel_time times place (place_of (vis s)) + dwell) stops)) (kind s (free + travel_time times place (place_of (vis s))) all.0)
-            ∙ ap (λ bs. is_pick s ∷ bs) ih ∙ ap (map is_pick) (sym (takes test s stops e))
-        | inr e ↦
-            ap (map (λ (s : PlannedStop). s.pick)) (skips (is_stop_of x) (told (s, free + travel_time times place (place_of (vis s)))) (told_from (place_of (vis s)) (free + travel_time times place (place_of (vis s)) + dwell) stops) (t ∙ e))
-            ∙ ih ∙ ap (map is_pick) (sym (skips test s stops e))
-      ]
+      grind (
+        arith,
+        nat_tests,
+        told_calls x test P same kind stops (place_of (vis s)) (free + travel_time times place (place_of (vis s)) + dwell) all.1,
+        same s (free + travel_time times place (place_of (vis s))) all.0,
+        kind s (free + travel_time times place (place_of (vis s))) all.0,
+      )
 
 -- what the pick stops of a vehicle promise
 abbrev pub pick_of : ℕ → PlannedStop → Pick
@@ -99,19 +92,9 @@ picks_skip vehicle stop stops e = rw e refl
 
 -- whoever has no pickup is promised none
 pub none_promised : (x vehicle : ℕ) (stops : List PlannedStop) → AllByRecursion (λ b. b ≡ false) (calls_of x stops) → look_up (λ (p : Pick). p.rider) x (trip_picks vehicle stops) ≡ None
-unfolding trip_picks
-none_promised x vehicle [] all = look_up-nil (λ (p : Pick). p.rider) x
-none_promised x vehicle (stop ∷ stops) all = elim (cases_eq stop.rider x) [
-  | inl e ↦
-      let own = subst (λ bs. AllByRecursion (λ b. b ≡ false) bs) (calls_own x stop stops e) all in
-      ap (look_up (λ (p : Pick). p.rider) x) (picks_skip vehicle stop stops own.0) ∙ none_promised x vehicle stops own.1
-  | inr ne ↦
-      let rest = none_promised x vehicle stops (subst (λ bs. AllByRecursion (λ b. b ≡ false) bs) (calls_other x stop stops ne) all) in
-      elim (cases_Bool stop.pick) [
-        | inl p ↦ ap (look_up (λ (p : Pick). p.rider) x) (picks_take vehicle stop stops p) ∙ look_up-there (λ (p : Pick). p.rider) x (pick_of vehicle stop) (trip_picks vehicle stops) ne ∙ rest
-        | inr d ↦ ap (look_up (λ (p : Pick). p.rider) x) (picks_skip vehicle stop stops d) ∙ rest
-      ]
-]
+unfolding trip_picks look_up
+none_promised x vehicle [] all = refl
+none_promised x vehicle (stop ∷ stops) all = grind (arith, nat_tests, none_promised x vehicle stops, picks_take vehicle stop stops, picks_skip vehicle stop stops)
 
 -- whoever has one pickup is promised it
 pub record IsPickPromised (x vehicle : ℕ) (stops : List PlannedStop) : Type 0 where
@@ -152,18 +135,14 @@ one_promised x vehicle (stop ∷ stops) e = elim (cases_eq stop.rider x) [
 -- what is found in lists one after the other
 module _ {X : Type 0} (key : X → ℕ) (k : ℕ) where
   pub look_up-after : (xs ys : List X) → look_up key k xs ≡ None → look_up key k (xs ++ ys) ≡ look_up key k ys
+  unfolding look_up
   look_up-after [] ys none = refl
-  look_up-after (x ∷ xs) ys none = elim (cases_eq (key x) k) [
-    | inl e ↦ absurd (let h = look_up-here key k x xs e in cc)
-    | inr ne ↦ look_up-there key k x (xs ++ ys) ne ∙ look_up-after xs ys (sym (look_up-there key k x xs ne) ∙ none)
-  ]
+  look_up-after (x ∷ xs) ys none = grind (arith, nat_tests, look_up-after xs ys)
 
   pub look_up-before : (xs ys : List X) → look_up key k ys ≡ None → look_up key k (xs ++ ys) ≡ look_up key k xs
-  look_up-before [] ys none = none ∙ sym (look_up-nil key k)
-  look_up-before (x ∷ xs) ys none = elim (cases_eq (key x) k) [
-    | inl e ↦ look_up-here key k x (xs ++ ys) e ∙ sym (look_up-here key k x xs e)
-    | inr ne ↦ look_up-there key k x (xs ++ ys) ne ∙ look_up-before xs ys none ∙ sym (look_up-there key k x xs ne)
-  ]
+  unfolding look_up
+  look_up-before [] ys none = none
+  look_up-before (x ∷ xs) ys none = grind (arith, nat_tests, look_up-before xs ys none)
 
   pub none_among : {T : Type 0} (f : T → List X) (ts : List T) → ((j : ℕ) (u : T) → slice_get ts j ≡ Some u → look_up key k (f u) ≡ None) → look_up key k (flat_map f ts) ≡ None
   none_among f [] none = look_up-nil key k

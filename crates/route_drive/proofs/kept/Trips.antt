@@ -1,13 +1,11 @@
 -- On a driven day a good plan has no late vehicle and no lapsed promise; and of the trips that it chooses: whose stops they
 -- are, and what they promise.
 use Rattle.std.proofs.Common.{◌≡◌, ℕ, ◌+◌, ◌<◌, ◌≤◌, true, false, not, List, [], ◌∷◌, length, get_or, map, filter, Option, Some, None, refl, sym, ap, ◌∙◌, subst, arith, inl, inr, All, slice_get, is_some, zero, suc, eqb, nat_eq, Bool, Contains}
-use Rattle.route_drive.proofs.Common.{AllByRecursion, AllZip, range_with_len, cases_Bool, MatchBool-at_true, recursion_from_All, All-from_get_or, length-range_with_len, get_or-range_with_len, slice_get_within, slice_get-get_or, slice_get_cases, travel_time, Times, Batch, Promise, Vehicle, HasGraphsWith, IsGoodPlan, IsLate, request_at, is_promised_to, promised_to, filter_range_has, IsLive, IsSettled, IsHeld, find_vehicle, PlannedStop, Planned, State, Settings, Roads, index_in, Settled, vehicle_at, rider_at, no_rider, no_vehicle, vehicle_task, IsServable, AreTravelTimes, IsKept, ShowsRiders, get_or_from_slice_get, IsDistinct, cases_eq, rider_id, IsTripOf, times_served_as_count, choice_at, riders_at, no_row, is_in, IsRowOf, no_request, ChosenTrip, has_node, IsTrip, find_rider, false≢true, get_or-map, length-map, Passenger, told_stop, IsPlaced, BookRider, Aboard, look_up-at, Stop, Pick, Drop, Alight, is_of_rider, is_of_passenger, IsKnown, trip_task, visit_at, is_stop_of, calls_of, pool_promise, find_passenger}
-use Rattle.std.proofs.lemmas.Bool.{eq-eqb, ne_eqb}
+use Rattle.route_drive.proofs.Common.{AllByRecursion, AllZip, range_with_len, cases_Bool, MatchBool-at_true, recursion_from_All, All-from_get_or, length-range_with_len, get_or-range_with_len, slice_get_within, slice_get-get_or, slice_get_cases, travel_time, Times, Batch, Promise, Vehicle, HasGraphsWith, IsGoodPlan, IsLate, request_at, is_promised_to, promised_to, filter_range_has, IsLive, IsSettled, IsHeld, find_vehicle, PlannedStop, Planned, State, Settings, Roads, index_in, Settled, vehicle_at, rider_at, no_rider, no_vehicle, vehicle_task, IsServable, AreTravelTimes, IsKept, ShowsRiders, get_or_from_slice_get, IsDistinct, cases_eq, rider_id, IsTripOf, times_served_as_count, choice_at, riders_at, no_row, is_in, IsRowOf, no_request, ChosenTrip, has_node, IsTrip, find_rider, false≢true, get_or-map, length-map, Passenger, told_stop, IsPlaced, BookRider, Aboard, look_up-at, Stop, Pick, Drop, Alight, is_of_rider, is_of_passenger, IsKnown, trip_task, visit_at, is_stop_of, calls_of, pool_promise, find_passenger, eq-eqb, ne_eqb, zip, gets, nat_tests}
 use Rattle.route_drive.proofs.kept.Lists.{filter_none, filter_all}
 use Rattle.route_drive.proofs.kept.Batches.{found_at, distinct_from_differ, ids_distinct, other_id, IsRiderAboard}
 use Rattle.route_drive.proofs.kept.States.{vehicle_id}
 use Rattle.route_drive.proofs.kept.Served.{promised_request, promised_served, passengers_served, few_promised, request_rider, passenger_rider, passengers_differ}
-use Rattle.std.specs.List.{zip}
 use Rattle.plan_rules.proofs.lemmas.PlanLemmas.{plan_choice}
 use Rattle.plan_rules.proofs.lemmas.SumLemmas.{count_below_two}
 use Rattle.plan_rules.specs.Plan.{IsLawful}
@@ -17,8 +15,7 @@ use Rattle.batch_solver.specs.declared.point.Point.TheVariants as point
 
 none_zip : {A B : Type 0} (R : A → B → Type 0) (xs : List A) (ys : List B) → xs ≡ [] → AllZip R xs ys → ys ≡ []
 none_zip R [] [] e zip = refl
-none_zip R [] (y ∷ ys) e zip = absurd zip
-none_zip R (x ∷ xs) ys e zip = absurd cc
+none_zip R xs ys e zip = grind arith
 
 -- what holds below a number holds along the range
 pub along_range : (P : ℕ → Type 0) (n : ℕ) → ((k : ℕ) → k < n → P k) → AllByRecursion P (range_with_len 0 n)
@@ -29,37 +26,24 @@ along_range P n each = recursion_from_All P (range_with_len 0 n) (All-from_get_o
     subst P f (each i (omega (arith, h, l)))))
 
 zip_get : {A B : Type 0} (R : A → B → Type 0) (xs : List A) (ys : List B) (i : ℕ) (a : A) → AllZip R xs ys → slice_get xs i ≡ Some a → (b : B) × (slice_get ys i ≡ Some b) × R a b
-zip_get R [] ys i a zip e = absurd cc
 zip_get R (x ∷ xs) (y ∷ ys) zero a zip e = let is : x ≡ a = cc in (y, refl, subst (λ a. R a y) is zip.0)
 zip_get R (x ∷ xs) (y ∷ ys) (suc i) a zip e = zip_get R xs ys i a zip.1 e
-zip_get R xs ys i a zip e = absurd zip
+zip_get R xs ys i a zip e = grind arith
 
 zip_back : {A B : Type 0} (R : A → B → Type 0) (xs : List A) (ys : List B) (i : ℕ) (b : B) → AllZip R xs ys → slice_get ys i ≡ Some b → (a : A) × (slice_get xs i ≡ Some a) × R a b
-zip_back R [] [] i b zip e = absurd cc
 zip_back R (x ∷ xs) (y ∷ ys) zero b zip e = let is : y ≡ b = cc in (x, refl, subst (R x) is zip.0)
 zip_back R (x ∷ xs) (y ∷ ys) (suc i) b zip e = zip_back R xs ys i b zip.1 e
-zip_back R xs ys i b zip e = absurd zip
+zip_back R xs ys i b zip e = grind arith
 
 range_get : (n k : ℕ) → k < n → slice_get (range_with_len 0 n) k ≡ Some k
-range_get n k h =
-    let l = length-range_with_len 0 n in
-    let e : get_or (range_with_len 0 n) k 0 ≡ 0 + k = get_or-range_with_len 0 n k 0 h in
-    slice_get-get_or (range_with_len 0 n) k 0 (omega (arith, h, l)) ∙ ap Some (omega (arith, e))
+range_get n k h = grind (arith, gets, length-range_with_len 0 n, get_or-range_with_len 0 n k 0 h)
 
 range_within : (n k a : ℕ) → slice_get (range_with_len 0 n) k ≡ Some a → (k < n) × (a ≡ k)
-range_within n k a e =
-    let l = length-range_with_len 0 n in
-    let h : k < length (range_with_len 0 n) = slice_get_within (range_with_len 0 n) k a e in
-    let g : get_or (range_with_len 0 n) k 0 ≡ 0 + k = get_or-range_with_len 0 n k 0 (omega (arith, h, l)) in
-    let f : get_or (range_with_len 0 n) k 0 ≡ a = get_or_from_slice_get (range_with_len 0 n) k a 0 e in
-    (omega (arith, h, l), omega (arith, g, f))
+range_within n k a e = grind (arith, gets, length-range_with_len 0 n, get_or-range_with_len 0 n k 0)
 
 -- a name is met again only at its own number
 pub same_number : (names : List ℕ) (q i : ℕ) → IsDistinct nat_eq names → q < length names → i < length names → eqb (get_or names q 0) (get_or names i 0) ≡ eqb q i
-same_number names q i distinct lq li = elim (cases_eq q i) [
-  | inl e ↦ eq-eqb (get_or names q 0) (get_or names i 0) (ap (λ k. get_or names k 0) e) ∙ sym (eq-eqb q i e)
-  | inr ne ↦ ne_eqb (get_or names q 0) (get_or names i 0) (λ e. ne (sym (index_at names q distinct lq) ∙ ap (index_in names) e ∙ index_at names i distinct li)) ∙ sym (ne_eqb q i ne)
-]
+same_number names q i distinct lq li = grind (arith, nat_tests, index_at names q distinct lq, index_at names i distinct li)
 
 none_filtered : {X : Type 0} (xs : List X) → filter (λ (x : X). false) xs ≡ []
 none_filtered [] = refl
@@ -103,9 +87,7 @@ module _ (settings : Settings) (roads : Roads) (s : State) (stops : ℕ → List
       let place = found_at (λ (v : Vehicle). v.id) id s.vehicles v found in
       let at : slice_get s.vehicles place.0 ≡ Some v = slice_get-get_or s.vehicles place.0 v place.1 ∙ ap Some (place.2 v) in
       let at' : slice_get b.vehicles place.0 ≡ Some v = subst (λ vs. slice_get vs place.0 ≡ Some v) (sym shows.vehicles) at in
-      let l = slice_get_within b.vehicles place.0 v at' in
-      let c = limits.vehicle_count in
-      (place.0, omega (arith, l, c), at')
+      (place.0, omega (arith, slice_get_within b.vehicles place.0 v at', limits.vehicle_count), at')
 
   -- every promise is kept
   pub promise_is_held : (r : ℕ) (id : ℕ) → r < length b.riders → is_promised_to id (request_at b.riders r) ≡ true → IsHeld settled.vehicles r
@@ -113,8 +95,7 @@ module _ (settings : Settings) (roads : Roads) (s : State) (stops : ℕ → List
       let of = promised_request settings roads s stops b settled points times kept shows early limits table id r h promised in
       let holder = kept.state.promises (request_at b.riders r).id of.rider of.promise of.found of.status in
       let k = number_of_vehicle of.promise.vehicle holder.vehicle holder.at in
-      let placed = limits.placed k.0 holder.vehicle k.2 in
-      let own : (vehicle_at settled k.0).id ≡ id = placed.id ∙ vehicle_id of.promise.vehicle s.vehicles holder.vehicle holder.at ∙ of.own in
+      let own : (vehicle_at settled k.0).id ≡ id = (limits.placed k.0 holder.vehicle k.2).id ∙ vehicle_id of.promise.vehicle s.vehicles holder.vehicle holder.at ∙ of.own in
       let listed : Contains (promised_to (vehicle_at settled k.0).id b.riders) r =
       filter_range_has (λ m. is_promised_to (vehicle_at settled k.0).id (request_at b.riders m)) (length b.riders) r h (subst (λ v. is_promised_to v (request_at b.riders r) ≡ true) (sym own) promised) in
       (k.0, k.1, subst (λ xs. Contains xs r) (sym (holds k.0 k.1)) listed)
@@ -167,8 +148,7 @@ module _ (settings : Settings) (roads : Roads) (s : State) (stops : ℕ → List
 
     pub trip_is : (k row : ℕ) → k < length settled.vehicles → choice_at (good.holds point.Plan).chosen k ≡ Some row → IsTrip (length b.riders) (riders_at good.graph row) × (length (riders_at good.graph row) ≤ settings.trip)
     trip_is k row h e =
-        let own = row_of k row h e in
-        let right = good.exact.right row no_row own.within in
+        let right = good.exact.right row no_row (row_of k row h e).within in
         (subst (λ n. IsTrip n (riders_at good.graph row)) limits.rider_count right.served.riders, right.served.size)
 
     -- no rider is in two trips
@@ -177,12 +157,9 @@ module _ (settings : Settings) (roads : Roads) (s : State) (stops : ℕ → List
     one_trip k j row other r lk lj ek ej hk hj = elim (cases_eq k j) [
       | inl e ↦ e
       | inr ne ↦ absurd (
-          let c = good.exact.vehicle_total in
-          let two = count_below_two good.graph.vehicles (λ v. is_in good.graph (choice_at (good.holds point.Plan).chosen v) r) k j (omega (arith, c, lk)) (omega (arith, c, lj)) ne
+          let two = count_below_two good.graph.vehicles (λ v. is_in good.graph (choice_at (good.holds point.Plan).chosen v) r) k j (omega (arith, good.exact.vehicle_total, lk)) (omega (arith, good.exact.vehicle_total, lj)) ne
           (ap (λ o. is_in good.graph o r) ek ∙ hk) (ap (λ o. is_in good.graph o r) ej ∙ hj) in
-          let count = times_served_as_count good.graph (good.holds point.Plan).chosen good.graph.vehicles r in
-          let once = lawful.once r in
-          omega (arith, two, count, once))
+          omega (arith, two, times_served_as_count good.graph (good.holds point.Plan).chosen good.graph.vehicles r, lawful.once r))
     ]
 
     -- the ids that are told are those of the batch
@@ -284,8 +261,7 @@ module _ (settings : Settings) (roads : Roads) (s : State) (stops : ℕ → List
 
       pick_is : (stop : Stop) (second : ℕ) → IsKnown (length trip) (length x.aboard.items) stop → (told (stop, second)).pick ≡ is_pick stop
       pick_is (Pick q) second l = refl
-      pick_is (Drop q) second l = refl
-      pick_is (Alight q) second l = refl
+      pick_is stop second l = refl
 
       calls_by : (z : ℕ) (test : Stop → Bool) → ((stop : Stop) (second : ℕ) → IsKnown (length trip) (length x.aboard.items) stop → is_stop_of z (told (stop, second)) ≡ test stop) → calls_of z t.stops.items ≡ map is_pick (filter test is.stops)
       calls_by z test same = ap (calls_of z) is.told ∙ told_calls roads points times table s.riders settled.dwell (visit_at (trip_task settled k trip)) told z test (IsKnown (length trip) (length x.aboard.items)) same pick_is is.stops (vehicle_at settled k).start (vehicle_at settled k).ready known

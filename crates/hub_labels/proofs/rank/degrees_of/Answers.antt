@@ -1,6 +1,5 @@
 use Rattle.std.proofs.Common.{◌≡◌, ◌<◌, length, drop, ap, ◌∙◌, arith}
-use Rattle.hub_labels.proofs.Cited.{length-map, get_or_default, hop_of, leaving, hops_among}
-use Rattle.std.proofs.lemmas.List.{take_at}
+use Rattle.hub_labels.proofs.Cited.{length-map, get_or_default, hop_of, leaving, hops_among, take_at}
 use Rattle.hub_labels.proofs.Degrees.{leaving_few, reaching_few, reaching_none, reaching_more, degree_is}
 use Rattle.hub_labels.proofs.rank.degrees_of.Goals as goal
 
@@ -20,21 +19,14 @@ count_reaching-requires-clause-ends c =
 pub count_reaching-requires-clause-few : goal.count_reaching-requires-clause-few
 count_reaching-requires-clause-few c =
     let arcs = c.args.network.now.arcs in
-    let few = leaving_few arcs c.loop-node.node in
-    let most = c.loop-node.invariant.network.few_arcs in
-    let long = ap length c.arcs_from.ensures ∙ length-map (leaving c.loop-node.node arcs) hop_of in
-    omega (arith, few, most, long)
+    omega (arith, leaving_few arcs c.loop-node.node, c.loop-node.invariant.network.few_arcs, ap length c.arcs_from.ensures ∙ length-map (leaving c.loop-node.node arcs) hop_of)
 
 pub count_reaching-requires-clause-room : goal.count_reaching-requires-clause-room
 count_reaching-requires-clause-room c =
     let arcs = c.args.network.now.arcs in
     rw (c.deref_mut.ensures.value) (λ node d h.
     let within : node < length c.args.network.now.nodes = let e = c.loop-node.invariant.each in omega (arith, e, h) in
-    let is = c.loop-node.invariant.counted node within in
-    let a = leaving_few arcs node in
-    let b = reaching_few arcs c.loop-node.node node in
-    let most = c.loop-node.invariant.network.few_arcs in
-    rw (get_or_default c.loop-node.degrees.items node d 0 h) (omega (arith, is, a, b, most)))
+    rw (get_or_default c.loop-node.degrees.items node d 0 h) (omega (arith, c.loop-node.invariant.counted node within, leaving_few arcs node, reaching_few arcs c.loop-node.node node, c.loop-node.invariant.network.few_arcs)))
 
 pub loop-node-preserved : goal.loop-node-preserved
 loop-node-preserved c =
@@ -49,9 +41,7 @@ loop-node-preserved c =
       each = rw (take_at new (drop (length new) c.loop-node.degrees.items) c.loop-node.degrees.len long) (omega (arith, ap length value, c.count_reaching.auto.counts, c.loop-node.invariant.each));
       counted = λ node h. rw (take_at new (drop (length new) c.loop-node.degrees.items) c.loop-node.degrees.len long)
           (let read = (rw (value, c.arcs_from.ensures) at c.count_reaching.ensures) node (omega (arith, c.loop-node.invariant.each, h)) in
-          let was = c.loop-node.invariant.counted node h in
-          let more = reaching_more arcs k node in
-          omega (arith, read, was, more));
+          omega (arith, read, c.loop-node.invariant.counted node h, reaching_more arcs k node));
     }
 
 pub returns-clause-degrees : goal.returns-clause-degrees

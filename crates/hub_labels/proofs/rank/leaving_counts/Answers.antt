@@ -6,7 +6,4 @@ use Rattle.hub_labels.proofs.rank.leaving_counts.Goals as goal
 pub overflow_cast-arcs_from : goal.overflow_cast-arcs_from
 overflow_cast-arcs_from c =
     let arcs = c.args.network.now.arcs in
-    let few = leaving_few arcs c.loop-node.node in
-    let most = c.loop-node.invariant.network.few_arcs in
-    let long = ap length c.arcs_from.ensures ∙ length-map (leaving c.loop-node.node arcs) hop_of in
-    omega (arith, few, most, long)
+    omega (arith, leaving_few arcs c.loop-node.node, c.loop-node.invariant.network.few_arcs, ap length c.arcs_from.ensures ∙ length-map (leaving c.loop-node.node arcs) hop_of)

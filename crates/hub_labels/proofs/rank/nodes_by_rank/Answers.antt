@@ -10,9 +10,8 @@ keys_of-requires-clause-few c = rw c.deref.ensures.value (omega (arith, c.in_ok-
 pub keys_of-requires-clause-small : goal.keys_of-requires-clause-small
 keys_of-requires-clause-small c = rw c.deref.ensures.value (λ node d h.
     let few = c.node_count-nodes.ensures.kept.few_arcs in
-    let most = degree_most c.args.network.now.arcs node few in
     let is = c.in_ok-degrees.ensures.degrees node (omega (arith, h, c.in_ok-degrees.ensures.each)) in
-    rw (get_or_default c.in_ok-degrees.degrees.items node d 0 h) (omega (arith, most, is)))
+    rw (get_or_default c.in_ok-degrees.degrees.items node d 0 h) (omega (arith, degree_most c.args.network.now.arcs node few, is)))
 
 pub returns : goal.returns
 returns c =

@@ -1,6 +1,5 @@
 use Rattle.std.proofs.Common.{◌≡◌, ℕ, ◌<◌, ◌++◌, [], List, All, length, get_or, take, drop, ◌∙◌, ap, arith}
-use Rattle.hub_labels.proofs.Cited.{get_or_read, All-nil, All-from_get_or, never, Arc, IsArcAmong, AreNodeHops, IsPruned, HasSpread, HandsOver}
-use Rattle.std.proofs.lemmas.List.{take_at}
+use Rattle.hub_labels.proofs.Cited.{get_or_read, All-nil, All-from_get_or, never, Arc, IsArcAmong, AreNodeHops, IsPruned, HasSpread, HandsOver, take_at}
 use Rattle.hub_labels.proofs.Adding.{adds_hub, handed, found_range}
 use Rattle.hub_labels.proofs.space.add_hub.Goals as goal
 

@@ -1,6 +1,5 @@
 use Rattle.std.proofs.Common.{◌≡◌, ◌++◌, length, take, drop, sym, subst, arith}
-use Rattle.hub_labels.proofs.Cited.{AreCells}
-use Rattle.std.proofs.lemmas.List.{take_at}
+use Rattle.hub_labels.proofs.Cited.{AreCells, take_at}
 use Rattle.hub_labels.proofs.ways.cells_between.Goals as goal
 
 pub returns-clause-times : goal.returns-clause-times

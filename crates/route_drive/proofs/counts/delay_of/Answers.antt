@@ -15,10 +15,8 @@ seconds_between-requires-clause-to c =
 pub returns-in_ok-seconds-in-Some : goal.returns-in_ok-seconds-in-Some
 returns-in_ok-seconds-in-Some c =
     let roads = c.args.arcs.now.network.now in
-    let second = c.get.ensures.value in
-    let ideal = c.ideal_of-ideal.ensures in
     let less : c.saturating_sub.result ≡ c.get.result - c.ideal_of-ideal.result = c.saturating_sub.ensures in
-    let is : c.saturating_sub.result ≡ c.args.served.second - ideal_dropoff c.in-Some.found.time c.in_ok-seconds-in-Some.seconds = omega (arith, second, ideal, less) in
+    let is : c.saturating_sub.result ≡ c.args.served.second - ideal_dropoff c.in-Some.found.time c.in_ok-seconds-in-Some.seconds = omega (arith, c.get.ensures.value, c.ideal_of-ideal.ensures, less) in
     subst (λ (o : Option BookRider). MatchOption o (c.saturating_sub.result ≡ 0)
     (λ (r : BookRider). (s : ℕ) × IsTimeBetween roads.arcs (index_in roads.nodes r.origin) (index_in roads.nodes r.destination) s × (c.saturating_sub.result ≡ c.args.served.second - ideal_dropoff r.time s)))
     c.in-Some.ensures (c.in_ok-seconds-in-Some.seconds, c.in_ok-seconds-in-Some.ensures, is)

@@ -1,6 +1,5 @@
 use Rattle.std.proofs.Common.{◌<◌, ◌≤◌, length, subst, arith, List}
-use Rattle.route_drive.proofs.Common.{Entry, AddsServed}
-use Rattle.std.proofs.lemmas.List.{take_all}
+use Rattle.route_drive.proofs.Common.{Entry, AddsServed, take_all}
 use Rattle.route_drive.proofs.EntryLemmas.{adds_none, adds_more}
 use Rattle.route_drive.proofs.counts.note_entries.Goals as goal
 

@@ -1,8 +1,6 @@
 use Rattle.std.proofs.Common.{◌≡◌, ◌+◌, ◌<◌, ◌≤◌, ◌∷◌, [], ◌++◌, max, length, take, refl, sym, ap, ◌∙◌, subst, arith, List, ℕ}
-use Rattle.route_drive.proofs.Common.{AllZip, take_more, ServedRider, IsDelayed}
-use Rattle.std.proofs.lemmas.List.{take_all}
+use Rattle.route_drive.proofs.Common.{AllZip, take_more, ServedRider, IsDelayed, take_all, all_zipped_more}
 use Rattle.route_drive.proofs.EntryLemmas.{greatest-push}
-use Rattle.std.proofs.lemmas.Slice.Zip.{all_zipped_more}
 use Rattle.route_drive.proofs.counts.worst_delay.Goals as goal
 
 pub loop-served-init : goal.loop-served-init

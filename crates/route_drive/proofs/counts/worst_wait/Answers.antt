@@ -1,6 +1,5 @@
 use Rattle.std.proofs.Common.{◌≡◌, ◌<◌, ◌≤◌, max, length, map, ap, ◌∙◌, arith, List}
-use Rattle.route_drive.proofs.Common.{greatest, ServedRider, waited}
-use Rattle.std.proofs.lemmas.List.{take_all}
+use Rattle.route_drive.proofs.Common.{greatest, ServedRider, waited, take_all}
 use Rattle.route_drive.proofs.EntryLemmas.{greatest_more}
 use Rattle.route_drive.proofs.counts.worst_wait.Goals as goal
 

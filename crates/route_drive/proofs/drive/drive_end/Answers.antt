@@ -1,7 +1,6 @@
-use Rattle.std.specs.List.{Any}
 use Rattle.std.proofs.Common.{◌≡◌, ◌+◌, ◌<◌, Err, length, subst, sym, arith, ap, ◌∙◌, ℕ}
 use Rattle.route_drive.proofs.EnterLemmas.{if_err_map, if_ok_map}
-use Rattle.route_drive.proofs.Common.{DriveFault, OutOfMemory, number_after, IsLateAt, IsStoppedAt, Command, longest, second_of, left_commands}
+use Rattle.route_drive.proofs.Common.{DriveFault, OutOfMemory, number_after, IsLateAt, IsStoppedAt, Command, longest, second_of, left_commands, Any}
 use Rattle.std.proofs.lemmas.Grind.{common_steps}
 use Rattle.route_drive.proofs.DriveLemmas.{end_of, number_after_is, stopped_late}
 use Rattle.route_drive.proofs.drive.drive_end.Goals as goal

@@ -1,6 +1,5 @@
 use Rattle.std.proofs.Common.{◌≡◌, ◌<◌, ◌≤◌, ◌∷◌, [], ◌++◌, length, take, drop, suc, ◌+◌, sym, ap, ◌∙◌, subst, arith, List}
-use Rattle.route_drive.proofs.Common.{take_more, NumberedLanes, HasCome}
-use Rattle.std.proofs.lemmas.List.{take_all}
+use Rattle.route_drive.proofs.Common.{take_more, NumberedLanes, HasCome, take_all}
 use Rattle.route_drive.proofs.DriveLemmas.{come_none, come_more, round_late, rounds_at}
 use Rattle.route_drive.proofs.drive.drive_rounds.Goals as goal
 

@@ -1,6 +1,5 @@
 use Rattle.std.proofs.Common.{take}
-use Rattle.route_drive.proofs.Common.{IsInTime, told_by, Adds}
-use Rattle.std.specs.List.{All}
+use Rattle.route_drive.proofs.Common.{IsInTime, told_by, Adds, All}
 use Rattle.route_drive.proofs.entering.enter_places.Given as goal
 
 abbrev pub invariant-loop-k : goal.invariant-loop-k

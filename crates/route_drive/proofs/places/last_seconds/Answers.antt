@@ -1,7 +1,6 @@
 use Rattle.std.proofs.Common.{◌≤◌, ◌<◌, length, get_or, take, sym, ap, ◌∙◌, arith}
-use Rattle.route_drive.proofs.Common.{take_more, WalkStep, walk_end}
+use Rattle.route_drive.proofs.Common.{take_more, WalkStep, walk_end, take_all}
 use Rattle.route_drive.proofs.EnterLemmas.{walk_end-push}
-use Rattle.std.proofs.lemmas.List.{take_all}
 use Rattle.route_drive.proofs.places.last_seconds.Goals as goal
 
 pub loop-step-preserved : goal.loop-step-preserved

@@ -12,8 +12,7 @@ returns-in_default-2 c =
 
 pub returns : goal.returns
 returns c =
-    let value : c.get-now.result ≡ c.args.now = c.get-now.ensures.value in
-    let free : c.args.at.free ≤ c.args.now = (let no = c.if-now-at.false in omega (arith, no, value)) in
+    let free : c.args.at.free ≤ c.args.now = (let no = c.if-now-at.false in omega (arith, no, c.get-now.ensures.value)) in
     let shortest : IsShortestWalk c.args.arcs.now.network.now c.args.at.node c.in-Some.to c.in-Some-2.steps.items = rw c.in-Some-2.is at c.in_ok-steps.ensures in
     let on = rw (c.deref.ensures.value, c.get-now.ensures.value) at c.on_walk.ensures.walks in
     let there = rw (c.deref.ensures.value, c.get-now.ensures.value) at c.on_walk.ensures.arrived in

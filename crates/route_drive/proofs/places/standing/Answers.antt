@@ -1,6 +1,5 @@
 use Rattle.std.proofs.Common.{◌≡◌, ◌<◌, ◌+◌, length, get_or, leb, true, false, take, sym, ap, ◌∙◌, arith}
-use Rattle.route_drive.proofs.Common.{PlannedStop, Stay, due, standing_after, reported_place}
-use Rattle.std.proofs.lemmas.Bool.{le-leb, lt-leb}
+use Rattle.route_drive.proofs.Common.{PlannedStop, Stay, due, standing_after, reported_place, le-leb, lt-leb}
 use Rattle.route_drive.proofs.EnterLemmas.{filter_skips, filter_takes, standing-push}
 use Rattle.route_drive.proofs.places.standing.Goals.{then-stop-now, else-stop-now}
 use Rattle.route_drive.proofs.places.standing.Goals as goal
@@ -18,13 +17,10 @@ loop-stop-preserved c =
       | then-stop-now w ↦
           let kept : leb (get_or c.args.stops.now c.loop-stop.stop-index c.stop-item.result).second c.get-now.result ≡ true = rw same (le-leb stop.second now w.if-stop-now.true) in
           let more : due c.get-now.result (take (i + 1) stops) ≡ _ = filter_takes p stops i stop within kept in
-          let small = c.get-now.ensures.within in
-          let value = c.get-now.ensures.value in
-          let early = w.if-stop-now.true in
           record {
             after = rw w.at-is (sym (ap (standing_after c.args.dwell (reported_place c.args.vehicle.now)) more ∙ standing-push c.args.dwell (reported_place c.args.vehicle.now) (due now (take i stops)) (get_or stops i stop)
                 ∙ ap (λ (s : PlannedStop). let at : Stay = record { node = s.node; second = s.second; free = s.second + c.args.dwell } in at) same));
-            short = rw w.at-is (omega (arith, small, value, early));
+            short = rw w.at-is (omega (arith, c.get-now.ensures.within, c.get-now.ensures.value, w.if-stop-now.true));
           }
       | else-stop-now w ↦
           let left : leb (get_or c.args.stops.now c.loop-stop.stop-index c.stop-item.result).second c.get-now.result ≡ false = rw same (lt-leb stop.second now w.if-stop-now.false) in

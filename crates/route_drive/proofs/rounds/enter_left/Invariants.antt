@@ -1,6 +1,5 @@
 use Rattle.std.proofs.Common.{map, take}
-use Rattle.route_drive.proofs.Common.{IsInTime, stop_command, Adds}
-use Rattle.std.specs.List.{All}
+use Rattle.route_drive.proofs.Common.{IsInTime, stop_command, Adds, All}
 use Rattle.route_drive.proofs.rounds.enter_left.Given as goal
 
 abbrev pub invariant-loop-stop : goal.invariant-loop-stop

@@ -1,6 +1,5 @@
 use Rattle.std.proofs.Common.{take}
-use Rattle.route_drive.proofs.Common.{IsInTime, left_commands, Adds}
-use Rattle.std.specs.List.{All}
+use Rattle.route_drive.proofs.Common.{IsInTime, left_commands, Adds, All}
 use Rattle.route_drive.proofs.rounds.last_round.Given as goal
 
 abbrev pub invariant-loop-k : goal.invariant-loop-k

@@ -1,6 +1,5 @@
 use Rattle.std.proofs.Common.{◌≡◌, ℕ, ◌<◌, ◌≤◌, length, map, slice_index, get_or, set, true, false, sym, ap, ◌∙◌, arith, rules}
-use Rattle.route_drive.proofs.Common.{get_or_read, Hop, hop_of, leaving, Found, no_found, found_at, is_seen, AreHopsOpened}
-use Rattle.std.proofs.lemmas.List.{get_or-set_same}
+use Rattle.route_drive.proofs.Common.{get_or_read, Hop, hop_of, leaving, Found, no_found, found_at, is_seen, AreHopsOpened, get_or-set_same}
 use Rattle.route_drive.proofs.TreeLemmas.{IsTree-mark, Grows-mark, Grows-none, AreHopsOpened-more, IsOpened-all, IsTight-hop, hop_among}
 use Rattle.route_drive.proofs.tree.open.Goals.{then-there-most+then-here-hop+then-not-index+in_ok-mark, else-there-most, else-there-most-via-then-there-most+then-here-hop+else-not-index, else-there-most-via-then-there-most+else-here-hop, else-there-most-via-else-there-most}
 use Rattle.route_drive.proofs.tree.open.Goals as goal
@@ -16,25 +15,19 @@ pub bounds-times-hop : goal.bounds-times-hop
 bounds-times-hop c =
     let inside : c.loop-hop.hop-index < length c.arcs_from-hop-items.result.now = omega arith in
     let w = hop_among c.args.network.now c.arcs_from-hop-items.result.now c.index.result.now.node c.loop-hop.hop-index (record { to = 0; seconds = 0 }) c.node_count-kept.ensures.kept c.arcs_from-hop-items.ensures inside in
-    let size = c.requires.size in
-    omega (arith, w, size)
+    omega (arith, w, c.requires.size)
 
 pub index-requires-then-here-hop : goal.index-requires-then-here-hop
 index-requires-then-here-hop c =
     let inside : c.loop-hop.hop-index < length c.arcs_from-hop-items.result.now = omega arith in
     let w = hop_among c.args.network.now c.arcs_from-hop-items.result.now c.index.result.now.node c.loop-hop.hop-index (record { to = 0; seconds = 0 }) c.node_count-kept.ensures.kept c.arcs_from-hop-items.ensures inside in
-    let size = c.requires.size in
-    let marks = c.loop-hop.invariant.tree.marks in
-    let len = c.loop-hop.tree.seen.ok.0 in
-    omega (arith, w, size, marks, len)
+    omega (arith, w, c.requires.size, c.loop-hop.invariant.tree.marks, c.loop-hop.tree.seen.ok.0)
 
 pub mark-requires : goal.mark-requires
 mark-requires c =
     let inside : c.loop-hop.hop-index < length c.arcs_from-hop-items.result.now = omega arith in
     let w = hop_among c.args.network.now c.arcs_from-hop-items.result.now c.index.result.now.node c.loop-hop.hop-index (record { to = 0; seconds = 0 }) c.node_count-kept.ensures.kept c.arcs_from-hop-items.ensures inside in
-    let size = c.requires.size in
-    let marks = c.loop-hop.invariant.tree.marks in
-    omega (arith, w, size, marks)
+    omega (arith, w, c.requires.size, c.loop-hop.invariant.tree.marks)
 
 pub loop-hop-preserved : goal.loop-hop-preserved
 loop-hop-preserved c =

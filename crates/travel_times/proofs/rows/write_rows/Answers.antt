@@ -1,4 +1,4 @@
-use Rattle.std.proofs.Common.{◌+◌, ◌/◌, length, ◌∙◌, arith}
+use Rattle.std.proofs.Common.{◌+◌, ◌/◌, length, arith}
 use Rattle.travel_times.proofs.Pieces.{writing_none, writing_more, writing_ends, row_within}
 use Rattle.travel_times.proofs.rows.write_rows.Goals as goal
 
