@@ -152,7 +152,7 @@ round_goes settings roads before round later p text after line end here =
     between_is_no_stop settings roads before (round ∷ later) p text (numbered (codes "round ") round.number) after line.has (form before) refl end here
   where
     form : (before : List NumberedLanes) → IsInForm (Extent.between before (round ∷ later) p) (numbered (codes "round ") round.number)
-    form [] = (RoundOf round.number, (line.low, refl), tt)
+    form [] = (RoundOf round.number, (line.low, refl), λ lane e. cc)
     form (r ∷ rs) = (RoundOf round.number, (line.low, refl))
 
 module _ (settings : Settings) (roads : Roads) (round : NumberedLanes) (old : BookView) (start : IsRoundStart settings roads old) where
