@@ -9,34 +9,21 @@ use Rattle.report_lines.proofs.lemmas.NumeralLemmas.{decimal_digits}
 use Rattle.report_lines.proofs.OneLine.{block_line_of_one}
 use Rattle.report_lines.proofs.SignedLemmas.{long_is_wide}
 
+feed_apart : (b : ℕ) (bs : List ℕ) → is_one_line (b ∷ bs) ≡ true → 10 ≡ b → ⊥
+feed_apart b bs one is =
+    let f : ℕ → Bool = λ c. not (c == 10) in
+    let here : false ≡ not (b == 10) = ap f is in
+    let other : not (b == 10) ≡ true = (and_parts (not (b == 10)) (list_all f bs) one).0 in
+    cc
+
 -- lines end at line feeds, and there alone
 pub cut_once : (a b r s : List ℕ) → is_one_line a ≡ true → is_one_line b ≡ true → a ++ 10 ∷ r ≡ b ++ 10 ∷ s → (a ≡ b) × (r ≡ s)
 cut_once [] [] r s ia ib e =
     let same : 10 ∷ r ≡ 10 ∷ s = e in
     let rest : r ≡ s = cc in
     (refl, rest)
-cut_once [] (b ∷ bs) r s ia ib e =
-    let same : 10 ∷ r ≡ b ∷ (bs ++ 10 ∷ s) = e in
-    let head : 10 ≡ b = cc in
-    let parts = and_parts (not (b == 10)) (list_all (λ c. not (c == 10)) bs) ib in
-    let f : ℕ → Bool = λ c. not (c == 10) in
-    let here : false ≡ not (b == 10) = ap f head in
-    let other : not (b == 10) ≡ true = parts.0 in
-    absurd (false_not_true (here ∙ other))
-  where
-    false_not_true : false ≡ true → ⊥
-    false_not_true h = cc
-cut_once (a ∷ xs) [] r s ia ib e =
-    let same : a ∷ (xs ++ 10 ∷ r) ≡ 10 ∷ s = e in
-    let head : 10 ≡ a = cc in
-    let parts = and_parts (not (a == 10)) (list_all (λ c. not (c == 10)) xs) ia in
-    let f : ℕ → Bool = λ c. not (c == 10) in
-    let here : false ≡ not (a == 10) = ap f head in
-    let other : not (a == 10) ≡ true = parts.0 in
-    absurd (false_not_true (here ∙ other))
-  where
-    false_not_true : false ≡ true → ⊥
-    false_not_true h = cc
+cut_once [] (b ∷ bs) r s ia ib e = let same : 10 ∷ r ≡ b ∷ (bs ++ 10 ∷ s) = e in absurd (feed_apart b bs ib (cc))
+cut_once (a ∷ xs) [] r s ia ib e = let same : a ∷ (xs ++ 10 ∷ r) ≡ 10 ∷ s = e in absurd (feed_apart a xs ia (cc))
 cut_once (a ∷ xs) (b ∷ ys) r s ia ib e =
     let same : a ∷ (xs ++ 10 ∷ r) ≡ b ∷ (ys ++ 10 ∷ s) = e in
     let heads : a ≡ b = cc in
