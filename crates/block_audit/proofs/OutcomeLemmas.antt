@@ -4,7 +4,7 @@ use Rattle.block_audit.proofs.Common.{cond-true, cond_both, length-map, All-cons
 use Rattle.std.specs.List.{All}
 use Rattle.std.proofs.lemmas.Bool.{le-leb, leb-true}
 use Rattle.arrayvec.specs.ArrayVec.{ArrayVec}
-use Rattle.report_lines.specs.declared.block_line.BlockLine.TheVariants.{Batch}
+use Rattle.dispatch_report.specs.declared.block_line.BlockLine.TheVariants.{Batch}
 use Rattle.request_book.specs.declared.outcome.Answer.TheVariants.{Overflow as TooMany, Planned as Plan}
 use Rattle.request_book.specs.declared.outcome.ChosenTrip.{ChosenTrip}
 use Rattle.request_book.specs.declared.outcome.LateVehicle.{LateVehicle}
@@ -58,9 +58,9 @@ fused K g (x ∷ xs) = ap (λ l. K (g x) ∷ l) (fused K g xs)
 parted : {X : Type 0} (xs ys s : List X) (all : List X) → all ≡ (xs ++ ys) ++ s → all ≡ xs ++ (ys ++ s)
 parted xs ys s all e = e ∙ append_assoc xs ys s
 
-plan_nested : (plan : Planned) → lines_of_answer (Plan plan) ++ End ∷ [] ≡ nest (parts_of plan)
+plan_nested : (plan : Planned) → lines_of_answer true (Plan plan) ++ End ∷ [] ≡ nest (parts_of plan)
 plan_nested plan =
-    let all : List BlockLine = lines_of_answer (Plan plan) ++ End ∷ [] in
+    let all : List BlockLine = lines_of_answer true (Plan plan) ++ End ∷ [] in
     let a : List BlockLine = map Lapsed plan.lapsed in
     let b : List BlockLine = map late_as_line plan.late in
     let c : List BlockLine = map Alone plan.rv in
@@ -88,16 +88,16 @@ plan_nested plan =
     parted a b sc all (parted (a ++ b) c sd all (parted (a ++ b ++ c) d sr all (parted (a ++ b ++ c ++ d) r sf all graphs)))
     ∙ (λ i. a ++ (late i ++ (c ++ (d ++ (rows i ++ (chosen i ++ sg))))))
 
-outcome_nested : (batch : ℕ) (outcome : Outcome) → lines_of batch outcome ≡ Batch batch ∷ (map Expired outcome.expired ++ (lines_of_answer outcome.answer ++ End ∷ []))
+outcome_nested : (batch : ℕ) (outcome : Outcome) → lines_of true batch outcome ≡ Batch batch ∷ (map Expired outcome.expired ++ (lines_of_answer true outcome.answer ++ End ∷ []))
 outcome_nested batch outcome =
     let x : List BlockLine = map Expired outcome.expired in
-    let a : List BlockLine = lines_of_answer outcome.answer in
-    parted (Batch batch ∷ []) x (a ++ End ∷ []) (lines_of batch outcome) (parted ((Batch batch ∷ []) ++ x) a (End ∷ []) (lines_of batch outcome) refl)
+    let a : List BlockLine = lines_of_answer true outcome.answer in
+    parted (Batch batch ∷ []) x (a ++ End ∷ []) (lines_of true batch outcome) (parted ((Batch batch ∷ []) ++ x) a (End ∷ []) (lines_of true batch outcome) refl)
 
-overflow_lines : (batch : ℕ) (expired : List ℕ) → lines_of batch (record { expired = expired; answer = TooMany }) ≡ overflow_block batch expired
+overflow_lines : (batch : ℕ) (expired : List ℕ) → lines_of true batch (record { expired = expired; answer = TooMany }) ≡ overflow_block batch expired
 overflow_lines batch expired = outcome_nested batch (record { expired = expired; answer = TooMany })
 
-plan_lines : (batch : ℕ) (expired : List ℕ) (plan : Planned) → lines_of batch (record { expired = expired; answer = Plan plan }) ≡ plan_block batch expired (parts_of plan)
+plan_lines : (batch : ℕ) (expired : List ℕ) (plan : Planned) → lines_of true batch (record { expired = expired; answer = Plan plan }) ≡ plan_block batch expired (parts_of plan)
 plan_lines batch expired plan = outcome_nested batch (record { expired = expired; answer = Plan plan }) ∙ ap (λ l. Batch batch ∷ (map Expired expired ++ l)) (plan_nested plan)
 
 -- lists of few items are kept
@@ -191,13 +191,13 @@ tree_named rows (n ∷ tree) = All-cons (NamesRow (map row_text rows)) (tree_lin
 
 -- lines that can be told are those of the outcome as which they are judged
 pub lines_are : (ids : List ℕ) (lines : List BlockLine) → follow_on 0 lines ≡ true → last_place 0 lines ≡ 16 → ((q : Point) → CanBeTold q (told_by lines))
-    → lines ≡ lines_of (told_by lines).batch (judged_outcome ids (told_by lines))
+    → lines ≡ lines_of true (told_by lines).batch (judged_outcome ids (told_by lines))
 lines_are ids lines f e can = by (has_shape lines f e)
   where
-    by : HasShape lines → lines ≡ lines_of (told_by lines).batch (judged_outcome ids (told_by lines))
+    by : HasShape lines → lines ≡ lines_of true (told_by lines).batch (judged_outcome ids (told_by lines))
     by (HasShape.overflows batch expired is) =
         let t : told_by lines ≡ overflow_told batch expired = ap told_by is ∙ overflow_is_told batch expired in
-        is ∙ sym (overflow_lines batch expired) ∙ ap (λ (u : Told). lines_of u.batch (judged_outcome ids u)) (sym t)
+        is ∙ sym (overflow_lines batch expired) ∙ ap (λ (u : Told). lines_of true u.batch (judged_outcome ids u)) (sym t)
     by (HasShape.plans batch expired p drawn is) =
         let t : told_by lines ≡ plan_told batch expired p = ap told_by is ∙ plan_is_told batch expired p drawn in
         let told : (q : Point) → CanBeTold q (plan_told batch expired p) = λ q. subst (λ (u : Told). CanBeTold q u) t (can q) in
@@ -208,7 +208,7 @@ lines_are ids lines f e can = by (has_shape lines f e)
         let tree = tree_back ids p.rows p.tree drawn (told point.Bound).1 in
         let same : parts_of (judged_plan ids (plan_told batch expired p)) ≡ p =
         (λ i. record { lapsed = p.lapsed; late = late i; rv = p.rv; rr = p.rr; rows = rows i; chosen = chosen i; left = p.left; moves = p.moves; cost = p.cost; bound = p.bound; nodes = nodes i; tree = tree i }) in
-        is ∙ ap (plan_block batch expired) (sym same) ∙ sym (plan_lines batch expired (judged_plan ids (plan_told batch expired p))) ∙ ap (λ (u : Told). lines_of u.batch (judged_outcome ids u)) (sym t)
+        is ∙ ap (plan_block batch expired) (sym same) ∙ sym (plan_lines batch expired (judged_plan ids (plan_told batch expired p))) ∙ ap (λ (u : Told). lines_of true u.batch (judged_outcome ids u)) (sym t)
 
 -- no list of the outcome as which lines are judged is longer than there can be
 pub judged_few : (ids : List ℕ) (t : Told) → HasFewStops (judged_outcome ids t).answer × HasTrips (judged_outcome ids t).answer
@@ -270,16 +270,16 @@ module _ (batch : ℕ) (expired : List ℕ) (plan : Planned) (stops : HasFewStop
       let tree = tree_again ids plan.rows plan.tree numbered in
       (λ i. record { lapsed = plan.lapsed; late = late i; rv = plan.rv; rr = plan.rr; rows = rows i; chosen = chosen i; left = plan.left; moves = plan.moves; cost = plan.cost; bound = plan.bound; tree = tree i })
 
-pub outcome_is_told : (ids : List ℕ) (batch : ℕ) (outcome : Outcome) → HasFewStops outcome.answer → HasTrips outcome.answer → AreNumbered ids outcome.answer → IsToldAs ids batch outcome (told_by (lines_of batch outcome))
+pub outcome_is_told : (ids : List ℕ) (batch : ℕ) (outcome : Outcome) → HasFewStops outcome.answer → HasTrips outcome.answer → AreNumbered ids outcome.answer → IsToldAs ids batch outcome (told_by (lines_of true batch outcome))
 outcome_is_told ids batch outcome stops trips numbered = by outcome.answer stops trips numbered
   where
-    by : (answer : Answer) → HasFewStops answer → HasTrips answer → AreNumbered ids answer → IsToldAs ids batch (answered_by outcome.expired answer) (told_by (lines_of batch (answered_by outcome.expired answer)))
+    by : (answer : Answer) → HasFewStops answer → HasTrips answer → AreNumbered ids answer → IsToldAs ids batch (answered_by outcome.expired answer) (told_by (lines_of true batch (answered_by outcome.expired answer)))
     by TooMany stops trips numbered =
-        let t : overflow_told batch outcome.expired ≡ told_by (lines_of batch (answered_by outcome.expired TooMany)) =
+        let t : overflow_told batch outcome.expired ≡ told_by (lines_of true batch (answered_by outcome.expired TooMany)) =
         sym (ap told_by (overflow_lines batch outcome.expired) ∙ overflow_is_told batch outcome.expired) in
         subst (λ (u : Told). IsToldAs ids batch (answered_by outcome.expired TooMany) u) t (record { number = refl; same = refl; can = none_told batch outcome.expired })
     by (Plan plan) stops trips numbered =
-        let t : plan_told batch outcome.expired (parts_of plan) ≡ told_by (lines_of batch (answered_by outcome.expired (Plan plan))) =
+        let t : plan_told batch outcome.expired (parts_of plan) ≡ told_by (lines_of true batch (answered_by outcome.expired (Plan plan))) =
         sym (ap told_by (plan_lines batch outcome.expired plan) ∙ plan_is_told batch outcome.expired (parts_of plan) (tree_drawn plan.rows plan.tree)) in
         let same : answered_by outcome.expired (Plan (judged_plan ids (plan_told batch outcome.expired (parts_of plan)))) ≡ answered_by outcome.expired (Plan plan) =
         ap (λ (x : Planned). answered_by outcome.expired (Plan x)) (plan_again batch outcome.expired plan stops trips ids numbered) in

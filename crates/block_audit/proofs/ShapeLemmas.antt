@@ -4,7 +4,7 @@ use Rattle.block_audit.proofs.Common.{and_parts, cases_lt, All-cons, is_between,
 use Rattle.std.specs.List.{All}
 use Rattle.std.proofs.lemmas.Bool.{leb-true, eqb-true}
 use Rattle.request_book.specs.declared.outcome.MoveLine.{MoveLine}
-use Rattle.report_lines.specs.declared.block_line.BlockLine.TheVariants.{Batch}
+use Rattle.dispatch_report.specs.declared.block_line.BlockLine.TheVariants.{Batch}
 
 -- items of one kind stand first, and of the lines behind them this holds
 record Section {X : Type 0} (K : X → BlockLine) (Behind : List BlockLine → Type 0) (lines : List BlockLine) : Type 0 where

@@ -2,7 +2,7 @@
 use Rattle.std.proofs.Common.{◌≡◌, ℕ, ◌<◌, ◌≤◌, true, false, List, [], ◌∷◌, ◌++◌, map, append_assoc, append-nil, refl, sym, ap, ◌∙◌, arith, fold}
 use Rattle.block_audit.proofs.Common.{All-cons, All-head, All-tail, BlockLine, Expired, Overflow, Lapsed, Late, Alone, Shared, Row, Trip, Out, Move, Cost, Bound, Nodes, Branch, Leaf, Dead, End, LateText, RowText, TripText, Told, nothing_told, told_by, with_line}
 use Rattle.std.specs.List.{All}
-use Rattle.report_lines.specs.declared.block_line.BlockLine.TheVariants.{Batch}
+use Rattle.dispatch_report.specs.declared.block_line.BlockLine.TheVariants.{Batch}
 use Rattle.block_audit.proofs.ShapeLemmas.{IsNodeLine, Parts, nest, overflow_block, plan_block}
 
 -- the lines of a list add its items

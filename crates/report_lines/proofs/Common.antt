@@ -7,7 +7,7 @@ pub use Rattle.std.proofs.lemmas.List.Elements.{All-append, All-cons, All-head, 
 pub use Rattle.std.proofs.lemmas.Result.{err_from_is_err_and}
 pub use Rattle.std.specs.Char.{is_ascii_digit}
 pub use Rattle.std.specs.List.{list_all}
-pub use Rattle.dispatch_report.specs.Block.{answer_lines, block_lines, late_line, move_text, node_line, pair_line, pair_text, stop_text, trip_line}
+pub use Rattle.dispatch_report.specs.Block.{block_line_text, pair_line, stop_text}
 pub use Rattle.dispatch_report.specs.Entry.{command_text, entry_line, refusal_text, reply_text}
 unfoldable pub use Rattle.dispatch_report.specs.Head.{head_text}
 pub use Rattle.dispatch_report.specs.Head.{settings_line}
@@ -17,7 +17,7 @@ pub use Rattle.dispatch_report.specs.Words.{spaced}
 pub use Rattle.pool_base.specs.Number.{AllDigits, IsDigit, value_of}
 pub use Rattle.pool_base.specs.lemmas.Number.{value_after}
 pub use Rattle.report_lines.specs.Block.{BeginsBlock, BlockFails, IsBadBlock, IsBlock, IsCutBlock}
-pub use Rattle.report_lines.specs.BlockLine.{IsBlockLine, block_line_text}
+pub use Rattle.report_lines.specs.BlockLine.{IsBlockLine}
 pub use Rattle.report_lines.specs.Both.{BothAre, both_texts}
 pub use Rattle.report_lines.specs.Cut.{is_one_line}
 pub use Rattle.report_lines.specs.HeadFault.{FitsLine, HasForm, HeadFails, HeadLine, LineFails, LinesFail, head_lines, sizes_of}
@@ -31,8 +31,8 @@ pub use Rattle.report_lines.specs.Reply.{IsReply}
 pub use Rattle.report_lines.specs.Settings.{AreLawful, AreOf}
 pub use Rattle.report_lines.specs.Signed.{IsLong, IsWide}
 pub use Rattle.report_lines.specs.Stops.{FitsStop}
-pub use Rattle.report_lines.specs.declared.block_line.BlockLine.{BlockLine}
-pub use Rattle.report_lines.specs.declared.block_line.BlockLine.TheVariants.{Alone, Batch, Bound, Branch, Cost, Dead, End, Expired, Lapsed, Late, Leaf, Move, Nodes, Out, Overflow, Row, Shared, Trip}
+pub use Rattle.dispatch_report.specs.declared.block_line.BlockLine.{BlockLine}
+pub use Rattle.dispatch_report.specs.declared.block_line.BlockLine.TheVariants.{Alone, Batch, Bound, Branch, Cost, Dead, End, Expired, Lapsed, Late, Leaf, Move, Nodes, Out, Overflow, Row, Shared, Trip}
 pub use Rattle.report_lines.specs.declared.head_fault.HeadFault.{HeadFault}
 pub use Rattle.report_lines.specs.declared.head_lines.SettingsText.{SettingsText}
 pub use Rattle.report_lines.specs.lemmas.HeadLines.{dwell_text}

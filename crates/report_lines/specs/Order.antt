@@ -1,7 +1,7 @@
 -- The order of the kinds of lines in a block.
 use Rattle.std.specs.Prelude.{ℕ, ◌==◌, Bool, true, ◌&&◌, List, [], ◌∷◌, nat_le}
-use Rattle.report_lines.specs.declared.block_line.BlockLine.{BlockLine}
-use Rattle.report_lines.specs.declared.block_line.BlockLine.TheVariants.{Batch, Expired, Overflow, Lapsed, Late, Alone, Shared, Row, Trip, Out, Move, Cost, Bound, Nodes, Branch, Leaf, Dead, End}
+use Rattle.dispatch_report.specs.declared.block_line.BlockLine.{BlockLine}
+use Rattle.dispatch_report.specs.declared.block_line.BlockLine.TheVariants.{Batch, Expired, Overflow, Lapsed, Late, Alone, Shared, Row, Trip, Out, Move, Cost, Bound, Nodes, Branch, Leaf, Dead, End}
 
 -- a number that is this one
 abbrev pub is_at : ℕ → ℕ → Bool
