@@ -1,5 +1,5 @@
 -- Lines that are written one after the other, and what stands where one of them isn't written whole.
-use Rattle.std.proofs.Common.{◌≡◌, ℕ, ◌+◌, ◌<◌, ◌≤◌, Bool, true, false, if◌then◌else◌, List, [], ◌∷◌, ◌++◌, length, take, Option, Result, Ok, Err, MatchResult, OnOk, arith, refl, sym, ◌∙◌, ap, subst, length-append, append-nil, append_assoc, add-one, map, get_or}
+use Rattle.std.proofs.Common.{◌≡◌, ℕ, ◌+◌, ◌<◌, ◌≤◌, Bool, true, false, cond, List, [], ◌∷◌, ◌++◌, length, take, Option, Result, Ok, Err, MatchResult, OnOk, arith, refl, sym, ◌∙◌, ap, subst, length-append, append-nil, append_assoc, add-one, map, get_or}
 use Rattle.dispatch_report.proofs.Common.{Appends, take-append-le, take-append-add, map-append, Rose, AppendsPart, Change, SinkView, WritesText, IsSame, WritesBytes, WritesLines}
 use Rattle.std.specs.List.{flat_map}
 use Rattle.std.proofs.KnownBytes.{Appends-nil, Appends-trans}
@@ -163,17 +163,17 @@ module _ {s : Change SinkView} {p q : List ℕ} {r e : Result (Unit {0}) ReportF
   block xs w = record { texts = w }
 
   -- those of a list of one kind
-  pub kind : {X : Type 0} {xs : List X} (K : X → BlockLine) → WritesLines s p q r e (map (λ x. block_line_text (K x)) xs) → WritesBlock s p q r e (map K xs)
-  kind {X} {xs} K w = record { texts = same_lines _ _ (fused xs) w }
+  pub kind : {X : Type 0} (K : X → BlockLine) (xs : List X) → WritesLines s p q r e (map (λ x. block_line_text (K x)) xs) → WritesBlock s p q r e (map K xs)
+  kind {X} K xs w = record { texts = same_lines _ _ (fused xs) w }
     where
       fused : (ys : List X) → map (λ x. block_line_text (K x)) ys ≡ map block_line_text (map K ys)
       fused [] = refl
       fused (y ∷ ys) = ap (λ l. block_line_text (K y) ∷ l) (fused ys)
 
   -- the same where they are asked for
-  pub asked : {X : Type 0} {xs : List X} (K : X → BlockLine) (proof : Bool) → WritesLines s p q r e (if proof then map (λ x. block_line_text (K x)) xs else []) → WritesBlock s p q r e (if proof then map K xs else [])
-  asked K true w = kind K w
-  asked K false w = block [] w
+  pub asked : {X : Type 0} (K : X → BlockLine) (xs : List X) (proof : Bool) → WritesLines s p q r e (cond proof (map (λ x. block_line_text (K x)) xs) []) → WritesBlock s p q r e (cond proof (map K xs) [])
+  asked K xs true w = kind K xs w
+  asked K xs false w = block [] w
 
 pub then_block : {a b c : SinkView} {p q t : List ℕ} {x y z : Result (Unit {0}) ReportFault} {xs ys : List BlockLine} → WritesBlock (record { before = a; after = b }) p q x y xs
     → WritesBlock (record { before = b; after = c }) q t y z ys → WritesBlock (record { before = a; after = c }) p t x z (xs ++ ys)
