@@ -40,7 +40,7 @@ pub use Rattle.report_audit.specs.work.Steps.{BeginsWithEntry, EntryRead, HasNoN
 pub use Rattle.report_audit.specs.work.Taking.{CommandStops, TakesCommand, TellsEnd}
 pub use Rattle.report_audit.specs.work.Whole.{AllStops, HasComeTo, HasReadAll, WhereAllStops}
 pub use Rattle.report_lines.proofs.lemmas.NextLemmas.{no_entry_done, no_entry_round, one_kind}
-pub use Rattle.report_lines.proofs.lemmas.OneBlock.{append_one_line, cut_once, no_one_line, numbered_one_line}
+pub use Rattle.report_lines.proofs.lemmas.OneBlock.{append_one_line, cut_once, no_one_line, numbered_one_line, spaced_one_line, two_line}
 pub use Rattle.report_lines.specs.Cut.{is_one_line}
 pub use Rattle.report_lines.specs.Head.{BeginsWithHead}
 pub use Rattle.report_lines.specs.HeadFault.{FitsLine, HasForm, HeadFails, HeadLine, LineFails, LinesFail, head_lines, sizes_of}

@@ -161,13 +161,13 @@ module _ (settings : Settings) (roads : Roads) (round : NumberedLanes) (end : Op
   pub first_is : (j : Journal) (text line after : List ℕ) → (h : HasNext j text) → IsFirstLine text line after
       → (line ≡ entry_line (position_behind j) h.entry) × (after ≡ lines_text (entry_block true h.entry.command h.entry.reply) ++ h.behind)
   first_is j text line after h has =
-      cut_once line (entry_line (position_behind j) h.entry) after (lines_text (entry_block true h.entry.command h.entry.reply) ++ h.behind) has.one (entry_one (position_behind j) h.entry h.comes.line) (sym has.whole ∙ h.printed)
+      cut_once line (entry_line (position_behind j) h.entry) after (lines_text (entry_block true h.entry.command h.entry.reply) ++ h.behind) has.one (entry_one (position_behind j) h.entry) (sym has.whole ∙ h.printed)
 
   -- where a line is wrong, no entry comes next
   pub wrong_is_none : (j : Journal) (text : List ℕ) (left : ℕ) (fault : LineFault) → StopsAt settings roads (Extent.within round j) text (Line left fault) → HasNext j text → ⊥
   wrong_is_none j text left fault stops h =
       comes_is_no_stop settings roads round j text (entry_line (position_behind j) h.entry) (lines_text (entry_block true h.entry.command h.entry.reply) ++ h.behind)
-      (record { whole = h.printed; one = entry_one (position_behind j) h.entry h.comes.line }) h.entry h.comes refl (Line left fault) (λ e. cc) stops (λ refused is wrong some. cc)
+      (record { whole = h.printed; one = entry_one (position_behind j) h.entry }) h.entry h.comes refl (Line left fault) (λ e. cc) stops (λ refused is wrong some. cc)
 
 -- no line in form is a stop at each place that isn't the end
 pub no_next_within : (settings : Settings) (roads : Roads) (round : NumberedLanes) (j : Journal) (text : List ℕ) (stop : Stop) → HasNoNext text stop → StopsAt settings roads (Extent.within round j) text stop

@@ -1,12 +1,12 @@
 -- All rounds of a report.
 use Rattle.std.proofs.Common.{◌≡◌, ◌≢◌, ◌⊎◌, ℕ, ◌+◌, ◌-◌, ◌<◌, ◌≤◌, ◌^◌, add-one, drop, codes, count_by, get_or, min, take, true, List, [], ◌∷◌, ◌++◌, length, Option, Some, None, ⊎_elim, refl, sym, ap, ◌∙◌, subst, append_assoc, append-nil}
-use Rattle.report_audit.proofs.Common.{drop_all, drop_more, IsRun, IsRoundRun, position_after_run, state_after_run, end_text, round_text, numbered, IsFirstLine, no_entry_done, no_entry_round, one_kind, BookView, next_position, state_after, Journal, State, Settings, Roads, NumberedLanes, Extent, IsInForm, batches_after, closes, rounds_text, AreTold, JournalsAreTold, Stop, OutOfMemory, Line, Block, EndStops, IsEndText, IsRestBehind, EndsBehind, GoesOn, IsRestOfRounds, StopsAt, StopsHere, HasReadRound, IsRoundStart, RoundStops, WhereRoundStops, BeginsWithEntry, MayBegin, AllStops, HasComeTo, HasReadAll, WhereAllStops, cut_once}
+use Rattle.report_audit.proofs.Common.{drop_all, drop_more, numbered_one_line, IsRun, IsRoundRun, position_after_run, state_after_run, end_text, round_text, numbered, IsFirstLine, no_entry_done, no_entry_round, one_kind, BookView, next_position, state_after, Journal, State, Settings, Roads, NumberedLanes, Extent, IsInForm, batches_after, closes, rounds_text, AreTold, JournalsAreTold, Stop, OutOfMemory, Line, Block, EndStops, IsEndText, IsRestBehind, EndsBehind, GoesOn, IsRestOfRounds, StopsAt, StopsHere, HasReadRound, IsRoundStart, RoundStops, WhereRoundStops, BeginsWithEntry, MayBegin, AllStops, HasComeTo, HasReadAll, WhereAllStops, cut_once}
 use Rattle.std.proofs.Math.Seq.{take-suc}
 use Rattle.std.proofs.lemmas.List.{take_all}
 use Rattle.report_lines.specs.declared.next.NextLine.TheVariants.{Done as DoneOf, Entry as EntryOf}
 use Rattle.report_audit.proofs.NextLemmas.{between_is_no_stop, same_stop}
 use Rattle.report_audit.proofs.RoundLemmas.{base_is, round_so_far}
-use Rattle.report_audit.proofs.TextLemmas.{done_one, end-is, next-none}
+use Rattle.report_audit.proofs.TextLemmas.{end-is, next-none}
 use Rattle.report_audit.specs.declared.stop.LineFault.TheVariants as wrong
 
 -- items up to the next one
@@ -72,7 +72,7 @@ module _ (settings : Settings) (roads : Roads) (before : List NumberedLanes) (s 
   -- the last line may stand there
   end_goes : p < 2 ^ 64 → (rest : List ℕ) → text ≡ end_text p ++ rest → (end : Option Stop) → StopsHere settings roads end (Extent.between before [] p) text → ⊥
   end_goes low rest is end here =
-      between_is_no_stop settings roads before [] p text (numbered (codes "done ") p) rest (record { whole = is ∙ end_line p rest; one = done_one p low }) (form before) refl end here
+      between_is_no_stop settings roads before [] p text (numbered (codes "done ") p) rest (record { whole = is ∙ end_line p rest; one = numbered_one_line (codes "done ") p refl }) (form before) refl end here
     where
       form : (before : List NumberedLanes) → IsInForm (Extent.between before [] p) (numbered (codes "done ") p)
       form [] = (DoneOf p, (low, refl), λ lane e. cc)
@@ -81,7 +81,7 @@ module _ (settings : Settings) (roads : Roads) (before : List NumberedLanes) (s 
   -- the same text follows the last line
   same_behind : (rest other : List ℕ) → p < 2 ^ 64 → text ≡ end_text p ++ rest → text ≡ end_text p ++ other → rest ≡ other
   same_behind rest other low is too =
-      (cut_once (numbered (codes "done ") p) (numbered (codes "done ") p) rest other (done_one p low) (done_one p low) (sym (is ∙ end_line p rest) ∙ too ∙ end_line p other)).1
+      (cut_once (numbered (codes "done ") p) (numbered (codes "done ") p) rest other (numbered_one_line (codes "done ") p refl) (numbered_one_line (codes "done ") p refl) (sym (is ∙ end_line p rest) ∙ too ∙ end_line p other)).1
 
   -- the last line and nothing else stops nowhere
   pub end_done : text ≡ end_text p → p < 2 ^ 64 → (end : Option Stop) → IsRestOfRounds settings roads end before [] s p text → end ≡ None
