@@ -15,17 +15,16 @@ pub use Rattle.block_audit.specs.Judged.{CanBeTold, HasTrips, NamesRow, at_most,
 pub use Rattle.block_audit.specs.Told.{Told, nothing_told, told_by, with_line}
 pub use Rattle.block_audit.specs.work.Judged.{FailsFirst, HoldUpTo, IsRight, stops_of, verdict_place}
 pub use Rattle.block_audit.specs.work.Told.{told_in}
-pub use Rattle.dispatch_report.specs.Block.{block_lines}
 pub use Rattle.outcome_check.proofs.lemmas.VerdictLemmas.{HoldBelow, hold_more, hold_none}
 pub use Rattle.outcome_check.specs.Verdict.{IsVerdictOf, Meets, point_place}
 pub use Rattle.plan_rules.specs.declared.node.Node.{Node}
 pub use Rattle.report_lines.specs.Order.{follow_on, is_between, last_place}
-pub use Rattle.report_lines.specs.Outcome.{late_as_line, lines_of, lines_of_answer, row_as_line, tree_line, trip_as_line}
-pub use Rattle.report_lines.specs.declared.block_line.BlockLine.{BlockLine}
-pub use Rattle.report_lines.specs.declared.block_line.BlockLine.TheVariants.{Alone, Bound, Branch, Cost, Dead, End, Expired, Lapsed, Late, Leaf, Move, Nodes, Out, Overflow, Row, Shared, Trip}
-pub use Rattle.report_lines.specs.declared.late.LateText.{LateText}
-pub use Rattle.report_lines.specs.declared.row.RowText.{RowText}
-pub use Rattle.report_lines.specs.declared.trip.TripText.{TripText}
+pub use Rattle.dispatch_report.specs.Block.{block_lines, late_as_line, lines_of, lines_of_answer, row_as_line, tree_line, trip_as_line}
+pub use Rattle.dispatch_report.specs.declared.block_line.BlockLine.{BlockLine}
+pub use Rattle.dispatch_report.specs.declared.block_line.BlockLine.TheVariants.{Alone, Bound, Branch, Cost, Dead, End, Expired, Lapsed, Late, Leaf, Move, Nodes, Out, Overflow, Row, Shared, Trip}
+pub use Rattle.dispatch_report.specs.declared.block_line.LateText.{LateText}
+pub use Rattle.dispatch_report.specs.declared.block_line.RowText.{RowText}
+pub use Rattle.dispatch_report.specs.declared.block_line.TripText.{TripText}
 pub use Rattle.request_book.specs.declared.outcome.Answer.{Answer}
 pub use Rattle.request_book.specs.declared.outcome.Outcome.{Outcome}
 pub use Rattle.request_book.specs.declared.outcome.Planned.{Planned}

@@ -12,7 +12,7 @@ module _ (settings : Settings) (roads : Roads) (batch : Batch) (text : List ℕ)
   told_before : (q : Point) → point_place q < place → CanBeTold q (told_by wrong.lines)
   told_before q less = (wrong.fails.0 q (subst (λ (n : ℕ). point_place q < n) (sym wrong.at) less)).2
 
-  pub untold_fails : ((n : ℕ) (outcome : Outcome) → HasTrips outcome.answer → wrong.lines ≢ lines_of n outcome) → place ≤ 5
+  pub untold_fails : ((n : ℕ) (outcome : Outcome) → HasTrips outcome.answer → wrong.lines ≢ lines_of true n outcome) → place ≤ 5
   untold_fails none = ⊎_elim
       (λ (late : 5 < place).
       absurd (none (told_by wrong.lines).batch (judged_outcome (vehicle_ids batch) (told_by wrong.lines)) (judged_few (vehicle_ids batch) (told_by wrong.lines)).1

@@ -1,18 +1,18 @@
 -- An outcome is judged as itself, and lines that can be told are those of the outcome as which they are judged.
 use Rattle.std.proofs.Common.{◌≡◌, ℕ, ◌<◌, ◌≤◌, ◌+◌, Bool, true, false, cond, nat_le, IfSome, List, [], ◌∷◌, ◌++◌, length, get_or, map, slice_get, unwrap_or, option_map, Option, Some, None, append_assoc, refl, sym, ap, ◌∙◌, subst, arith}
-use Rattle.block_audit.proofs.Common.{cond-true, cond_both, length-map, All-cons, All-head, All-tail, All-map, slice_get-map, Point, Node, follow_on, last_place, row_as_line, trip_as_line, late_as_line, tree_line, lines_of_answer, lines_of, BlockLine, Expired, Lapsed, Late, Alone, Shared, Row, Trip, Out, Move, Cost, Bound, Nodes, Branch, Leaf, Dead, End, LateText, RowText, TripText, Answer, Outcome, Planned, RowLine, at_most, row_of, trip_of, late_of, node_of, number_among, judged_plan, judged_outcome, NamesRow, CanBeTold, HasTrips, stops_of, Told, told_by}
+use Rattle.block_audit.proofs.Common.{cond-true, cond_both, length-map, All-cons, All-head, All-tail, All-map, slice_get-map, Point, Node, follow_on, last_place, row_as_line, trip_as_line, late_as_line, tree_line, lines_of, BlockLine, Expired, Overflow, Lapsed, Late, Alone, Shared, Row, Trip, Out, Move, Cost, Bound, Nodes, Branch, Leaf, Dead, End, LateText, RowText, TripText, Answer, Outcome, Planned, RowLine, at_most, row_of, trip_of, late_of, node_of, number_among, judged_plan, judged_outcome, NamesRow, CanBeTold, HasTrips, stops_of, Told, told_by}
 use Rattle.std.specs.List.{All}
 use Rattle.std.proofs.lemmas.Bool.{le-leb, leb-true}
 use Rattle.arrayvec.specs.ArrayVec.{ArrayVec}
-use Rattle.report_lines.specs.declared.block_line.BlockLine.TheVariants.{Batch}
+use Rattle.dispatch_report.specs.declared.block_line.BlockLine.TheVariants.{Batch}
 use Rattle.request_book.specs.declared.outcome.Answer.TheVariants.{Overflow as TooMany, Planned as Plan}
 use Rattle.request_book.specs.declared.outcome.ChosenTrip.{ChosenTrip}
 use Rattle.request_book.specs.declared.outcome.LateVehicle.{LateVehicle}
 use Rattle.request_book.specs.declared.outcome.PlannedStop.{PlannedStop}
 use Rattle.block_audit.specs.Fits.{HasFewStops}
 use Rattle.block_audit.proofs.NumberedLemmas.{AreNumbered, IsNumbered}
-use Rattle.block_audit.proofs.ShapeLemmas.{HasShape, IsNodeLine, Parts, has_shape, nest, overflow_block, plan_block}
-use Rattle.block_audit.proofs.ToldLemmas.{overflow_told, plan_told, overflow_is_told, plan_is_told}
+use Rattle.block_audit.proofs.ShapeLemmas.{IsNodeLine, from_left, is_printed, nest, printed}
+use Rattle.block_audit.proofs.ToldLemmas.{overflow_told, overflow_is_told, plan_is_told}
 use Rattle.batch_solver.specs.declared.point.Point.TheVariants as point
 use Rattle.plan_rules.specs.declared.node.Node.TheVariants as node
 
@@ -26,8 +26,11 @@ trip_text trip = record { vehicle = trip.vehicle; cost = trip.cost; stops = trip
 abbrev late_text : LateVehicle → LateText
 late_text late = record { vehicle = late.vehicle; delay = late.delay; stops = option_map (λ s. s.items) late.stops }
 
-abbrev parts_of : Planned → Parts
-parts_of plan = record {
+abbrev told_of : ℕ → List ℕ → Planned → Told
+told_of batch expired plan = record {
+  batch = batch;
+  expired = expired;
+  overflow = false;
   lapsed = plan.lapsed;
   late = map late_text plan.late;
   rv = plan.rv;
@@ -55,50 +58,22 @@ fused : {X Y : Type 0} (K : Y → BlockLine) (g : X → Y) (xs : List X) → map
 fused K g [] = refl
 fused K g (x ∷ xs) = ap (λ l. K (g x) ∷ l) (fused K g xs)
 
-parted : {X : Type 0} (xs ys s : List X) (all : List X) → all ≡ (xs ++ ys) ++ s → all ≡ xs ++ (ys ++ s)
-parted xs ys s all e = e ∙ append_assoc xs ys s
+abbrev answered_by : List ℕ → Answer → Outcome
+answered_by expired answer = record { expired = expired; answer = answer }
 
-plan_nested : (plan : Planned) → lines_of_answer (Plan plan) ++ End ∷ [] ≡ nest (parts_of plan)
-plan_nested plan =
-    let all : List BlockLine = lines_of_answer (Plan plan) ++ End ∷ [] in
-    let a : List BlockLine = map Lapsed plan.lapsed in
-    let b : List BlockLine = map late_as_line plan.late in
-    let c : List BlockLine = map Alone plan.rv in
-    let d : List BlockLine = map Shared plan.rr in
-    let r : List BlockLine = map row_as_line plan.rows in
-    let f : List BlockLine = map trip_as_line plan.chosen in
-    let g : List BlockLine = map Out plan.left in
-    let h : List BlockLine = map Move plan.moves in
-    let n : List BlockLine = Cost plan.cost ∷ Bound plan.bound ∷ Nodes (length plan.tree) ∷ [] in
-    let t : List BlockLine = map (tree_line plan.rows) plan.tree in
-    let s : List BlockLine = n ++ (t ++ End ∷ []) in
-    let sh : List BlockLine = h ++ s in
-    let sg : List BlockLine = g ++ sh in
-    let sf : List BlockLine = f ++ sg in
-    let sr : List BlockLine = r ++ sf in
-    let sd : List BlockLine = d ++ sr in
-    let sc : List BlockLine = c ++ sd in
-    let whole : all ≡ (a ++ b ++ c ++ d ++ r) ++ ((f ++ g ++ h) ++ s) =
-    parted (a ++ b ++ c ++ d ++ r) (f ++ g ++ h) s all (parted ((a ++ b ++ c ++ d ++ r) ++ (f ++ g ++ h)) n (t ++ End ∷ []) all (parted (((a ++ b ++ c ++ d ++ r) ++ (f ++ g ++ h)) ++ n) t (End ∷ []) all refl)) in
-    let choice : (f ++ g ++ h) ++ s ≡ sf = parted f g sh ((f ++ g ++ h) ++ s) (parted (f ++ g) h s ((f ++ g ++ h) ++ s) refl) in
-    let graphs : all ≡ (a ++ b ++ c ++ d ++ r) ++ sf = whole ∙ ap (λ l. (a ++ b ++ c ++ d ++ r) ++ l) choice in
+-- the lines of an outcome are what is told of it, printed
+overflow_lines : (batch : ℕ) (expired : List ℕ) → lines_of true batch (answered_by expired TooMany) ≡ printed true (overflow_told batch expired)
+overflow_lines batch expired = append_assoc (Batch batch ∷ map Expired expired) (Overflow ∷ []) (End ∷ [])
+
+plan_lines : (batch : ℕ) (expired : List ℕ) (plan : Planned) → lines_of true batch (answered_by expired (Plan plan)) ≡ printed false (told_of batch expired plan)
+plan_lines batch expired plan =
     let late = fused Late late_text plan.late in
     let rows = fused Row row_text plan.rows in
     let chosen = fused Trip trip_text plan.chosen in
-    parted a b sc all (parted (a ++ b) c sd all (parted (a ++ b ++ c) d sr all (parted (a ++ b ++ c ++ d) r sf all graphs)))
-    ∙ (λ i. a ++ (late i ++ (c ++ (d ++ (rows i ++ (chosen i ++ sg))))))
-
-outcome_nested : (batch : ℕ) (outcome : Outcome) → lines_of batch outcome ≡ Batch batch ∷ (map Expired outcome.expired ++ (lines_of_answer outcome.answer ++ End ∷ []))
-outcome_nested batch outcome =
-    let x : List BlockLine = map Expired outcome.expired in
-    let a : List BlockLine = lines_of_answer outcome.answer in
-    parted (Batch batch ∷ []) x (a ++ End ∷ []) (lines_of batch outcome) (parted ((Batch batch ∷ []) ++ x) a (End ∷ []) (lines_of batch outcome) refl)
-
-overflow_lines : (batch : ℕ) (expired : List ℕ) → lines_of batch (record { expired = expired; answer = TooMany }) ≡ overflow_block batch expired
-overflow_lines batch expired = outcome_nested batch (record { expired = expired; answer = TooMany })
-
-plan_lines : (batch : ℕ) (expired : List ℕ) (plan : Planned) → lines_of batch (record { expired = expired; answer = Plan plan }) ≡ plan_block batch expired (parts_of plan)
-plan_lines batch expired plan = outcome_nested batch (record { expired = expired; answer = Plan plan }) ∙ ap (λ l. Batch batch ∷ (map Expired expired ++ l)) (plan_nested plan)
+    nest (Batch batch ∷ []) (map Expired expired) (map Lapsed plan.lapsed) (map late_as_line plan.late) (map Alone plan.rv) (map Shared plan.rr) (map row_as_line plan.rows)
+    (map trip_as_line plan.chosen) (map Out plan.left) (map Move plan.moves) (Cost plan.cost ∷ Bound plan.bound ∷ Nodes (length plan.tree) ∷ []) (map (tree_line plan.rows) plan.tree) (End ∷ [])
+    ∙ (λ i. Batch batch ∷ (map Expired expired ++ (map Lapsed plan.lapsed ++ (late i ++ (map Alone plan.rv ++ (map Shared plan.rr ++ (rows i ++ (chosen i
+    ++ from_left (told_of batch expired plan)))))))))
 
 -- lists of few items are kept
 kept : {X : Type 0} (most : ℕ) (xs : List X) → length xs ≤ most → at_most most xs ≡ xs
@@ -191,24 +166,24 @@ tree_named rows (n ∷ tree) = All-cons (NamesRow (map row_text rows)) (tree_lin
 
 -- lines that can be told are those of the outcome as which they are judged
 pub lines_are : (ids : List ℕ) (lines : List BlockLine) → follow_on 0 lines ≡ true → last_place 0 lines ≡ 16 → ((q : Point) → CanBeTold q (told_by lines))
-    → lines ≡ lines_of (told_by lines).batch (judged_outcome ids (told_by lines))
-lines_are ids lines f e can = by (has_shape lines f e)
+    → lines ≡ lines_of true (told_by lines).batch (judged_outcome ids (told_by lines))
+lines_are ids lines f e can = by (is_printed lines f e)
   where
-    by : HasShape lines → lines ≡ lines_of (told_by lines).batch (judged_outcome ids (told_by lines))
-    by (HasShape.overflows batch expired is) =
-        let t : told_by lines ≡ overflow_told batch expired = ap told_by is ∙ overflow_is_told batch expired in
-        is ∙ sym (overflow_lines batch expired) ∙ ap (λ (u : Told). lines_of u.batch (judged_outcome ids u)) (sym t)
-    by (HasShape.plans batch expired p drawn is) =
-        let t : told_by lines ≡ plan_told batch expired p = ap told_by is ∙ plan_is_told batch expired p drawn in
-        let told : (q : Point) → CanBeTold q (plan_told batch expired p) = λ q. subst (λ (u : Told). CanBeTold q u) t (can q) in
-        let late = back late_of late_text (λ late. IfSome late.stops (λ stops. length stops ≤ 10)) late_back p.late (told point.Late) in
-        let rows = back row_of row_text (λ row. length row.riders ≤ 6) row_back p.rows (told point.Graphs) in
-        let chosen = back trip_of trip_text (λ trip. length trip.stops ≤ 22) trip_back p.chosen (told point.Trips) in
-        let nodes : length (map (node_of ids) p.tree) ≡ p.nodes = length-map p.tree (node_of ids) ∙ sym (told point.Bound).0 in
-        let tree = tree_back ids p.rows p.tree drawn (told point.Bound).1 in
-        let same : parts_of (judged_plan ids (plan_told batch expired p)) ≡ p =
-        (λ i. record { lapsed = p.lapsed; late = late i; rv = p.rv; rr = p.rr; rows = rows i; chosen = chosen i; left = p.left; moves = p.moves; cost = p.cost; bound = p.bound; nodes = nodes i; tree = tree i }) in
-        is ∙ ap (plan_block batch expired) (sym same) ∙ sym (plan_lines batch expired (judged_plan ids (plan_told batch expired p))) ∙ ap (λ (u : Told). lines_of u.batch (judged_outcome ids u)) (sym t)
+    by : (overflow : Bool) × (t : Told) × All IsNodeLine t.tree × (lines ≡ printed overflow t) → lines ≡ lines_of true (told_by lines).batch (judged_outcome ids (told_by lines))
+    by (true, t, drawn, is) =
+        let told : told_by lines ≡ overflow_told t.batch t.expired = ap told_by is ∙ overflow_is_told t in
+        is ∙ sym (overflow_lines t.batch t.expired) ∙ ap (λ (u : Told). lines_of true u.batch (judged_outcome ids u)) (sym told)
+    by (false, t, drawn, is) =
+        let told : told_by lines ≡ record t { overflow = false } = ap told_by is ∙ plan_is_told t drawn in
+        let can_so : (q : Point) → CanBeTold q (record t { overflow = false }) = λ q. subst (λ (u : Told). CanBeTold q u) told (can q) in
+        let late = back late_of late_text (λ late. IfSome late.stops (λ stops. length stops ≤ 10)) late_back t.late (can_so point.Late) in
+        let rows = back row_of row_text (λ row. length row.riders ≤ 6) row_back t.rows (can_so point.Graphs) in
+        let chosen = back trip_of trip_text (λ trip. length trip.stops ≤ 22) trip_back t.chosen (can_so point.Trips) in
+        let nodes : length (map (node_of ids) t.tree) ≡ t.nodes = length-map t.tree (node_of ids) ∙ sym (can_so point.Bound).0 in
+        let tree = tree_back ids t.rows t.tree drawn (can_so point.Bound).1 in
+        let same : told_of t.batch t.expired (judged_plan ids t) ≡ record t { overflow = false } =
+        (λ i. record t { overflow = false; late = late i; rows = rows i; chosen = chosen i; nodes = nodes i; tree = tree i }) in
+        is ∙ ap (printed false) (sym same) ∙ sym (plan_lines t.batch t.expired (judged_plan ids t)) ∙ ap (λ (u : Told). lines_of true u.batch (judged_outcome ids u)) (sym told)
 
 -- no list of the outcome as which lines are judged is longer than there can be
 pub judged_few : (ids : List ℕ) (t : Told) → HasFewStops (judged_outcome ids t).answer × HasTrips (judged_outcome ids t).answer
@@ -237,9 +212,6 @@ pub record IsToldAs (ids : List ℕ) (batch : ℕ) (outcome : Outcome) (t : Told
   pub same : judged_outcome ids t ≡ outcome
   pub can : (q : Point) → CanBeTold q t
 
-abbrev answered_by : List ℕ → Answer → Outcome
-answered_by expired answer = record { expired = expired; answer = answer }
-
 late_told : (late : LateVehicle) → IfSome late.stops (λ stops. length stops.items ≤ 10) → IfSome (late_text late).stops (λ stops. length stops ≤ 10)
 late_told late low = at late.stops low
   where
@@ -255,14 +227,14 @@ none_told batch expired point.Bound = (refl, λ k d within. absurd (omega arith)
 none_told batch expired q = tt
 
 module _ (batch : ℕ) (expired : List ℕ) (plan : Planned) (stops : HasFewStops (Plan plan)) (trips : HasTrips (Plan plan)) where
-  all_told : (q : Point) → CanBeTold q (plan_told batch expired (parts_of plan))
+  all_told : (q : Point) → CanBeTold q (told_of batch expired plan)
   all_told point.Graphs = All-map (λ row. length row.riders ≤ 6) row_text plan.rows trips
   all_told point.Late = All-map (λ late. IfSome late.stops (λ stops. length stops ≤ 10)) late_text plan.late (λ k d within. late_told (get_or plan.late k d) (stops.0 k d within))
   all_told point.Trips = All-map (λ trip. length trip.stops ≤ 22) trip_text plan.chosen stops.1
   all_told point.Bound = (sym (length-map plan.tree (tree_line plan.rows)), tree_named plan.rows plan.tree)
   all_told q = tt
 
-  plan_again : (ids : List ℕ) → AreNumbered ids (Plan plan) → judged_plan ids (plan_told batch expired (parts_of plan)) ≡ plan
+  plan_again : (ids : List ℕ) → AreNumbered ids (Plan plan) → judged_plan ids (told_of batch expired plan) ≡ plan
   plan_again ids numbered =
       let late = back late_text late_of (λ late. IfSome late.stops (λ stops. length stops.items ≤ 10)) late_again plan.late stops.0 in
       let rows = back row_text row_of (λ row. length row.riders.items ≤ 6) row_again plan.rows trips in
@@ -270,17 +242,14 @@ module _ (batch : ℕ) (expired : List ℕ) (plan : Planned) (stops : HasFewStop
       let tree = tree_again ids plan.rows plan.tree numbered in
       (λ i. record { lapsed = plan.lapsed; late = late i; rv = plan.rv; rr = plan.rr; rows = rows i; chosen = chosen i; left = plan.left; moves = plan.moves; cost = plan.cost; bound = plan.bound; tree = tree i })
 
-pub outcome_is_told : (ids : List ℕ) (batch : ℕ) (outcome : Outcome) → HasFewStops outcome.answer → HasTrips outcome.answer → AreNumbered ids outcome.answer → IsToldAs ids batch outcome (told_by (lines_of batch outcome))
+pub outcome_is_told : (ids : List ℕ) (batch : ℕ) (outcome : Outcome) → HasFewStops outcome.answer → HasTrips outcome.answer → AreNumbered ids outcome.answer → IsToldAs ids batch outcome (told_by (lines_of true batch outcome))
 outcome_is_told ids batch outcome stops trips numbered = by outcome.answer stops trips numbered
   where
-    by : (answer : Answer) → HasFewStops answer → HasTrips answer → AreNumbered ids answer → IsToldAs ids batch (answered_by outcome.expired answer) (told_by (lines_of batch (answered_by outcome.expired answer)))
+    by : (answer : Answer) → HasFewStops answer → HasTrips answer → AreNumbered ids answer → IsToldAs ids batch (answered_by outcome.expired answer) (told_by (lines_of true batch (answered_by outcome.expired answer)))
     by TooMany stops trips numbered =
-        let t : overflow_told batch outcome.expired ≡ told_by (lines_of batch (answered_by outcome.expired TooMany)) =
-        sym (ap told_by (overflow_lines batch outcome.expired) ∙ overflow_is_told batch outcome.expired) in
+        let t = sym (ap told_by (overflow_lines batch outcome.expired) ∙ overflow_is_told (overflow_told batch outcome.expired)) in
         subst (λ (u : Told). IsToldAs ids batch (answered_by outcome.expired TooMany) u) t (record { number = refl; same = refl; can = none_told batch outcome.expired })
     by (Plan plan) stops trips numbered =
-        let t : plan_told batch outcome.expired (parts_of plan) ≡ told_by (lines_of batch (answered_by outcome.expired (Plan plan))) =
-        sym (ap told_by (plan_lines batch outcome.expired plan) ∙ plan_is_told batch outcome.expired (parts_of plan) (tree_drawn plan.rows plan.tree)) in
-        let same : answered_by outcome.expired (Plan (judged_plan ids (plan_told batch outcome.expired (parts_of plan)))) ≡ answered_by outcome.expired (Plan plan) =
-        ap (λ (x : Planned). answered_by outcome.expired (Plan x)) (plan_again batch outcome.expired plan stops trips ids numbered) in
+        let t = sym (ap told_by (plan_lines batch outcome.expired plan) ∙ plan_is_told (told_of batch outcome.expired plan) (tree_drawn plan.rows plan.tree)) in
+        let same = ap (λ (x : Planned). answered_by outcome.expired (Plan x)) (plan_again batch outcome.expired plan stops trips ids numbered) in
         subst (λ (u : Told). IsToldAs ids batch (answered_by outcome.expired (Plan plan)) u) t (record { number = refl; same = same; can = all_told batch outcome.expired plan stops trips })

@@ -1,19 +1,7 @@
--- What can be told, looked at item by item, and point by point.
-use Rattle.std.proofs.Common.{◌≡◌, ℕ, ◌+◌, ◌<◌, ◌≤◌, add-one, List, [], ◌∷◌, ◌++◌, length, get_or, take, refl, sym, ap, ◌∙◌, subst, arith}
-use Rattle.block_audit.proofs.Common.{All-append, All-cons, point_place, HoldBelow, hold_none, hold_more, Point, CanBeTold, Told, HoldUpTo}
-use Rattle.std.specs.List.{All}
-use Rattle.std.proofs.Math.Seq.{take-suc}
-use Rattle.std.proofs.lemmas.List.{take_all}
+-- What can be told, point by point.
+use Rattle.std.proofs.Common.{refl, arith}
+use Rattle.block_audit.proofs.Common.{point_place, HoldBelow, hold_none, hold_more, Point, CanBeTold, Told, HoldUpTo}
 use Rattle.batch_solver.specs.declared.point.Point.TheVariants as point
-
-module _ {X : Type 0} (P : X → Type 0) (xs : List X) where
-  pub all_more : (i : ℕ) (x : X) → i < length xs → x ≡ get_or xs i x → All P (take i xs) → P x → All P (take (i + 1) xs)
-  all_more i x within is all holds =
-      let next : take i xs ++ x ∷ [] ≡ take (i + 1) xs = ap (λ y. take i xs ++ y ∷ []) is ∙ sym (rw add-one (take-suc xs i x within)) in
-      subst (λ ys. All P ys) next (All-append P (take i xs) (x ∷ []) all (All-cons P x [] holds (λ k d low. absurd (omega arith))))
-
-  pub all_there : (i : ℕ) → length xs ≤ i → All P (take i xs) → All P xs
-  all_there i end all = subst (λ ys. All P ys) (take_all i xs end) all
 
 module _ (t : Told) where
   abbrev Can : Point → Type 0

@@ -2,8 +2,8 @@
 use Rattle.std.proofs.Common.{◌≡◌, ℕ, ◌<◌, ◌≤◌, true, false, List, [], ◌∷◌, ◌++◌, map, append_assoc, append-nil, refl, sym, ap, ◌∙◌, arith, fold}
 use Rattle.block_audit.proofs.Common.{All-cons, All-head, All-tail, BlockLine, Expired, Overflow, Lapsed, Late, Alone, Shared, Row, Trip, Out, Move, Cost, Bound, Nodes, Branch, Leaf, Dead, End, LateText, RowText, TripText, Told, nothing_told, told_by, with_line}
 use Rattle.std.specs.List.{All}
-use Rattle.report_lines.specs.declared.block_line.BlockLine.TheVariants.{Batch}
-use Rattle.block_audit.proofs.ShapeLemmas.{IsNodeLine, Parts, nest, overflow_block, plan_block}
+use Rattle.dispatch_report.specs.declared.block_line.BlockLine.TheVariants.{Batch}
+use Rattle.block_audit.proofs.ShapeLemmas.{IsNodeLine, from_lapsed, printed}
 
 -- the lines of a list add its items
 module _ {X : Type 0} (K : X → BlockLine) (of : Told → List X) (put : Told → List X → Told)
@@ -32,67 +32,29 @@ tree_told t (line ∷ lines) rest drawn =
     more Dead is = refl
     more _ is = absurd is
 
+expired_told : (t : Told) (rest : List BlockLine) → told_by (Batch t.batch ∷ (map Expired t.expired ++ rest)) ≡ fold with_line (record nothing_told { batch = t.batch; expired = t.expired }) rest
+expired_told t rest =
+    list_told Expired (λ t. t.expired) (λ t l. record t { expired = l }) (λ t. refl) (λ t x. refl) (λ t l. refl) (λ t l m. refl) (record nothing_told { batch = t.batch }) t.expired rest
+
 -- what the lines of an overflow tell, and those of a plan
 abbrev pub overflow_told : ℕ → List ℕ → Told
 overflow_told batch expired = record nothing_told { batch = batch; expired = expired; overflow = true }
 
-abbrev pub plan_told : ℕ → List ℕ → Parts → Told
-plan_told batch expired p = record {
-  batch = batch;
-  expired = expired;
-  overflow = false;
-  lapsed = p.lapsed;
-  late = p.late;
-  rv = p.rv;
-  rr = p.rr;
-  rows = p.rows;
-  chosen = p.chosen;
-  left = p.left;
-  moves = p.moves;
-  cost = p.cost;
-  bound = p.bound;
-  nodes = p.nodes;
-  tree = p.tree;
-}
+pub overflow_is_told : (t : Told) → told_by (printed true t) ≡ overflow_told t.batch t.expired
+overflow_is_told t = expired_told t (Overflow ∷ End ∷ [])
 
-expired_first : (batch : ℕ) (expired : List ℕ) (rest : List BlockLine)
-    → told_by (Batch batch ∷ (map Expired expired ++ rest)) ≡ fold with_line (record nothing_told { batch = batch; expired = expired }) rest
-expired_first batch expired rest =
-    list_told Expired (λ t. t.expired) (λ t l. record t { expired = l }) (λ t. refl) (λ t x. refl) (λ t l. refl) (λ t l m. refl) (record nothing_told { batch = batch }) expired rest
-
-pub overflow_is_told : (batch : ℕ) (expired : List ℕ) → told_by (overflow_block batch expired) ≡ overflow_told batch expired
-overflow_is_told batch expired = expired_first batch expired (Overflow ∷ End ∷ [])
-
-pub plan_is_told : (batch : ℕ) (expired : List ℕ) (p : Parts) → All IsNodeLine p.tree → told_by (plan_block batch expired p) ≡ plan_told batch expired p
-plan_is_told batch expired p drawn =
-    let from_counts : List BlockLine = Cost p.cost ∷ Bound p.bound ∷ Nodes p.nodes ∷ (p.tree ++ End ∷ []) in
-    let from_moves : List BlockLine = map Move p.moves ++ from_counts in
-    let from_left : List BlockLine = map Out p.left ++ from_moves in
-    let from_chosen : List BlockLine = map Trip p.chosen ++ from_left in
-    let from_rows : List BlockLine = map Row p.rows ++ from_chosen in
-    let from_rr : List BlockLine = map Shared p.rr ++ from_rows in
-    let from_rv : List BlockLine = map Alone p.rv ++ from_rr in
-    let from_late : List BlockLine = map Late p.late ++ from_rv in
-    let a : Told = record nothing_told { batch = batch; expired = expired } in
-    let b : Told = record a { lapsed = p.lapsed } in
-    let c : Told = record b { late = p.late } in
-    let d : Told = record c { rv = p.rv } in
-    let e : Told = record d { rr = p.rr } in
-    let f : Told = record e { rows = p.rows } in
-    let g : Told = record f { chosen = p.chosen } in
-    let h : Told = record g { left = p.left } in
-    let i : Told = record h { moves = p.moves } in
-    let j : Told = record i { cost = p.cost; bound = p.bound; nodes = p.nodes } in
-    expired_first batch expired (nest p)
-    ∙ list_told Lapsed (λ t. t.lapsed) (λ t l. record t { lapsed = l }) (λ t. refl) (λ t x. refl) (λ t l. refl) (λ t l m. refl) a p.lapsed from_late
-    ∙ list_told Late (λ t. t.late) (λ t l. record t { late = l }) (λ t. refl) (λ t x. refl) (λ t l. refl) (λ t l m. refl) b p.late from_rv
-    ∙ list_told Alone (λ t. t.rv) (λ t l. record t { rv = l }) (λ t. refl) (λ t x. refl) (λ t l. refl) (λ t l m. refl) c p.rv from_rr
-    ∙ list_told Shared (λ t. t.rr) (λ t l. record t { rr = l }) (λ t. refl) (λ t x. refl) (λ t l. refl) (λ t l m. refl) d p.rr from_rows
-    ∙ list_told Row (λ t. t.rows) (λ t l. record t { rows = l }) (λ t. refl) (λ t x. refl) (λ t l. refl) (λ t l m. refl) e p.rows from_chosen
-    ∙ list_told Trip (λ t. t.chosen) (λ t l. record t { chosen = l }) (λ t. refl) (λ t x. refl) (λ t l. refl) (λ t l m. refl) f p.chosen from_left
-    ∙ list_told Out (λ t. t.left) (λ t l. record t { left = l }) (λ t. refl) (λ t x. refl) (λ t l. refl) (λ t l m. refl) g p.left from_moves
-    ∙ list_told Move (λ t. t.moves) (λ t l. record t { moves = l }) (λ t. refl) (λ t x. refl) (λ t l. refl) (λ t l m. refl) h p.moves from_counts
-    ∙ tree_told j p.tree (End ∷ []) drawn
+pub plan_is_told : (t : Told) → All IsNodeLine t.tree → told_by (printed false t) ≡ record t { overflow = false }
+plan_is_told t drawn =
+    expired_told t (from_lapsed t)
+    ∙ list_told Lapsed (λ t. t.lapsed) (λ t l. record t { lapsed = l }) (λ t. refl) (λ t x. refl) (λ t l. refl) (λ t l m. refl) _ t.lapsed _
+    ∙ list_told Late (λ t. t.late) (λ t l. record t { late = l }) (λ t. refl) (λ t x. refl) (λ t l. refl) (λ t l m. refl) _ t.late _
+    ∙ list_told Alone (λ t. t.rv) (λ t l. record t { rv = l }) (λ t. refl) (λ t x. refl) (λ t l. refl) (λ t l m. refl) _ t.rv _
+    ∙ list_told Shared (λ t. t.rr) (λ t l. record t { rr = l }) (λ t. refl) (λ t x. refl) (λ t l. refl) (λ t l m. refl) _ t.rr _
+    ∙ list_told Row (λ t. t.rows) (λ t l. record t { rows = l }) (λ t. refl) (λ t x. refl) (λ t l. refl) (λ t l m. refl) _ t.rows _
+    ∙ list_told Trip (λ t. t.chosen) (λ t l. record t { chosen = l }) (λ t. refl) (λ t x. refl) (λ t l. refl) (λ t l m. refl) _ t.chosen _
+    ∙ list_told Out (λ t. t.left) (λ t l. record t { left = l }) (λ t. refl) (λ t x. refl) (λ t l. refl) (λ t l m. refl) _ t.left _
+    ∙ list_told Move (λ t. t.moves) (λ t l. record t { moves = l }) (λ t. refl) (λ t x. refl) (λ t l. refl) (λ t l m. refl) _ t.moves _
+    ∙ tree_told _ t.tree _ drawn
 
 -- what holds of a list that lines tell, holds of each of these lines
 module _ {X : Type 0} (of : Told → List X) (P : X → Type 0) (Q : BlockLine → Type 0) (step : (t : Told) (line : BlockLine) → All P (of (with_line t line)) → All P (of t) × Q line) where

@@ -2,7 +2,7 @@
 use Rattle.std.specs.Prelude.{ℕ, ◌≤◌, length, IfSome}
 use Rattle.std.specs.List.{All}
 use Rattle.report_lines.specs.BlockLine.{IsBlockLine}
-use Rattle.report_lines.specs.Outcome.{lines_of}
+use Rattle.dispatch_report.specs.Block.{lines_of}
 use Rattle.request_book.specs.declared.outcome.Answer.{Answer}
 use Rattle.request_book.specs.declared.outcome.Answer.TheVariants.{Overflow, Planned as Plan}
 use Rattle.request_book.specs.declared.outcome.Outcome.{Outcome}
@@ -15,5 +15,5 @@ HasFewStops (Plan plan) =
 
 -- each number of the outcome's lines is within its type, and each list of stops
 pub record FitsTypes (batch : ℕ) (outcome : Outcome) : Type 0 where
-  pub lines : All IsBlockLine (lines_of batch outcome)
+  pub lines : All IsBlockLine (lines_of true batch outcome)
   pub stops : HasFewStops outcome.answer

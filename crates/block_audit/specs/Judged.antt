@@ -5,11 +5,11 @@ use Rattle.plan_rules.specs.declared.node.Node.{Node}
 use Rattle.plan_rules.specs.declared.node.Node.TheVariants as node
 use Rattle.batch_solver.specs.declared.point.Point.{Point}
 use Rattle.batch_solver.specs.declared.point.Point.TheVariants as point
-use Rattle.report_lines.specs.declared.block_line.BlockLine.{BlockLine}
-use Rattle.report_lines.specs.declared.block_line.BlockLine.TheVariants.{Branch, Leaf, Dead}
-use Rattle.report_lines.specs.declared.late.LateText.{LateText}
-use Rattle.report_lines.specs.declared.row.RowText.{RowText}
-use Rattle.report_lines.specs.declared.trip.TripText.{TripText}
+use Rattle.dispatch_report.specs.declared.block_line.BlockLine.{BlockLine}
+use Rattle.dispatch_report.specs.declared.block_line.BlockLine.TheVariants.{Branch, Leaf, Dead}
+use Rattle.dispatch_report.specs.declared.block_line.LateText.{LateText}
+use Rattle.dispatch_report.specs.declared.block_line.RowText.{RowText}
+use Rattle.dispatch_report.specs.declared.block_line.TripText.{TripText}
 use Rattle.request_book.specs.declared.outcome.Answer.{Answer}
 use Rattle.request_book.specs.declared.outcome.Answer.TheVariants.{Overflow, Planned as Plan}
 use Rattle.request_book.specs.declared.outcome.ChosenTrip.{ChosenTrip}

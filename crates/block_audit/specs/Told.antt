@@ -1,10 +1,10 @@
 -- What the lines of a block tell, list by list.
 use Rattle.std.specs.Prelude.{ℕ, ℤ, pos, Bool, true, false, List, [], ◌∷◌, ◌++◌, fold}
-use Rattle.report_lines.specs.declared.block_line.BlockLine.{BlockLine}
-use Rattle.report_lines.specs.declared.block_line.BlockLine.TheVariants.{Batch, Expired, Overflow, Lapsed, Late, Alone, Shared, Row, Trip, Out, Move, Cost, Bound, Nodes, Branch, Leaf, Dead, End}
-use Rattle.report_lines.specs.declared.late.LateText.{LateText}
-use Rattle.report_lines.specs.declared.row.RowText.{RowText}
-use Rattle.report_lines.specs.declared.trip.TripText.{TripText}
+use Rattle.dispatch_report.specs.declared.block_line.BlockLine.{BlockLine}
+use Rattle.dispatch_report.specs.declared.block_line.BlockLine.TheVariants.{Batch, Expired, Overflow, Lapsed, Late, Alone, Shared, Row, Trip, Out, Move, Cost, Bound, Nodes, Branch, Leaf, Dead, End}
+use Rattle.dispatch_report.specs.declared.block_line.LateText.{LateText}
+use Rattle.dispatch_report.specs.declared.block_line.RowText.{RowText}
+use Rattle.dispatch_report.specs.declared.block_line.TripText.{TripText}
 use Rattle.request_book.specs.declared.outcome.MoveLine.{MoveLine}
 
 -- the numbers and the lists of a block, these as long as they are printed; a tree by its lines

@@ -2,11 +2,11 @@
 ghost use Rattle.std.specs.Prelude.{◌≡◌, ◌≢◌, ℕ, ◌<◌, ◌≤◌, IfSome, List, Contains, length};
 ghost use Rattle.batch_snapshot.specs.Batch.{Batch};
 ghost use Rattle.batch_snapshot.specs.Kept.{IsKept};
-ghost use Rattle.report_lines.specs.Outcome.{lines_of};
-ghost use Rattle.report_lines.specs.declared.block_line.BlockLine.TheVariants.{Late, Row, Trip};
-ghost use Rattle.report_lines.specs.declared.late.LateText.{LateText};
-ghost use Rattle.report_lines.specs.declared.row.RowText.{RowText};
-ghost use Rattle.report_lines.specs.declared.trip.TripText.{TripText};
+ghost use Rattle.dispatch_report.specs.Block.{lines_of};
+ghost use Rattle.dispatch_report.specs.declared.block_line.BlockLine.TheVariants.{Late, Row, Trip};
+ghost use Rattle.dispatch_report.specs.declared.block_line.LateText.{LateText};
+ghost use Rattle.dispatch_report.specs.declared.block_line.RowText.{RowText};
+ghost use Rattle.dispatch_report.specs.declared.block_line.TripText.{TripText};
 ghost use Rattle.rider_limits.specs.declared.settings.Settings.{Settings};
 ghost use Rattle.road_network.specs.Roads.{Roads};
 ghost use Rattle.request_book.specs.declared.outcome.Outcome.{Outcome};
@@ -18,7 +18,7 @@ ghost use Rattle.block_audit.specs.declared.refusal.BlockRefusal.TheVariants.{Ou
 /// A block whose lines tell no outcome fails at the bound at the latest.
 pub fn untold_lines_fail_by_the_bound()
     ensures { (settings : Settings) (roads : Roads) (batch : Batch) (text : List ℕ) (place : ℕ) (wrong : BeginsWithWrong settings roads batch text place)
-        → ((n : ℕ) (outcome : Outcome) → HasTrips outcome.answer → wrong.lines ≢ lines_of n outcome) → place ≤ 5 }
+        → ((n : ℕ) (outcome : Outcome) → HasTrips outcome.answer → wrong.lines ≢ lines_of true n outcome) → place ≤ 5 }
 {}
 
 /// A block with a row of more than six riders fails at the graphs at the latest.

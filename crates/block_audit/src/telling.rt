@@ -28,23 +28,13 @@ pub(crate) fn untold_place(told: &BlockTold) -> u64
 fn are_short_rows(rows: &[RowText]) -> bool
     ensures { IsTrue result ↔ All (λ row. length row.riders ≤ 6) rows.now }
 {
-    for row in rows {
-        if row.riders.len() > 6 {
-            return false;
-        }
-    }
-    true
+    rows.iter().all(|row| row.riders.len() <= 6)
 }
 
 fn are_short_lates(lates: &[LateText]) -> bool
     ensures { IsTrue result ↔ All (λ late. IfSome late.stops (λ stops. length stops ≤ 10)) lates.now }
 {
-    for late in lates {
-        if !is_short_late(late) {
-            return false;
-        }
-    }
-    true
+    lates.iter().all(|late| is_short_late(late))
 }
 
 fn is_short_late(late: &LateText) -> bool
@@ -59,12 +49,7 @@ fn is_short_late(late: &LateText) -> bool
 fn are_short_trips(trips: &[TripText]) -> bool
     ensures { IsTrue result ↔ All (λ trip. length trip.stops ≤ 22) trips.now }
 {
-    for trip in trips {
-        if trip.stops.len() > 22 {
-            return false;
-        }
-    }
-    true
+    trips.iter().all(|trip| trip.stops.len() <= 22)
 }
 
 /// Whether a tree has as many nodes as are told, and its branches name rows of their vehicles.
@@ -77,12 +62,7 @@ fn is_tree_told(told: &BlockTold) -> bool
 fn name_rows(lines: &[BlockLine], rows: &[RowText]) -> bool
     ensures { IsTrue result ↔ All (NamesRow rows.now) lines.now }
 {
-    for line in lines {
-        if !names_row(line, rows) {
-            return false;
-        }
-    }
-    true
+    lines.iter().all(|line| names_row(line, rows))
 }
 
 fn names_row(line: &BlockLine, rows: &[RowText]) -> bool

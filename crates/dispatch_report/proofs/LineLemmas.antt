@@ -1,12 +1,14 @@
 -- Lines that are written one after the other, and what stands where one of them isn't written whole.
-use Rattle.std.proofs.Common.{◌≡◌, ℕ, ◌+◌, ◌<◌, ◌≤◌, List, [], ◌∷◌, ◌++◌, length, take, Option, Result, Ok, Err, MatchResult, OnOk, arith, refl, sym, ◌∙◌, ap, subst, length-append, append-nil, append_assoc, add-one, map, get_or}
+use Rattle.std.proofs.Common.{◌≡◌, ℕ, ◌+◌, ◌<◌, ◌≤◌, Bool, true, false, cond, List, [], ◌∷◌, ◌++◌, length, take, Option, Result, Ok, Err, MatchResult, OnOk, arith, refl, sym, ◌∙◌, ap, subst, length-append, append-nil, append_assoc, add-one, map, get_or}
 use Rattle.dispatch_report.proofs.Common.{Appends, take-append-le, take-append-add, map-append, Rose, AppendsPart, Change, SinkView, WritesText, IsSame, WritesBytes, WritesLines}
 use Rattle.std.specs.List.{flat_map}
 use Rattle.std.proofs.KnownBytes.{Appends-nil, Appends-trans}
 use Rattle.std.proofs.lemmas.Grind.{flat_map-append}
 use Rattle.std.proofs.Math.Seq.{take-suc}
 use Rattle.pool_io.specs.declared.writing.WriteAll.{WriteAll}
+use Rattle.dispatch_report.specs.Block.{block_line_text}
 use Rattle.dispatch_report.specs.Lines.{lines_text}
+use Rattle.dispatch_report.specs.declared.block_line.BlockLine.{BlockLine}
 use Rattle.dispatch_report.specs.declared.fault.ReportFault.{ReportFault}
 use Rattle.dispatch_report.specs.declared.fault.ReportFault.TheVariants.{WriteFault, OutOfMemory}
 use Rattle.pool_io.specs.declared.writing.WriteAll.TheVariants as of_write
@@ -151,6 +153,31 @@ as_text {a} {b} {c} {p} {q} {lines} {r} {e} rest none first last = as_text_of a 
 -- the same lines
 pub same_lines : {s : Change SinkView} {p q : List ℕ} {r e : Result (Unit {0}) ReportFault} (xs ys : List (List ℕ)) → xs ≡ ys → WritesLines s p q r e xs → WritesLines s p q r e ys
 same_lines {s} {p} {q} {r} {e} xs ys is w = subst (λ ls. WritesLines s p q r e ls) is w
+
+-- lines of a block that were written
+pub record WritesBlock (sink : Change SinkView) (piece rest : List ℕ) (before after : Result (Unit {0}) ReportFault) (lines : List BlockLine) : Type 0 where
+  pub texts : WritesLines sink piece rest before after (map block_line_text lines)
+
+module _ {s : Change SinkView} {p q : List ℕ} {r e : Result (Unit {0}) ReportFault} where
+  pub block : (xs : List BlockLine) → WritesLines s p q r e (map block_line_text xs) → WritesBlock s p q r e xs
+  block xs w = record { texts = w }
+
+  -- those of a list of one kind
+  pub kind : {X : Type 0} (K : X → BlockLine) (xs : List X) → WritesLines s p q r e (map (λ x. block_line_text (K x)) xs) → WritesBlock s p q r e (map K xs)
+  kind {X} K xs w = record { texts = same_lines _ _ (fused xs) w }
+    where
+      fused : (ys : List X) → map (λ x. block_line_text (K x)) ys ≡ map block_line_text (map K ys)
+      fused [] = refl
+      fused (y ∷ ys) = ap (λ l. block_line_text (K y) ∷ l) (fused ys)
+
+  -- the same where they are asked for
+  pub asked : {X : Type 0} (K : X → BlockLine) (xs : List X) (proof : Bool) → WritesLines s p q r e (cond proof (map (λ x. block_line_text (K x)) xs) []) → WritesBlock s p q r e (cond proof (map K xs) [])
+  asked K xs true w = kind K xs w
+  asked K xs false w = block [] w
+
+pub then_block : {a b c : SinkView} {p q t : List ℕ} {x y z : Result (Unit {0}) ReportFault} {xs ys : List BlockLine} → WritesBlock (record { before = a; after = b }) p q x y xs
+    → WritesBlock (record { before = b; after = c }) q t y z ys → WritesBlock (record { before = a; after = c }) p t x z (xs ++ ys)
+then_block {a} {b} {c} {p} {q} {t} {x} {y} {z} {xs} {ys} first next = record { texts = same_lines _ _ (sym (map-append block_line_text xs ys)) (then first.texts next.texts) }
 
 -- the lines of a list up to an item, and those of the item
 pub flat_map-next : {X Y : Type 0} (f : X → List Y) (xs : List X) (i : ℕ) (x : X) → i < length xs → x ≡ get_or xs i x → flat_map f (take i xs) ++ f x ≡ flat_map f (take (i + 1) xs)

@@ -1,6 +1,7 @@
 ghost use Rattle.std.specs.Prelude.{◌≡◌, ◌++◌, ◌∷◌, [], List, ℕ, OnOk, map, codes, length, slice_get, unwrap_or, option_map, if◌then◌else◌};
 ghost use Rattle.std.specs.List.{flat_map};
-ghost use Rattle.dispatch_report.specs.Block.{stop_text, late_line, pair_line, pair_text, trip_line, move_text, node_line, answer_lines, block_lines};
+ghost use Rattle.dispatch_report.specs.Block.{stop_text, block_line_text, row_as_line, trip_as_line, late_as_line, tree_line, lines_of_answer, block_lines};
+ghost use Rattle.dispatch_report.specs.declared.block_line.BlockLine.TheVariants.{Alone, Shared, Move as Moved};
 ghost use Rattle.dispatch_report.specs.Words.{numbered, signed};
 ghost use Rattle.dispatch_report.specs.Written.{sink_seen};
 ghost use Rattle.dispatch_report.specs.work.Block.{late_order};
@@ -42,7 +43,7 @@ fn write_answer<K: Sink>(
     answer: &Answer,
     proof: bool,
 )
-    ensures { WritesLines (sink_seen K.written K.faults sink.old sink.new) piece.old.items piece.new.items so_far.old so_far.new (answer_lines proof answer.now) }
+    ensures { WritesLines (sink_seen K.written K.faults sink.old sink.new) piece.old.items piece.new.items so_far.old so_far.new (map block_line_text (lines_of_answer proof answer.now)) }
 {
     match answer {
         Answer::Overflow => write_words(sink, piece, so_far, b"overflow"),
@@ -57,7 +58,7 @@ fn write_plan<K: Sink>(
     plan: &Planned,
     proof: bool,
 )
-    ensures { WritesLines (sink_seen K.written K.faults sink.old sink.new) piece.old.items piece.new.items so_far.old so_far.new (answer_lines proof (Plan plan.now)) }
+    ensures { WritesLines (sink_seen K.written K.faults sink.old sink.new) piece.old.items piece.new.items so_far.old so_far.new (map block_line_text (lines_of_answer proof (Plan plan.now))) }
 {
     write_list(
         sink,
@@ -97,7 +98,7 @@ fn write_tree<K: Sink>(
     plan: &Planned,
     proof: bool,
 )
-    ensures { WritesLines (sink_seen K.written K.faults sink.old sink.new) piece.old.items piece.new.items so_far.old so_far.new (if proof then map (node_line plan.now.rows) plan.now.tree else []) }
+    ensures { WritesLines (sink_seen K.written K.faults sink.old sink.new) piece.old.items piece.new.items so_far.old so_far.new (if proof then map (λ node. block_line_text (tree_line plan.now.rows node)) plan.now.tree else []) }
 {
     if proof {
         let rows = plan.rows.as_slice();
@@ -197,7 +198,7 @@ struct Late;
 impl Line for Late {
     type Item = LateVehicle;
 
-    ghost text = { λ _ late. late_line late };
+    ghost text = { λ _ late. block_line_text (late_as_line late) };
 
     fn put(&self, line: &mut Vec<u8>, late: &LateVehicle) -> Result<(), OutOfMemory> {
         put_numbered(line, b"late ", u64::from(late.vehicle.get()))?;
@@ -223,7 +224,7 @@ struct Rv;
 impl Line for Rv {
     type Item = (VehicleId, RiderId);
 
-    ghost text = { λ _ edge. pair_line (codes "rv ") edge };
+    ghost text = { λ _ edge. block_line_text (Alone edge) };
 
     fn put(&self, line: &mut Vec<u8>, edge: &(VehicleId, RiderId)) -> Result<(), OutOfMemory> {
         put_numbered(line, b"rv ", u64::from(edge.0.get()))?;
@@ -237,7 +238,7 @@ struct Rr;
 impl Line for Rr {
     type Item = (RiderId, RiderId);
 
-    ghost text = { λ _ edge. pair_line (codes "rr ") edge };
+    ghost text = { λ _ edge. block_line_text (Shared edge) };
 
     fn put(&self, line: &mut Vec<u8>, edge: &(RiderId, RiderId)) -> Result<(), OutOfMemory> {
         put_numbered(line, b"rr ", u64::from(edge.0.get()))?;
@@ -251,7 +252,7 @@ struct Row;
 impl Line for Row {
     type Item = RowLine;
 
-    ghost text = { λ _ row. pair_text row };
+    ghost text = { λ _ row. block_line_text (row_as_line row) };
 
     fn put(&self, line: &mut Vec<u8>, row: &RowLine) -> Result<(), OutOfMemory> {
         put_numbered(line, b"row ", u64::from(row.vehicle.get()))?;
@@ -266,7 +267,7 @@ struct Trip;
 impl Line for Trip {
     type Item = ChosenTrip;
 
-    ghost text = { λ _ trip. trip_line trip };
+    ghost text = { λ _ trip. block_line_text (trip_as_line trip) };
 
     fn put(&self, line: &mut Vec<u8>, trip: &ChosenTrip) -> Result<(), OutOfMemory> {
         put_numbered(line, b"trip ", u64::from(trip.vehicle.get()))?;
@@ -281,7 +282,7 @@ struct Move;
 impl Line for Move {
     type Item = MoveLine;
 
-    ghost text = { λ _ m. move_text m };
+    ghost text = { λ _ m. block_line_text (Moved m) };
 
     fn put(&self, line: &mut Vec<u8>, item: &MoveLine) -> Result<(), OutOfMemory> {
         put_numbered(line, b"move ", u64::from(item.vehicle.get()))?;
@@ -299,7 +300,7 @@ struct TreeNode<'a> {
 impl<'a> Line for TreeNode<'a> {
     type Item = Node;
 
-    ghost text = { λ kind node. node_line kind.rows.now node };
+    ghost text = { λ kind node. block_line_text (tree_line kind.rows.now node) };
 
     fn put(&self, line: &mut Vec<u8>, node: &Node) -> Result<(), OutOfMemory> {
         match node {

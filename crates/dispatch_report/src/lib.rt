@@ -30,6 +30,7 @@
 #![tactic(auto)]
 
 mod block;
+mod block_line;
 mod day;
 mod entry;
 mod fault;
@@ -41,6 +42,7 @@ mod step;
 mod summary;
 mod words;
 
+pub use block_line::{BlockLine, LateText, RowText, TripText};
 pub use day::{DayCounts, write_day_end};
 pub use entry::put_entry;
 pub use fault::ReportFault;

@@ -1,5 +1,5 @@
 -- The names that the proofs of this crate cite from elsewhere, passed on from one place. Declares nothing.
-pub use Rattle.std.proofs.lemmas.Bool.{and_parts, both_ways, cases_eq, cases_lt, cond-true}
+pub use Rattle.std.proofs.lemmas.Bool.{both_ways, cases_eq, cases_lt, cond-true}
 pub use Rattle.std.proofs.lemmas.List.{drop_all, drop_more, get_or-replicate, get_or_past, length-replicate}
 pub use Rattle.batch_snapshot.specs.Batch.{Batch}
 pub use Rattle.batch_snapshot.specs.Kept.{IsKept}
@@ -23,8 +23,8 @@ unfoldable pub use Rattle.dispatch_report.specs.Words.{numbered}
 pub use Rattle.dispatch_report.specs.Words.{spaced}
 pub use Rattle.pool_io.specs.Faults.{one_more}
 pub use Rattle.report_audit.specs.Fault.{FailsAsLine, FailsAt, HasFault, IsCut, IsOutOfForm, IsWrongBatch, IsWrongBlock, IsWrongLine}
-pub use Rattle.report_audit.specs.Place.{AreAtEnd, BeginsRound, Extent, IsInForm, IsNoEntry, IsRightUpTo, MayComeNext, MayFollow, position_behind, rounds_so_far, state_behind}
-pub use Rattle.report_audit.specs.Report.{IsAudited, IsReportOfRun, batches_after, batches_in, closes, rounds_text}
+pub use Rattle.report_audit.specs.Place.{AreAtEnd, BeginsRound, Extent, IsInForm, IsRightUpTo, MayComeNext, MayFollow, position_behind, rounds_so_far, state_behind}
+pub use Rattle.report_audit.specs.Report.{IsAudited, IsReportOfRun, batches_after, closes, rounds_text}
 pub use Rattle.report_audit.specs.Types.{AreTold, HasFittingBlock, IsTold, JournalsAreTold}
 pub use Rattle.report_audit.specs.declared.fault.AuditFault.{AuditFault}
 pub use Rattle.report_audit.specs.declared.stop.LineFault.{LineFault}
@@ -40,7 +40,7 @@ pub use Rattle.report_audit.specs.work.Steps.{BeginsWithEntry, EntryRead, HasNoN
 pub use Rattle.report_audit.specs.work.Taking.{CommandStops, TakesCommand, TellsEnd}
 pub use Rattle.report_audit.specs.work.Whole.{AllStops, HasComeTo, HasReadAll, WhereAllStops}
 pub use Rattle.report_lines.proofs.lemmas.NextLemmas.{no_entry_done, no_entry_round, one_kind}
-pub use Rattle.report_lines.proofs.lemmas.OneBlock.{append_one_line, cut_once, no_one_line, numbered_one_line}
+pub use Rattle.report_lines.proofs.lemmas.OneBlock.{append_one_line, cut_once, no_one_line, numbered_one_line, spaced_one_line, two_line}
 pub use Rattle.report_lines.specs.Cut.{is_one_line}
 pub use Rattle.report_lines.specs.Head.{BeginsWithHead}
 pub use Rattle.report_lines.specs.HeadFault.{FitsLine, HasForm, HeadFails, HeadLine, LineFails, LinesFail, head_lines, sizes_of}

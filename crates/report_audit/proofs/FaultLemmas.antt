@@ -23,6 +23,9 @@ line_is text read rest left whole at =
 counted : (k m : ℕ) → higher (higher k 1) m ≡ min (k + 1 + m) (2 ^ 64 - 1)
 counted k m = omega arith
 
+first_counted : (k : ℕ) → higher k 1 ≡ min (k + 1 + 0) (2 ^ 64 - 1)
+first_counted k = omega arith
+
 left_low : (text read rest : List ℕ) (left : ℕ) → text ≡ read ++ rest → left ≡ length rest → left ≤ length text
 left_low text read rest left whole at =
     let long : length text ≡ length read + length rest = ap length whole ∙ length-append read rest in
@@ -50,11 +53,11 @@ module _ (roads : Roads) (vehicles : List Vehicle) (rounds : List NumberedLanes)
     fault_at (Line left wrong.Entry) stops = fails_at left stops.0 IsWrongLine stops.1
     fault_at (Block left block.OutOfMemory) stops = absurd (stops.2 refl)
     fault_at (Block left (block.Cut n)) stops =
-        FailsAsLine.in_block (record { closing = line_left text left; lines = n; line_is = counted (line_left text left) n; fails = fails_at left stops.0 (IsWrongBatch (block.Cut n)) stops.1 })
+        FailsAsLine.in_block n (record { closing = line_left text left; line_is = counted (line_left text left) n; fails = fails_at left stops.0 (IsWrongBatch (block.Cut n)) stops.1 })
     fault_at (Block left (block.Form n)) stops =
-        FailsAsLine.in_block (record { closing = line_left text left; lines = n; line_is = counted (line_left text left) n; fails = fails_at left stops.0 (IsWrongBatch (block.Form n)) stops.1 })
+        FailsAsLine.in_block n (record { closing = line_left text left; line_is = counted (line_left text left) n; fails = fails_at left stops.0 (IsWrongBatch (block.Form n)) stops.1 })
     fault_at (Block left (block.Wrong point)) stops =
-        record { closing = line_left text left; line_is = refl; fails = fails_at left stops.0 (IsWrongBatch (block.Wrong point)) stops.1 }
+        record { closing = line_left text left; line_is = first_counted (line_left text left); fails = fails_at left stops.0 (IsWrongBatch (block.Wrong point)) stops.1 }
 
     low_at : (stop : Stop) → StopsAt settings roads place rest stop → IsLeftOf text stop
     low_at OutOfMemory stops = tt
@@ -150,23 +153,23 @@ module _ (roads : Roads) (vehicles : List Vehicle) (rounds : List NumberedLanes)
           so_told end (Line found.0 wrong.Entry) (fault.Entry n) found.1 (ap fault.Entry (sym found.2))
       only_fault none (fault.Batch n point) memory has =
           let found = stops_so has.closing has.fails (λ k. Block k (block.Wrong point)) (λ k e. cc) (refl, has.fails.fails, λ e. cc) in
-          so_told end (Block found.0 (block.Wrong point)) (fault.Batch n point) found.1 (ap (λ (k : ℕ). fault.Batch k point) (has.line_is ∙ ap (λ (k : ℕ). higher k 1) (sym found.2)))
+          so_told end (Block found.0 (block.Wrong point)) (fault.Batch n point) found.1 (ap (λ (k : ℕ). fault.Batch k point) (has.line_is ∙ sym (first_counted has.closing) ∙ ap (λ (k : ℕ). higher k 1) (sym found.2)))
       only_fault none (fault.Cut n) memory (FailsAsLine.in_head has) = absurd (none (head.Cut n) has)
       only_fault none (fault.Cut n) memory (FailsAsLine.behind has) =
           let found = stops_so n has (λ k. Line k wrong.Cut) (λ k e. cc) (refl, has.fails) in
           so_told end (Line found.0 wrong.Cut) (fault.Cut n) found.1 (ap fault.Cut (sym found.2))
-      only_fault none (fault.Cut n) memory (FailsAsLine.in_block has) =
-          let found = stops_so has.closing has.fails (λ k. Block k (block.Cut has.lines)) (λ k e. cc) (refl, has.fails.fails, λ e. cc) in
-          so_told end (Block found.0 (block.Cut has.lines)) (fault.Cut n) found.1
-          (ap fault.Cut (has.line_is ∙ sym (counted has.closing has.lines) ∙ ap (λ (k : ℕ). higher (higher k 1) has.lines) (sym found.2)))
+      only_fault none (fault.Cut n) memory (FailsAsLine.in_block lines has) =
+          let found = stops_so has.closing has.fails (λ k. Block k (block.Cut lines)) (λ k e. cc) (refl, has.fails.fails, λ e. cc) in
+          so_told end (Block found.0 (block.Cut lines)) (fault.Cut n) found.1
+          (ap fault.Cut (has.line_is ∙ sym (counted has.closing lines) ∙ ap (λ (k : ℕ). higher (higher k 1) lines) (sym found.2)))
       only_fault none (fault.Form n) memory (FailsAsLine.in_head has) = absurd (none (head.Form n) has)
       only_fault none (fault.Form n) memory (FailsAsLine.behind has) =
           let found = stops_so n has (λ k. Line k wrong.Form) (λ k e. cc) (refl, has.fails) in
           so_told end (Line found.0 wrong.Form) (fault.Form n) found.1 (ap fault.Form (sym found.2))
-      only_fault none (fault.Form n) memory (FailsAsLine.in_block has) =
-          let found = stops_so has.closing has.fails (λ k. Block k (block.Form has.lines)) (λ k e. cc) (refl, has.fails.fails, λ e. cc) in
-          so_told end (Block found.0 (block.Form has.lines)) (fault.Form n) found.1
-          (ap fault.Form (has.line_is ∙ sym (counted has.closing has.lines) ∙ ap (λ (k : ℕ). higher (higher k 1) has.lines) (sym found.2)))
+      only_fault none (fault.Form n) memory (FailsAsLine.in_block lines has) =
+          let found = stops_so has.closing has.fails (λ k. Block k (block.Form lines)) (λ k e. cc) (refl, has.fails.fails, λ e. cc) in
+          so_told end (Block found.0 (block.Form lines)) (fault.Form n) found.1
+          (ap fault.Form (has.line_is ∙ sym (counted has.closing lines) ∙ ap (λ (k : ℕ). higher (higher k 1) lines) (sym found.2)))
 
 -- where the text has no head, it is the report of no run
 pub no_head : (roads : Roads) (vehicles : List Vehicle) (rounds : List NumberedLanes) (workers : ℕ) (text : List ℕ) → ((s : Settings) (rest : List ℕ) → BeginsWithHead workers roads (length vehicles) text s rest → ⊥)
@@ -197,7 +200,7 @@ fault_of_heads roads vehicles rounds workers text none found one (fault.Entry n)
 fault_of_heads roads vehicles rounds workers text none found one (fault.Batch n point) memory has = absurd (no_fault_behind roads vehicles rounds workers text none has.closing has.fails)
 fault_of_heads roads vehicles rounds workers text none found one (fault.Cut n) memory (FailsAsLine.in_head has) = ap fault_of_head (one (head.Cut n) has)
 fault_of_heads roads vehicles rounds workers text none found one (fault.Cut n) memory (FailsAsLine.behind has) = absurd (no_fault_behind roads vehicles rounds workers text none n has)
-fault_of_heads roads vehicles rounds workers text none found one (fault.Cut n) memory (FailsAsLine.in_block has) = absurd (no_fault_behind roads vehicles rounds workers text none has.closing has.fails)
+fault_of_heads roads vehicles rounds workers text none found one (fault.Cut n) memory (FailsAsLine.in_block lines has) = absurd (no_fault_behind roads vehicles rounds workers text none has.closing has.fails)
 fault_of_heads roads vehicles rounds workers text none found one (fault.Form n) memory (FailsAsLine.in_head has) = ap fault_of_head (one (head.Form n) has)
 fault_of_heads roads vehicles rounds workers text none found one (fault.Form n) memory (FailsAsLine.behind has) = absurd (no_fault_behind roads vehicles rounds workers text none n has)
-fault_of_heads roads vehicles rounds workers text none found one (fault.Form n) memory (FailsAsLine.in_block has) = absurd (no_fault_behind roads vehicles rounds workers text none has.closing has.fails)
+fault_of_heads roads vehicles rounds workers text none found one (fault.Form n) memory (FailsAsLine.in_block lines has) = absurd (no_fault_behind roads vehicles rounds workers text none has.closing has.fails)

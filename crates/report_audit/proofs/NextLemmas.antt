@@ -1,40 +1,32 @@
 -- What comes next within a round.
-use Rattle.std.proofs.Common.{◌≡◌, ◌≢◌, ◌⊎◌, ◌==◌, ℕ, ◌<◌, true, false, List, [], ◌∷◌, ◌++◌, length, set, slice_get, Option, Some, None, inl, inr, ⊎_elim, refl, sym, ap, ◌∙◌, subst, append-nil, append_assoc, length-append, arith, not}
-use Rattle.report_audit.proofs.Common.{and_parts, Batch, Refuses, BlockRefusal, one_refusal, of_lane, IsCloseOf, IsLaneRun, IsLaneBeginning, IsGoodClose, journal_of, entry_line, lines_text, entry_block, IsNextLine, NextLine, one_kind, LaneStand, stand_at, stand_after, HaveCome, IsNext, IsNextFrom, come_more, one_more, is_one_line, cut_once, BookView, IsApplied, IsBook, next_position, state_after, step, Command, Close, Entry, Journal, Outcome, Reply, applied-book, Settings, Roads, NumberedLanes, lane_at, IsFirstLine, Extent, BeginsRound, IsInForm, MayComeNext, MayFollow, AreAtEnd, position_behind, state_behind, IsCut, IsWrongBatch, IsWrongBlock, with_entry, HasFittingBlock, AreTold, LineFault, Stop, OutOfMemory, Line, Block, GoesOn, IsRestOfRounds, IsWrong, StopsAt, StopsHere, entries_text, with_more, BeginsWithEntry, MayBegin, HasNoNext, IsBookOf}
-use Rattle.report_lines.specs.declared.next.NextLine.TheVariants.{Round as RoundOf, Done as DoneOf, Entry as EntryOf}
+use Rattle.std.proofs.Common.{◌≡◌, ◌≢◌, ◌⊎◌, ℕ, ◌<◌, true, List, [], ◌∷◌, ◌++◌, length, set, slice_get, Option, Some, None, inl, inr, ⊎_elim, refl, sym, ap, ◌∙◌, subst, append-nil, append_assoc, length-append, arith}
+use Rattle.report_audit.proofs.Common.{Batch, Refuses, BlockRefusal, one_refusal, of_lane, IsCloseOf, IsLaneRun, IsLaneBeginning, IsGoodClose, journal_of, entry_line, lines_text, entry_block, IsNextLine, NextLine, one_kind, LaneStand, stand_at, stand_after, HaveCome, IsNext, IsNextFrom, come_more, one_more, is_one_line, cut_once, no_one_line, BookView, IsApplied, IsBook, next_position, state_after, step, Command, Close, Entry, Journal, Outcome, Reply, applied-book, Settings, Roads, NumberedLanes, lane_at, IsFirstLine, Extent, BeginsRound, IsInForm, MayComeNext, MayFollow, AreAtEnd, position_behind, state_behind, IsCut, IsWrongBatch, IsWrongBlock, with_entry, HasFittingBlock, AreTold, LineFault, Stop, OutOfMemory, Line, Block, GoesOn, IsRestOfRounds, IsWrong, StopsAt, StopsHere, entries_text, with_more, BeginsWithEntry, MayBegin, HasNoNext, IsBookOf}
+use Rattle.report_lines.specs.declared.next.NextLine.TheVariants.{Entry as EntryOf}
+use Rattle.report_lines.proofs.lemmas.LineLemmas.{first_once}
 use Rattle.report_audit.proofs.JournalLemmas.{reply-at, close-at}
 use Rattle.report_audit.proofs.LaneLemmas.{of_lane-append, begins_next, come_begins}
 use Rattle.report_audit.proofs.TextLemmas.{entries-more, entry_one, entries-none}
 use Rattle.block_audit.specs.declared.refusal.BlockRefusal.TheVariants as refusal
 use Rattle.report_audit.specs.declared.stop.LineFault.TheVariants as wrong
 
--- a line that ends has a line feed behind it
-pub not_one : (a r : List ℕ) → is_one_line (a ++ 10 ∷ r) ≡ true → ⊥
-not_one [] r h = (let f : false ≡ true = h in absurd cc)
-not_one (c ∷ cs) r h = not_one cs r (and_parts (not (c == 10)) (is_one_line (cs ++ 10 ∷ r)) h).1
-
 -- the position behind one more entry
 pub push-position : (p : ℕ) (es : List Entry) (e : Entry) → one_more (next_position p es) ≡ next_position p (es ++ e ∷ [])
 push-position p es e = omega (arith, length-append es (e ∷ []))
 
--- two lines that stand first are one
-one_first : (text line after other behind : List ℕ) → IsFirstLine text line after → IsFirstLine text other behind → (line ≡ other) × (after ≡ behind)
-one_first text line after other behind has first = cut_once line other after behind has.one first.one (sym has.whole ∙ first.whole)
-
 -- where a line stands first, the text isn't cut
 cut_line : (place : Extent) (text line after : List ℕ) → IsFirstLine text line after → IsCut place text → ⊥
-cut_line (Extent.between before later p) text line after has cut = not_one line after (subst (λ (t : List ℕ). is_one_line t ≡ true) has.whole cut)
-cut_line (Extent.within round j) text line after has cut = not_one line after (subst (λ (t : List ℕ). is_one_line t ≡ true) has.whole cut)
-cut_line Extent.finished text line after has cut = not_one line after (subst (λ (t : List ℕ). is_one_line t ≡ true) has.whole cut.0)
+cut_line (Extent.between before later p) text line after has cut = no_one_line line after (subst (λ (t : List ℕ). is_one_line t ≡ true) has.whole cut)
+cut_line (Extent.within round j) text line after has cut = no_one_line line after (subst (λ (t : List ℕ). is_one_line t ≡ true) has.whole cut)
+cut_line Extent.finished text line after has cut = no_one_line line after (subst (λ (t : List ℕ). is_one_line t ≡ true) has.whole cut.0)
 
 -- a line that stands first and may stand there is no stop
 line_is_no_stop : (settings : Settings) (roads : Roads) (place : Extent) (text line after : List ℕ) → IsFirstLine text line after → IsInForm place line → MayFollow settings roads place line
     → (fault : LineFault) → IsWrong settings roads place text fault → ⊥
 line_is_no_stop settings roads place text line after has form follow wrong.Cut stops = cut_line place text line after has stops
 line_is_no_stop settings roads place text line after has form follow wrong.Form stops =
-    stops.3 (subst (IsInForm place) (sym (one_first text stops.0 stops.1 line after stops.2 has).0) form)
+    stops.3 (subst (IsInForm place) (sym (first_once text stops.0 line stops.1 after stops.2 has).0) form)
 line_is_no_stop settings roads place text line after has form follow wrong.Entry stops =
-    stops.4 (subst (MayFollow settings roads place) (sym (one_first text stops.0 stops.1 line after stops.2 has).0) follow)
+    stops.4 (subst (MayFollow settings roads place) (sym (first_once text stops.0 line stops.1 after stops.2 has).0) follow)
 
 -- where an entry's line stands first that may come next, an audit stops at its block alone
 pub comes_is_no_stop : (settings : Settings) (roads : Roads) (round : NumberedLanes) (j : Journal) (text line after : List ℕ) → IsFirstLine text line after → (e : Entry) → MayComeNext settings roads round j e
@@ -54,8 +46,8 @@ one_line settings roads place text wrong.Cut wrong.Form one two = absurd (cut_li
 one_line settings roads place text wrong.Cut wrong.Entry one two = absurd (cut_line place text two.0 two.1 two.2 one)
 one_line settings roads place text wrong.Form wrong.Cut one two = absurd (cut_line place text one.0 one.1 one.2 two)
 one_line settings roads place text wrong.Entry wrong.Cut one two = absurd (cut_line place text one.0 one.1 one.2 two)
-one_line settings roads place text wrong.Form wrong.Entry one two = absurd (one.3 (subst (IsInForm place) (one_first text two.0 two.1 one.0 one.1 two.2 one.2).0 two.3))
-one_line settings roads place text wrong.Entry wrong.Form one two = absurd (two.3 (subst (IsInForm place) (one_first text one.0 one.1 two.0 two.1 one.2 two.2).0 one.3))
+one_line settings roads place text wrong.Form wrong.Entry one two = absurd (one.3 (subst (IsInForm place) (first_once text two.0 one.0 two.1 one.1 two.2 one.2).0 two.3))
+one_line settings roads place text wrong.Entry wrong.Form one two = absurd (two.3 (subst (IsInForm place) (first_once text one.0 two.0 one.1 two.1 one.2 two.2).0 one.3))
 
 -- a block that is wrong stands behind a line that may come next
 wrong_block_line : (settings : Settings) (roads : Roads) (place : Extent) (text : List ℕ) (refused : BlockRefusal) (fault : LineFault) → IsWrongBatch refused settings roads place text → IsWrong settings roads place text fault → ⊥
@@ -68,7 +60,7 @@ wrong_block_line settings roads Extent.finished text refused fault wrong stops =
 one_block : (settings : Settings) (roads : Roads) (place : Extent) (text : List ℕ) (one other : BlockRefusal) → IsWrongBatch one settings roads place text → IsWrongBatch other settings roads place text
     → one ≢ refusal.OutOfMemory → other ≢ refusal.OutOfMemory → one ≡ other
 one_block settings roads (Extent.within round j) text one other a b some more =
-    let line = one_first text a.line a.after b.line b.after a.has b.has in
+    let line = first_once text a.line b.line a.after b.after a.has b.has in
     let both : Some a.batch ≡ Some b.batch = sym a.sealed ∙ b.sealed in
     let batch : a.batch ≡ b.batch = cc in
     one_refusal settings roads b.batch b.after one other some more
@@ -169,13 +161,13 @@ module _ (settings : Settings) (roads : Roads) (round : NumberedLanes) (end : Op
   pub first_is : (j : Journal) (text line after : List ℕ) → (h : HasNext j text) → IsFirstLine text line after
       → (line ≡ entry_line (position_behind j) h.entry) × (after ≡ lines_text (entry_block true h.entry.command h.entry.reply) ++ h.behind)
   first_is j text line after h has =
-      cut_once line (entry_line (position_behind j) h.entry) after (lines_text (entry_block true h.entry.command h.entry.reply) ++ h.behind) has.one (entry_one (position_behind j) h.entry h.comes.line) (sym has.whole ∙ h.printed)
+      cut_once line (entry_line (position_behind j) h.entry) after (lines_text (entry_block true h.entry.command h.entry.reply) ++ h.behind) has.one (entry_one (position_behind j) h.entry) (sym has.whole ∙ h.printed)
 
   -- where a line is wrong, no entry comes next
   pub wrong_is_none : (j : Journal) (text : List ℕ) (left : ℕ) (fault : LineFault) → StopsAt settings roads (Extent.within round j) text (Line left fault) → HasNext j text → ⊥
   wrong_is_none j text left fault stops h =
       comes_is_no_stop settings roads round j text (entry_line (position_behind j) h.entry) (lines_text (entry_block true h.entry.command h.entry.reply) ++ h.behind)
-      (record { whole = h.printed; one = entry_one (position_behind j) h.entry h.comes.line }) h.entry h.comes refl (Line left fault) (λ e. cc) stops (λ refused is wrong some. cc)
+      (record { whole = h.printed; one = entry_one (position_behind j) h.entry }) h.entry h.comes refl (Line left fault) (λ e. cc) stops (λ refused is wrong some. cc)
 
 -- no line in form is a stop at each place that isn't the end
 pub no_next_within : (settings : Settings) (roads : Roads) (round : NumberedLanes) (j : Journal) (text : List ℕ) (stop : Stop) → HasNoNext text stop → StopsAt settings roads (Extent.within round j) text stop
@@ -192,9 +184,7 @@ no_form (r ∷ rs) later p line none f = none f.0 f.1
 
 pub in_form : (before later : List NumberedLanes) (p : ℕ) (text line after : List ℕ) (x : NextLine) → MayBegin before text → IsFirstLine text line after → IsNextLine x line → IsInForm (Extent.between before later p) line
 in_form (r ∷ rs) later p text line after x begins has is = (x, is)
-in_form [] later p text line after (EntryOf lane) begins has is = absurd (begins refl (lane, line, after, has, is))
-in_form [] later p text line after (RoundOf number) begins has is = (RoundOf number, is, tt)
-in_form [] later p text line after (DoneOf entries) begins has is = (DoneOf entries, is, tt)
+in_form [] later p text line after x begins has is = (x, is, λ lane e. begins refl (lane, line, after, has, subst (λ (y : NextLine). IsNextLine y line) e is))
 
 pub no_next_between : (settings : Settings) (roads : Roads) (before later : List NumberedLanes) (p : ℕ) (text : List ℕ) (stop : Stop) → HasNoNext text stop → StopsAt settings roads (Extent.between before later p) text stop
 no_next_between settings roads before later p text OutOfMemory gap = absurd gap
@@ -206,7 +196,7 @@ no_next_between settings roads before later p text (Block left refused) gap = ab
 -- a text that begins with no entry
 pub no_entry_gap : (text : List ℕ) (stop : Stop) → HasNoNext text stop → BeginsWithEntry text → ⊥
 no_entry_gap text OutOfMemory gap begins = absurd gap
-no_entry_gap text (Line left wrong.Cut) gap (lane, line, after, has, is) = not_one line after (subst (λ (t : List ℕ). is_one_line t ≡ true) has.whole gap.1)
+no_entry_gap text (Line left wrong.Cut) gap (lane, line, after, has, is) = no_one_line line after (subst (λ (t : List ℕ). is_one_line t ≡ true) has.whole gap.1)
 no_entry_gap text (Line left wrong.Form) gap (lane, line, after, has, is) =
     let bad = gap.1 in
     let same = cut_once bad.0 line bad.1 after bad.2.one has.one (sym bad.2.whole ∙ has.whole) in

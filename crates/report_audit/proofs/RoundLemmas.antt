@@ -1,12 +1,12 @@
 -- Rounds of a report.
 use Rattle.std.proofs.Common.{◌≡◌, ◌≢◌, ◌⊎◌, ℕ, ◌<◌, ◌≤◌, ◌^◌, true, List, [], ◌∷◌, ◌++◌, length, replicate, drop, codes, Option, Some, None, refl, sym, ap, ◌∙◌, subst, ⊎_elim, append-nil, append_assoc, arith, option_map, count_by}
-use Rattle.report_audit.proofs.Common.{cases_lt, get_or_past, get_or-replicate, length-replicate, Batch, of_lane, ClosesAreGood, IsLaneBeginning, IsLaneRun, IsLaneRunFrom, journal_of, round_text, numbered, IsNextLine, NextLine, one_kind, LaneStand, at_start, stand_at, HaveCome, AreDone, cut_once, BookView, next_position, state_after, RepliesAreSteps, Command, Entry, Journal, State, round-book, Settings, Roads, NumberedLanes, IsRound, lane_at, sealed_by, IsFirstLine, Extent, AreAtEnd, IsInForm, position_behind, state_behind, closes, AreTold, Stop, OutOfMemory, Line, Block, GoesOn, IsRestOfRounds, StopsAt, StopsHere, entries_text, with_more, IsRoundStart, HasRoundLine, IsNoRoundLine, EntriesStop, HasReadEntries, HasReadRound, RoundStops, WhereRoundStops, HasRead, IsBookOf, IsWithin, StopsBehind, StopsWithin}
+use Rattle.report_audit.proofs.Common.{cases_lt, numbered_one_line, get_or_past, get_or-replicate, length-replicate, Batch, of_lane, ClosesAreGood, IsLaneBeginning, IsLaneRun, IsLaneRunFrom, journal_of, round_text, numbered, IsNextLine, NextLine, one_kind, LaneStand, at_start, stand_at, HaveCome, AreDone, cut_once, BookView, next_position, state_after, RepliesAreSteps, Command, Entry, Journal, State, round-book, Settings, Roads, NumberedLanes, IsRound, lane_at, sealed_by, IsFirstLine, Extent, AreAtEnd, IsInForm, position_behind, state_behind, closes, AreTold, Stop, OutOfMemory, Line, Block, GoesOn, IsRestOfRounds, StopsAt, StopsHere, entries_text, with_more, IsRoundStart, HasRoundLine, IsNoRoundLine, EntriesStop, HasReadEntries, HasReadRound, RoundStops, WhereRoundStops, HasRead, IsBookOf, IsWithin, StopsBehind, StopsWithin}
 use Rattle.report_lines.specs.declared.next.NextLine.TheVariants.{Round as RoundOf}
 use Rattle.report_audit.proofs.JournalLemmas.{after-none, closes-none}
 use Rattle.report_audit.proofs.LaneLemmas.{come_begins, done_end, own-lane}
 use Rattle.report_audit.proofs.NextLemmas.{between_is_no_stop, book_state, in_form, same_stop}
 use Rattle.report_audit.proofs.EntryLemmas.{not_at_end}
-use Rattle.report_audit.proofs.TextLemmas.{words_one, entries-append, entries-none, next-append, next-low, next-none, round-is}
+use Rattle.report_audit.proofs.TextLemmas.{entries-append, entries-none, next-append, next-low, next-none, round-is}
 use Rattle.report_audit.specs.declared.stop.LineFault.TheVariants as wrong
 
 -- at the start of a round no lane has begun
@@ -152,7 +152,7 @@ round_goes settings roads before round later p text after line end here =
     between_is_no_stop settings roads before (round ∷ later) p text (numbered (codes "round ") round.number) after line.has (form before) refl end here
   where
     form : (before : List NumberedLanes) → IsInForm (Extent.between before (round ∷ later) p) (numbered (codes "round ") round.number)
-    form [] = (RoundOf round.number, (line.low, refl), tt)
+    form [] = (RoundOf round.number, (line.low, refl), λ lane e. cc)
     form (r ∷ rs) = (RoundOf round.number, (line.low, refl))
 
 module _ (settings : Settings) (roads : Roads) (round : NumberedLanes) (old : BookView) (start : IsRoundStart settings roads old) where
@@ -242,7 +242,7 @@ module _ (settings : Settings) (roads : Roads) (round : NumberedLanes) (old : Bo
         (λ (here : StopsHere settings roads end (Extent.between passed (round ∷ later) old.first) text). same_stop settings roads (Extent.between passed (round ∷ later) old.first) text stop some stops end here)
         (λ (goes : (behind : List ℕ) × (text ≡ numbered (codes "round ") round.number ++ 10 ∷ behind)
         × GoesOn settings roads end (passed ++ round ∷ []) round later (record { first = old.first; base = old.state; entries = [] }) behind).
-        absurd (round_goes settings roads passed round later old.first text goes.0 (record { low = no_line.low; has = record { whole = goes.1; one = words_one round.number no_line.low } }) (Some stop) (some, stops)))
+        absurd (round_goes settings roads passed round later old.first text goes.0 (record { low = no_line.low; has = record { whole = goes.1; one = numbered_one_line (codes "round ") round.number refl } }) (Some stop) (some, stops)))
         rest;
   }
 

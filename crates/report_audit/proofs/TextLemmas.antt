@@ -1,11 +1,8 @@
 -- Texts of entries and rounds.
 use Rattle.std.proofs.Common.{◌≡◌, ℕ, ◌<◌, ◌≤◌, ◌^◌, Bool, true, false, cond, eqb, List, [], ◌∷◌, ◌++◌, codes, decimal, Some, None, refl, sym, ap, ◌∙◌, append_assoc, length-append, arith}
-use Rattle.report_audit.proofs.Common.{command_text, entry_line, refusal_text, reply_text, rider_status_text, lines_text, entries_lines, entry_block, round_text, end_text, numbered, spaced, IsEntry, one_more, is_one_line, append_one_line, numbered_one_line, next_position, Command, Submit, Cancel, Report, Pickup, Dropoff, Seal, Close, Entry, Journal, BookRefusal, IsAboard, Ended, TimeBack, NotPromised, BatchOpen, ClockBack, NotThisBatch, Reply, Sealed, Refused, Status, Waiting, entries_text}
+use Rattle.report_audit.proofs.Common.{command_text, entry_line, refusal_text, reply_text, rider_status_text, lines_text, entries_lines, entry_block, round_text, end_text, numbered, spaced, one_more, is_one_line, append_one_line, numbered_one_line, spaced_one_line, two_line, next_position, Command, Submit, Cancel, Report, Pickup, Dropoff, Seal, Close, Entry, Journal, BookRefusal, IsAboard, Ended, TimeBack, NotPromised, BatchOpen, ClockBack, NotThisBatch, Reply, Sealed, Refused, Status, Waiting, entries_text}
 use Rattle.std.specs.List.{flat_map}
 use Rattle.std.proofs.lemmas.Grind.{flat_map-append}
-use Rattle.report_lines.specs.Command.{IsCommand}
-use Rattle.report_lines.specs.Reply.{IsReply, IsRefusal}
-use Rattle.report_lines.specs.Ids.{IsId}
 
 -- lines
 pub lines-none : lines_text [] ≡ []
@@ -68,71 +65,51 @@ unfolding end_text
 end-is n = lines-more (numbered (codes "done ") n) [] ∙ ap (λ (t : List ℕ). numbered (codes "done ") n ++ 10 ∷ t) lines-none
 
 -- no line between blocks has a line feed within it
-decimal_one : (n : ℕ) → n < 2 ^ 128 → is_one_line (decimal n) ≡ true
-unfolding numbered
-decimal_one n small = numbered_one_line [] n refl small
+three_one : (words : List ℕ) (a b c : ℕ) → is_one_line words ≡ true → is_one_line (numbered words a ++ spaced b ++ spaced c) ≡ true
+three_one words a b c one = append_one_line (numbered words a ++ spaced b) (spaced c) (two_line words a b one) (spaced_one_line c)
 
-spaced_one : (n : ℕ) → n < 2 ^ 128 → is_one_line (spaced n) ≡ true
-spaced_one n small = numbered_one_line (codes " ") n refl small
-
-id_one : (words : List ℕ) (n : ℕ) → is_one_line words ≡ true → IsId n → is_one_line (numbered words n) ≡ true
-id_one words n one is = (let small : n ≤ 1000000000 = is in numbered_one_line words n one (omega arith))
-
-three_one : (words : List ℕ) (a b c : ℕ) → is_one_line words ≡ true → IsId a → IsId b → IsId c → is_one_line (numbered words a ++ spaced b ++ spaced c) ≡ true
-three_one words a b c one ia ib ic =
-    append_one_line (numbered words a ++ spaced b) (spaced c) (append_one_line (numbered words a) (spaced b) (id_one words a one ia) (id_one (codes " ") b refl ib)) (id_one (codes " ") c refl ic)
-
-command_one : (c : Command) → IsCommand c → is_one_line (command_text c) ≡ true
-command_one (Submit rider origin destination time party) is =
-    let front : is_one_line (numbered (codes "submit ") rider ++ spaced origin ++ spaced destination) ≡ true = three_one (codes "submit ") rider origin destination refl is.0 is.1 is.2 in
+command_one : (c : Command) → is_one_line (command_text c) ≡ true
+command_one (Submit rider origin destination time party) =
     append_one_line (numbered (codes "submit ") rider ++ spaced origin ++ spaced destination ++ spaced time) (cond (eqb party 1) [] (spaced party))
-    (append_one_line (numbered (codes "submit ") rider ++ spaced origin ++ spaced destination) (spaced time) front (id_one (codes " ") time refl is.3))
+    (append_one_line (numbered (codes "submit ") rider ++ spaced origin ++ spaced destination) (spaced time) (three_one (codes "submit ") rider origin destination refl) (spaced_one_line time))
     (by (eqb party 1))
   where
     by : (b : Bool) → is_one_line (cond b [] (spaced party)) ≡ true
     by true = refl
-    by false = spaced_one party (omega (arith, is.4))
-command_one (Cancel rider) is = id_one (codes "cancel ") rider refl is
-command_one (Report vehicle node time) is = three_one (codes "report ") vehicle node time refl is.0 is.1 is.2
-command_one (Pickup vehicle rider time) is = three_one (codes "pickup ") vehicle rider time refl is.0 is.1 is.2
-command_one (Dropoff vehicle rider time) is = three_one (codes "dropoff ") vehicle rider time refl is.0 is.1 is.2
-command_one (Seal now) is = id_one (codes "seal ") now refl is
-command_one (Close batch outcome) is = numbered_one_line (codes "close ") batch refl (omega (arith, is))
+    by false = spaced_one_line party
+command_one (Cancel rider) = numbered_one_line (codes "cancel ") rider refl
+command_one (Report vehicle node time) = three_one (codes "report ") vehicle node time refl
+command_one (Pickup vehicle rider time) = three_one (codes "pickup ") vehicle rider time refl
+command_one (Dropoff vehicle rider time) = three_one (codes "dropoff ") vehicle rider time refl
+command_one (Seal now) = numbered_one_line (codes "seal ") now refl
+command_one (Close batch outcome) = numbered_one_line (codes "close ") batch refl
 
 status_one : (s : Status) → is_one_line (rider_status_text s) ≡ true
 status_one Waiting = refl
 status_one _ = refl
 
-refusal_one : (r : BookRefusal) → IsRefusal r → is_one_line (refusal_text r) ≡ true
-refusal_one (IsAboard vehicle) is = id_one (codes "is-aboard ") vehicle refl is
-refusal_one (Ended status) is = append_one_line (codes "ended ") (rider_status_text status) refl (status_one status)
-refusal_one (TimeBack last) is = id_one (codes "time-back ") last refl is
-refusal_one (NotPromised None) is = refl
-refusal_one (NotPromised (Some holder)) is = append_one_line (codes "not-promised") (spaced holder) refl (id_one (codes " ") holder refl is)
-refusal_one (BatchOpen batch) is = numbered_one_line (codes "batch-open ") batch refl (omega (arith, is))
-refusal_one (ClockBack last) is = id_one (codes "clock-back ") last refl is
-refusal_one (NotThisBatch None) is = refl
-refusal_one (NotThisBatch (Some batch)) is = append_one_line (codes "not-this-batch") (spaced batch) refl (spaced_one batch (omega (arith, is)))
-refusal_one _ is = refl
+refusal_one : (r : BookRefusal) → is_one_line (refusal_text r) ≡ true
+refusal_one (IsAboard vehicle) = numbered_one_line (codes "is-aboard ") vehicle refl
+refusal_one (Ended status) = append_one_line (codes "ended ") (rider_status_text status) refl (status_one status)
+refusal_one (TimeBack last) = numbered_one_line (codes "time-back ") last refl
+refusal_one (NotPromised None) = refl
+refusal_one (NotPromised (Some holder)) = append_one_line (codes "not-promised") (spaced holder) refl (spaced_one_line holder)
+refusal_one (BatchOpen batch) = numbered_one_line (codes "batch-open ") batch refl
+refusal_one (ClockBack last) = numbered_one_line (codes "clock-back ") last refl
+refusal_one (NotThisBatch None) = refl
+refusal_one (NotThisBatch (Some batch)) = append_one_line (codes "not-this-batch") (spaced batch) refl (spaced_one_line batch)
+refusal_one _ = refl
 
-reply_one : (r : Reply) → IsReply r → is_one_line (reply_text r) ≡ true
-reply_one (Sealed batch) is = numbered_one_line (codes "sealed ") batch refl (omega (arith, is))
-reply_one (Refused refusal) is = append_one_line (codes "refused ") (refusal_text refusal) refl (refusal_one refusal is)
-reply_one _ is = refl
+reply_one : (r : Reply) → is_one_line (reply_text r) ≡ true
+reply_one (Sealed batch) = numbered_one_line (codes "sealed ") batch refl
+reply_one (Refused refusal) = append_one_line (codes "refused ") (refusal_text refusal) refl (refusal_one refusal)
+reply_one _ = refl
 
-pub entry_one : (p : ℕ) (e : Entry) → IsEntry p e → is_one_line (entry_line p e) ≡ true
-entry_one p e is =
-    let place : p < 2 ^ 128 = (let low : p < 2 ^ 64 = is.placed in omega arith) in
-    let lane : e.lane < 2 ^ 128 = (let low : e.lane < 2 ^ 8 = is.lane in omega arith) in
-    let front : is_one_line (decimal p ++ spaced e.lane ++ codes " ") ≡ true =
-    append_one_line (decimal p ++ spaced e.lane) (codes " ") (append_one_line (decimal p) (spaced e.lane) (decimal_one p place) (spaced_one e.lane lane)) refl in
+pub entry_one : (p : ℕ) (e : Entry) → is_one_line (entry_line p e) ≡ true
+unfolding numbered
+entry_one p e =
+    let front : is_one_line (decimal p ++ spaced e.lane ++ codes " ") ≡ true = append_one_line (decimal p ++ spaced e.lane) (codes " ") (two_line [] p e.lane refl) refl in
     append_one_line (decimal p ++ spaced e.lane ++ codes " " ++ command_text e.command ++ codes " ") (reply_text e.reply)
     (append_one_line (decimal p ++ spaced e.lane ++ codes " " ++ command_text e.command) (codes " ")
-    (append_one_line (decimal p ++ spaced e.lane ++ codes " ") (command_text e.command) front (command_one e.command is.command)) refl)
-    (reply_one e.reply is.reply)
-
-pub words_one : (n : ℕ) → n < 2 ^ 32 → is_one_line (numbered (codes "round ") n) ≡ true
-words_one n low = numbered_one_line (codes "round ") n refl (omega (arith, low))
-
-pub done_one : (n : ℕ) → n < 2 ^ 64 → is_one_line (numbered (codes "done ") n) ≡ true
-done_one n low = numbered_one_line (codes "done ") n refl (omega (arith, low))
+    (append_one_line (decimal p ++ spaced e.lane ++ codes " ") (command_text e.command) front (command_one e.command)) refl)
+    (reply_one e.reply)

@@ -1,12 +1,12 @@
 -- All rounds of a report.
-use Rattle.std.proofs.Common.{◌≡◌, ◌≢◌, ◌⊎◌, ℕ, ◌+◌, ◌-◌, ◌<◌, ◌≤◌, ◌^◌, add-one, drop, codes, get_or, min, take, true, List, [], ◌∷◌, ◌++◌, length, Option, Some, None, ⊎_elim, refl, sym, ap, ◌∙◌, subst, append_assoc, append-nil}
-use Rattle.report_audit.proofs.Common.{drop_all, drop_more, IsRun, IsRoundRun, position_after_run, state_after_run, end_text, round_text, numbered, IsFirstLine, no_entry_done, no_entry_round, one_kind, BookView, next_position, state_after, Journal, State, Settings, Roads, NumberedLanes, Extent, IsInForm, IsNoEntry, batches_after, batches_in, rounds_text, AreTold, JournalsAreTold, Stop, OutOfMemory, Line, Block, EndStops, IsEndText, IsRestBehind, EndsBehind, GoesOn, IsRestOfRounds, StopsAt, StopsHere, HasReadRound, IsRoundStart, RoundStops, WhereRoundStops, BeginsWithEntry, MayBegin, AllStops, HasComeTo, HasReadAll, WhereAllStops, cut_once}
+use Rattle.std.proofs.Common.{◌≡◌, ◌≢◌, ◌⊎◌, ℕ, ◌+◌, ◌-◌, ◌<◌, ◌≤◌, ◌^◌, add-one, drop, codes, count_by, get_or, min, take, true, List, [], ◌∷◌, ◌++◌, length, Option, Some, None, ⊎_elim, refl, sym, ap, ◌∙◌, subst, append_assoc, append-nil}
+use Rattle.report_audit.proofs.Common.{drop_all, drop_more, numbered_one_line, IsRun, IsRoundRun, position_after_run, state_after_run, end_text, round_text, numbered, IsFirstLine, no_entry_done, no_entry_round, one_kind, BookView, next_position, state_after, Journal, State, Settings, Roads, NumberedLanes, Extent, IsInForm, batches_after, closes, rounds_text, AreTold, JournalsAreTold, Stop, OutOfMemory, Line, Block, EndStops, IsEndText, IsRestBehind, EndsBehind, GoesOn, IsRestOfRounds, StopsAt, StopsHere, HasReadRound, IsRoundStart, RoundStops, WhereRoundStops, BeginsWithEntry, MayBegin, AllStops, HasComeTo, HasReadAll, WhereAllStops, cut_once}
 use Rattle.std.proofs.Math.Seq.{take-suc}
 use Rattle.std.proofs.lemmas.List.{take_all}
 use Rattle.report_lines.specs.declared.next.NextLine.TheVariants.{Done as DoneOf, Entry as EntryOf}
 use Rattle.report_audit.proofs.NextLemmas.{between_is_no_stop, same_stop}
 use Rattle.report_audit.proofs.RoundLemmas.{base_is, round_so_far}
-use Rattle.report_audit.proofs.TextLemmas.{done_one, end-is, next-none}
+use Rattle.report_audit.proofs.TextLemmas.{end-is, next-none}
 use Rattle.report_audit.specs.declared.stop.LineFault.TheVariants as wrong
 
 -- items up to the next one
@@ -31,9 +31,9 @@ position_push : (p : ℕ) (js : List Journal) (j : Journal) → position_after_r
 position_push p [] j = refl
 position_push p (k ∷ ks) j = position_push (next_position p k.entries) ks j
 
-batches_push : (n : ℕ) (js : List Journal) (j : Journal) → batches_after n (js ++ j ∷ []) ≡ batches_in (batches_after n js) j.entries
+batches_push : (n : ℕ) (js : List Journal) (j : Journal) → batches_after n (js ++ j ∷ []) ≡ min (batches_after n js + count_by (λ e. closes e.command e.reply) j.entries) (2 ^ 64 - 1)
 batches_push n [] j = refl
-batches_push n (k ∷ ks) j = batches_push (batches_in n k.entries) ks j
+batches_push n (k ∷ ks) j = batches_push _ ks j
 
 told_push : (js : List Journal) (j : Journal) → JournalsAreTold js → AreTold j.first j.entries → JournalsAreTold (js ++ j ∷ [])
 told_push [] j told one = (one, tt)
@@ -72,16 +72,16 @@ module _ (settings : Settings) (roads : Roads) (before : List NumberedLanes) (s 
   -- the last line may stand there
   end_goes : p < 2 ^ 64 → (rest : List ℕ) → text ≡ end_text p ++ rest → (end : Option Stop) → StopsHere settings roads end (Extent.between before [] p) text → ⊥
   end_goes low rest is end here =
-      between_is_no_stop settings roads before [] p text (numbered (codes "done ") p) rest (record { whole = is ∙ end_line p rest; one = done_one p low }) (form before) refl end here
+      between_is_no_stop settings roads before [] p text (numbered (codes "done ") p) rest (record { whole = is ∙ end_line p rest; one = numbered_one_line (codes "done ") p refl }) (form before) refl end here
     where
       form : (before : List NumberedLanes) → IsInForm (Extent.between before [] p) (numbered (codes "done ") p)
-      form [] = (DoneOf p, (low, refl), tt)
+      form [] = (DoneOf p, (low, refl), λ lane e. cc)
       form (r ∷ rs) = (DoneOf p, (low, refl))
 
   -- the same text follows the last line
   same_behind : (rest other : List ℕ) → p < 2 ^ 64 → text ≡ end_text p ++ rest → text ≡ end_text p ++ other → rest ≡ other
   same_behind rest other low is too =
-      (cut_once (numbered (codes "done ") p) (numbered (codes "done ") p) rest other (done_one p low) (done_one p low) (sym (is ∙ end_line p rest) ∙ too ∙ end_line p other)).1
+      (cut_once (numbered (codes "done ") p) (numbered (codes "done ") p) rest other (numbered_one_line (codes "done ") p refl) (numbered_one_line (codes "done ") p refl) (sym (is ∙ end_line p rest) ∙ too ∙ end_line p other)).1
 
   -- the last line and nothing else stops nowhere
   pub end_done : text ≡ end_text p → p < 2 ^ 64 → (end : Option Stop) → IsRestOfRounds settings roads end before [] s p text → end ≡ None
@@ -236,7 +236,7 @@ entry_at_start settings roads rounds s text (lane, line, after, has, is) = recor
 }
   where
     stops : (rs : List NumberedLanes) → StopsAt settings roads (Extent.between [] rs 0) text (Line (length text) wrong.Form)
-    stops rs = (refl, (line, after, has, λ f. subst IsNoEntry (one_kind f.0 (EntryOf lane) line f.1 is) f.2))
+    stops rs = (refl, (line, after, has, λ f. f.2 lane (one_kind f.0 (EntryOf lane) line f.1 is)))
 
     by : (end : Option Stop) (rs : List NumberedLanes) → Line (length text) wrong.Form ≢ OutOfMemory → IsRestOfRounds settings roads end [] rs s 0 text → end ≡ Some (Line (length text) wrong.Form)
     by end [] some whole = ⊎_elim

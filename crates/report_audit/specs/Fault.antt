@@ -66,25 +66,18 @@ pub record FailsAt (roads : Roads) (vehicles : List Vehicle) (rounds : List Numb
   pub line_is : line ≡ count_by (λ c. c == 10) read + 1
   pub fails : Fails settings roads place rest
 
--- the block behind the close of this line fails in one of its lines, so many lines behind its first; lines are counted up to
--- the greatest number of 64 bits
-pub record FailsInBlock (roads : Roads) (vehicles : List Vehicle) (rounds : List NumberedLanes) (workers : ℕ) (text : List ℕ) (refusal : ℕ → BlockRefusal) (line : ℕ) : Type 0 where
+-- the block behind a close fails in this way, so many lines behind its first in this line; lines are counted up to the greatest
+-- number of 64 bits
+pub record FailsInBlock (roads : Roads) (vehicles : List Vehicle) (rounds : List NumberedLanes) (workers : ℕ) (text : List ℕ) (refusal : BlockRefusal) (lines line : ℕ) : Type 0 where
   pub closing : ℕ
-  pub lines : ℕ
   pub line_is : line ≡ min (closing + 1 + lines) (2 ^ 64 - 1)
-  pub fails : FailsAt roads vehicles rounds workers text (IsWrongBatch (refusal lines)) closing
+  pub fails : FailsAt roads vehicles rounds workers text (IsWrongBatch refusal) closing
 
 -- this line fails in one way: as a line of the head, as one behind it, or as one of a block
 pub data FailsAsLine (roads : Roads) (vehicles : List Vehicle) (rounds : List NumberedLanes) (workers : ℕ) (text : List ℕ) (of_head : ℕ → HeadFault) (Fails : Extent → List ℕ → Type 0) (of_block : ℕ → BlockRefusal) (line : ℕ) : Type 0 where
   in_head : HeadFails roads (length vehicles) text (of_head line) → FailsAsLine roads vehicles rounds workers text of_head Fails of_block line
   behind : FailsAt roads vehicles rounds workers text (λ settings roads place rest. Fails place rest) line → FailsAsLine roads vehicles rounds workers text of_head Fails of_block line
-  in_block : FailsInBlock roads vehicles rounds workers text of_block line → FailsAsLine roads vehicles rounds workers text of_head Fails of_block line
-
--- the block whose first line this is fails at a point
-pub record IsWrongBatchAt (roads : Roads) (vehicles : List Vehicle) (rounds : List NumberedLanes) (workers : ℕ) (text : List ℕ) (line point : ℕ) : Type 0 where
-  pub closing : ℕ
-  pub line_is : line ≡ min (closing + 1) (2 ^ 64 - 1)
-  pub fails : FailsAt roads vehicles rounds workers text (IsWrongBatch (block.Wrong point)) closing
+  in_block : (lines : ℕ) → FailsInBlock roads vehicles rounds workers text (of_block lines) lines line → FailsAsLine roads vehicles rounds workers text of_head Fails of_block line
 
 -- what a fault says of a text
 abbrev pub HasFault : Roads → List Vehicle → List NumberedLanes → ℕ → List ℕ → AuditFault → Type 0
@@ -92,5 +85,5 @@ HasFault roads vehicles rounds workers text (Cut line) = FailsAsLine roads vehic
 HasFault roads vehicles rounds workers text (Form line) = FailsAsLine roads vehicles rounds workers text head.Form IsOutOfForm block.Form line
 HasFault roads vehicles rounds workers text (Head line) = HeadFails roads (length vehicles) text (head.Head line)
 HasFault roads vehicles rounds workers text (WrongEntry line) = FailsAt roads vehicles rounds workers text IsWrongLine line
-HasFault roads vehicles rounds workers text (WrongBatch line point) = IsWrongBatchAt roads vehicles rounds workers text line point
+HasFault roads vehicles rounds workers text (WrongBatch line point) = FailsInBlock roads vehicles rounds workers text (block.Wrong point) 0 line
 HasFault roads vehicles rounds workers text OutOfMemory = Unit {0}

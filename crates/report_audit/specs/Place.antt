@@ -1,4 +1,4 @@
-use Rattle.std.specs.Prelude.{◌≡◌, ℕ, true, List, ◌∷◌, ◌++◌, length, codes, []}
+use Rattle.std.specs.Prelude.{◌≡◌, ◌≢◌, ℕ, true, List, ◌∷◌, ◌++◌, length, codes, []}
 use Rattle.batch_snapshot.specs.declared.vehicle.Vehicle.{Vehicle}
 use Rattle.dispatch_engine.specs.Lane.{of_lane, IsLaneRun, IsLaneBeginning, ClosesAreGood}
 use Rattle.dispatch_engine.specs.Run.{IsRun, position_after_run, state_after_run}
@@ -65,15 +65,10 @@ MayFollow settings roads (Extent.between before (r ∷ rs) position) line = line
 MayFollow settings roads (Extent.within round j) line = (e : Entry) × MayComeNext settings roads round j e × (line ≡ entry_line (position_behind j) e)
 MayFollow settings roads Extent.finished line = ⊥
 
--- no entry
-abbrev pub IsNoEntry : NextLine → Type 0
-IsNoEntry (EntryOf lane) = ⊥
-IsNoEntry _ = Unit {0}
-
 -- the line has the form of one that may stand next: behind the last line nothing may, and before the first round no entry
 abbrev pub IsInForm : Extent → List ℕ → Type 0
 IsInForm Extent.finished line = ⊥
-IsInForm (Extent.between [] later position) line = (x : NextLine) × IsNextLine x line × IsNoEntry x
+IsInForm (Extent.between [] later position) line = (x : NextLine) × IsNextLine x line × ((lane : ℕ) → x ≢ EntryOf lane)
 IsInForm _ line = (x : NextLine) × IsNextLine x line
 
 -- whole rounds of a run, and their journals

@@ -8,7 +8,6 @@ use Rattle.report_lines.specs.Settings.{AreOf}
 use Rattle.request_book.specs.Book.{opening}
 use Rattle.request_book.specs.declared.command.Command.{Command}
 use Rattle.request_book.specs.declared.command.Command.TheVariants.{Close}
-use Rattle.request_book.specs.declared.journal.Entry.{Entry}
 use Rattle.request_book.specs.declared.journal.Journal.{Journal}
 use Rattle.request_book.specs.declared.reply.Reply.{Reply}
 use Rattle.request_book.specs.declared.reply.Reply.TheVariants.{Closed}
@@ -37,13 +36,9 @@ abbrev pub closes : Command → Reply → Bool
 closes (Close batch outcome) Closed = true
 closes _ _ = false
 
--- how many batches entries close, counted on from a number; the count stands still at the greatest number of 64 bits
-abbrev pub batches_in : ℕ → List Entry → ℕ
-batches_in count entries = min (count + count_by (λ e. closes e.command e.reply) entries) (2 ^ 64 - 1)
-
--- how many batches journals close
+-- how many batches journals close, counted on from a number; the count stands still at the greatest number of 64 bits
 abbrev pub batches_after : ℕ → List Journal → ℕ
-batches_after count journals = fold (λ n j. batches_in n j.entries) count journals
+batches_after count journals = fold (λ n j. min (n + count_by (λ e. closes e.command e.reply) j.entries) (2 ^ 64 - 1)) count journals
 
 -- the text is the report of a run, which has so many entries and closes so many batches
 pub record IsAudited (roads : Roads) (vehicles : List Vehicle) (rounds : List NumberedLanes) (workers : ℕ) (text : List ℕ) (audited : Audited) : Type 0 where

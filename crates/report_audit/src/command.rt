@@ -6,7 +6,6 @@ ghost use Rattle.report_lines.specs.Reply.{IsReply};
 ghost use Rattle.request_book.specs.Book.{IsApplied, next_position};
 ghost use Rattle.request_book.specs.Command.{IsNoClose};
 ghost use Rattle.request_book.specs.declared.reply.Reply.{Reply as OneReply};
-ghost use Rattle.shared_book.specs.Locked.{snapshot_before};
 
 use crate::line::is_entry_line;
 use crate::numbers::fits_reply;
@@ -14,19 +13,6 @@ use batch_snapshot::Snapshot;
 use pool_base::OutOfMemory;
 use request_book::{Book, Command, Entry, Reply};
 use std::alloc::Global;
-
-/// The batch that the command would put up.
-pub(crate) fn sealed_by_command(
-    book: &Book,
-    command: &Command,
-) -> Result<Option<Snapshot>, OutOfMemory>
-    ensures { IfOk result (λ batch. batch ≡ snapshot_before book.entry.now.wait book.entry.now.state command.entry.now) }
-{
-    match command {
-        Command::Seal { now } => book.would_seal(*now),
-        _ => Ok(None),
-    }
-}
 
 /// Puts up the batch of a command, if it has one.
 pub(crate) fn put_up(sealed: &mut Option<Snapshot>, next: Option<Snapshot>)

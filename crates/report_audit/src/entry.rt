@@ -7,7 +7,7 @@ ghost use Rattle.report_audit.specs.work.Taking.{CommandStops, TakesCommand};
 ghost use Rattle.report_audit.specs.work.Steps.{EntryRead, IsEntryOf, IsWithin, StopsWithin};
 
 use crate::close::audit_close;
-use crate::command::{answered, put_up, sealed_by_command};
+use crate::command::{answered, put_up};
 use crate::numbers::fits_command;
 use crate::setup::Setup;
 use crate::stop::{Between, Stop, line_between, wrong_line};
@@ -16,6 +16,7 @@ use dispatch_engine::Progress;
 use report_lines::NextLine;
 use request_book::{Book, Reply};
 use script_rows::Round;
+use shared_book::sealed_by_command;
 use std::alloc::Global;
 use std::thread::Threads;
 use travel_times::Ways;

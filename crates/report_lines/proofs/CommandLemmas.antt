@@ -1,7 +1,7 @@
 -- A command and the reply to it.
 use Rattle.std.proofs.Common.{◌≡◌, ◌≢◌, ℕ, zero, suc, ◌≤◌, ◌<◌, ◌^◌, ◌==◌, Bool, true, false, if◌then◌else◌, codes, get_or, drop, List, [], ◌∷◌, ◌++◌, decimal, refl, sym, ap, ◌∙◌, append_assoc, ne_eqb, arith}
 use Rattle.report_lines.proofs.Common.{is_ascii_digit, reply_text, numbered, spaced, IsReply, told_text, IsTold, single_text, IsSingle, three_text, AreThree, ride_text, IsRide, four_text, AreFour, ending_text, IsEnding, submit_text, IsSubmit, spaced_reply, Told, IsId, BeginsWith, BeginsWithNone, ends_number, both_texts, BothAre, Outcome, Reply}
-use Rattle.report_lines.specs.Command.{IsParty}
+use Rattle.report_lines.specs.work.Commands.{IsParty}
 use Rattle.report_lines.proofs.ToldLemmas.{no_number}
 use Rattle.report_lines.proofs.lemmas.ReadingLemmas.{EndsOnce, both_once, both_none_first, both_none_second, numbered_once, pair_once, spaced_apart}
 use Rattle.request_book.specs.declared.command.Command.TheVariants.{Submit, Cancel, Report, Pickup, Dropoff, Seal, Close}
@@ -159,7 +159,7 @@ pub record IsNoCommand (text : List ℕ) : Type 0 where
 pub only_close : (text : List ℕ) → IsNoCommand text → Told told_text IsTold text → Told (single_text (codes "close ")) (IsSingle 18446744073709551615) text
 only_close text none ((Submit rider origin destination time party, reply), (is, answers), e) =
     let same = joined (numbered (codes "submit ") rider ++ spaced origin ++ spaced destination ++ spaced time) (if party == 1 then [] else spaced party) (spaced_reply reply) in
-    absurd (none.submit (((((rider, origin), destination), time), (party, reply)), ((((is.0, is.1), is.2), is.3), (is.4, answers)), e ∙ sym same))
+    absurd (none.submit (((((rider, origin), destination), time), (party, reply)), ((((is.0, is.1), is.2), is.3), ((is.4, is.5), answers)), e ∙ sym same))
 only_close text none ((Cancel rider, reply), (is, answers), e) = absurd (none.cancel ((rider, reply), (is, answers), e))
 only_close text none ((Report vehicle node time, reply), (is, answers), e) =
     absurd (none.report ((((vehicle, node), time), reply), (((is.0, is.1), is.2), answers), e))

@@ -7,7 +7,7 @@ pub use Rattle.std.proofs.lemmas.List.Elements.{All-append, All-cons, All-head, 
 pub use Rattle.std.proofs.lemmas.Result.{err_from_is_err_and}
 pub use Rattle.std.specs.Char.{is_ascii_digit}
 pub use Rattle.std.specs.List.{list_all}
-pub use Rattle.dispatch_report.specs.Block.{answer_lines, block_lines, late_line, move_text, node_line, pair_line, pair_text, stop_text, trip_line}
+pub use Rattle.dispatch_report.specs.Block.{block_line_text, pair_line, stop_text}
 pub use Rattle.dispatch_report.specs.Entry.{command_text, entry_line, refusal_text, reply_text}
 unfoldable pub use Rattle.dispatch_report.specs.Head.{head_text}
 pub use Rattle.dispatch_report.specs.Head.{settings_line}
@@ -17,13 +17,13 @@ pub use Rattle.dispatch_report.specs.Words.{spaced}
 pub use Rattle.pool_base.specs.Number.{AllDigits, IsDigit, value_of}
 pub use Rattle.pool_base.specs.lemmas.Number.{value_after}
 pub use Rattle.report_lines.specs.Block.{BeginsBlock, BlockFails, IsBadBlock, IsBlock, IsCutBlock}
-pub use Rattle.report_lines.specs.BlockLine.{IsBlockLine, block_line_text}
+pub use Rattle.report_lines.specs.BlockLine.{IsBlockLine}
 pub use Rattle.report_lines.specs.Both.{BothAre, both_texts}
 pub use Rattle.report_lines.specs.Cut.{is_one_line}
 pub use Rattle.report_lines.specs.HeadFault.{FitsLine, HasForm, HeadFails, HeadLine, LineFails, LinesFail, head_lines, sizes_of}
-pub use Rattle.report_lines.specs.HeadLines.{AreSettings, AreSizes, IsShortNumber, settings_text, sizes_text}
+pub use Rattle.report_lines.specs.HeadLines.{AreSettings, AreSizes, settings_text, sizes_text}
 pub use Rattle.report_lines.specs.Ids.{AreIds, IsId}
-pub use Rattle.report_lines.specs.Line.{IsFirstLine, Passes}
+pub use Rattle.report_lines.specs.Line.{IsFirstLine}
 pub use Rattle.report_lines.specs.Next.{IsNextLine}
 pub use Rattle.report_lines.specs.Order.{follow_on, is_between, kind_place, last_place, may_follow_at}
 pub use Rattle.report_lines.specs.Reading.{BeginsWith, BeginsWithNone, ends_number}
@@ -31,13 +31,13 @@ pub use Rattle.report_lines.specs.Reply.{IsReply}
 pub use Rattle.report_lines.specs.Settings.{AreLawful, AreOf}
 pub use Rattle.report_lines.specs.Signed.{IsLong, IsWide}
 pub use Rattle.report_lines.specs.Stops.{FitsStop}
-pub use Rattle.report_lines.specs.declared.block_line.BlockLine.{BlockLine}
-pub use Rattle.report_lines.specs.declared.block_line.BlockLine.TheVariants.{Alone, Batch, Bound, Branch, Cost, Dead, End, Expired, Lapsed, Late, Leaf, Move, Nodes, Out, Overflow, Row, Shared, Trip}
+pub use Rattle.dispatch_report.specs.declared.block_line.BlockLine.{BlockLine}
+pub use Rattle.dispatch_report.specs.declared.block_line.BlockLine.TheVariants.{Alone, Batch, Bound, Branch, Cost, Dead, End, Expired, Lapsed, Late, Leaf, Move, Nodes, Out, Overflow, Row, Shared, Trip}
 pub use Rattle.report_lines.specs.declared.head_fault.HeadFault.{HeadFault}
 pub use Rattle.report_lines.specs.declared.head_lines.SettingsText.{SettingsText}
-pub use Rattle.report_lines.specs.lemmas.HeadLines.{dwell_text}
+pub use Rattle.report_lines.specs.lemmas.HeadLines.{IsShortNumber, dwell_text}
 pub use Rattle.report_lines.specs.work.Commands.{AreFour, AreThree, IsEnding, IsRide, IsSingle, IsSubmit, IsTold, ending_text, four_text, ride_text, single_text, submit_text, three_text, told_text}
-pub use Rattle.report_lines.specs.work.Head.{HasHead, LinesThen, told_lines}
+pub use Rattle.report_lines.specs.work.Head.{HasHead, LinesThen, Passes, told_lines}
 pub use Rattle.report_lines.specs.work.Late.{IsOrder, order_text}
 pub use Rattle.report_lines.specs.work.Replies.{IsNotPromised, IsNotThisBatch, IsNumberRefusal, spaced_reply}
 pub use Rattle.report_lines.specs.work.Settings.{told_of}

@@ -1,21 +1,17 @@
 -- A text is that of one line of a block.
-use Rattle.std.proofs.Common.{◌≡◌, ℕ, ◌+◌, eqb, ◌*◌, ◌<◌, ◌≤◌, ◌^◌, true, ℤ, List, [], ◌∷◌, ◌++◌, length, get_or, codes, Option, None, Some, false, drop, decimal, refl, sym, ap, ◌∙◌, subst, append-nil, length-append, arith}
-use Rattle.report_lines.proofs.Common.{All-head, All-tail, is_ascii_digit, list_all, and_parts, eqb-false, decimal_is_IsNumeral_wide, append_cancel_left, stop_text, pair_line, move_text, numbered, signed, spaced, block_line_text, IsBlockLine, IsId, AreIds, BeginsWith, ends_number, IsWide, IsLong, FitsStop, both_texts, BothAre, order_text, IsOrder, PlannedStop, BlockLine, Batch, Expired, Overflow, Lapsed, Late, Alone, Shared, Row, Trip, Out, Move, Cost, Bound, Nodes, Branch, Leaf, Dead, End}
+use Rattle.std.proofs.Common.{◌≡◌, ℕ, ◌+◌, eqb, ◌*◌, ◌<◌, ◌≤◌, ◌^◌, true, ℤ, List, [], ◌∷◌, ◌++◌, length, get_or, codes, Option, None, Some, false, drop, refl, sym, ap, ◌∙◌, subst, append-nil, length-append, arith}
+use Rattle.report_lines.proofs.Common.{All-head, All-tail, eqb-false, append_cancel_left, stop_text, pair_line, numbered, signed, spaced, block_line_text, IsBlockLine, IsId, AreIds, BeginsWith, ends_number, IsWide, IsLong, FitsStop, both_texts, BothAre, order_text, IsOrder, PlannedStop, BlockLine, Batch, Expired, Overflow, Lapsed, Late, Alone, Shared, Row, Trip, Out, Move, Cost, Bound, Nodes, Branch, Leaf, Dead, End}
 use Rattle.std.specs.List.{All, flat_map}
-use Rattle.report_lines.specs.Leaf.{leaf_text}
-use Rattle.report_lines.specs.Moves.{IsMove, IsBranch}
-use Rattle.report_lines.specs.Row.{row_line_text, IsRowLine}
-use Rattle.report_lines.specs.Trips.{trip_text, IsTripLine, late_text, IsLateLine}
 use Rattle.report_lines.proofs.LateLemmas.{order_ends}
 use Rattle.report_lines.proofs.ListLemmas.{IsNeverEmpty, many_end, spaced_some, spaced_once}
-use Rattle.report_lines.proofs.lemmas.NumeralLemmas.{decimal_digits}
 use Rattle.report_lines.proofs.lemmas.ReadingLemmas.{EndsOnce, StandsApart, TextIsOfOne, numbered_below, numbered_once, of_one, pair_once, spaced_apart, spaced_ends}
 use Rattle.report_lines.proofs.SignedLemmas.{signed_words_once, signed_apart, signed_some, long_once}
+use Rattle.report_lines.proofs.ToldLemmas.{no_number}
 use Rattle.report_lines.proofs.StopLemmas.{stop_once, stop_apart, stop_some}
-use Rattle.report_lines.specs.declared.trip.TripText.{TripText}
-use Rattle.report_lines.specs.declared.late.LateText.{LateText}
+use Rattle.dispatch_report.specs.declared.block_line.TripText.{TripText}
+use Rattle.dispatch_report.specs.declared.block_line.LateText.{LateText}
 use Rattle.request_book.specs.declared.outcome.MoveLine.{MoveLine}
-use Rattle.report_lines.specs.declared.row.RowText.{RowText}
+use Rattle.dispatch_report.specs.declared.block_line.RowText.{RowText}
 
 module _ {X : Type 0} (t : X → List ℕ) (Is : X → Type 0) (apart : StandsApart t) (once : EndsOnce t Is) (some : IsNeverEmpty t) where
   none_is_not_some : (x : X) (xs : List X) → [] ≡ flat_map t (x ∷ xs) → ⊥
@@ -59,7 +55,7 @@ head_once words = pair_once words 1000000000 (2 ^ 64) (omega arith) (omega arith
 ids_of_one : (words : List ℕ) → TextIsOfOne (pair_line words) AreIds
 ids_of_one words = of_one (both_texts (numbered words) spaced) (BothAre IsId IsId) (pair_once words 1000000000 1000000000 (omega arith) (omega arith))
 
-branch_of_one : TextIsOfOne (pair_line (codes "branch ")) IsBranch
+branch_of_one : TextIsOfOne (λ x. block_line_text (Branch x)) (λ x. IsBlockLine (Branch x))
 branch_of_one a b ia ib e =
     let wa : a.1 ≤ 2 ^ 32 = omega (arith, ia.1) in
     let wb : b.1 ≤ 2 ^ 32 = omega (arith, ib.1) in
@@ -68,7 +64,7 @@ branch_of_one a b ia ib e =
 riders_of_one : TextIsOfOne (flat_map spaced) (All IsId)
 riders_of_one = many_of_one spaced IsId spaced_apart spaced_once spaced_some
 
-row_of_one : TextIsOfOne row_line_text IsRowLine
+row_of_one : TextIsOfOne (λ x. block_line_text (Row x)) (λ x. IsBlockLine (Row x))
 row_of_one a b ia ib e =
     let wa : a.cost ≤ 2 ^ 64 = omega (arith, ia.1) in
     let wb : b.cost ≤ 2 ^ 64 = omega (arith, ib.1) in
@@ -83,7 +79,7 @@ stops_of_one = many_of_one stop_text FitsStop stop_apart stop_once stop_some
 stops_end : (stops : List PlannedStop) → ends_number (flat_map stop_text stops) ≡ true
 stops_end stops = many_end stop_text FitsStop stop_apart stops
 
-trip_of_one : TextIsOfOne trip_text IsTripLine
+trip_of_one : TextIsOfOne (λ x. block_line_text (Trip x)) (λ x. IsBlockLine (Trip x))
 trip_of_one a b ia ib e =
     let wa : a.cost ≤ 2 ^ 64 = omega (arith, ia.1) in
     let wb : b.cost ≤ 2 ^ 64 = omega (arith, ib.1) in
@@ -92,7 +88,7 @@ trip_of_one a b ia ib e =
     (parts_of_one (both_texts (numbered (codes "trip ")) spaced) (BothAre IsId (λ n. n ≤ 2 ^ 64)) (flat_map stop_text) (All FitsStop) (head_once (codes "trip ")) stops_of_one stops_end
     (a.vehicle, a.cost) (b.vehicle, b.cost) a.stops b.stops (ia.0, wa) (ib.0, wb) ia.2 ib.2 e)
 
-move_of_one : TextIsOfOne move_text IsMove
+move_of_one : TextIsOfOne (λ x. block_line_text (Move x)) (λ x. IsBlockLine (Move x))
 move_of_one a b ia ib e =
     let wa : a.seconds ≤ 2 ^ 32 = omega (arith, ia.2) in
     let wb : b.seconds ≤ 2 ^ 32 = omega (arith, ib.2) in
@@ -103,24 +99,11 @@ move_of_one a b ia ib e =
     (a.vehicle, a.rider) (b.vehicle, b.rider) a.seconds b.seconds (ia.0, ia.1) (ib.0, ib.1) wa wb e)
 
 -- a late vehicle's order
-none_is_no_number : (n : ℕ) (rest : List ℕ) → n < 2 ^ 128 → codes "none" ≡ decimal n ++ rest → ⊥
-none_is_no_number n rest small e = by (decimal n) (decimal_is_IsNumeral_wide n (omega arith)).0.0 (decimal_digits n small) e
-  where
-    by : (digits : List ℕ) → 0 < length digits → list_all is_ascii_digit digits ≡ true → codes "none" ≡ digits ++ rest → ⊥
-    by [] some all e = absurd (omega arith)
-    by (d ∷ ds) some all e =
-        let first : List ℕ → ℕ = λ xs. get_or xs 0 0 in
-        let head : ◌≡◌ {A = ℕ} 110 d = ap first e in
-        let digit = (and_parts (is_ascii_digit d) (list_all is_ascii_digit ds) all).0 in
-        let here : is_ascii_digit 110 ≡ is_ascii_digit d = ap is_ascii_digit head in
-        let letter : is_ascii_digit 110 ≡ false = refl in
-        cc
-
 none_is_no_delay : (delay : ℕ) (rest : List ℕ) → delay < 2 ^ 128 → codes " none" ≡ spaced delay ++ rest → ⊥
 unfolding numbered
 none_is_no_delay delay rest small e =
     let tail : List ℕ → List ℕ = λ xs. drop 1 xs in
-    none_is_no_number delay rest small (ap tail e)
+    no_number 110 (codes "one") delay rest refl small (ap tail e)
 
 order_of_one : TextIsOfOne order_text IsOrder
 order_of_one (da, None) (db, None) ia ib e =
@@ -134,14 +117,14 @@ order_of_one (da, Some a) (db, Some b) ia ib e =
     let order : ℕ × List PlannedStop → ℕ × Option (List PlannedStop) = λ p. (p.0, Some p.1) in
     ap order (parts_of_one spaced (λ n. n ≤ 2 ^ 64) (flat_map stop_text) (All FitsStop) (numbered_once _ (2 ^ 64) (omega arith)) stops_of_one stops_end da db a b wa wb ia.1 ib.1 e)
 
-late_of_one : TextIsOfOne late_text IsLateLine
+late_of_one : TextIsOfOne (λ x. block_line_text (Late x)) (λ x. IsBlockLine (Late x))
 late_of_one a b ia ib e =
     let late : ℕ × (ℕ × Option (List PlannedStop)) → LateText = λ p. record { vehicle = p.0; delay = p.1.0; stops = p.1.1 } in
     ap late
     (parts_of_one (numbered (codes "late ")) IsId order_text IsOrder (numbered_once (codes "late ") 1000000000 (omega arith)) order_of_one order_ends
     a.vehicle b.vehicle (a.delay, a.stops) (b.delay, b.stops) ia.0 ib.0 ia.1 ib.1 e)
 
-leaf_of_one : TextIsOfOne leaf_text (All IsLong)
+leaf_of_one : TextIsOfOne (λ x. block_line_text (Leaf x)) (λ x. IsBlockLine (Leaf x))
 leaf_of_one a b ia ib e =
     many_of_one (signed (codes " ")) IsLong signed_apart (long_once (codes " ")) signed_some a b ia ib
     (append_cancel_left (codes "leaf") (flat_map (signed (codes " ")) a) (flat_map (signed (codes " ")) b) e)

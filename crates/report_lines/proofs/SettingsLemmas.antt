@@ -1,7 +1,8 @@
 -- Settings, and the numbers that a line tells of them.
-use Rattle.std.proofs.Common.{◌≡◌, ℕ, ◌≤◌, ◌==◌, Bool, true, false, if◌then◌else◌, List, [], ◌++◌, codes, refl, sym, ap, ◌∙◌, subst, arith}
-use Rattle.report_lines.proofs.Common.{decimal_digit, settings_line, numbered, AreOf, AreLawful, told_of, is_one_line, settings_text, AreSettings, IsShortNumber, dwell_text, SettingsText, Settings}
+use Rattle.std.proofs.Common.{◌≡◌, ℕ, ◌≤◌, ◌==◌, Bool, true, false, if◌then◌else◌, List, [], ◌∷◌, ◌++◌, codes, refl, sym, ap, ◌∙◌, subst, arith}
+use Rattle.report_lines.proofs.Common.{and_parts, decimal_digit, list_all, settings_line, numbered, AreOf, AreLawful, told_of, is_one_line, settings_text, AreSettings, dwell_text, SettingsText, Settings}
 use Rattle.std.proofs.Props.{props}
+use Rattle.report_lines.proofs.lemmas.HeadLemmas.{Numbers, fields_text, numbers_of, settings_fields, settings_words}
 use Rattle.report_lines.proofs.lemmas.OneBlock.{append_one_line, numbered_one_line}
 use Rattle.rider_limits.specs.Range.{AreInRange}
 use Rattle.rider_limits.specs.declared.settings.Mode.{Mode}
@@ -42,39 +43,21 @@ told_lawful s =
     }
 
 -- a line of settings has no line feed
-short_line : (words : List ℕ) (n : ℕ) → is_one_line words ≡ true → IsShortNumber n → is_one_line (numbered words n) ≡ true
-short_line words n one is = let most : n ≤ 4294967295 = is in numbered_one_line words n one (omega arith)
-
-dwell_line : (dwell : ℕ) → IsShortNumber dwell → is_one_line (dwell_text dwell) ≡ true
-dwell_line dwell is = by (dwell == 0)
+dwell_line : (dwell : ℕ) → is_one_line (dwell_text dwell) ≡ true
+dwell_line dwell = by (dwell == 0)
   where
     by : (none : Bool) → is_one_line (if none then [] else numbered (codes " dwell=") dwell) ≡ true
     by true = refl
-    by false = short_line (codes " dwell=") dwell refl is
+    by false = numbered_one_line (codes " dwell=") dwell refl
 
-pub settings_one_line : (s : SettingsText) → AreSettings s → is_one_line (settings_text s) ≡ true
-settings_one_line s is =
-    let wait = numbered (codes "settings wait=") s.wait in
-    let delay = numbered (codes " delay=") s.delay in
-    let trip = numbered (codes " trip=") s.trip in
-    let penalty = numbered (codes " penalty=") s.penalty in
-    let budget = numbered (codes " budget=") s.budget in
-    let pairs = numbered (codes " pairs=") s.pairs in
-    let proof = numbered (codes " proof=") s.proof in
-    let limits : is_one_line (wait ++ delay ++ trip) ≡ true =
-    append_one_line (wait ++ delay) trip
-    (append_one_line wait delay (short_line (codes "settings wait=") s.wait refl is.wait) (short_line (codes " delay=") s.delay refl is.delay))
-    (short_line (codes " trip=") s.trip refl is.trip)
-    in
-    let costs : is_one_line (penalty ++ budget ++ pairs) ≡ true =
-    append_one_line (penalty ++ budget) pairs
-    (append_one_line penalty budget (short_line (codes " penalty=") s.penalty refl is.penalty) (short_line (codes " budget=") s.budget refl is.budget))
-    (short_line (codes " pairs=") s.pairs refl is.pairs)
-    in
-    append_one_line ((wait ++ delay ++ trip) ++ (penalty ++ budget ++ pairs) ++ proof) (dwell_text s.dwell)
-    (append_one_line ((wait ++ delay ++ trip) ++ (penalty ++ budget ++ pairs)) proof
-    (append_one_line (wait ++ delay ++ trip) (penalty ++ budget ++ pairs) limits costs) (short_line (codes " proof=") s.proof refl is.proof))
-    (dwell_line s.dwell is.dwell)
+fields_line : (ws : List (List ℕ)) (ns : Numbers ws) (dwell : ℕ) → list_all is_one_line ws ≡ true → is_one_line (fields_text ws ns dwell) ≡ true
+fields_line [] ns dwell one = dwell_line dwell
+fields_line (w ∷ ws) ns dwell one =
+    let parts = and_parts (is_one_line w) (list_all is_one_line ws) one in
+    append_one_line (numbered w ns.0) (fields_text ws ns.1 dwell) (numbered_one_line w ns.0 parts.0) (fields_line ws ns.1 dwell parts.1)
+
+pub settings_one_line : (s : SettingsText) → is_one_line (settings_text s) ≡ true
+settings_one_line s = ap is_one_line (settings_fields s) ∙ fields_line settings_words (numbers_of s) s.dwell refl
 
 -- the line of settings whose report prints the trees
 proof_one : numbered (codes " proof=") 1 ≡ codes " proof=1"

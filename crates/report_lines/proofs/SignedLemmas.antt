@@ -1,27 +1,12 @@
 -- Signed numbers at the beginning of a text.
-use Rattle.std.proofs.Common.{◌≡◌, ◌≢◌, ℕ, suc, ◌≤◌, ◌<◌, ◌^◌, true, false, ℤ, pos, negsuc, FitsSigned, to_z, of_z, w64, Bor, Option, None, Some, MatchOption, List, [], ◌∷◌, ◌++◌, length, decimal, codes, refl, sym, ap, ◌∙◌, subst, arith, rules}
-use Rattle.report_lines.proofs.Common.{list_all, is_ascii_digit, decimal_is_IsNumeral_wide, and_parts, signed, BeginsWith, BeginsWithNone, ends_number, IsWide, IsLong}
+use Rattle.std.proofs.Common.{◌≡◌, ◌≢◌, ℕ, suc, ◌≤◌, ◌<◌, ◌^◌, true, ℤ, pos, negsuc, FitsSigned, to_z, of_z, w64, Bor, Option, None, Some, MatchOption, List, ◌∷◌, ◌++◌, decimal, codes, refl, sym, ap, ◌∙◌, subst, arith, rules}
+use Rattle.report_lines.proofs.Common.{signed, BeginsWith, BeginsWithNone, ends_number, IsWide, IsLong}
 use Rattle.std.specs.Fmt.{signed_decimal}
 use Rattle.std.specs.Int.{w128}
 use Rattle.std.proofs.lemmas.Int.{to_z-of_z}
 use Rattle.report_lines.proofs.ListLemmas.{IsNeverEmpty}
-use Rattle.report_lines.proofs.lemmas.NumeralLemmas.{decimal_digits}
+use Rattle.report_lines.proofs.ToldLemmas.{no_number}
 use Rattle.report_lines.proofs.lemmas.ReadingLemmas.{EndsOnce, StandsApart, decimal_once, behind_once, behind_none, behind_none_words, behind_some}
-
--- no number's text begins with a sign
-sign_is_no_digit : (digits text rest : List ℕ) → 0 < length digits → list_all is_ascii_digit digits ≡ true → 45 ∷ text ≡ digits ++ rest → ⊥
-sign_is_no_digit [] text rest some all e = absurd (omega arith)
-sign_is_no_digit (d ∷ ds) text rest some all e =
-    let same : 45 ∷ text ≡ d ∷ (ds ++ rest) = e in
-    let head : 45 ≡ d = cc in
-    let digit = (and_parts (is_ascii_digit d) (list_all is_ascii_digit ds) all).0 in
-    let here : is_ascii_digit 45 ≡ is_ascii_digit d = ap is_ascii_digit head in
-    let sign : is_ascii_digit 45 ≡ false = refl in
-    cc
-
-sign_is_no_number : (n : ℕ) (text rest : List ℕ) → n < 2 ^ 128 → 45 ∷ text ≡ decimal n ++ rest → ⊥
-sign_is_no_number n text rest small e =
-    sign_is_no_digit (decimal n) text rest (decimal_is_IsNumeral_wide n (omega arith)).0.0 (decimal_digits n small) e
 
 below_begins : (text : List ℕ) (n : ℕ) (rest : List ℕ) → n < 2 ^ 127 → ends_number rest ≡ true → 45 ∷ text ≡ signed_decimal (negsuc n) ++ rest → BeginsWith decimal (λ m. m ≤ 2 ^ 127) text (suc n) rest
 below_begins text n rest small ends e =
@@ -31,11 +16,11 @@ below_begins text n rest small ends e =
     record { whole = tails; lawful = within; ends = ends }
 
 pub below_none : (text : List ℕ) → BeginsWithNone decimal (λ m. m ≤ 2 ^ 127) text → BeginsWithNone signed_decimal IsWide (45 ∷ text)
-below_none text none (pos n) rest b = sign_is_no_number n text rest (let small : n < 2 ^ 127 = b.lawful in omega arith) b.whole
+below_none text none (pos n) rest b = no_number 45 text n rest refl (let small : n < 2 ^ 127 = b.lawful in omega arith) b.whole
 below_none text none (negsuc n) rest b = none (suc n) rest (below_begins text n rest b.lawful b.ends b.whole)
 
 pub below_zero_none : (text : List ℕ) (m : ℕ) (after : List ℕ) → BeginsWith decimal (λ m. m ≤ 2 ^ 127) text m after → m ≡ 0 → BeginsWithNone signed_decimal IsWide (45 ∷ text)
-below_zero_none text m after first zero (pos n) rest b = sign_is_no_number n text rest (let small : n < 2 ^ 127 = b.lawful in omega arith) b.whole
+below_zero_none text m after first zero (pos n) rest b = no_number 45 text n rest refl (let small : n < 2 ^ 127 = b.lawful in omega arith) b.whole
 below_zero_none text m after first zero (negsuc n) rest b =
     let same = decimal_once (2 ^ 127) (omega arith) text m (suc n) after rest first (below_begins text n rest b.lawful b.ends b.whole) in
     let equal : m ≡ suc n = same.0 in
@@ -51,10 +36,10 @@ signed_once text (pos x) (pos y) r s bx by =
     (ap (λ n. pos n) same.0, same.1)
 signed_once text (pos x) (negsuc y) r s bx by =
     let small : x < 2 ^ 127 = bx.lawful in
-    absurd (sign_is_no_number x (decimal (suc y) ++ s) r (omega arith) (sym by.whole ∙ bx.whole))
+    absurd (no_number 45 (decimal (suc y) ++ s) x r refl (omega arith) (sym by.whole ∙ bx.whole))
 signed_once text (negsuc x) (pos y) r s bx by =
     let small : y < 2 ^ 127 = by.lawful in
-    absurd (sign_is_no_number y (decimal (suc x) ++ r) s (omega arith) (sym bx.whole ∙ by.whole))
+    absurd (no_number 45 (decimal (suc x) ++ r) y s refl (omega arith) (sym bx.whole ∙ by.whole))
 signed_once text (negsuc x) (negsuc y) r s bx by =
     let here : BeginsWith decimal (λ m. m ≤ 2 ^ 127) (decimal (suc x) ++ r) (suc x) r = below_begins (decimal (suc x) ++ r) x r bx.lawful bx.ends refl in
     let there = below_begins (decimal (suc x) ++ r) y s by.lawful by.ends (sym bx.whole ∙ by.whole) in

@@ -2,12 +2,13 @@
 use Rattle.std.specs.Prelude.{◌≡◌, ◌≢◌, ℕ, true, List, ◌∷◌, ◌++◌, length, map}
 use Rattle.std.specs.List.{All}
 use Rattle.dispatch_report.specs.Lines.{lines_text}
-use Rattle.report_lines.specs.BlockLine.{block_line_text, IsBlockLine}
+use Rattle.dispatch_report.specs.Block.{block_line_text}
+use Rattle.report_lines.specs.BlockLine.{IsBlockLine}
 use Rattle.report_lines.specs.Cut.{is_one_line}
 use Rattle.report_lines.specs.Order.{may_follow_at, follow_on, last_place}
 use Rattle.report_lines.specs.declared.block.BlockFault.{BlockFault}
 use Rattle.report_lines.specs.declared.block.BlockFault.TheVariants.{OutOfMemory, Cut, Form}
-use Rattle.report_lines.specs.declared.block_line.BlockLine.{BlockLine}
+use Rattle.dispatch_report.specs.declared.block_line.BlockLine.{BlockLine}
 
 -- a text begins with these lines of a block, which may follow one another
 pub record BeginsBlock (text : List ℕ) (lines : List BlockLine) (rest : List ℕ) : Type 0 where

@@ -8,17 +8,13 @@ use Rattle.request_book.specs.declared.command.Command.TheVariants.{Submit, Canc
 abbrev pub IsSecond : ℕ → Type 0
 IsSecond n = n ≤ 1000000000
 
--- how many persons ride on one request
-abbrev pub IsParty : ℕ → Type 0
-IsParty n = (1 ≤ n) × (n ≤ 6)
-
 -- the number of a batch
 abbrev pub IsBatch : ℕ → Type 0
 IsBatch n = n < 2 ^ 64
 
 -- each number of a command is within its type; of a close the line tells the batch alone
 abbrev pub IsCommand : Command → Type 0
-IsCommand (Submit rider origin destination time party) = IsId rider × IsId origin × IsId destination × IsSecond time × IsParty party
+IsCommand (Submit rider origin destination time party) = IsId rider × IsId origin × IsId destination × IsSecond time × (1 ≤ party) × (party ≤ 6)
 IsCommand (Cancel rider) = IsId rider
 IsCommand (Report vehicle node time) = IsId vehicle × IsId node × IsSecond time
 IsCommand (Pickup vehicle rider time) = IsId vehicle × IsId rider × IsSecond time

@@ -1,7 +1,7 @@
 -- Why a text begins with no head.
 use Rattle.std.specs.Prelude.{◌≡◌, ℕ, ◌+◌, ◌<◌, ◌^◌, ◌⊎◌, true, List, [], ◌∷◌, codes, length}
 use Rattle.dispatch_report.specs.Words.{numbered}
-use Rattle.report_lines.specs.Line.{IsFirstLine, Passes}
+use Rattle.report_lines.specs.Line.{IsFirstLine}
 use Rattle.report_lines.specs.Settings.{AreLawful}
 use Rattle.report_lines.specs.declared.head_fault.HeadFault.{HeadFault}
 use Rattle.report_lines.specs.declared.head_fault.HeadFault.TheVariants.{Cut, Form, Head}
@@ -43,7 +43,7 @@ LineFails form number text (Head line) = (line ≡ number) × (first rest : List
 abbrev pub LinesFail : List HeadLine → ℕ → List ℕ → HeadFault → Type 0
 LinesFail [] number text fault = ⊥
 LinesFail (form ∷ forms) number text fault =
-    LineFails form number text fault ⊎ ((rest : List ℕ) × Passes (FitsLine form) text rest × LinesFail forms (number + 1) rest fault)
+    LineFails form number text fault ⊎ ((rest : List ℕ) × ((line : List ℕ) × IsFirstLine text line rest × FitsLine form line) × LinesFail forms (number + 1) rest fault)
 
 -- how many nodes and arcs a network has
 abbrev pub sizes_of : Roads → ℕ × ℕ

@@ -3,10 +3,6 @@ use Rattle.std.specs.Prelude.{ℕ, ◌==◌, ◌<◌, ◌≤◌, ◌^◌, List, 
 use Rattle.dispatch_report.specs.Words.{numbered}
 use Rattle.report_lines.specs.declared.head_lines.SettingsText.{SettingsText}
 
--- a number below 2^32
-abbrev pub IsShortNumber : ℕ → Type 0
-IsShortNumber n = n ≤ 4294967295
-
 -- the line of the settings; the dwell only where there is one
 abbrev pub settings_text : SettingsText → List ℕ
 settings_text s =
@@ -17,14 +13,14 @@ settings_text s =
 
 -- each number is below 2^32
 pub record AreSettings (s : SettingsText) : Type 0 where
-  pub wait : IsShortNumber s.wait
-  pub delay : IsShortNumber s.delay
-  pub trip : IsShortNumber s.trip
-  pub penalty : IsShortNumber s.penalty
-  pub budget : IsShortNumber s.budget
-  pub pairs : IsShortNumber s.pairs
-  pub proof : IsShortNumber s.proof
-  pub dwell : IsShortNumber s.dwell
+  pub wait : s.wait ≤ 4294967295
+  pub delay : s.delay ≤ 4294967295
+  pub trip : s.trip ≤ 4294967295
+  pub penalty : s.penalty ≤ 4294967295
+  pub budget : s.budget ≤ 4294967295
+  pub pairs : s.pairs ≤ 4294967295
+  pub proof : s.proof ≤ 4294967295
+  pub dwell : s.dwell ≤ 4294967295
 
 -- the line of the network: how many nodes and arcs it has
 abbrev pub sizes_text : ℕ × ℕ → List ℕ

@@ -4,15 +4,10 @@ pub mod Line
 pub mod Both
 pub mod Ids
 pub mod Signed
-pub mod Leaf
-pub mod Row
-pub mod Moves
 pub mod Stops
-pub mod Trips
 pub mod BlockLine
 pub mod Order
 pub mod Block
-pub mod Outcome
 pub mod HeadLines
 pub mod Settings
 pub mod Head

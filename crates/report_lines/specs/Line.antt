@@ -6,7 +6,3 @@ use Rattle.report_lines.specs.Cut.{is_one_line}
 pub record IsFirstLine (text line rest : List ℕ) : Type 0 where
   pub whole : text ≡ line ++ 10 ∷ rest
   pub one : is_one_line line ≡ true
-
--- the first line of the text fits, and this follows it
-abbrev pub Passes : (List ℕ → Type 0) → List ℕ → List ℕ → Type 0
-Passes Fits text rest = (line : List ℕ) × IsFirstLine text line rest × Fits line

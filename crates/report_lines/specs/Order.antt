@@ -1,11 +1,7 @@
 -- The order of the kinds of lines in a block.
 use Rattle.std.specs.Prelude.{ℕ, ◌==◌, Bool, true, ◌&&◌, List, [], ◌∷◌, nat_le}
-use Rattle.report_lines.specs.declared.block_line.BlockLine.{BlockLine}
-use Rattle.report_lines.specs.declared.block_line.BlockLine.TheVariants.{Batch, Expired, Overflow, Lapsed, Late, Alone, Shared, Row, Trip, Out, Move, Cost, Bound, Nodes, Branch, Leaf, Dead, End}
-
--- a number that is this one
-abbrev pub is_at : ℕ → ℕ → Bool
-is_at one n = n == one
+use Rattle.dispatch_report.specs.declared.block_line.BlockLine.{BlockLine}
+use Rattle.dispatch_report.specs.declared.block_line.BlockLine.TheVariants.{Batch, Expired, Overflow, Lapsed, Late, Alone, Shared, Row, Trip, Out, Move, Cost, Bound, Nodes, Branch, Leaf, Dead, End}
 
 -- a number from one to another
 abbrev pub is_between : ℕ → ℕ → ℕ → Bool
@@ -15,7 +11,7 @@ is_between low high n = nat_le low n && nat_le n high
 -- overflow stands in the place of a plan, cost, bound and number of nodes stand once and one behind the other, and the
 -- lists before them stand in their order
 abbrev pub order_of : BlockLine → (ℕ → Bool) × ℕ
-order_of (Batch n) = (is_at 0, 1)
+order_of (Batch n) = (λ place. place == 0, 1)
 order_of (Expired rider) = (is_between 1 2, 2)
 order_of (Lapsed rider) = (is_between 1 3, 3)
 order_of (Late late) = (is_between 1 4, 4)
@@ -26,8 +22,8 @@ order_of (Trip trip) = (is_between 1 8, 8)
 order_of (Out rider) = (is_between 1 9, 9)
 order_of (Move m) = (is_between 1 10, 10)
 order_of (Cost n) = (is_between 1 10, 11)
-order_of (Bound z) = (is_at 11, 12)
-order_of (Nodes n) = (is_at 12, 13)
+order_of (Bound z) = (λ place. place == 11, 12)
+order_of (Nodes n) = (λ place. place == 12, 13)
 order_of (Branch branch) = (is_between 13 14, 14)
 order_of (Leaf multipliers) = (is_between 13 14, 14)
 order_of Dead = (is_between 13 14, 14)

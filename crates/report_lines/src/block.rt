@@ -1,12 +1,14 @@
 ghost use Rattle.std.specs.Prelude.{◌≡◌, ℕ, List, IfOk, MatchOption, MatchResult, true};
 ghost use Rattle.report_lines.specs.Block.{IsBlock, BlockFails};
 ghost use Rattle.report_lines.specs.work.LineKinds.{CannotFollow};
-ghost use Rattle.report_lines.specs.BlockLine.{block_line_text, IsBlockLine};
+ghost use Rattle.dispatch_report.specs.Block.{block_line_text};
+ghost use Rattle.report_lines.specs.BlockLine.{IsBlockLine};
 ghost use Rattle.report_lines.specs.Order.{kind_place, may_follow_at, is_between as between};
 ghost use Rattle.report_lines.specs.declared.block.BlockFault.TheVariants.{OutOfMemory as NoMemory};
 
-use crate::block_line::{BlockLine, read_block_line};
+use crate::block_line::read_block_line;
 use crate::cut::line_first;
+use dispatch_report::BlockLine;
 use pool_base::{OutOfMemory, Sequence};
 use std::alloc::{AllocFailed, Global};
 

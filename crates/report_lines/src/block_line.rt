@@ -1,52 +1,20 @@
 ghost use Rattle.std.specs.Prelude.{◌≡◌, ◌≢◌, ℕ, ◌≤◌, ◌<◌, List, ◌++◌, MatchOption, IfOk, codes};
 ghost use Rattle.report_lines.specs.Reading.{IsReadAs};
-ghost use Rattle.report_lines.specs.BlockLine.{block_line_text, IsBlockLine};
+ghost use Rattle.dispatch_report.specs.Block.{block_line_text};
+ghost use Rattle.report_lines.specs.BlockLine.{IsBlockLine};
 ghost use Rattle.report_lines.specs.work.LineKinds.{IsPlainLine, IsPairLine, IsListLine};
 
-use crate::late::{LateText, read_late};
+use crate::late::read_late;
 use crate::leaf::read_leaf;
 use crate::moves::{read_branch, read_move};
 use crate::pairs::{read_rider, read_rr, read_rv};
-use crate::row::{RowText, read_row};
+use crate::row::read_row;
 use crate::signed::read_signed;
-use crate::trip::{TripText, read_trip};
+use crate::trip::read_trip;
 use crate::words::{is_words, read_numbered};
-use plan_rules::Multipliers;
-use pool_base::{OutOfMemory, RiderId, VehicleId};
-use request_book::MoveLine;
+use dispatch_report::BlockLine;
+use pool_base::OutOfMemory;
 use std::alloc::Global;
-
-/// A line of a batch's block, by what it says.
-#[derive(Drop)]
-pub enum BlockLine {
-    /// The batch's number.
-    Batch(u64),
-    /// A rider whose wait ran out.
-    Expired(RiderId),
-    /// There were too many rows.
-    Overflow,
-    /// A rider whose promise couldn't be kept.
-    Lapsed(RiderId),
-    Late(LateText),
-    /// A vehicle and a rider who can ride alone with it.
-    Alone((VehicleId, RiderId)),
-    /// Two riders who can share a vehicle.
-    Shared((RiderId, RiderId)),
-    Row(RowText),
-    Trip(TripText),
-    /// A rider in no chosen trip.
-    Out(RiderId),
-    Move(MoveLine),
-    Cost(u64),
-    Bound(i128),
-    /// How many nodes the tree has.
-    Nodes(u64),
-    /// A node that branches: the vehicle of a row, and which row line of the block it is.
-    Branch((VehicleId, u32)),
-    Leaf(Multipliers),
-    Dead,
-    End,
-}
 
 /// What a line of a block says; `None` where it is no such line.
 pub fn read_block_line(alloc: Global, line: &[u8]) -> Result<Option<BlockLine>, OutOfMemory>

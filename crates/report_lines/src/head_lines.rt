@@ -1,7 +1,7 @@
 ghost use Rattle.std.specs.Prelude.{◌≡◌, ◌≢◌, ℕ, ◌≤◌, ◌<◌, ◌^◌, List};
-ghost use Rattle.report_lines.specs.HeadLines.{settings_text, AreSettings, sizes_text, AreSizes, IsShortNumber};
+ghost use Rattle.report_lines.specs.HeadLines.{settings_text, AreSettings, sizes_text, AreSizes};
 ghost use Rattle.report_lines.specs.Reading.{IsReadAs};
-ghost use Rattle.report_lines.specs.lemmas.HeadLines.{dwell_text};
+ghost use Rattle.report_lines.specs.lemmas.HeadLines.{dwell_text, IsShortNumber};
 
 use crate::words::{numbered_first, read_numbered};
 

@@ -1,6 +1,7 @@
 ghost use Rattle.std.specs.Prelude.{◌≡◌, ◌≢◌, ℕ, ◌≤◌, ◌<◌, ◌^◌, List, MatchResult, codes, true};
 ghost use Rattle.report_lines.specs.HeadFault.{HeadLine, FitsLine, LineFails};
-ghost use Rattle.report_lines.specs.Line.{IsFirstLine, Passes};
+ghost use Rattle.report_lines.specs.Line.{IsFirstLine};
+ghost use Rattle.report_lines.specs.work.Head.{Passes};
 ghost use Rattle.report_lines.specs.Settings.{AreLawful};
 ghost use Rattle.report_lines.specs.HeadLines.{settings_text, AreSettings};
 

@@ -1,27 +1,21 @@
 ghost use Rattle.std.specs.Prelude.{◌≡◌, ◌≢◌, ℕ, ◌≤◌, ◌<◌, ◌^◌, List, ◌++◌, MatchOption, IfOk, codes};
 ghost use Rattle.report_lines.specs.Reading.{IsReadAs};
-ghost use Rattle.report_lines.specs.Trips.{late_text, IsLateLine};
+ghost use Rattle.dispatch_report.specs.Block.{block_line_text};
+ghost use Rattle.dispatch_report.specs.declared.block_line.BlockLine.TheVariants.{Late};
+ghost use Rattle.report_lines.specs.BlockLine.{IsBlockLine};
 ghost use Rattle.report_lines.specs.work.Late.{order_text, IsOrder};
 
 use crate::ids::{ID_MOST, vehicle};
 use crate::stops::stops_to_end;
 use crate::words::{is_words, numbered_first};
-use pool_base::{OutOfMemory, Sequence, VehicleId};
+use dispatch_report::LateText;
+use pool_base::{OutOfMemory, Sequence};
 use request_book::PlannedStop;
 use std::alloc::Global;
 
-/// A late vehicle, with its passengers' least delay and the order of its stops, of which a line may name more than its
-/// passengers have; or with neither where the line says `none`.
-#[derive(Drop)]
-pub struct LateText {
-    pub vehicle: VehicleId,
-    pub delay: u64,
-    pub stops: Option<Sequence<PlannedStop>>,
-}
-
 /// A late vehicle with its order, or `none`.
 pub fn read_late(alloc: Global, line: &[u8]) -> Result<Option<LateText>, OutOfMemory>
-    ensures { IfOk result (λ late. IsReadAs late_text IsLateLine line.now late) }
+    ensures { IfOk result (λ late. IsReadAs (λ x. block_line_text (Late x)) (λ x. IsBlockLine (Late x)) line.now late) }
 {
     let Some((id, after)) = numbered_first(line, b"late ", ID_MOST) else {
         return Ok(None);

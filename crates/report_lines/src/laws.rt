@@ -1,17 +1,16 @@
 //! Each law is a call with no code, whose clause is the law.
 ghost use Rattle.std.specs.Prelude.{◌≡◌, ◌≢◌, ℕ, List, ◌++◌, true};
 ghost use Rattle.std.specs.List.{All};
-ghost use Rattle.dispatch_report.specs.Block.{block_lines};
+ghost use Rattle.dispatch_report.specs.Block.{block_line_text, block_lines, lines_of};
 ghost use Rattle.dispatch_report.specs.Lines.{lines_text};
 ghost use Rattle.report_lines.specs.Block.{IsBlock, BlockFails};
 ghost use Rattle.report_lines.specs.declared.block.BlockFault.{BlockFault};
 ghost use Rattle.report_lines.specs.declared.block.BlockFault.TheVariants.{OutOfMemory as NoMemory};
-ghost use Rattle.report_lines.specs.BlockLine.{block_line_text, IsBlockLine};
+ghost use Rattle.report_lines.specs.BlockLine.{IsBlockLine};
 ghost use Rattle.report_lines.specs.Next.{IsNextLine};
-ghost use Rattle.report_lines.specs.Outcome.{lines_of};
 ghost use Rattle.report_lines.specs.declared.next.NextLine.{NextLine};
 ghost use Rattle.request_book.specs.declared.outcome.Outcome.{Outcome};
-ghost use Rattle.report_lines.specs.declared.block_line.BlockLine.{BlockLine};
+ghost use Rattle.dispatch_report.specs.declared.block_line.BlockLine.{BlockLine};
 
 /// A line of a block says one thing.
 pub fn a_line_says_one_thing()
@@ -26,8 +25,8 @@ pub fn a_text_begins_with_one_block()
 
 /// The text of an outcome's block begins with the block of its lines.
 pub fn an_outcome_prints_a_block()
-    ensures { (batch : ℕ) (outcome : Outcome) (rest : List ℕ) → All IsBlockLine (lines_of batch outcome)
-        → IsBlock (lines_text (block_lines true batch outcome) ++ rest) (lines_of batch outcome) rest }
+    ensures { (batch : ℕ) (outcome : Outcome) (rest : List ℕ) → All IsBlockLine (lines_of true batch outcome)
+        → IsBlock (lines_text (block_lines true batch outcome) ++ rest) (lines_of true batch outcome) rest }
 {}
 
 /// A text that begins with a block isn't cut, and none of its lines is out of form.

@@ -3,7 +3,8 @@ ghost use Rattle.std.specs.List.{flat_map, All};
 ghost use Rattle.dispatch_report.specs.Words.{signed};
 ghost use Rattle.report_lines.specs.Reading.{BeginsWith, BeginsWithNone, IsReadAs};
 ghost use Rattle.report_lines.specs.Signed.{IsLong, IsWide};
-ghost use Rattle.report_lines.specs.Leaf.{leaf_text};
+ghost use Rattle.dispatch_report.specs.Block.{block_line_text};
+ghost use Rattle.dispatch_report.specs.declared.block_line.BlockLine.TheVariants.{Leaf};
 
 use crate::signed::signed_words_first;
 use crate::words::words_first;
@@ -13,7 +14,7 @@ use std::alloc::Global;
 
 /// A leaf of a tree with its multipliers, of whom a line may name any number.
 pub fn read_leaf(alloc: Global, line: &[u8]) -> Result<Option<Multipliers>, OutOfMemory>
-    ensures { IfOk result (λ leaf. IsReadAs leaf_text (All IsLong) line.now leaf) }
+    ensures { IfOk result (λ leaf. IsReadAs (λ x. block_line_text (Leaf x)) (All IsLong) line.now leaf) }
 {
     let Some(after) = words_first(line, b"leaf") else {
         return Ok(None);

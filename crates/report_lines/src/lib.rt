@@ -48,12 +48,13 @@ mod trip;
 mod words;
 
 pub use block::{BlockFault, read_block};
-pub use block_line::{BlockLine, read_block_line};
+pub use block_line::read_block_line;
 pub use cut::line_first;
+pub use dispatch_report::{BlockLine, LateText, RowText, TripText};
 pub use head::read_head;
 pub use head_fault::HeadFault;
 pub use head_lines::{SettingsText, read_settings, read_sizes};
-pub use late::{LateText, read_late};
+pub use late::read_late;
 pub use laws::{
     a_block_has_no_fault, a_line_is_of_one_kind, a_line_says_one_thing,
     a_text_begins_with_one_block, a_text_has_one_fault, an_outcome_prints_a_block,
@@ -63,7 +64,7 @@ pub use moves::{read_branch, read_move};
 pub use next::{NextLine, read_next};
 pub use numeral::number_first;
 pub use pairs::{read_rider, read_rr, read_rv};
-pub use row::{RowText, read_row};
+pub use row::read_row;
 pub use signed::read_signed;
-pub use trip::{TripText, read_trip};
+pub use trip::read_trip;
 pub use words::{is_words, numbered_first, pair_first, read_numbered, words_first};

@@ -1,7 +1,8 @@
 ghost use Rattle.std.specs.Prelude.{◌≡◌, ◌≢◌, ℕ, ◌≤◌, ◌<◌, ◌^◌, List, ◌++◌, MatchOption, codes};
-ghost use Rattle.dispatch_report.specs.Block.{move_text, pair_line};
+ghost use Rattle.dispatch_report.specs.Block.{block_line_text};
+ghost use Rattle.dispatch_report.specs.declared.block_line.BlockLine.TheVariants.{Move, Branch};
 ghost use Rattle.dispatch_report.specs.Words.{spaced};
-ghost use Rattle.report_lines.specs.Moves.{IsMove, IsBranch};
+ghost use Rattle.report_lines.specs.BlockLine.{IsBlockLine};
 ghost use Rattle.report_lines.specs.Reading.{IsReadAs};
 
 use crate::ids::{ID_MOST, rider, vehicle};
@@ -11,7 +12,7 @@ use request_book::MoveLine;
 
 /// An idle vehicle that is sent to a rider, and the seconds of its way.
 pub fn read_move(line: &[u8]) -> Option<MoveLine>
-    ensures { IsReadAs move_text IsMove line.now result }
+    ensures { IsReadAs (λ x. block_line_text (Move x)) (λ x. IsBlockLine (Move x)) line.now result }
 {
     let Some((ids, after)) = pair_first(line, b"move ", ID_MOST, ID_MOST) else {
         return None;
@@ -28,7 +29,7 @@ pub fn read_move(line: &[u8]) -> Option<MoveLine>
 
 /// A branch of a tree: the vehicle of a row, and which row line of the block it is.
 pub fn read_branch(line: &[u8]) -> Option<(VehicleId, u32)>
-    ensures { IsReadAs (pair_line (codes "branch ")) IsBranch line.now result }
+    ensures { IsReadAs (λ x. block_line_text (Branch x)) (λ x. IsBlockLine (Branch x)) line.now result }
 {
     let Some((branch, rest)) = pair_first(line, b"branch ", ID_MOST, u32::MAX as u64) else {
         return None;

@@ -8,10 +8,11 @@ use Rattle.outcome_check.specs.declared.verdict.Verdict.TheVariants.{Good, Fails
 use Rattle.outcome_check.proofs.lemmas.PosedLemmas.{good_meets}
 use Rattle.outcome_check.proofs.lemmas.VerdictLemmas.{last_place}
 use Rattle.report_lines.specs.Block.{IsBlock, BlockFails}
-use Rattle.report_lines.specs.BlockLine.{block_line_text, IsBlockLine}
+use Rattle.dispatch_report.specs.Block.{block_line_text}
+use Rattle.report_lines.specs.BlockLine.{IsBlockLine}
 use Rattle.report_lines.specs.declared.block.BlockFault.{BlockFault}
 use Rattle.report_lines.proofs.lemmas.OneBlock.{block_of_one, block_no_fault, one_fault}
-use Rattle.report_lines.proofs.lemmas.OutcomeLemmas.{outcome_block, outcome_texts}
+use Rattle.report_lines.proofs.lemmas.OutcomeLemmas.{outcome_block}
 use Rattle.block_audit.specs.work.Block.{refusal_for}
 use Rattle.block_audit.specs.declared.refusal.BlockRefusal.{BlockRefusal}
 use Rattle.block_audit.specs.declared.refusal.BlockRefusal.TheVariants.{OutOfMemory, Cut, Form, Wrong}
@@ -62,10 +63,10 @@ pub record IsItself (settings : Settings) (roads : Roads) (batch : Batch) (t : T
 module _ (settings : Settings) (roads : Roads) (batch : Batch) (kept : IsKept batch) (text : List ℕ) (lines : List BlockLine) (rest : List ℕ) (block : IsBlock text lines rest) where
   pub good_is_judged : (other : Outcome) (behind : List ℕ) → BeginsWithGood settings roads batch text other behind → IsItself settings roads batch (told_by lines) other rest behind
   good_is_judged other behind good =
-      let printed : IsBlock text (lines_of batch.number other) behind =
-      subst (λ (t : List ℕ). IsBlock t (lines_of batch.number other) behind) (sym good.whole) (outcome_block batch.number other behind good.fits.lines)
+      let printed : IsBlock text (lines_of true batch.number other) behind =
+      subst (λ (t : List ℕ). IsBlock t (lines_of true batch.number other) behind) (sym good.whole) (outcome_block batch.number other behind good.fits.lines)
       in
-      let same = block_of_one text lines (lines_of batch.number other) rest behind block printed in
+      let same = block_of_one text lines (lines_of true batch.number other) rest behind block printed in
       let told : IsToldAs (vehicle_ids batch) batch.number other (told_by lines) =
       subst (λ (ls : List BlockLine). IsToldAs (vehicle_ids batch) batch.number other (told_by ls)) (sym same.0)
       (outcome_is_told (vehicle_ids batch) batch.number other good.fits.stops (outcome_trips settings roads batch other good.good) (outcome_numbered settings roads batch other kept good.good))
@@ -81,15 +82,15 @@ module _ (settings : Settings) (roads : Roads) (batch : Batch) (kept : IsKept ba
   fails_no_good place fails other behind good = fails.first.1 ((good_is_judged other behind good).meets fails.point)
 
   module _ (number : (told_by lines).batch ≡ batch.number) (can : (q : Point) → CanBeTold q (told_by lines)) where
-    printed_is : lines ≡ lines_of batch.number (judged_outcome (vehicle_ids batch) (told_by lines))
-    printed_is = lines_are (vehicle_ids batch) lines block.begins.order block.ended can ∙ ap (λ (n : ℕ). lines_of n (judged_outcome (vehicle_ids batch) (told_by lines))) number
+    printed_is : lines ≡ lines_of true batch.number (judged_outcome (vehicle_ids batch) (told_by lines))
+    printed_is = lines_are (vehicle_ids batch) lines block.begins.order block.ended can ∙ ap (λ (n : ℕ). lines_of true n (judged_outcome (vehicle_ids batch) (told_by lines))) number
 
     -- where all points hold, it is a good outcome whose block stands there
     pub begins_good : IsGoodOutcome settings roads batch (judged_outcome (vehicle_ids batch) (told_by lines)) → BeginsWithGood settings roads batch text (judged_outcome (vehicle_ids batch) (told_by lines)) rest
     begins_good good =
         let outcome : Outcome = judged_outcome (vehicle_ids batch) (told_by lines) in
         record {
-          whole = block.begins.whole ∙ ap (λ (ls : List BlockLine). lines_text (map block_line_text ls) ++ rest) printed_is ∙ ap (λ (ls : List (List ℕ)). lines_text ls ++ rest) (outcome_texts batch.number outcome);
+          whole = block.begins.whole ∙ ap (λ (ls : List BlockLine). lines_text (map block_line_text ls) ++ rest) printed_is;
           fits = record { lines = subst (λ (ls : List BlockLine). All IsBlockLine ls) printed_is block.begins.lawful; stops = (judged_few (vehicle_ids batch) (told_by lines)).0 };
           good = good;
         }
@@ -97,16 +98,16 @@ module _ (settings : Settings) (roads : Roads) (batch : Batch) (kept : IsKept ba
     pub line_count : length lines ≡ length (block_lines true batch.number (judged_outcome (vehicle_ids batch) (told_by lines)))
     line_count =
         let outcome : Outcome = judged_outcome (vehicle_ids batch) (told_by lines) in
-        ap (λ (ls : List BlockLine). length ls) printed_is ∙ sym (length-map (lines_of batch.number outcome) block_line_text) ∙ ap (λ (ls : List (List ℕ)). length ls) (outcome_texts batch.number outcome)
+        ap (λ (ls : List BlockLine). length ls) printed_is ∙ sym (length-map (lines_of true batch.number outcome) block_line_text)
 
 -- a text that begins with no block in form begins with none of a good outcome
 pub fault_no_good : (settings : Settings) (roads : Roads) (batch : Batch) (text : List ℕ) (found : BlockFault) (refusal : BlockRefusal) → BlockFails text found → refusal ≡ refusal_for found → refusal ≢ OutOfMemory
     → (other : Outcome) (behind : List ℕ) → BeginsWithGood settings roads batch text other behind → ⊥
 fault_no_good settings roads batch text found refusal fails is some other behind good =
-    let printed : IsBlock text (lines_of batch.number other) behind =
-    subst (λ (t : List ℕ). IsBlock t (lines_of batch.number other) behind) (sym good.whole) (outcome_block batch.number other behind good.fits.lines)
+    let printed : IsBlock text (lines_of true batch.number other) behind =
+    subst (λ (t : List ℕ). IsBlock t (lines_of true batch.number other) behind) (sym good.whole) (outcome_block batch.number other behind good.fits.lines)
     in
-    block_no_fault text (lines_of batch.number other) behind printed found (λ (e : found ≡ fault.OutOfMemory). some (is ∙ ap refusal_for e)) fails
+    block_no_fault text (lines_of true batch.number other) behind printed found (λ (e : found ≡ fault.OutOfMemory). some (is ∙ ap refusal_for e)) fails
 
 -- the first point that fails of a block
 first_of : (settings : Settings) (roads : Roads) (batch : Batch) (text : List ℕ) (place : ℕ) (wrong : BeginsWithWrong settings roads batch text place) → FailsFirst (MeetsAs settings roads batch (told_by wrong.lines)) place

@@ -135,7 +135,7 @@ abbrev pub settings_words : List (List ℕ)
 settings_words =
     codes "settings wait=" ∷ codes " delay=" ∷ codes " trip=" ∷ codes " penalty=" ∷ codes " budget=" ∷ codes " pairs=" ∷ codes " proof=" ∷ []
 
-abbrev numbers_of : SettingsText → Numbers settings_words
+abbrev pub numbers_of : SettingsText → Numbers settings_words
 numbers_of s = (s.wait, (s.delay, (s.trip, (s.penalty, (s.budget, (s.pairs, (s.proof, tt)))))))
 
 short_numbers : (s : SettingsText) → AreSettings s → AreShort settings_words (numbers_of s)

@@ -1,5 +1,5 @@
 -- A line is of one kind.
-use Rattle.std.proofs.Common.{◌≡◌, ◌≢◌, ℕ, ◌≤◌, ◌<◌, ◌^◌, codes, get_or, List, [], ◌++◌, decimal, refl, sym, ap, ◌∙◌, append-nil, append_assoc, false, ◌∷◌, arith}
+use Rattle.std.proofs.Common.{◌≡◌, ◌≢◌, ℕ, ◌≤◌, codes, get_or, List, [], ◌++◌, decimal, refl, sym, ap, ◌∙◌, append-nil, append_assoc, false, ◌∷◌, arith}
 use Rattle.report_lines.proofs.Common.{is_ascii_digit, numbered, IsNextLine}
 use Rattle.report_lines.specs.declared.next.NextLine.{NextLine}
 use Rattle.report_lines.specs.declared.next.NextLine.TheVariants.{Round, Done, Entry as EntryOf}
@@ -24,36 +24,6 @@ round_is_no_done m n e =
     let head : ◌≡◌ {A = ℕ} 114 100 = ap first e in
     omega arith
 
-round_is_no_entry : (m n : ℕ) (rest : List ℕ) → n < 2 ^ 128 → numbered (codes "round ") m ≡ decimal n ++ rest → ⊥
-unfolding numbered
-round_is_no_entry m n rest small e = no_number 114 (codes "ound " ++ decimal m) n rest refl small e
-
-done_is_no_entry : (m n : ℕ) (rest : List ℕ) → n < 2 ^ 128 → numbered (codes "done ") m ≡ decimal n ++ rest → ⊥
-unfolding numbered
-done_is_no_entry m n rest small e = no_number 100 (codes "one " ++ decimal m) n rest refl small e
-
-module _ (line : List ℕ) where
-  round_no_entry : (m lane : ℕ) → line ≡ numbered (codes "round ") m → IsNextLine (EntryOf lane) line → ⊥
-  round_no_entry m lane e is =
-      let x = entry_begins line lane is in
-      round_is_no_entry m x.0 x.1 (omega (arith, x.2)) (sym e ∙ x.3)
-
-  done_no_entry : (m lane : ℕ) → line ≡ numbered (codes "done ") m → IsNextLine (EntryOf lane) line → ⊥
-  done_no_entry m lane e is =
-      let x = entry_begins line lane is in
-      done_is_no_entry m x.0 x.1 (omega (arith, x.2)) (sym e ∙ x.3)
-
-pub one_kind : (x y : NextLine) (line : List ℕ) → IsNextLine x line → IsNextLine y line → x ≡ y
-one_kind (Round m) (Round n) line ix iy = ap Round (numbered_below (codes "round ") m n (omega (arith, ix.0)) (omega (arith, iy.0)) (sym ix.1 ∙ iy.1))
-one_kind (Round m) (Done n) line ix iy = absurd (round_is_no_done m n (sym ix.1 ∙ iy.1))
-one_kind (Round m) (EntryOf lane) line ix iy = absurd (round_no_entry line m lane ix.1 iy)
-one_kind (Done m) (Round n) line ix iy = absurd (round_is_no_done n m (sym iy.1 ∙ ix.1))
-one_kind (Done m) (Done n) line ix iy = ap Done (numbered_below (codes "done ") m n ix.0 iy.0 (sym ix.1 ∙ iy.1))
-one_kind (Done m) (EntryOf lane) line ix iy = absurd (done_no_entry line m lane ix.1 iy)
-one_kind (EntryOf lane) (Round n) line ix iy = absurd (round_no_entry line n lane iy.1 ix)
-one_kind (EntryOf lane) (Done n) line ix iy = absurd (done_no_entry line n lane iy.1 ix)
-one_kind (EntryOf lane) (EntryOf other) line ix iy = ap EntryOf (same_lane line lane other ix iy)
-
 -- no entry's line begins with words
 no_entry_behind : (c : ℕ) (cs line after : List ℕ) (lane : ℕ) → is_ascii_digit c ≡ false → IsNextLine (EntryOf lane) line → c ∷ cs ≡ line ++ after → ⊥
 no_entry_behind c cs line after lane other is e =
@@ -67,3 +37,21 @@ no_entry_round n rest line after lane is e = no_entry_behind 114 _ line after la
 pub no_entry_done : (n : ℕ) (rest line after : List ℕ) (lane : ℕ) → IsNextLine (EntryOf lane) line → numbered (codes "done ") n ++ rest ≡ line ++ after → ⊥
 unfolding numbered
 no_entry_done n rest line after lane is e = no_entry_behind 100 _ line after lane refl is e
+
+module _ (line : List ℕ) where
+  round_no_entry : (m lane : ℕ) → line ≡ numbered (codes "round ") m → IsNextLine (EntryOf lane) line → ⊥
+  round_no_entry m lane e is = no_entry_round m [] line [] lane is (ap (λ l. l ++ []) (sym e))
+
+  done_no_entry : (m lane : ℕ) → line ≡ numbered (codes "done ") m → IsNextLine (EntryOf lane) line → ⊥
+  done_no_entry m lane e is = no_entry_done m [] line [] lane is (ap (λ l. l ++ []) (sym e))
+
+pub one_kind : (x y : NextLine) (line : List ℕ) → IsNextLine x line → IsNextLine y line → x ≡ y
+one_kind (Round m) (Round n) line ix iy = ap Round (numbered_below (codes "round ") m n (omega (arith, ix.0)) (omega (arith, iy.0)) (sym ix.1 ∙ iy.1))
+one_kind (Round m) (Done n) line ix iy = absurd (round_is_no_done m n (sym ix.1 ∙ iy.1))
+one_kind (Round m) (EntryOf lane) line ix iy = absurd (round_no_entry line m lane ix.1 iy)
+one_kind (Done m) (Round n) line ix iy = absurd (round_is_no_done n m (sym iy.1 ∙ ix.1))
+one_kind (Done m) (Done n) line ix iy = ap Done (numbered_below (codes "done ") m n ix.0 iy.0 (sym ix.1 ∙ iy.1))
+one_kind (Done m) (EntryOf lane) line ix iy = absurd (done_no_entry line m lane ix.1 iy)
+one_kind (EntryOf lane) (Round n) line ix iy = absurd (round_no_entry line n lane iy.1 ix)
+one_kind (EntryOf lane) (Done n) line ix iy = absurd (done_no_entry line n lane iy.1 ix)
+one_kind (EntryOf lane) (EntryOf other) line ix iy = ap EntryOf (same_lane line lane other ix iy)

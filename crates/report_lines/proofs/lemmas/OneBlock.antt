@@ -1,13 +1,21 @@
 -- A text begins with one block at most.
-use Rattle.std.proofs.Common.{◌≡◌, ◌≢◌, ℕ, suc, ◌<◌, ◌≤◌, ◌^◌, Bool, true, false, not, ◌==◌, ℤ, pos, negsuc, Option, None, Some, List, [], ◌∷◌, ◌++◌, length, map, codes, decimal, refl, sym, ap, ◌∙◌, subst, append_assoc, ne_eqb, arith}
-use Rattle.report_lines.proofs.Common.{is_ascii_digit, list_all, and_parts, and_from, All-head, All-tail, stop_text, pair_line, lines_text, numbered, signed, spaced, IsBlock, BeginsBlock, IsCutBlock, IsBadBlock, BlockFails, block_line_text, IsBlockLine, is_one_line, IsId, AreIds, kind_place, may_follow_at, follow_on, last_place, IsWide, IsLong, FitsStop, order_text, IsOrder, visit_text, PlannedStop, BlockLine, Batch, Expired, Overflow, Lapsed, Late, Alone, Shared, Row, Trip, Out, Move, Cost, Bound, Nodes, Branch, Leaf, Dead, End}
+use Rattle.std.proofs.Common.{◌≡◌, ◌≢◌, ℕ, zero, suc, ◌+◌, ◌/◌, ◌%◌, nat_lt, Bool, true, false, not, ◌==◌, ℤ, pos, negsuc, Option, None, Some, List, [], ◌∷◌, ◌++◌, length, map, codes, decimal, refl, sym, ap, ◌∙◌, subst, append_assoc, ne_eqb, arith}
+use Rattle.report_lines.proofs.Common.{list_all, and_parts, and_from, All-head, All-tail, stop_text, lines_text, numbered, signed, spaced, IsBlock, BeginsBlock, IsCutBlock, IsBadBlock, BlockFails, block_line_text, IsBlockLine, is_one_line, kind_place, may_follow_at, follow_on, last_place, order_text, visit_text, PlannedStop, BlockLine, Batch, Expired, Lapsed, Late, Alone, Shared, Row, Trip, Out, Move, Cost, Bound, Nodes, Branch, Leaf}
 use Rattle.std.specs.List.{All, flat_map}
+use Rattle.std.proofs.lemmas.Bool.{cond_both}
 use Rattle.std.proofs.lemmas.List.Folds.{list_all-append}
+use Rattle.std.specs.Fmt.{digit_glyph, digits_onto}
+unfoldable use Rattle.std.specs.Fmt.{digits}
 use Rattle.report_lines.specs.declared.block.BlockFault.{BlockFault}
 use Rattle.report_lines.specs.declared.block.BlockFault.TheVariants.{OutOfMemory as NoMemory, Cut, Form}
-use Rattle.report_lines.proofs.lemmas.NumeralLemmas.{decimal_digits}
 use Rattle.report_lines.proofs.OneLine.{block_line_of_one}
-use Rattle.report_lines.proofs.SignedLemmas.{long_is_wide}
+
+feed_apart : (b : ℕ) (bs : List ℕ) → is_one_line (b ∷ bs) ≡ true → 10 ≡ b → ⊥
+feed_apart b bs one is =
+    let f : ℕ → Bool = λ c. not (c == 10) in
+    let here : false ≡ not (b == 10) = ap f is in
+    let other : not (b == 10) ≡ true = (and_parts (not (b == 10)) (list_all f bs) one).0 in
+    cc
 
 -- lines end at line feeds, and there alone
 pub cut_once : (a b r s : List ℕ) → is_one_line a ≡ true → is_one_line b ≡ true → a ++ 10 ∷ r ≡ b ++ 10 ∷ s → (a ≡ b) × (r ≡ s)
@@ -15,28 +23,8 @@ cut_once [] [] r s ia ib e =
     let same : 10 ∷ r ≡ 10 ∷ s = e in
     let rest : r ≡ s = cc in
     (refl, rest)
-cut_once [] (b ∷ bs) r s ia ib e =
-    let same : 10 ∷ r ≡ b ∷ (bs ++ 10 ∷ s) = e in
-    let head : 10 ≡ b = cc in
-    let parts = and_parts (not (b == 10)) (list_all (λ c. not (c == 10)) bs) ib in
-    let f : ℕ → Bool = λ c. not (c == 10) in
-    let here : false ≡ not (b == 10) = ap f head in
-    let other : not (b == 10) ≡ true = parts.0 in
-    absurd (false_not_true (here ∙ other))
-  where
-    false_not_true : false ≡ true → ⊥
-    false_not_true h = cc
-cut_once (a ∷ xs) [] r s ia ib e =
-    let same : a ∷ (xs ++ 10 ∷ r) ≡ 10 ∷ s = e in
-    let head : 10 ≡ a = cc in
-    let parts = and_parts (not (a == 10)) (list_all (λ c. not (c == 10)) xs) ia in
-    let f : ℕ → Bool = λ c. not (c == 10) in
-    let here : false ≡ not (a == 10) = ap f head in
-    let other : not (a == 10) ≡ true = parts.0 in
-    absurd (false_not_true (here ∙ other))
-  where
-    false_not_true : false ≡ true → ⊥
-    false_not_true h = cc
+cut_once [] (b ∷ bs) r s ia ib e = let same : 10 ∷ r ≡ b ∷ (bs ++ 10 ∷ s) = e in absurd (feed_apart b bs ib (cc))
+cut_once (a ∷ xs) [] r s ia ib e = let same : a ∷ (xs ++ 10 ∷ r) ≡ 10 ∷ s = e in absurd (feed_apart a xs ia (cc))
 cut_once (a ∷ xs) (b ∷ ys) r s ia ib e =
     let same : a ∷ (xs ++ 10 ∷ r) ≡ b ∷ (ys ++ 10 ∷ s) = e in
     let heads : a ≡ b = cc in
@@ -46,110 +34,80 @@ cut_once (a ∷ xs) (b ∷ ys) r s ia ib e =
     let rest = cut_once xs ys r s pa.1 pb.1 tails in
     (ap (λ z. z ∷ xs) heads ∙ ap (λ zs. b ∷ zs) rest.0, rest.1)
 
--- digits are no line feeds
-digits_one_line : (text : List ℕ) → list_all is_ascii_digit text ≡ true → is_one_line text ≡ true
-digits_one_line [] all = refl
-digits_one_line (c ∷ cs) all =
-    let parts = and_parts (is_ascii_digit c) (list_all is_ascii_digit cs) all in
-    and_from (not (c == 10)) (is_one_line cs) (no_feed c parts.0) (digits_one_line cs parts.1)
-  where
-    no_feed : (d : ℕ) → is_ascii_digit d ≡ true → not (d == 10) ≡ true
-    no_feed d digit =
-        let other : d ≢ 10 = λ e. let feed : is_ascii_digit d ≡ false = ap is_ascii_digit e in cc in
-        ap not (ne_eqb d 10 other)
+-- no digit is a line feed
+glyph_line : (d : ℕ) → not (digit_glyph false d == 10) ≡ true
+glyph_line d = ap not (ne_eqb (digit_glyph false d) 10 (cond_both (nat_lt d 10) (48 + d) (87 + d) (λ c. c ≢ 10) (λ low e. omega arith) (λ high e. omega arith)))
+
+digits_line : (k n : ℕ) (behind : List ℕ) → is_one_line behind ≡ true → is_one_line (digits_onto k 10 false n behind) ≡ true
+digits_line zero n behind one = one
+digits_line (suc k) n behind one =
+    let more : List ℕ = digit_glyph false (n % 10) ∷ behind in
+    let all : is_one_line more ≡ true = and_from (not (digit_glyph false (n % 10) == 10)) (is_one_line behind) (glyph_line (n % 10)) one in
+    cond_both (n / 10 == 0) more (digits_onto k 10 false (n / 10) more) (λ text. is_one_line text ≡ true) (λ last. all) (λ other. digits_line k (n / 10) more all)
+
+decimal_line : (n : ℕ) → is_one_line (decimal n) ≡ true
+unfolding digits
+decimal_line n = digits_line 64 n [] refl
 
 pub append_one_line : (a b : List ℕ) → is_one_line a ≡ true → is_one_line b ≡ true → is_one_line (a ++ b) ≡ true
 append_one_line a b ia ib = list_all-append (λ c. not (c == 10)) a b ∙ and_from (is_one_line a) (is_one_line b) ia ib
 
-pub numbered_one_line : (words : List ℕ) (n : ℕ) → is_one_line words ≡ true → n < 2 ^ 128 → is_one_line (numbered words n) ≡ true
+pub numbered_one_line : (words : List ℕ) (n : ℕ) → is_one_line words ≡ true → is_one_line (numbered words n) ≡ true
 unfolding numbered
-numbered_one_line words n iw small = append_one_line words (decimal n) iw (digits_one_line (decimal n) (decimal_digits n small))
+numbered_one_line words n one = append_one_line words (decimal n) one (decimal_line n)
 
-signed_one_line : (words : List ℕ) (z : ℤ) → is_one_line words ≡ true → IsWide z → is_one_line (signed words z) ≡ true
+pub spaced_one_line : (n : ℕ) → is_one_line (spaced n) ≡ true
+spaced_one_line n = numbered_one_line (codes " ") n refl
+
+signed_one_line : (words : List ℕ) (z : ℤ) → is_one_line words ≡ true → is_one_line (signed words z) ≡ true
 unfolding signed
-signed_one_line words (pos n) iw is = append_one_line words (decimal n) iw (digits_one_line (decimal n) (decimal_digits n (let small : n < 2 ^ 127 = is in omega arith)))
-signed_one_line words (negsuc n) iw is =
-    append_one_line words (45 ∷ decimal (suc n)) iw (digits_one_line (decimal (suc n)) (decimal_digits (suc n) (let small : n < 2 ^ 127 = is in omega arith)))
+signed_one_line words (pos n) one = append_one_line words (decimal n) one (decimal_line n)
+signed_one_line words (negsuc n) one = append_one_line words (45 ∷ decimal (suc n)) one (decimal_line (suc n))
 
-many_one_line : {X : Type 0} (t : X → List ℕ) (Is : X → Type 0) → ((x : X) → Is x → is_one_line (t x) ≡ true) → (xs : List X) → All Is xs → is_one_line (flat_map t xs) ≡ true
-many_one_line t Is one [] is = refl
-many_one_line t Is one (x ∷ xs) is = append_one_line (t x) (flat_map t xs) (one x (All-head Is x xs is)) (many_one_line t Is one xs (All-tail Is x xs is))
+many_one_line : {X : Type 0} (t : X → List ℕ) → ((x : X) → is_one_line (t x) ≡ true) → (xs : List X) → is_one_line (flat_map t xs) ≡ true
+many_one_line t one [] = refl
+many_one_line t one (x ∷ xs) = append_one_line (t x) (flat_map t xs) (one x) (many_one_line t one xs)
 
-id_line : (words : List ℕ) (n : ℕ) → is_one_line words ≡ true → IsId n → is_one_line (numbered words n) ≡ true
-id_line words n iw is = let small : n ≤ 1000000000 = is in numbered_one_line words n iw (omega arith)
-
-stop_one_line : (stop : PlannedStop) → FitsStop stop → is_one_line (stop_text stop) ≡ true
-stop_one_line stop is =
-    let second : stop.second < 2 ^ 64 = is.2 in
+stop_one_line : (stop : PlannedStop) → is_one_line (stop_text stop) ≡ true
+stop_one_line stop =
     append_one_line (visit_text (stop.pick, stop.rider) ++ numbered (codes "@") stop.node) (numbered (codes ":") stop.second)
-    (append_one_line (visit_text (stop.pick, stop.rider)) (numbered (codes "@") stop.node) (visit_line stop.pick stop.rider is.0) (id_line (codes "@") stop.node refl is.1))
-    (numbered_one_line (codes ":") stop.second refl (omega arith))
+    (append_one_line (visit_text (stop.pick, stop.rider)) (numbered (codes "@") stop.node) (visit_line stop.pick) (numbered_one_line (codes "@") stop.node refl))
+    (numbered_one_line (codes ":") stop.second refl)
   where
-    visit_line : (pick : Bool) (rider : ℕ) → IsId rider → is_one_line (visit_text (pick, rider)) ≡ true
-    visit_line true rider id = id_line (codes " pick:") rider refl id
-    visit_line false rider id = id_line (codes " drop:") rider refl id
+    visit_line : (pick : Bool) → is_one_line (visit_text (pick, stop.rider)) ≡ true
+    visit_line true = numbered_one_line (codes " pick:") stop.rider refl
+    visit_line false = numbered_one_line (codes " drop:") stop.rider refl
 
-stops_one_line : (stops : List PlannedStop) → All FitsStop stops → is_one_line (flat_map stop_text stops) ≡ true
-stops_one_line stops is = many_one_line stop_text FitsStop stop_one_line stops is
+order_one_line : (delay : ℕ) (stops : Option (List PlannedStop)) → is_one_line (order_text (delay, stops)) ≡ true
+order_one_line delay None = refl
+order_one_line delay (Some stops) = append_one_line (spaced delay) (flat_map stop_text stops) (spaced_one_line delay) (many_one_line stop_text stop_one_line stops)
 
-order_one_line : (order : ℕ × Option (List PlannedStop)) → IsOrder order → is_one_line (order_text order) ≡ true
-order_one_line (delay, None) is = refl
-order_one_line (delay, Some stops) is =
-    let small : delay < 2 ^ 64 = is.0 in
-    append_one_line (spaced delay) (flat_map stop_text stops) (numbered_one_line (codes " ") delay refl (omega arith)) (stops_one_line stops is.1)
-
-two_line : (words : List ℕ) (a b : ℕ) → is_one_line words ≡ true → a < 2 ^ 128 → b < 2 ^ 128 → is_one_line (numbered words a ++ spaced b) ≡ true
-two_line words a b iw sa sb = append_one_line (numbered words a) (spaced b) (numbered_one_line words a iw sa) (numbered_one_line (codes " ") b refl sb)
-
-ids_line : (words : List ℕ) (p : ℕ × ℕ) → is_one_line words ≡ true → AreIds p → is_one_line (pair_line words p) ≡ true
-ids_line words p iw is =
-    let first : p.0 ≤ 1000000000 = is.0 in
-    let second : p.1 ≤ 1000000000 = is.1 in
-    two_line words p.0 p.1 iw (omega arith) (omega arith)
-
-count_line : (words : List ℕ) (n : ℕ) → is_one_line words ≡ true → n < 2 ^ 64 → is_one_line (numbered words n) ≡ true
-count_line words n iw small = numbered_one_line words n iw (omega arith)
+pub two_line : (words : List ℕ) (a b : ℕ) → is_one_line words ≡ true → is_one_line (numbered words a ++ spaced b) ≡ true
+two_line words a b one = append_one_line (numbered words a) (spaced b) (numbered_one_line words a one) (spaced_one_line b)
 
 -- no line of a block has a line feed before its end
-pub block_line_one_line : (x : BlockLine) → IsBlockLine x → is_one_line (block_line_text x) ≡ true
-block_line_one_line (Batch n) is = count_line (codes "batch ") n refl is
-block_line_one_line (Expired rider) is = id_line (codes "expired ") rider refl is
-block_line_one_line Overflow is = refl
-block_line_one_line (Lapsed rider) is = id_line (codes "lapsed ") rider refl is
-block_line_one_line (Late late) is =
-    append_one_line (numbered (codes "late ") late.vehicle) (order_text (late.delay, late.stops)) (id_line (codes "late ") late.vehicle refl is.0) (order_one_line (late.delay, late.stops) is.1)
-block_line_one_line (Alone pair) is = ids_line (codes "rv ") pair refl is
-block_line_one_line (Shared pair) is = ids_line (codes "rr ") pair refl is
-block_line_one_line (Row row) is =
-    let id : row.vehicle ≤ 1000000000 = is.0 in
-    let cost : row.cost < 2 ^ 64 = is.1 in
-    append_one_line (numbered (codes "row ") row.vehicle ++ spaced row.cost) (flat_map spaced row.riders)
-    (two_line (codes "row ") row.vehicle row.cost refl (omega arith) (omega arith))
-    (many_one_line spaced IsId (λ n id. id_line (codes " ") n refl id) row.riders is.2)
-block_line_one_line (Trip trip) is =
-    let id : trip.vehicle ≤ 1000000000 = is.0 in
-    let cost : trip.cost < 2 ^ 64 = is.1 in
-    append_one_line (numbered (codes "trip ") trip.vehicle ++ spaced trip.cost) (flat_map stop_text trip.stops)
-    (two_line (codes "trip ") trip.vehicle trip.cost refl (omega arith) (omega arith)) (stops_one_line trip.stops is.2)
-block_line_one_line (Out rider) is = id_line (codes "out ") rider refl is
-block_line_one_line (Move m) is =
-    let vehicle : m.vehicle ≤ 1000000000 = is.0 in
-    let rider : m.rider ≤ 1000000000 = is.1 in
-    let seconds : m.seconds < 2 ^ 32 = is.2 in
-    append_one_line (numbered (codes "move ") m.vehicle ++ spaced m.rider) (spaced m.seconds)
-    (two_line (codes "move ") m.vehicle m.rider refl (omega arith) (omega arith)) (numbered_one_line (codes " ") m.seconds refl (omega arith))
-block_line_one_line (Cost n) is = count_line (codes "cost ") n refl is
-block_line_one_line (Bound z) is = signed_one_line (codes "bound ") z refl is
-block_line_one_line (Nodes n) is = count_line (codes "nodes ") n refl is
-block_line_one_line (Branch branch) is =
-    let vehicle : branch.0 ≤ 1000000000 = is.0 in
-    let row : branch.1 < 2 ^ 32 = is.1 in
-    two_line (codes "branch ") branch.0 branch.1 refl (omega arith) (omega arith)
-block_line_one_line (Leaf multipliers) is =
-    append_one_line (codes "leaf") (flat_map (signed (codes " ")) multipliers) refl
-    (many_one_line (signed (codes " ")) IsLong (λ z long. signed_one_line (codes " ") z refl (long_is_wide z long)) multipliers is)
-block_line_one_line Dead is = refl
-block_line_one_line End is = refl
+block_line_one_line : (x : BlockLine) → is_one_line (block_line_text x) ≡ true
+block_line_one_line (Batch n) = numbered_one_line (codes "batch ") n refl
+block_line_one_line (Expired rider) = numbered_one_line (codes "expired ") rider refl
+block_line_one_line (Lapsed rider) = numbered_one_line (codes "lapsed ") rider refl
+block_line_one_line (Late late) =
+    append_one_line (numbered (codes "late ") late.vehicle) (order_text (late.delay, late.stops)) (numbered_one_line (codes "late ") late.vehicle refl) (order_one_line late.delay late.stops)
+block_line_one_line (Alone pair) = two_line (codes "rv ") pair.0 pair.1 refl
+block_line_one_line (Shared pair) = two_line (codes "rr ") pair.0 pair.1 refl
+block_line_one_line (Row row) =
+    append_one_line (numbered (codes "row ") row.vehicle ++ spaced row.cost) (flat_map spaced row.riders) (two_line (codes "row ") row.vehicle row.cost refl) (many_one_line spaced spaced_one_line row.riders)
+block_line_one_line (Trip trip) =
+    append_one_line (numbered (codes "trip ") trip.vehicle ++ spaced trip.cost) (flat_map stop_text trip.stops) (two_line (codes "trip ") trip.vehicle trip.cost refl)
+    (many_one_line stop_text stop_one_line trip.stops)
+block_line_one_line (Out rider) = numbered_one_line (codes "out ") rider refl
+block_line_one_line (Move m) = append_one_line (numbered (codes "move ") m.vehicle ++ spaced m.rider) (spaced m.seconds) (two_line (codes "move ") m.vehicle m.rider refl) (spaced_one_line m.seconds)
+block_line_one_line (Cost n) = numbered_one_line (codes "cost ") n refl
+block_line_one_line (Bound z) = signed_one_line (codes "bound ") z refl
+block_line_one_line (Nodes n) = numbered_one_line (codes "nodes ") n refl
+block_line_one_line (Branch branch) = two_line (codes "branch ") branch.0 branch.1 refl
+block_line_one_line (Leaf multipliers) =
+    append_one_line (codes "leaf") (flat_map (signed (codes " ")) multipliers) refl (many_one_line (signed (codes " ")) (λ z. signed_one_line (codes " ") z refl) multipliers)
+block_line_one_line _ = refl
 
 -- the first line of a text of lines, and the others
 first_line : (x : BlockLine) (xs : List BlockLine) (rest : List ℕ) → lines_text (map block_line_text (x ∷ xs)) ++ rest ≡ block_line_text x ++ 10 ∷ (lines_text (map block_line_text xs) ++ rest)
@@ -179,7 +137,7 @@ cut_stuck text xs r cut x behind is may e = no_one_line (block_line_text x) behi
 
 bad_stuck : (text : List ℕ) (xs : List BlockLine) (r line after : List ℕ) → IsBadBlock text xs r line after → IsStuck (last_place 0 xs) r
 bad_stuck text xs r line after bad x behind is may e =
-    bad.bad x is may (cut_once line (block_line_text x) after behind bad.one (block_line_one_line x is) (sym bad.next ∙ e)).0
+    bad.bad x is may (cut_once line (block_line_text x) after behind bad.one (block_line_one_line x) (sym bad.next ∙ e)).0
 
 -- lines behind which none follows, at the beginning of one text, are the same
 stuck_same : (place : ℕ) (xs ys : List BlockLine) (r s : List ℕ) → All IsBlockLine xs → All IsBlockLine ys → follow_on place xs ≡ true → follow_on place ys ≡ true → IsStuck (last_place place xs) r → IsStuck (last_place place ys) s → lines_text (map block_line_text xs) ++ r ≡ lines_text (map block_line_text ys) ++ s → (xs ≡ ys) × (r ≡ s)
@@ -194,7 +152,7 @@ stuck_same place (x ∷ xs) (y ∷ ys) r s ix iy fx fy kx ky e =
     let hy = All-head IsBlockLine y ys iy in
     let cut =
     cut_once (block_line_text x) (block_line_text y) (lines_text (map block_line_text xs) ++ r) (lines_text (map block_line_text ys) ++ s)
-    (block_line_one_line x hx) (block_line_one_line y hy) (sym (first_line x xs r) ∙ e ∙ first_line y ys s)
+    (block_line_one_line x) (block_line_one_line y) (sym (first_line x xs r) ∙ e ∙ first_line y ys s)
     in
     let head : x ≡ y = block_line_of_one x y hx hy cut.0 in
     let place_same : kind_place x ≡ kind_place y = ap kind_place head in

@@ -1,68 +1,15 @@
 -- An outcome's lines are a block.
-use Rattle.std.proofs.Common.{◌≡◌, ℕ, ◌≤◌, true, ℤ, List, [], ◌∷◌, ◌++◌, length, map, codes, nat_le, option_map, Option, None, Some, refl, sym, ap, ◌∙◌, subst, arith}
-use Rattle.report_lines.proofs.Common.{and_from, and_parts, map-append, block_lines, answer_lines, node_line, stop_text, late_line, pair_line, pair_text, trip_line, move_text, lines_text, numbered, spaced, PlannedStop, Outcome, IsBlock, block_line_text, IsBlockLine, kind_place, is_between, may_follow_at, follow_on, last_place, BlockLine, Batch, Expired, Lapsed, Alone, Shared, Out, Move, Cost, Bound, Nodes, End}
-use Rattle.std.specs.List.{All, flat_map}
+use Rattle.std.proofs.Common.{◌≡◌, ℕ, ◌≤◌, true, ℤ, List, [], ◌∷◌, ◌++◌, length, map, nat_le, refl, sym, subst, arith}
+use Rattle.report_lines.proofs.Common.{and_from, and_parts, lines_text, Outcome, IsBlock, IsBlockLine, kind_place, is_between, may_follow_at, follow_on, last_place, BlockLine, Batch, Expired, Lapsed, Alone, Shared, Out, Move, Cost, Bound, Nodes, End}
+use Rattle.dispatch_report.specs.Block.{row_as_line, trip_as_line, late_as_line, tree_line, lines_of_answer, lines_of, block_lines}
+use Rattle.std.specs.List.{All}
 use Rattle.std.proofs.lemmas.Bool.{le-leb}
 use Rattle.plan_rules.specs.declared.node.Node.{Node}
 use Rattle.plan_rules.specs.declared.node.Node.TheVariants.{Branch as Branches, Leaf as Ends, Dead as Closed}
 use Rattle.request_book.specs.declared.outcome.Answer.{Answer}
 use Rattle.request_book.specs.declared.outcome.Answer.TheVariants.{Overflow as TooMany, Planned as Plan}
-use Rattle.arrayvec.specs.ArrayVec.{ArrayVec}
-use Rattle.request_book.specs.declared.outcome.LateVehicle.{LateVehicle}
 use Rattle.request_book.specs.declared.outcome.Planned.{Planned}
 use Rattle.request_book.specs.declared.outcome.RowLine.{RowLine}
-use Rattle.report_lines.specs.Outcome.{row_as_line, trip_as_line, late_as_line, tree_line, lines_of_answer, lines_of}
-
--- texts of lines
-kind_texts : {X : Type 0} (K : X → BlockLine) (t : X → List ℕ) → ((x : X) → block_line_text (K x) ≡ t x) → (xs : List X) → map block_line_text (map K xs) ≡ map t xs
-kind_texts K t text [] = refl
-kind_texts K t text (x ∷ xs) = ap (λ l. l ∷ map block_line_text (map K xs)) (text x) ∙ ap (λ ls. t x ∷ ls) (kind_texts K t text xs)
-
-join_texts : (xs ys : List BlockLine) (ls ms : List (List ℕ)) → map block_line_text xs ≡ ls → map block_line_text ys ≡ ms → map block_line_text (xs ++ ys) ≡ ls ++ ms
-join_texts xs ys ls ms ex ey =
-    map-append block_line_text xs ys ∙ ap (λ l. l ++ map block_line_text ys) ex ∙ ap (λ m. ls ++ m) ey
-
-late_same : (late : LateVehicle) → block_line_text (late_as_line late) ≡ late_line late
-late_same late = by late.stops
-  where
-    by : (o : Option (ArrayVec PlannedStop))
-        → numbered (codes "late ") late.vehicle ++ elim (option_map (λ s. s.items) o) [ None ↦ codes " none" | Some stops ↦ spaced late.delay ++ flat_map stop_text stops ]
-        ≡ numbered (codes "late ") late.vehicle ++ elim o [ None ↦ codes " none" | Some stops ↦ spaced late.delay ++ flat_map stop_text stops.items ]
-    by None = refl
-    by (Some stops) = refl
-
-node_text : (rows : List RowLine) (node : Node) → block_line_text (tree_line rows node) ≡ node_line rows node
-node_text rows (Branches vehicle row) = refl
-node_text rows (Ends multipliers) = refl
-node_text rows Closed = refl
-
-answer_texts : (answer : Answer) → map block_line_text (lines_of_answer answer) ≡ answer_lines true answer
-answer_texts TooMany = refl
-answer_texts (Plan plan) =
-    join_texts _ _ _ _
-    (join_texts _ _ _ _
-    (join_texts _ _ _ _
-    (join_texts _ _ _ _ (join_texts _ _ _ _ (join_texts _ _ _ _ (join_texts _ _ _ _
-    (kind_texts Lapsed (numbered (codes "lapsed ")) (λ x. refl) plan.lapsed)
-    (kind_texts late_as_line late_line late_same plan.late))
-    (kind_texts Alone (pair_line (codes "rv ")) (λ x. refl) plan.rv))
-    (kind_texts Shared (pair_line (codes "rr ")) (λ x. refl) plan.rr))
-    (kind_texts row_as_line pair_text (λ x. refl) plan.rows))
-    (join_texts _ _ _ _ (join_texts _ _ _ _
-    (kind_texts trip_as_line trip_line (λ x. refl) plan.chosen)
-    (kind_texts Out (numbered (codes "out ")) (λ x. refl) plan.left))
-    (kind_texts Move move_text (λ x. refl) plan.moves)))
-    refl)
-    (kind_texts (tree_line plan.rows) (node_line plan.rows) (node_text plan.rows) plan.tree)
-
-pub outcome_texts : (batch : ℕ) (outcome : Outcome) → map block_line_text (lines_of batch outcome) ≡ block_lines true batch outcome
-outcome_texts batch outcome =
-    let first : List BlockLine = (Batch batch ∷ []) ++ map Expired outcome.expired in
-    join_texts (first ++ lines_of_answer outcome.answer) (End ∷ []) _ _
-    (join_texts first (lines_of_answer outcome.answer) _ _
-    (join_texts (Batch batch ∷ []) (map Expired outcome.expired) (numbered (codes "batch ") batch ∷ []) _ refl (kind_texts Expired (numbered (codes "expired ")) (λ x. refl) outcome.expired))
-    (answer_texts outcome.answer))
-    refl
 
 -- lines behind lines
 last_join : (p : ℕ) (xs ys : List BlockLine) → last_place p (xs ++ ys) ≡ last_place (last_place p xs) ys
@@ -154,7 +101,7 @@ tree_run rows p l h tree = kind_run (tree_line rows) 13 14 (omega arith) at may 
     may q (Ends multipliers) = between 13 14 q
     may q Closed = between 13 14 q
 
-answer_run : (answer : Answer) (p : ℕ) → 1 ≤ p → p ≤ 2 → Run p (lines_of_answer answer) 13 15
+answer_run : (answer : Answer) (p : ℕ) → 1 ≤ p → p ≤ 2 → Run p (lines_of_answer true answer) 13 15
 answer_run TooMany p l h = record { order = and_from (is_between 1 2 p) true (between 1 2 p l h) refl; low_end = omega arith; high_end = omega arith }
 answer_run (Plan plan) p l h =
     wider p _ 13 14 13 15
@@ -165,7 +112,7 @@ answer_run (Plan plan) p l h =
     (λ q lq hq. tree_run plan.rows q lq hq plan.tree))
     (omega arith) (omega arith)
 
-outcome_run : (batch : ℕ) (outcome : Outcome) → Run 0 (lines_of batch outcome) 16 16
+outcome_run : (batch : ℕ) (outcome : Outcome) → Run 0 (lines_of true batch outcome) 16 16
 outcome_run batch outcome =
     run_join 0 _ (End ∷ []) 13 15 16 16
     (run_join 0 _ _ 1 2 13 15
@@ -175,14 +122,14 @@ outcome_run batch outcome =
     (λ q l h. record { order = and_from (is_between 13 15 q) true (between 13 15 q l h) refl; low_end = omega arith; high_end = omega arith })
 
 -- the text of an outcome's block begins with the block of its lines
-pub outcome_block : (batch : ℕ) (outcome : Outcome) (rest : List ℕ) → All IsBlockLine (lines_of batch outcome) → IsBlock (lines_text (block_lines true batch outcome) ++ rest) (lines_of batch outcome) rest
+pub outcome_block : (batch : ℕ) (outcome : Outcome) (rest : List ℕ) → All IsBlockLine (lines_of true batch outcome) → IsBlock (lines_text (block_lines true batch outcome) ++ rest) (lines_of true batch outcome) rest
 outcome_block batch outcome rest lawful =
     let run = outcome_run batch outcome in
     record {
       begins = record {
-        whole = ap (λ ls. lines_text ls ++ rest) (sym (outcome_texts batch outcome));
+        whole = refl;
         lawful = lawful;
         order = run.order;
       };
-      ended = let low : 16 ≤ last_place 0 (lines_of batch outcome) = run.low_end in let high : last_place 0 (lines_of batch outcome) ≤ 16 = run.high_end in omega arith;
+      ended = let low : 16 ≤ last_place 0 (lines_of true batch outcome) = run.low_end in let high : last_place 0 (lines_of true batch outcome) ≤ 16 = run.high_end in omega arith;
     }

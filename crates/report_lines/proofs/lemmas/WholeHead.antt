@@ -51,16 +51,13 @@ no_fault (form ∷ forms) (l ∷ ls) number text rest fault (has_form, fits, mor
     no_fault forms ls (number + 1) after rest fault more others (said_behind (λ t. LinesFail forms (number + 1) t fault) text l line after behind is has fails)
 
 module _ (workers : ℕ) (roads : Roads) (vehicles : ℕ) (text : List ℕ) (few : AreSizes (sizes_of roads)) (few_vehicles : vehicles < 2 ^ 64) where
-  one_lines : (told : SettingsText) → is_one_line (settings_text told) ≡ true → list_all (λ l. is_one_line l) (told_lines told (sizes_of roads) vehicles) ≡ true
-  one_lines told one =
-      let nodes : length roads.nodes < 2 ^ 64 = few.0 in
-      let arcs : length roads.arcs < 2 ^ 64 = few.1 in
-      let sizes : is_one_line (sizes_text (sizes_of roads)) ≡ true =
-      append_one_line (numbered (codes "network nodes=") (length roads.nodes)) (numbered (codes " arcs=") (length roads.arcs))
-      (numbered_one_line (codes "network nodes=") (length roads.nodes) refl (omega arith)) (numbered_one_line (codes " arcs=") (length roads.arcs) refl (omega arith))
-      in
-      let fleet = numbered_one_line (codes "fleet vehicles=") vehicles refl (omega arith) in
-      and_from _ _ refl (and_from _ _ one (and_from _ _ sizes (and_from _ _ fleet refl)))
+  one_lines : (told : SettingsText) → list_all (λ l. is_one_line l) (told_lines told (sizes_of roads) vehicles) ≡ true
+  one_lines told =
+      let nodes : List ℕ = numbered (codes "network nodes=") (length roads.nodes) in
+      let arcs : List ℕ = numbered (codes " arcs=") (length roads.arcs) in
+      let sizes = append_one_line nodes arcs (numbered_one_line (codes "network nodes=") (length roads.nodes) refl) (numbered_one_line (codes " arcs=") (length roads.arcs) refl) in
+      let fleet = numbered_one_line (codes "fleet vehicles=") vehicles refl in
+      and_from _ _ refl (and_from _ _ (settings_one_line told) (and_from _ _ sizes (and_from _ _ fleet refl)))
 
   -- the lines of a text that begins with the head
   head_then : (s : Settings) (rest : List ℕ) → BeginsWithHead workers roads vehicles text s rest → LinesThen (told_lines (told_of s) (sizes_of roads) vehicles) text rest
@@ -71,7 +68,7 @@ module _ (workers : ℕ) (roads : Roads) (vehicles : ℕ) (text : List ℕ) (few
       let whole : text ≡ lines_text ls ++ rest =
       h.whole ∙ ap (λ (l : List ℕ). lines_text (codes "ridepool report 1" ∷ l ∷ sizes_text (sizes_of roads) ∷ numbered (codes "fleet vehicles=") vehicles ∷ []) ++ rest) line
       in
-      subst (λ t. LinesThen ls t rest) (sym whole) (lines_then ls rest (one_lines (told_of s) (settings_one_line (told_of s) (lawful_short (told_of s) (told_lawful s)))))
+      subst (λ t. LinesThen ls t rest) (sym whole) (lines_then ls rest (one_lines (told_of s)))
 
   -- where a line of the head fails, no head is read
   pub no_head : (fault : HeadFault) → HeadFails roads vehicles text fault → (s : Settings) (rest : List ℕ) → BeginsWithHead workers roads vehicles text s rest → ⊥

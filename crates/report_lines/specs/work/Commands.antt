@@ -2,7 +2,7 @@
 use Rattle.std.specs.Prelude.{ℕ, ◌≤◌, ◌==◌, List, [], ◌++◌, codes, if◌then◌else◌}
 use Rattle.dispatch_report.specs.Entry.{command_text}
 use Rattle.dispatch_report.specs.Words.{numbered, spaced}
-use Rattle.report_lines.specs.Command.{IsCommand, IsParty}
+use Rattle.report_lines.specs.Command.{IsCommand}
 use Rattle.report_lines.specs.Reply.{IsReply}
 use Rattle.report_lines.specs.work.Replies.{spaced_reply}
 use Rattle.report_lines.specs.Ids.{IsId}
@@ -37,6 +37,10 @@ ride_text words = both_texts (three_text words) spaced_reply
 
 abbrev pub IsRide : ((ℕ × ℕ) × ℕ) × Reply → Type 0
 IsRide = BothAre AreThree IsReply
+
+-- how many persons ride on one request
+abbrev pub IsParty : ℕ → Type 0
+IsParty n = (1 ≤ n) × (n ≤ 6)
 
 -- the party of a request where it isn't one person, and the reply
 abbrev pub ending_text : ℕ × Reply → List ℕ

@@ -6,6 +6,10 @@ use Rattle.report_lines.specs.Line.{IsFirstLine}
 use Rattle.report_lines.specs.Settings.{AreLawful}
 use Rattle.report_lines.specs.declared.head_lines.SettingsText.{SettingsText}
 
+-- the first line of the text fits, and this follows it
+abbrev pub Passes : (List ℕ → Type 0) → List ℕ → List ℕ → Type 0
+Passes Fits text rest = (line : List ℕ) × IsFirstLine text line rest × Fits line
+
 -- a text begins with these lines, and this follows them
 abbrev pub LinesThen : List (List ℕ) → List ℕ → List ℕ → Type 0
 LinesThen [] text rest = text ≡ rest
