@@ -1,5 +1,6 @@
 -- The names that the proofs of this crate cite from elsewhere, passed on from one place. Declares nothing.
 pub use Rattle.std.proofs.lemmas.Bool.{both_ways, cases_eq, cases_lt, cond-false, cond-true, eqb-false, false≢true}
+pub use Rattle.std.proofs.lemmas.Bool.Decides.{nat_tests}
 pub use Rattle.std.proofs.lemmas.List.{drop_all, get_or-map, get_or-replicate, get_or_default, get_or_past, length-map, length-replicate, map-append}
 pub use Rattle.std.proofs.lemmas.List.Elements.{All-append, All-cons, All-nil, All-weaker, filter-append}
 pub use Rattle.std.proofs.lemmas.Result.{IfOk-weaker, on_err_weaker, on_ok_weaker}
@@ -7,7 +8,7 @@ pub use Rattle.std.specs.List.{AllByRecursion, AllZip, enumerate_from}
 pub use Rattle.batch_snapshot.specs.Batch.{Batch}
 pub use Rattle.batch_solver.specs.Outcome.{IsGoodOutcome}
 unfoldable pub use Rattle.dispatch_engine.specs.Lane.{ClosesAreGood}
-pub use Rattle.dispatch_engine.specs.Lane.{HasBegun, HasGained, HasRun, IsCloseOf, IsGoodClose, IsGoodFor, IsLaneBeginning, IsLaneRun, IsLaneRunFrom, LaneClosesAreGood, last_sealed, of_lane}
+pub use Rattle.dispatch_engine.specs.Lane.{HasGained, HasRun, IsCloseOf, IsGoodClose, IsGoodFor, IsLaneBeginning, IsLaneRun, IsLaneRunFrom, LaneClosesAreGood, last_sealed, of_lane}
 pub use Rattle.dispatch_engine.specs.Progress.{AreDone, HaveCome, IsNext, IsRest, at_start, stand_after, stand_at}
 pub use Rattle.dispatch_engine.specs.Run.{IsReady, IsRoundRun, IsRun, IsSameRun, journal_of, position_after_run, state_after_run}
 pub use Rattle.dispatch_engine.specs.declared.crew.LaneWork.{LaneWork}
@@ -15,27 +16,18 @@ pub use Rattle.dispatch_engine.specs.declared.stand.LaneStand.{LaneStand}
 pub use Rattle.dispatch_engine.specs.lemmas.Lanes.{IsPlain}
 pub use Rattle.dispatch_engine.specs.work.Crew.{AreInOrder, HasRunLane, HasTaken, HasWorked, HaveRunLanes, IsSharedBy, IsToWork, at_rest}
 pub use Rattle.dispatch_engine.specs.work.Lanes.{HaveRun, IsJointRun, calls_of_lane, calls_of_pass}
-pub use Rattle.pool_io.specs.Faults.{one_more}
-pub use Rattle.request_book.proofs.lemmas.StepTable.{by-table, step-table}
 pub use Rattle.request_book.specs.Book.{BookView, IsBook, IsSameBook, next_position}
 unfoldable pub use Rattle.request_book.specs.Replay.{RepliesAreSteps, state_after}
 unfoldable pub use Rattle.request_book.specs.Sealing.{batch_of}
 unfoldable pub use Rattle.request_book.specs.lemmas.Named.{sealed_state}
-pub use Rattle.request_book.specs.Step.{rider_becomes, step, vehicle_becomes}
+unfoldable pub use Rattle.request_book.specs.Step.{cancel, close, dropoff, pickup, report, seal, step, submit}
 pub use Rattle.request_book.specs.declared.command.Command.{Command}
-pub use Rattle.request_book.specs.declared.command.Command.TheVariants.{Cancel, Close, Dropoff, Pickup, Report, Seal, Submit}
+pub use Rattle.request_book.specs.declared.command.Command.TheVariants.{Close, Seal}
 pub use Rattle.request_book.specs.declared.journal.Entry.{Entry}
 pub use Rattle.request_book.specs.declared.journal.Journal.{Journal}
-pub use Rattle.request_book.specs.declared.outcome.Answer.{Answer}
-pub use Rattle.request_book.specs.declared.reply.BookRefusal.{BookRefusal}
 pub use Rattle.request_book.specs.declared.reply.Reply.{Reply}
-pub use Rattle.request_book.specs.declared.reply.Reply.TheVariants.{Accepted, Cancelled, Closed, Dropped, Picked, Placed, Sealed}
+pub use Rattle.request_book.specs.declared.reply.Reply.TheVariants.{Accepted, Closed}
 pub use Rattle.request_book.specs.declared.state.State.{State}
-unfoldable pub use Rattle.request_book.specs.lemmas.Closing.{closed_state}
-unfoldable pub use Rattle.request_book.specs.lemmas.Refusals.{first_of}
-pub use Rattle.request_book.specs.lemmas.Refusals.{batch_open, clock_back, has_ended, is_aboard, not_aboard, not_promised, not_this_batch, time_back, unknown_node, unknown_rider, unknown_vehicle, vehicle_full}
-unfoldable pub use Rattle.request_book.specs.lemmas.Table.{cancel_step, close_step, dropoff_step, pickup_step, report_step, seal_step, submit_step, table_step}
-pub use Rattle.request_book.specs.lemmas.Table.{answer, dropped_off, picked_up, seal_refusal, submit_refusal}
 pub use Rattle.rider_limits.specs.declared.settings.Settings.{Settings}
 pub use Rattle.road_network.specs.Roads.{Roads}
 pub use Rattle.script_rows.specs.Round.{IsRound, MayStand, NumberedLanes, lane_at}

@@ -1,6 +1,6 @@
 -- From passes to lanes at work, and back.
 use Rattle.std.proofs.Common.{◌≡◌, ℕ, ◌<◌, ◌≤◌, true, List, [], length, map, get_or, All, Result, Ok, Err, sym, ap, subst, ◌∙◌, arith}
-use Rattle.dispatch_engine.proofs.Common.{get_or-map, length-map, BookView, Command, Settings, Roads, NumberedLanes, lane_at, AreAllPasses, IsNew, IsPassOf, LockValue, BookPass, HasRun, at_rest, AreInOrder, HasRunLane, HasWorked, HaveRunLanes, IsToWork, LaneWork}
+use Rattle.dispatch_engine.proofs.Common.{get_or-map, length-map, BookView, Command, Settings, Roads, NumberedLanes, lane_at, AreAllPasses, IsNew, IsPassOf, LockValue, BookPass, HasRun, IsLaneRun, at_rest, AreInOrder, HasRunLane, HasWorked, HaveRunLanes, IsToWork, LaneWork}
 use Rattle.std.specs.Result.{is_ok, OnOk}
 use Rattle.dispatch_engine.proofs.PassLemmas.{ran-fresh}
 
@@ -9,7 +9,7 @@ when-ok (Ok x) P is p = p
 when-ok (Err e) P is p = absurd cc
 
 -- a pass that had made no call has run these commands
-pub lane-run : (settings : Settings) (roads : Roads) (commands : List Command) (old new : BookPass) → old.calls ≡ [] → HasRun settings roads commands old new → HasRunLane settings roads commands new
+pub lane-run : (settings : Settings) (roads : Roads) (commands : List Command) (old new : BookPass) → old.calls ≡ [] → HasRun settings roads (IsLaneRun commands) old new → HasRunLane settings roads commands new
 lane-run settings roads commands old new fresh ran =
     let both = ran-fresh settings roads old new commands ran fresh in
     record { run = both.0; closes = both.1 }

@@ -1,6 +1,6 @@
 -- How a pass runs its lane's commands, piece by piece.
 use Rattle.std.proofs.Common.{◌≡◌, ℕ, ◌≤◌, true, List, [], ◌∷◌, ◌++◌, map, Option, Some, None, refl, sym, ap, subst, ◌∙◌, append_assoc, append-nil, true≢false, arith}
-use Rattle.dispatch_engine.proofs.Common.{map-append, All-nil, All-cons, All-append, All-weaker, Batch, IsGoodOutcome, Command, Seal, Close, Entry, Reply, Accepted, Settings, Roads, entry, LoggedCall, LockedReply, entry_of, is_light, sealed_by, BookPass, with_snapshot, HasCalled, HasCalledSome, IsSamePass, IsLaneRunFrom, IsLaneRun, IsLaneBeginning, last_sealed, IsGoodFor, LaneClosesAreGood, HasGained, HasRun, HasBegun, IsPlain, calls_of_pass}
+use Rattle.dispatch_engine.proofs.Common.{map-append, All-nil, All-cons, All-append, All-weaker, Batch, IsGoodOutcome, Command, Seal, Close, Entry, Reply, Accepted, Settings, Roads, entry, LoggedCall, LockedReply, entry_of, is_light, sealed_by, BookPass, with_snapshot, HasCalled, HasCalledSome, IsSamePass, IsLaneRunFrom, IsLaneRun, IsLaneBeginning, last_sealed, IsGoodFor, LaneClosesAreGood, HasGained, HasRun, IsPlain, calls_of_pass}
 use Rattle.request_book.specs.declared.outcome.Answer.TheVariants.{Overflow}
 use Rattle.request_book.specs.declared.outcome.Outcome.{Outcome}
 use Rattle.shared_book.specs.declared.shared.Receipt.{Receipt}
@@ -20,9 +20,7 @@ begun-more cs ds es p =
 
 -- a plain command isn't heavy
 plain-light : (command : Command) → IsPlain command → is_light command ≡ true
-plain-light (Seal now) plain = absurd plain
-plain-light (Close batch outcome) plain = absurd plain
-plain-light _ plain = refl
+plain-light command plain = grind arith
 
 -- a command that is no seal is answered without a batch
 light-unsealed : (nodes : List ℕ) (command : Command) (reply : Reply) (snapshot : Option Batch) → is_light command ≡ true → Fits nodes command (with_snapshot reply snapshot) → sealed_by reply ≡ None
@@ -79,19 +77,24 @@ module _ (settings : Settings) (roads : Roads) where
   closes-append last [] ys p q = later last ys q
   closes-append last (x ∷ xs) ys p q = (p.0, closes-append (last_sealed last x.reply.snapshot) xs ys p.1 q)
 
-  pub runs-none : (p : BookPass) → HasRun settings roads [] p p
+  pub runs-none : (p : BookPass) → HasRun settings roads (IsLaneRun []) p p
   runs-none p = record { more = []; gained = gained-same p p (refl, omega arith); run = tt; closes = tt }
 
-  pub runs-more : (a b c : BookPass) (cs ds : List Command) → HasRun settings roads cs a b → HasRun settings roads ds b c → HasRun settings roads (cs ++ ds) a c
-  runs-more a b c cs ds p q = record {
+  -- calls that are so, and then others
+  pub runs-more : (Are Be Both : List Entry → Type 0) → ((es fs : List Entry) → Are es → Be fs → Both (es ++ fs)) → (a b c : BookPass) → HasRun settings roads Are a b → HasRun settings roads Be b c → HasRun settings roads Both a c
+  runs-more Are Be Both join a b c p q = record {
     more = p.more ++ q.more;
     gained = gained-more a b c p.more q.more p.gained q.gained;
-    run = subst (IsLaneRun (cs ++ ds)) (sym (map-append (λ c. entry_of c.1) p.more q.more)) (run-append None cs ds _ _ p.run q.run);
+    run = subst Both (sym (map-append (λ c. entry_of c.1) p.more q.more)) (join _ _ p.run q.run);
     closes = subst (LaneClosesAreGood settings roads None) (sym (map-append (λ c. c.1) p.more q.more)) (closes-append None _ _ p.closes q.closes);
   }
 
+  -- a run of some commands, and a beginning of a run of more
+  pub begun-after : (a b c : BookPass) (cs ds rest : List Command) → HasRun settings roads (IsLaneRun cs) a b → HasRun settings roads (IsLaneBeginning ds) b c → HasRun settings roads (IsLaneBeginning ((cs ++ ds) ++ rest)) a c
+  begun-after a b c cs ds rest = runs-more (IsLaneRun cs) (IsLaneBeginning ds) (IsLaneBeginning ((cs ++ ds) ++ rest)) (λ es fs p q. begun-more (cs ++ ds) rest (es ++ fs) (begun-next cs ds es fs p q)) a b c
+
   -- a plain command
-  pub runs-plain : (nodes : List ℕ) (old new : BookPass) (command : Command) (receipt : Receipt) → IsPlain command → HasCalledSome nodes old command receipt new → HasRun settings roads (command ∷ []) old new
+  pub runs-plain : (nodes : List ℕ) (old new : BookPass) (command : Command) (receipt : Receipt) → IsPlain command → HasCalledSome nodes old command receipt new → HasRun settings roads (IsLaneRun (command ∷ [])) old new
   runs-plain nodes old new command receipt plain called = record {
     more = (receipt.position, entry old.lane command (with_snapshot receipt.reply called.snapshot)) ∷ [];
     gained = gained-call nodes old new command receipt.position (with_snapshot receipt.reply called.snapshot) called.called;
@@ -104,7 +107,7 @@ module _ (settings : Settings) (roads : Roads) where
       here _ p = tt
 
   -- a seal that is refused
-  pub runs-refused : (nodes : List ℕ) (old new : BookPass) (now position : ℕ) (reply : Reply) → HasCalled nodes old (Seal now) position (with_snapshot reply None) new → HasRun settings roads (Seal now ∷ []) old new
+  pub runs-refused : (nodes : List ℕ) (old new : BookPass) (now position : ℕ) (reply : Reply) → HasCalled nodes old (Seal now) position (with_snapshot reply None) new → HasRun settings roads (IsLaneRun (Seal now ∷ [])) old new
   runs-refused nodes old new now position reply called = record {
     more = (position, entry old.lane (Seal now) (with_snapshot reply None)) ∷ [];
     gained = gained-call nodes old new (Seal now) position (with_snapshot reply None) called;
@@ -114,7 +117,7 @@ module _ (settings : Settings) (roads : Roads) where
 
   -- a seal, and the close of its batch
   pub runs-sealed : (nodes : List ℕ) (old between new : BookPass) (now position : ℕ) (reply : Reply) (b : Batch) (outcome : Outcome) (receipt : Receipt)
-      → HasCalled nodes old (Seal now) position (with_snapshot reply (Some b)) between → HasCalledSome nodes between (Close b.number outcome) receipt new → IsGoodOutcome settings roads b outcome → HasRun settings roads (Seal now ∷ []) old new
+      → HasCalled nodes old (Seal now) position (with_snapshot reply (Some b)) between → HasCalledSome nodes between (Close b.number outcome) receipt new → IsGoodOutcome settings roads b outcome → HasRun settings roads (IsLaneRun (Seal now ∷ [])) old new
   runs-sealed nodes old between new now position reply b outcome receipt sealed closed good =
       let first : ℕ × LoggedCall Command LockedReply = (position, entry old.lane (Seal now) (with_snapshot reply (Some b))) in
       let second : ℕ × LoggedCall Command LockedReply = (receipt.position, entry between.lane (Close b.number outcome) (with_snapshot receipt.reply closed.snapshot)) in
@@ -129,17 +132,17 @@ module _ (settings : Settings) (roads : Roads) where
       }
 
   -- no call more
-  pub begun-none : (commands : List Command) (old new : BookPass) → IsSamePass old new → HasBegun settings roads commands old new
+  pub begun-none : (commands : List Command) (old new : BookPass) → IsSamePass old new → HasRun settings roads (IsLaneBeginning commands) old new
   begun-none commands old new same = let run = some-run commands in record {
     more = [];
     gained = gained-same old new same;
-    begun = (run.0, run.1);
+    run = (run.0, run.1);
     closes = tt;
   }
 
   -- a seal whose batch isn't closed yet
   pub begun-sealed : (nodes : List ℕ) (old between new : BookPass) (now position : ℕ) (reply : Reply) (b : Batch)
-      → HasCalled nodes old (Seal now) position (with_snapshot reply (Some b)) between → IsSamePass between new → HasBegun settings roads (Seal now ∷ []) old new
+      → HasCalled nodes old (Seal now) position (with_snapshot reply (Some b)) between → IsSamePass between new → HasRun settings roads (IsLaneBeginning (Seal now ∷ [])) old new
   begun-sealed nodes old between new now position reply b sealed same =
       let first : ℕ × LoggedCall Command LockedReply = (position, entry old.lane (Seal now) (with_snapshot reply (Some b))) in
       let outcome : Outcome = record { expired = []; answer = Overflow } in
@@ -147,21 +150,12 @@ module _ (settings : Settings) (roads : Roads) where
       record {
         more = first ∷ [];
         gained = gained-more old between new (first ∷ []) [] (gained-call nodes old between (Seal now) position (with_snapshot reply (Some b)) sealed) (gained-same between new same);
-        begun = (close ∷ [], (refl, subst (λ (o : Option ℕ). IsLaneRunFrom o [] (close ∷ [])) sealed.fits.sealed (refl, tt)));
+        run = (close ∷ [], (refl, subst (λ (o : Option ℕ). IsLaneRunFrom o [] (close ∷ [])) sealed.fits.sealed (refl, tt)));
         closes = (tt, tt);
       }
 
-  -- a run of some commands, and a beginning of a run of more
-  pub begun-after : (a b c : BookPass) (cs ds rest : List Command) → HasRun settings roads cs a b → HasBegun settings roads ds b c → HasBegun settings roads ((cs ++ ds) ++ rest) a c
-  begun-after a b c cs ds rest p q = record {
-    more = p.more ++ q.more;
-    gained = gained-more a b c p.more q.more p.gained q.gained;
-    begun = subst (IsLaneBeginning ((cs ++ ds) ++ rest)) (sym (map-append (λ c. entry_of c.1) p.more q.more)) (begun-more (cs ++ ds) rest _ (begun-next cs ds _ _ p.run q.begun));
-    closes = subst (LaneClosesAreGood settings roads None) (sym (map-append (λ c. c.1) p.more q.more)) (closes-append None _ _ p.closes q.closes);
-  }
-
   -- a pass that had made no call
-  pub ran-fresh : (old new : BookPass) (commands : List Command) → HasRun settings roads commands old new → old.calls ≡ [] → IsLaneRun commands (map entry_of (calls_of_pass new)) × LaneClosesAreGood settings roads None (calls_of_pass new)
+  pub ran-fresh : (old new : BookPass) (commands : List Command) → HasRun settings roads (IsLaneRun commands) old new → old.calls ≡ [] → IsLaneRun commands (map entry_of (calls_of_pass new)) × LaneClosesAreGood settings roads None (calls_of_pass new)
   ran-fresh old new commands p fresh =
       let calls : new.calls ≡ p.more = p.gained.calls ∙ ap (λ l. l ++ p.more) fresh in (
         subst (IsLaneRun commands) (twice p.more ∙ ap (λ l. map entry_of (map (λ c. c.1) l)) (sym calls)) p.run,

@@ -72,16 +72,9 @@ module _ (settings : Settings) (roads : Roads) where
   LaneClosesAreGood last [] = Unit {0}
   LaneClosesAreGood last (c ∷ cs) = IsGoodFor last c.call × LaneClosesAreGood (last_sealed last c.reply.snapshot) cs
 
-  -- the pass has gained calls that are a run of these commands, with good closes
-  pub record HasRun (commands : List Command) (old new : BookPass) : Type 0 where
+  -- the pass has gained calls whose entries are so, with good closes
+  pub record HasRun (Are : List Entry → Type 0) (old new : BookPass) : Type 0 where
     pub more : List (ℕ × LoggedCall Command LockedReply)
     pub gained : HasGained more old new
-    pub run : IsLaneRun commands (map (λ c. entry_of c.1) more)
-    pub closes : LaneClosesAreGood None (map (λ c. c.1) more)
-
-  -- the pass has gained calls that are a beginning of a run of these commands, with good closes
-  pub record HasBegun (commands : List Command) (old new : BookPass) : Type 0 where
-    pub more : List (ℕ × LoggedCall Command LockedReply)
-    pub gained : HasGained more old new
-    pub begun : IsLaneBeginning commands (map (λ c. entry_of c.1) more)
+    pub run : Are (map (λ c. entry_of c.1) more)
     pub closes : LaneClosesAreGood None (map (λ c. c.1) more)

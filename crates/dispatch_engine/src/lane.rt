@@ -3,7 +3,7 @@ ghost use Rattle.std.specs.Prelude.{◌≡◌, ◌∷◌, [], All, OnErr, OnOk};
 ghost use Rattle.script_rows.specs.Round.{MayStand};
 ghost use Rattle.seat_lock.specs.Values.{IsPassOf};
 ghost use Rattle.shared_book.specs.Shared.{IsSamePass};
-ghost use Rattle.dispatch_engine.specs.Lane.{HasBegun, HasRun};
+ghost use Rattle.dispatch_engine.specs.Lane.{HasRun, IsLaneBeginning, IsLaneRun};
 ghost use Rattle.dispatch_engine.specs.work.Crew.{HasTaken};
 
 use crate::setup::Setup;
@@ -37,8 +37,8 @@ pub fn run_lane<W: Ways, D: Drafter, G: Gate>(
     requires stand { All (MayStand pass.old.lane) commands.now }
     requires nodes { book.now.start.nodes ≡ setup.now.network.now.nodes }
     ensures pass { IsPassOf book.now pass.new × (pass.new.lane ≡ pass.old.lane) }
-    ensures run { OnOk result (HasRun setup.now.settings.now setup.now.network.now commands.now pass.old pass.new) }
-    ensures begun { OnErr result (HasBegun setup.now.settings.now setup.now.network.now commands.now pass.old pass.new) }
+    ensures run { OnOk result (HasRun setup.now.settings.now setup.now.network.now (IsLaneRun commands.now) pass.old pass.new) }
+    ensures begun { OnErr result (HasRun setup.now.settings.now setup.now.network.now (IsLaneBeginning commands.now) pass.old pass.new) }
 {
     for command in commands {
         run_command(rt, alloc, book, pass, command, setup)?;
@@ -58,8 +58,8 @@ fn run_command<W: Ways, D: Drafter, G: Gate>(
     requires stands { MayStand pass.old.lane command.now }
     requires nodes { book.now.start.nodes ≡ setup.now.network.now.nodes }
     ensures pass { IsPassOf book.now pass.new × (pass.new.lane ≡ pass.old.lane) }
-    ensures run { OnOk result (HasRun setup.now.settings.now setup.now.network.now (command.now ∷ []) pass.old pass.new) }
-    ensures begun { OnErr result (HasBegun setup.now.settings.now setup.now.network.now (command.now ∷ []) pass.old pass.new) }
+    ensures run { OnOk result (HasRun setup.now.settings.now setup.now.network.now (IsLaneRun (command.now ∷ [])) pass.old pass.new) }
+    ensures begun { OnErr result (HasRun setup.now.settings.now setup.now.network.now (IsLaneBeginning (command.now ∷ [])) pass.old pass.new) }
 {
     match command {
         Command::Seal { now } => run_seal(rt, alloc, book, pass, *now, setup),
@@ -79,8 +79,8 @@ fn run_seal<W: Ways, D: Drafter, G: Gate>(
     requires own { IsPassOf book.now pass.old }
     requires nodes { book.now.start.nodes ≡ setup.now.network.now.nodes }
     ensures pass { IsPassOf book.now pass.new × (pass.new.lane ≡ pass.old.lane) }
-    ensures run { OnOk result (HasRun setup.now.settings.now setup.now.network.now (Command.Seal now ∷ []) pass.old pass.new) }
-    ensures begun { OnErr result (HasBegun setup.now.settings.now setup.now.network.now (Command.Seal now ∷ []) pass.old pass.new) }
+    ensures run { OnOk result (HasRun setup.now.settings.now setup.now.network.now (IsLaneRun (Command.Seal now ∷ [])) pass.old pass.new) }
+    ensures begun { OnErr result (HasRun setup.now.settings.now setup.now.network.now (IsLaneBeginning (Command.Seal now ∷ [])) pass.old pass.new) }
 {
     let SealReceipt {
         receipt: _,

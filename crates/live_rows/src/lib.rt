@@ -3,19 +3,15 @@
 //! A line ends with a line feed or a carriage return, and is handed out without waiting for what follows. Each is read
 //! as the one row of a script. An accepted row is handed on; a refused one is told to whoever listens, and skipped.
 //!
-//! A caller, as `ridepool` starts a script and takes its first row:
+//! A caller, shortened from `ridepool`, which starts a script and hands its rows on:
 //!
 //! ```
-//! fn first_row<S: Source>(alloc: Global, script: S, listener: RefusedRows) -> Option<Line> {
-//!     let mut lines = LineStream::over(script);
-//!     match read_start(alloc, &mut lines) {
-//!         Ok(version) => {
-//!             let mut rows = LiveRows::behind(alloc, lines, version, listener);
-//!             rows.next().ok()?
-//!         }
-//!         Err(_) => None,
-//!     }
-//! }
+//! let mut lines = LineStream::over(script);
+//! let version = match read_start(alloc, &mut lines) {
+//!     Ok(version) => version,
+//!     Err(fault) => return Err(start_status(fault)),
+//! };
+//! let rows = LiveRows::behind(alloc, lines, version, listener);
 //! ```
 //!
 //! Main clauses: `RowSource::next`: `row`, `behind`, `fault`; `read_start`: `started`, `other`, `fault`;

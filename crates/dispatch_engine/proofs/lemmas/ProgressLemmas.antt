@@ -1,74 +1,58 @@
 -- How lanes come on.
-use Rattle.std.proofs.Common.{◌≡◌, ◌==◌, ◌↔◌, ℕ, zero, suc, ◌+◌, ◌<◌, ◌≤◌, List, [], ◌∷◌, ◌++◌, length, get_or, set, drop, replicate, slice_get, Option, Some, None, refl, sym, ap, ◌∙◌, subst, ⊎_elim, arith, append-nil, append_assoc, eq-eqb}
+use Rattle.std.proofs.Common.{◌≡◌, ◌==◌, ◌↔◌, ℕ, zero, suc, ◌+◌, ◌<◌, ◌≤◌, List, [], ◌∷◌, ◌++◌, length, set, drop, replicate, Option, Some, None, refl, sym, ap, ◌∙◌, subst, ⊎_elim, arith, append-nil, append_assoc, eq-eqb}
 use Rattle.dispatch_engine.proofs.Common.{cases_eq, cases_lt, cond-true, cond-false, drop_all, get_or_past, get_or-replicate, length-replicate, filter-append, of_lane, IsLaneRun, IsLaneRunFrom, LaneStand, at_start, stand_at, IsRest, IsNext, stand_after, HaveCome, AreDone, Command, Entry, NumberedLanes, IsRound, lane_at}
 use Rattle.std.proofs.lemmas.Bool.{ne_eqb}
-use Rattle.std.proofs.lemmas.List.{get_or-set_same, get_or-set_other}
-
--- the command at a place is the first of those that are left there
-drop_at : (cs : List Command) (k : ℕ) (c : Command) → slice_get cs k ≡ Some c → drop k cs ≡ c ∷ drop (suc k) cs
-drop_at [] zero c e = absurd (cc)
-drop_at [] (suc k) c e = absurd (cc)
-drop_at (d ∷ cs) zero c e = let same : d ≡ c = (cc) in ap (λ (x : Command). x ∷ cs) same
-drop_at (d ∷ cs) (suc k) c e = drop_at cs k c e
-
--- a place that holds a command is within the list
-pub place_within : (cs : List Command) (k : ℕ) (c : Command) → slice_get cs k ≡ Some c → k < length cs
-place_within [] zero c e = absurd (cc)
-place_within [] (suc k) c e = absurd (cc)
-place_within (d ∷ cs) zero c e = omega arith
-place_within (d ∷ cs) (suc k) c e = let rest = place_within cs k c e in omega (arith, rest)
+use Rattle.std.proofs.lemmas.List.{drop_more, get_or-set_same, get_or-set_other}
+use Rattle.std.proofs.lemmas.Option.{get_or_from_slice_get, slice_get_within}
 
 -- what is left after an entry is left before it, with the entry
 go_on : (commands : List Command) (pending : Option ℕ) (taken : ℕ) (e : Entry) (rest : List Entry) → IsNext commands (record { taken = taken; pending = pending }) e.command
     → IsRest commands (stand_after (record { taken = taken; pending = pending }) e.reply) rest ↔ IsRest commands (record { taken = taken; pending = pending }) (e ∷ rest)
 go_on commands None taken e rest next =
-    let next_place : suc taken ≡ taken + 1 = omega arith in
-    let left : drop taken commands ≡ e.command ∷ drop (taken + 1) commands = drop_at commands taken e.command next ∙ ap (λ (k : ℕ). e.command ∷ drop k commands) next_place in (
+    let left : drop taken commands ≡ e.command ∷ drop (taken + 1) commands =
+    drop_more commands taken e.command (slice_get_within commands taken e.command next) ∙ ap (λ c. c ∷ drop (taken + 1) commands) (get_or_from_slice_get commands taken e.command e.command next) in (
       λ after. subst (λ (cs : List Command). IsLaneRunFrom None cs (e ∷ rest)) (sym left) (refl, after),
       λ run. let at : IsLaneRunFrom None (e.command ∷ drop (taken + 1) commands) (e ∷ rest) = subst (λ (cs : List Command). IsLaneRunFrom None cs (e ∷ rest)) left run in at.1,
     )
 go_on commands (Some batch) taken e rest next = (λ after. (next, after), λ run. run.1)
 
-of_lane-push : (lane : ℕ) (es : List Entry) (e : Entry) → of_lane lane (es ++ e ∷ []) ≡ of_lane lane es ++ of_lane lane (e ∷ [])
-of_lane-push lane es e = filter-append (λ x. x.lane == lane) es (e ∷ [])
+-- the entries of a lane with one more
+of_lane-own : (lane : ℕ) (es : List Entry) (e : Entry) (rest : List Entry) → lane ≡ e.lane → of_lane lane (es ++ e ∷ []) ++ rest ≡ of_lane lane es ++ (e ∷ rest)
+of_lane-own lane es e rest own =
+    ap (λ xs. xs ++ rest) (filter-append (λ x. x.lane == lane) es (e ∷ []) ∙ ap (λ xs. of_lane lane es ++ xs) (cond-true (e.lane == lane) (e ∷ []) [] (eq-eqb e.lane lane (sym own))))
+    ∙ append_assoc (of_lane lane es) (e ∷ []) rest
 
-of_lane-own : (lane : ℕ) (e : Entry) → lane ≡ e.lane → of_lane lane (e ∷ []) ≡ e ∷ []
-of_lane-own lane e own = cond-true (e.lane == lane) (e ∷ []) [] (eq-eqb e.lane lane (sym own))
-
-of_lane-other : (lane : ℕ) (e : Entry) → (lane ≡ e.lane → ⊥) → of_lane lane (e ∷ []) ≡ []
-of_lane-other lane e other = cond-false (e.lane == lane) (e ∷ []) [] (ne_eqb e.lane lane (λ is. other (sym is)))
+of_lane-other : (lane : ℕ) (es : List Entry) (e : Entry) → (lane ≡ e.lane → ⊥) → of_lane lane (es ++ e ∷ []) ≡ of_lane lane es
+of_lane-other lane es e other =
+    filter-append (λ x. x.lane == lane) es (e ∷ []) ∙ ap (λ xs. of_lane lane es ++ xs) (cond-false (e.lane == lane) (e ∷ []) [] (ne_eqb e.lane lane (λ is. other (sym is)))) ∙ append-nil (of_lane lane es)
 
 -- one more entry of a lane
+module _ (round : NumberedLanes) (lanes : List LaneStand) (es : List Entry) (e : Entry) (rest : List Entry) where
+  abbrev after : LaneStand
+  after = stand_after (stand_at lanes e.lane) e.reply
+
+  abbrev Comes : ℕ → Type 0
+  Comes k = IsRest (lane_at round k) (stand_at (set lanes e.lane after) k) rest ↔ IsLaneRun (lane_at round k) (of_lane k (es ++ e ∷ []) ++ rest)
+
+  -- the same where a lane stands so and has these entries
+  comes-so : (k : ℕ) (stand : LaneStand) (entries : List Entry) → stand_at (set lanes e.lane after) k ≡ stand → of_lane k (es ++ e ∷ []) ++ rest ≡ entries
+      → IsRest (lane_at round k) stand rest ↔ IsLaneRun (lane_at round k) entries → Comes k
+  comes-so k stand entries stands are =
+      subst (λ (z : LaneStand × List Entry). IsRest (lane_at round k) z.0 rest ↔ IsLaneRun (lane_at round k) z.1) (λ i. (sym stands i, sym are i))
+
 pub come_more : (round : NumberedLanes) (lanes : List LaneStand) (es : List Entry) (e : Entry) → e.lane < length lanes → HaveCome round lanes es → IsNext (lane_at round e.lane) (stand_at lanes e.lane) e.command
     → HaveCome round (set lanes e.lane (stand_after (stand_at lanes e.lane) e.reply)) (es ++ e ∷ [])
-come_more round lanes es e low come next lane rest = ⊎_elim (λ (own : lane ≡ e.lane). here own) (λ (other : lane ≡ e.lane → ⊥). there other) (cases_eq lane e.lane)
-  where
-    here : lane ≡ e.lane → IsRest (lane_at round lane) (stand_at (set lanes e.lane (stand_after (stand_at lanes e.lane) e.reply)) lane) rest ↔ IsLaneRun (lane_at round lane) (of_lane lane (es ++ e ∷ []) ++ rest)
-    here own =
-        let text : of_lane lane (es ++ e ∷ []) ++ rest ≡ of_lane lane es ++ (e ∷ rest) =
-        ap (λ (xs : List Entry). xs ++ rest) (of_lane-push lane es e ∙ ap (λ (xs : List Entry). of_lane lane es ++ xs) (of_lane-own lane e own)) ∙ append_assoc (of_lane lane es) (e ∷ []) rest in
-        let stand : stand_at (set lanes e.lane (stand_after (stand_at lanes e.lane) e.reply)) lane ≡ stand_after (stand_at lanes e.lane) e.reply =
-        ap (λ (k : ℕ). get_or (set lanes e.lane (stand_after (stand_at lanes e.lane) e.reply)) k at_start) own ∙ get_or-set_same lanes e.lane (stand_after (stand_at lanes e.lane) e.reply) at_start low in
-        let on = go_on (lane_at round e.lane) (stand_at lanes e.lane).pending (stand_at lanes e.lane).taken e rest next in
-        let before = come lane (e ∷ rest) in (
-          λ left. subst (IsLaneRun (lane_at round lane)) (sym text) (before.0
-              (subst (λ (k : ℕ). IsRest (lane_at round k) (stand_at lanes k) (e ∷ rest)) (sym own)
-              (on.0 (subst (λ (k : ℕ). IsRest (lane_at round k) (stand_after (stand_at lanes e.lane) e.reply) rest) own (subst (λ (s : LaneStand). IsRest (lane_at round lane) s rest) stand left))))),
-          λ run. subst (λ (s : LaneStand). IsRest (lane_at round lane) s rest) (sym stand)
-              (subst (λ (k : ℕ). IsRest (lane_at round k) (stand_after (stand_at lanes e.lane) e.reply) rest) (sym own)
-              (on.1 (subst (λ (k : ℕ). IsRest (lane_at round k) (stand_at lanes k) (e ∷ rest)) own (before.1 (subst (IsLaneRun (lane_at round lane)) text run))))),
-        )
-
-    there : (lane ≡ e.lane → ⊥) → IsRest (lane_at round lane) (stand_at (set lanes e.lane (stand_after (stand_at lanes e.lane) e.reply)) lane) rest ↔ IsLaneRun (lane_at round lane) (of_lane lane (es ++ e ∷ []) ++ rest)
-    there other =
-        let text : of_lane lane (es ++ e ∷ []) ++ rest ≡ of_lane lane es ++ rest =
-        ap (λ (xs : List Entry). xs ++ rest) (of_lane-push lane es e ∙ ap (λ (xs : List Entry). of_lane lane es ++ xs) (of_lane-other lane e other) ∙ append-nil (of_lane lane es)) in
-        let stand : stand_at (set lanes e.lane (stand_after (stand_at lanes e.lane) e.reply)) lane ≡ stand_at lanes lane =
-        get_or-set_other lanes e.lane lane (stand_after (stand_at lanes e.lane) e.reply) at_start other in
-        let before = come lane rest in (
-          λ left. subst (IsLaneRun (lane_at round lane)) (sym text) (before.0 (subst (λ (s : LaneStand). IsRest (lane_at round lane) s rest) stand left)),
-          λ run. subst (λ (s : LaneStand). IsRest (lane_at round lane) s rest) (sym stand) (before.1 (subst (IsLaneRun (lane_at round lane)) text run)),
-        )
+come_more round lanes es e low come next lane rest =
+    let stand = stand_at lanes e.lane in
+    let next_stand = stand_after stand e.reply in
+    let on = go_on (lane_at round e.lane) stand.pending stand.taken e rest next in
+    let before = come e.lane (e ∷ rest) in
+    let own = comes-so round lanes es e rest e.lane next_stand (of_lane e.lane es ++ (e ∷ rest)) (get_or-set_same lanes e.lane next_stand at_start low) (of_lane-own e.lane es e rest refl)
+    (λ left. before.0 (on.0 left), λ run. on.1 (before.1 run)) in
+    ⊎_elim (λ (same : lane ≡ e.lane). subst (Comes round lanes es e rest) (sym same) own)
+    (λ (other : lane ≡ e.lane → ⊥).
+    comes-so round lanes es e rest lane (stand_at lanes lane) (of_lane lane es ++ rest) (get_or-set_other lanes e.lane lane next_stand at_start other) (ap (λ xs. xs ++ rest) (of_lane-other lane es e other)) (come lane rest))
+    (cases_eq lane e.lane)
 
 -- at the start every lane has all to do
 pub come_none : (round : NumberedLanes) → HaveCome round (replicate 16 at_start) []

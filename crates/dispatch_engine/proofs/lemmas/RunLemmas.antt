@@ -1,5 +1,5 @@
 -- A run of rounds and of one more, a lane's run and one more, and what both begin with.
-use Rattle.std.proofs.Common.{◌≡◌, ℕ, ◌+◌, ◌<◌, Bool, true, false, cond, List, [], ◌∷◌, ◌++◌, length, get_or, take, map, filter, Option, Some, None, refl, sym, ap, subst, ◌∙◌, append_assoc, add-one, eqb, All, Contains}
+use Rattle.std.proofs.Common.{arith, ◌≡◌, ℕ, ◌+◌, ◌<◌, Bool, List, [], ◌∷◌, ◌++◌, length, get_or, take, map, filter, Option, Some, None, refl, sym, ap, subst, ◌∙◌, append_assoc, add-one, eqb, All, Contains}
 use Rattle.dispatch_engine.proofs.Common.{Batch, Command, Entry, Reply, next_position, state_after, Journal, State, Settings, Roads, NumberedLanes, sealed_by, with_snapshot, IsLaneBeginning, IsLaneRun, IsLaneRunFrom, IsRoundRun, IsRun, position_after_run, state_after_run}
 use Rattle.std.proofs.Math.Seq.{take-suc}
 use Rattle.std.proofs.lemmas.Bool.{eqb-true}
@@ -15,12 +15,7 @@ take_next xs i x within is = ap (λ y. take i xs ++ y ∷ []) is ∙ sym (rw add
 -- those of the images that count are the images of those that count
 pub filter-mapped : {X Y : Type 0} (f : X → Y) (p : Y → Bool) (xs : List X) → filter p (map f xs) ≡ map f (filter (λ x. p (f x)) xs)
 filter-mapped f p [] = refl
-filter-mapped f p (x ∷ xs) = by (p (f x)) (filter-mapped f p xs)
-  where
-    by : (b : Bool) → filter p (map f xs) ≡ map f (filter (λ x. p (f x)) xs)
-        → cond b (f x ∷ filter p (map f xs)) (filter p (map f xs)) ≡ map f (cond b (x ∷ filter (λ x. p (f x)) xs) (filter (λ x. p (f x)) xs))
-    by true same = ap (λ ys. f x ∷ ys) same
-    by false same = same
+filter-mapped f p (x ∷ xs) = grind (arith, filter-mapped f p xs)
 
 -- what a batch names is on the roads
 pub snapshot-known : (nodes roads : List ℕ) (command : Command) (reply : Reply) (b : Batch) → nodes ≡ roads → Fits nodes command (with_snapshot reply (Some b)) → All (λ node. Contains roads node) (named_nodes b)

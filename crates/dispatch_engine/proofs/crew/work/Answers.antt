@@ -1,5 +1,5 @@
 use Rattle.std.proofs.Common.{◌≡◌, ap, subst, sym, ◌∙◌}
-use Rattle.dispatch_engine.proofs.Common.{lane_at, HasRun}
+use Rattle.dispatch_engine.proofs.Common.{lane_at, HasRun, IsLaneRun}
 use Rattle.dispatch_engine.proofs.CrewLemmas.{lane-run, when-ok}
 use Rattle.dispatch_engine.proofs.crew.work.Goals as goal
 
@@ -12,5 +12,5 @@ returns-clause-worked g c =
       own = c.run_lane-ran.ensures.pass.0;
       ran = λ done.
           lane-run c.args.setup.now.settings.now c.args.setup.now.network.now (lane_at c.args.round.now new.lane) c.args.lane.now.pass new c.requires.fresh.fresh
-          (subst (λ cs. HasRun c.args.setup.now.settings.now c.args.setup.now.network.now cs c.args.lane.now.pass new) commands (when-ok c.run_lane-ran.result _ (sym c.is_ok-lane.ensures.value ∙ done) c.run_lane-ran.ensures.run));
+          (subst (λ cs. HasRun c.args.setup.now.settings.now c.args.setup.now.network.now (IsLaneRun cs) c.args.lane.now.pass new) commands (when-ok c.run_lane-ran.result _ (sym c.is_ok-lane.ensures.value ∙ done) c.run_lane-ran.ensures.run));
     }

@@ -1,9 +1,9 @@
-use Rattle.std.proofs.Common.{◌≡◌, ◌+◌, ◌∷◌, ◌++◌, [], take, drop, length, ◌<◌, ◌∙◌, refl, ap, subst, arith}
-use Rattle.dispatch_engine.proofs.Common.{HasRun, HasBegun}
+use Rattle.std.proofs.Common.{None, ◌≡◌, ◌+◌, ◌∷◌, ◌++◌, [], take, drop, length, ◌<◌, ◌∙◌, refl, ap, subst, arith}
+use Rattle.dispatch_engine.proofs.Common.{HasRun, IsLaneBeginning, IsLaneRun}
 use Rattle.std.proofs.lemmas.List.{take-append-drop}
 use Rattle.dispatch_engine.proofs.PassLemmas.{runs-none, runs-more, begun-after}
 use Rattle.dispatch_engine.proofs.RoundLemmas.{on-err}
-use Rattle.dispatch_engine.proofs.lemmas.RunLemmas.{take_next}
+use Rattle.dispatch_engine.proofs.lemmas.RunLemmas.{run-append, take_next}
 use Rattle.dispatch_engine.proofs.lane.run_lane.Goals as goal
 
 pub loop-command-init : goal.loop-command-init
@@ -24,8 +24,8 @@ loop-command-preserved g c =
     record {
       own = c.run_command.ensures.pass.0;
       lane = c.run_command.ensures.pass.1 ∙ c.loop-command.invariant.lane;
-      ran = subst (λ cs. HasRun settings roads cs c.args.pass.now c.run_command.new.pass) (take_next commands i command within c.command-item.is)
-          (runs-more settings roads c.args.pass.now c.loop-command.pass c.run_command.new.pass (take i commands) (command ∷ []) c.loop-command.invariant.ran c.in_ok-run_command.ensures.run);
+      ran = subst (λ cs. HasRun settings roads (IsLaneRun cs) c.args.pass.now c.run_command.new.pass) (take_next commands i command within c.command-item.is)
+          (runs-more settings roads (IsLaneRun (take i commands)) (IsLaneRun (command ∷ [])) (IsLaneRun (take i commands ++ command ∷ [])) (run-append None (take i commands) (command ∷ [])) c.args.pass.now c.loop-command.pass c.run_command.new.pass c.loop-command.invariant.ran c.in_ok-run_command.ensures.run);
     }
 
 pub returns-in_err-run_command-clause-begun : goal.returns-in_err-run_command-clause-begun
@@ -40,5 +40,5 @@ returns-in_err-run_command-clause-begun g c =
     let whole : (take i commands ++ command ∷ []) ++ rest ≡ commands =
     ap (λ cs. cs ++ rest) (take_next commands i command within c.command-item.is) ∙ take-append-drop (i + 1) commands in
     on-err c.from_residual.result _
-    (subst (λ cs. HasBegun settings roads cs c.args.pass.now c.run_command.new.pass) whole
+    (subst (λ cs. HasRun settings roads (IsLaneBeginning cs) c.args.pass.now c.run_command.new.pass) whole
     (begun-after settings roads c.args.pass.now c.loop-command.pass c.run_command.new.pass (take i commands) (command ∷ []) rest c.loop-command.invariant.ran c.in_err-run_command.ensures.begun))

@@ -1,4 +1,4 @@
-use Rattle.std.proofs.Common.{◌≡◌, ◌∷◌, [], Some, None, refl, ap, subst, arith}
+use Rattle.std.proofs.Common.{rules, ◌≡◌, ◌∷◌, [], Some, None, refl, ap, subst, arith}
 use Rattle.dispatch_engine.proofs.Common.{on_ok_weaker, on_err_weaker, Seal, Close, HasCalled, with_snapshot, HasTaken}
 use Rattle.dispatch_engine.proofs.PassLemmas.{runs-refused, runs-sealed, begun-none, begun-sealed}
 use Rattle.dispatch_engine.proofs.RoundLemmas.{on-err}
@@ -20,20 +20,25 @@ solve_batch-requires-clause-nodes g c κs within =
     let called = subst (λ o. HasCalled c.args.book.now.start.nodes c.args.pass.now (Seal c.args.now) r.position (with_snapshot r.reply o) c.seal.new.pass) some c.in_ok-snapshot.ensures.call in
     snapshot-known c.args.book.now.start.nodes c.args.setup.now.network.now.nodes (Seal c.args.now) r.reply b c.requires.nodes called.fits
 
-pub returns-clause-run : goal.returns-clause-run
-returns-clause-run g c =
+pub returns : goal.returns
+returns g c =
+    let settings = c.args.setup.now.settings.now in
+    let roads = c.args.setup.now.network.now in
     let r = c.in_ok-snapshot.field-0.receipt in
     let b = c.in-Some.snapshot in
     let outcome = c.in_ok-outcome.outcome in
     let nodes = c.args.book.now.start.nodes in
     let some : c.in_ok-snapshot.field-0.snapshot ≡ Some b = (let a = c.in-Some.is in let b = c.in_ok-snapshot.snapshot-is in cc) in
     let called = subst (λ o. HasCalled nodes c.args.pass.now (Seal c.args.now) r.position (with_snapshot r.reply o) c.seal.new.pass) some c.in_ok-snapshot.ensures.call in
-    on_ok_weaker c.take.result
-    (λ taken.
-    let closed = subst (λ n. HasTaken nodes c.seal.new.pass (Close n outcome) c.take.new.pass) (ap (λ b. b.number) c.snapshot.view_is) taken in
-    runs-sealed c.args.setup.now.settings.now c.args.setup.now.network.now nodes c.args.pass.now c.seal.new.pass c.take.new.pass c.args.now r.position r.reply b outcome closed.receipt
-    called closed.called c.in_ok-outcome.ensures)
-    c.take.ensures.taken
+    record {
+      pass = search rules;
+      run = on_ok_weaker c.take.result
+          (λ taken.
+          let closed = subst (λ n. HasTaken nodes c.seal.new.pass (Close n outcome) c.take.new.pass) (ap (λ b. b.number) c.snapshot.view_is) taken in
+          runs-sealed settings roads nodes c.args.pass.now c.seal.new.pass c.take.new.pass c.args.now r.position r.reply b outcome closed.receipt called closed.called c.in_ok-outcome.ensures)
+          c.take.ensures.taken;
+      begun = on_err_weaker c.take.result (begun-sealed settings roads nodes c.args.pass.now c.seal.new.pass c.take.new.pass c.args.now r.position r.reply b called) c.take.ensures.refused;
+    }
 
 pub returns-in_err-snapshot-clause-begun : goal.returns-in_err-snapshot-clause-begun
 returns-in_err-snapshot-clause-begun g c =
@@ -49,14 +54,3 @@ returns-in_err-outcome-clause-begun g c =
     let called = subst (λ o. HasCalled nodes c.args.pass.now (Seal c.args.now) r.position (with_snapshot r.reply o) c.seal.new.pass) some c.in_ok-snapshot.ensures.call in
     on-err c.from_residual-in_err-outcome.result _
     (begun-sealed c.args.setup.now.settings.now c.args.setup.now.network.now nodes c.args.pass.now c.seal.new.pass c.seal.new.pass c.args.now r.position r.reply b called (refl, omega arith))
-
-pub returns-clause-begun : goal.returns-clause-begun
-returns-clause-begun g c =
-    let r = c.in_ok-snapshot.field-0.receipt in
-    let b = c.in-Some.snapshot in
-    let nodes = c.args.book.now.start.nodes in
-    let some : c.in_ok-snapshot.field-0.snapshot ≡ Some b = (let a = c.in-Some.is in let b = c.in_ok-snapshot.snapshot-is in cc) in
-    let called = subst (λ o. HasCalled nodes c.args.pass.now (Seal c.args.now) r.position (with_snapshot r.reply o) c.seal.new.pass) some c.in_ok-snapshot.ensures.call in
-    on_err_weaker c.take.result
-    (begun-sealed c.args.setup.now.settings.now c.args.setup.now.network.now nodes c.args.pass.now c.seal.new.pass c.take.new.pass c.args.now r.position r.reply b called)
-    c.take.ensures.refused
