@@ -1,11 +1,12 @@
 -- What a search finds.
 use Rattle.std.proofs.Common.{◌≡◌, ℕ, suc, ◌+◌, ◌*◌, ◌<◌, ◌≤◌, Bool, true, List, [], ◌∷◌, ◌++◌, length, get_or, set, take, drop, Option, Result, Ok, Err, ℤ, pos, ◌≤ℤ◌, ◌<ℤ◌, to_z, of_z, All, refl, sym, ap, ◌∙◌, subst, arith}
-use Rattle.assignment_search.proofs.Common.{w128, ints, Graph, IsGoodGraph, IsBound, IsLawful, cost_of, IsGreedy, Usable, usable_of, leaf_value, first_fit_value, every_row, only_row, without_row, CanBranch, IsDeadEnd, Place, rounded_up, places, places_read, ReadsTo, Node, Branch, Leaf, Dead, within_every_row, dead_end_holds_none, tree_value_bounds, Agree, agree_back, leaf_value_agrees, first_fit_value_agrees, dead_end_agrees, may_use_agrees, can_branch_agrees, both_ways, IsSmallSum, IsWorthBranching, IsGoodLeaf, IsGoodNode, IsGrown, HasUsable, IsFixed, IsSolePlan, IsLowest, HasLeaf, IsNewEnd, IsJudged, choice_count, IsBestNear, IsFairNode, IsSearchAnswer, IsTreeSoFar, IsParting, IsPartedAt}
+use Rattle.assignment_search.proofs.Common.{w128, ints, Graph, IsGoodGraph, IsBound, IsLawful, cost_of, IsGreedy, Usable, usable_of, leaf_value, first_fit_value, every_row, only_row, without_row, CanBranch, IsDeadEnd, Place, rounded_up, places, places_read, ReadsTo, Node, Branch, Leaf, Dead, within_every_row, dead_end_holds_none, tree_value_bounds, Agree, agree_back, leaf_value_agrees, first_fit_value_agrees, dead_end_agrees, may_use_agrees, can_branch_agrees, both_ways, IsSmallSum, IsWorthBranching, IsGoodLeaf, IsGoodNode, IsGrown, HasUsable, IsFixed, IsSolePlan, IsLowest, HasLeaf, IsNewEnd, IsJudged, choice_count, IsBestNear, IsFairNode, IsSearchAnswer, IsTreeSoFar, IsParting, IsPartedAt, IsNext}
 use Rattle.std.specs.Result.{IfOk}
 use Rattle.std.proofs.lemmas.List.Elements.{All-from_recursion}
 use Rattle.plan_rules.proofs.lemmas.SearchTreeLemmas.{tree_of_reads, places_are, value_is_read}
 use Rattle.assignment_search.specs.declared.found.Found.{Found}
 use Rattle.assignment_search.specs.declared.parting.Ends.{Ends}
+use Rattle.assignment_search.specs.declared.step.Outcome.{Outcome}
 use Rattle.assignment_search.proofs.GrowthLemmas.{IsSplit, grown_split, grown_reads, branched, raised, lowest_above, lowest_floor, value_is, nodes_fair, usable_here, usable_only, usable_without, reads_unique}
 use Rattle.plan_rules.proofs.lemmas.TreeLemmas.{rounded_up_mono}
 use Rattle.assignment_search.proofs.ApartLemmas.{back}
@@ -41,6 +42,10 @@ new_end_agrees g w u parent (Leaf ms) z agree h =
     }
 new_end_agrees g w u parent Dead z agree h = (dead_end_agrees g w u agree (h.0), h.1)
 new_end_agrees g w u parent (Branch v k) z agree h = absurd h
+
+-- what is said of the leaf of least value, of the lists as they are elsewhere
+pub said_of : (g : Graph) (xs nodes : List Node) (zs values : List ℤ) (place limit budget : ℕ) (said : Outcome) → xs ≡ nodes → zs ≡ values → IsNext g xs zs place limit budget said → IsNext g nodes values place limit budget said
+said_of g xs nodes zs values place limit budget said e f h = subst (λ (ns : List Node). IsNext g ns values place limit budget said) e (subst (λ (ws : List ℤ). IsNext g xs ws place limit budget said) f h)
 
 pub new_end_small : (g : Graph) (u : Usable) (parent : List ℤ) (n : Node) (z : ℤ) → IsNewEnd g u parent n z → IsSmallSum 1500 z
 new_end_small g u parent (Leaf ms) z h = h.small
@@ -139,15 +144,19 @@ so_far_grow g budget limit nodes values place ends new news t lowest parted room
 
 module _ (g : Graph) (limit place : ℕ) (nodes : List Node) (values : List ℤ) (u : Usable) (later : List Usable) (allowed : List Bool) (good : IsGoodGraph g) (lowest : IsLowest nodes values place)
     (grown : IsGrown g (rounded_up (get_or values place (pos 0))) limit (every_row ∷ []) nodes values []) (reads : ReadsTo g (every_row ∷ []) (take place nodes) (u ∷ later)) (agree : Agree g (usable_of allowed) u) where
+  s : IsSplit g (rounded_up (get_or values place (pos 0))) limit (every_row ∷ []) nodes values [] place
+  s = grown_split g (rounded_up (get_or values place (pos 0))) limit nodes values (every_row ∷ []) [] place grown lowest.within
+
+  here : IsGoodLeaf g (rounded_up (get_or values place (pos 0))) s.usable lowest.multipliers (get_or values place (pos 0))
+  here = leaf_here g (rounded_up (get_or values place (pos 0))) limit nodes values place s lowest
+
+  same : Agree g (usable_of allowed) s.usable
+  same k l = agree k l ∙ ap (λ (w : Usable). w k) (stands_at g (rounded_up (get_or values place (pos 0))) limit nodes values place u later s reads)
+
   pub fixed_answer : (chosen : List (Option ℕ)) → IsFixed g (usable_of allowed) → length chosen ≡ g.vehicles → IsSolePlan g (usable_of allowed) chosen → IsLawful g chosen × (pos (cost_of g chosen) ≤ℤ rounded_up (get_or values place (pos 0)))
   fixed_answer chosen fixed sized sole =
-      let low = rounded_up (get_or values place (pos 0)) in
-      let s = grown_split g low limit nodes values (every_row ∷ []) [] place grown lowest.within in
-      let here = leaf_here g low limit nodes values place s lowest in
-      let stands : u ≡ s.usable = stands_at g low limit nodes values place u later s reads in
-      let same : Agree g (usable_of allowed) s.usable = λ k l. agree k l ∙ ap (λ (w : Usable). w k) stands in
       let back : Agree g s.usable (usable_of allowed) = agree_back g (usable_of allowed) s.usable same in
-      let has : HasUsable g s.usable = usable_here g (take place nodes) s.usable s.later (grown_reads g low limit (take place nodes) (take place values) (every_row ∷ []) (s.usable ∷ s.later) s.before) in
+      let has : HasUsable g s.usable = usable_here g (take place nodes) s.usable s.later (grown_reads g (rounded_up (get_or values place (pos 0))) limit (take place nodes) (take place values) (every_row ∷ []) (s.usable ∷ s.later) s.before) in
       let has_here : HasUsable g (usable_of allowed) = λ v k row. let j = has v k row in (j.0, may_use_agrees g s.usable (usable_of allowed) v (j.0) back (j.1)) in
       let alive : IsDeadEnd g (usable_of allowed) → ⊥ = λ dead. here.alive (dead_end_agrees g (usable_of allowed) s.usable same dead) in
       let fit : first_fit_value g s.usable ≡ first_fit_value g (usable_of allowed) = first_fit_value_agrees g s.usable (usable_of allowed) back in (
@@ -157,11 +166,6 @@ module _ (g : Graph) (limit place : ℕ) (nodes : List Node) (values : List ℤ)
 
   pub judged_here : (ms : List ℤ) → get_or nodes place Dead ≡ Leaf ms → IsJudged g (usable_of allowed) ms (get_or values place (pos 0))
   judged_here ms is =
-      let low = rounded_up (get_or values place (pos 0)) in
-      let s = grown_split g low limit nodes values (every_row ∷ []) [] place grown lowest.within in
-      let here = leaf_here g low limit nodes values place s lowest in
-      let stands : u ≡ s.usable = stands_at g low limit nodes values place u later s reads in
-      let same : Agree g (usable_of allowed) s.usable = λ k l. agree k l ∙ ap (λ (w : Usable). w k) stands in
       let parent_is : ms ≡ lowest.multipliers = inner ms lowest.multipliers (sym is ∙ lowest.leaf) in
       record {
         sized = ap (λ (xs : List ℤ). length xs) parent_is ∙ here.sized;
@@ -171,11 +175,7 @@ module _ (g : Graph) (limit place : ℕ) (nodes : List Node) (values : List ℤ)
 
   pub full_answer : (v k : ℕ) → v < g.vehicles → CanBranch g (usable_of allowed) v k → length nodes + 3 ≤ 2 * choice_count g every_row
   full_answer v k below can =
-      let low = rounded_up (get_or values place (pos 0)) in
-      let s = grown_split g low limit nodes values (every_row ∷ []) [] place grown lowest.within in
-      let stands : u ≡ s.usable = stands_at g low limit nodes values place u later s reads in
-      let same : Agree g (usable_of allowed) s.usable = λ k l. agree k l ∙ ap (λ (w : Usable). w k) stands in
-      tree_short g low limit nodes values place v k lowest.multipliers (λ j l. (good.rows j l).vehicle) lowest.within lowest.leaf s below (can_branch_agrees g (usable_of allowed) s.usable v k same can)
+      tree_short g (rounded_up (get_or values place (pos 0))) limit nodes values place v k lowest.multipliers (λ j l. (good.rows j l).vehicle) lowest.within lowest.leaf s below (can_branch_agrees g (usable_of allowed) s.usable v k same can)
 
 -- ---- the answer
 

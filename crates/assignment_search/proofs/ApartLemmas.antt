@@ -24,10 +24,7 @@ term_apart : (g : Graph) (u w : Usable) (ms : List ℤ) (v x : ℕ) → AgreeApa
 term_apart g u w ms v x e other =
     ap (λ (o : Option ℤ). unwrap_or o (pos 0))
     (least_below_agrees (length g.rows) (is_usable_by g u x) (is_usable_by g w x) (reduced_cost g ms)
-    (λ k l. ⊎_elim
-    (λ (own : row_vehicle g k ≡ x). ap (λ (b : Bool). (row_vehicle g k == x) && b) (e k l (λ (is : row_vehicle g k ≡ v). other (sym own ∙ is))))
-    (λ (no : row_vehicle g k ≡ x → ⊥). and_left (row_vehicle g k == x) (u k) (ne_eqb (row_vehicle g k) x no) ∙ sym (and_left (row_vehicle g k == x) (w k) (ne_eqb (row_vehicle g k) x no)))
-    (cases_eq (row_vehicle g k) x)))
+    (λ k l. grind (arith, nat_tests, e k l, other)))
 
 -- a value changes by the changed vehicle's part
 pub value_moved : (g : Graph) (u w : Usable) (ms : List ℤ) (v : ℕ) (z old new : ℤ) → v < g.vehicles → AgreeApart g v u w → z ≡ leaf_value g u ms → old ≡ vehicle_term g u ms v → new ≡ vehicle_term g w ms v → (z -ℤ old) +ℤ new ≡ leaf_value g w ms

@@ -1,5 +1,5 @@
 -- A leaf replaced by a branch with its ends, and the values beside them.
-use Rattle.std.proofs.Common.{◌≡◌, ◌⊎◌, ℕ, zero, suc, ◌+◌, ◌<◌, List, [], ◌∷◌, ◌++◌, length, get_or, take, drop, refl, ap, ◌∙◌, inl, inr, ⊎_elim, arith}
+use Rattle.std.proofs.Common.{◌≡◌, ℕ, zero, suc, ◌+◌, ◌<◌, List, [], ◌∷◌, ◌++◌, length, get_or, take, drop, refl, ap, ◌∙◌, arith}
 use Rattle.std.specs.List.{insert, remove}
 
 replace_suc : {X : Type 0} (xs : List X) (i : ℕ) (b p q : X) → i < length xs → insert (insert (insert (remove xs i) i b) (suc i) p) (suc (suc i)) q ≡ take i xs ++ (b ∷ p ∷ q ∷ drop (suc i) xs)
@@ -36,23 +36,22 @@ moved i zero = zero
 moved zero (suc k) = suc (suc (suc k))
 moved (suc i) (suc k) = suc (moved i k)
 
--- an element of the edited list is an old one or one of the two
-pub edit_origin : (xs : List ℕ) (i j p q d : ℕ) → i < length xs → j < length xs + 2
-    → ((k : ℕ) × ((k < length xs) × ((j ≡ moved i k) × (get_or (take i xs ++ (get_or xs i d ∷ p ∷ q ∷ drop (suc i) xs)) j d ≡ get_or xs k d)))) ⊎ (((j ≡ suc i) × (get_or (take i xs ++ (get_or xs i d ∷ p ∷ q ∷ drop (suc i) xs)) j d ≡ p)) ⊎ ((j ≡ suc (suc i)) × (get_or (take i xs ++ (get_or xs i d ∷ p ∷ q ∷ drop (suc i) xs)) j d ≡ q)))
+-- where an element of the edited list comes from: it is an old one or one of the two
+pub data Origin (xs : List ℕ) (i p q d j : ℕ) : Type 0 where
+  Old : (k : ℕ) → k < length xs → j ≡ moved i k → get_or (take i xs ++ (get_or xs i d ∷ p ∷ q ∷ drop (suc i) xs)) j d ≡ get_or xs k d → Origin xs i p q d j
+  First : j ≡ suc i → get_or (take i xs ++ (get_or xs i d ∷ p ∷ q ∷ drop (suc i) xs)) j d ≡ p → Origin xs i p q d j
+  Second : j ≡ suc (suc i) → get_or (take i xs ++ (get_or xs i d ∷ p ∷ q ∷ drop (suc i) xs)) j d ≡ q → Origin xs i p q d j
+
+pub edit_origin : (xs : List ℕ) (i j p q d : ℕ) → i < length xs → j < length xs + 2 → Origin xs i p q d j
 edit_origin [] i j p q d l h = absurd (omega (arith, l))
-edit_origin (x ∷ xs) zero zero p q d l h = inl (0, (l, (refl, refl)))
-edit_origin (x ∷ xs) zero (suc zero) p q d l h = inr (inl (refl, refl))
-edit_origin (x ∷ xs) zero (suc (suc zero)) p q d l h = inr (inr (refl, refl))
-edit_origin (x ∷ xs) zero (suc (suc (suc j))) p q d l h = inl (suc j, (omega (arith, h), (refl, refl)))
-edit_origin (x ∷ xs) (suc i) zero p q d l h = inl (0, (omega arith, (refl, refl)))
-edit_origin (x ∷ xs) (suc i) (suc j) p q d l h =
-    ⊎_elim
-    (λ (old : (k : ℕ) × ((k < length xs) × ((j ≡ moved i k) × (get_or (take i xs ++ (get_or xs i d ∷ p ∷ q ∷ drop (suc i) xs)) j d ≡ get_or xs k d)))).
-    let below = old.1.0 in
-    inl (suc (old.0), (omega (arith, below), (ap suc (old.1.1.0), old.1.1.1))))
-    (λ (new : ((j ≡ suc i) × (get_or (take i xs ++ (get_or xs i d ∷ p ∷ q ∷ drop (suc i) xs)) j d ≡ p)) ⊎ ((j ≡ suc (suc i)) × (get_or (take i xs ++ (get_or xs i d ∷ p ∷ q ∷ drop (suc i) xs)) j d ≡ q))).
-    ⊎_elim
-    (λ (first : (j ≡ suc i) × (get_or (take i xs ++ (get_or xs i d ∷ p ∷ q ∷ drop (suc i) xs)) j d ≡ p)). inr (inl (ap suc (first.0), first.1)))
-    (λ (second : (j ≡ suc (suc i)) × (get_or (take i xs ++ (get_or xs i d ∷ p ∷ q ∷ drop (suc i) xs)) j d ≡ q)). inr (inr (ap suc (second.0), second.1)))
-    new)
-    (edit_origin xs i j p q d (omega (arith, l)) (omega (arith, h)))
+edit_origin (x ∷ xs) zero zero p q d l h = Old 0 l refl refl
+edit_origin (x ∷ xs) zero (suc zero) p q d l h = First refl refl
+edit_origin (x ∷ xs) zero (suc (suc zero)) p q d l h = Second refl refl
+edit_origin (x ∷ xs) zero (suc (suc (suc j))) p q d l h = Old (suc j) (omega (arith, h)) refl refl
+edit_origin (x ∷ xs) (suc i) zero p q d l h = Old 0 (omega arith) refl refl
+edit_origin (x ∷ xs) (suc i) (suc j) p q d l h = later (edit_origin xs i j p q d (omega (arith, l)) (omega (arith, h)))
+  where
+    later : Origin xs i p q d j → Origin (x ∷ xs) (suc i) p q d (suc j)
+    later (Old k low at is) = Old (suc k) (omega (arith, low)) (ap suc at) is
+    later (First at is) = First (ap suc at) is
+    later (Second at is) = Second (ap suc at) is

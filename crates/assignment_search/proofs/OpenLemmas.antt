@@ -9,7 +9,7 @@ use Rattle.std.specs.declared.cmp.Ordering.{Ordering}
 use Rattle.std.specs.declared.cmp.Ordering.TheVariants.{Less, Equal, Greater}
 use Rattle.assignment_search.proofs.AnswerLemmas.{so_far_leaf}
 use Rattle.assignment_search.specs.declared.open_leaves.OpenLeaves.{OpenLeaves}
-use Rattle.assignment_search.proofs.EditLemmas.{edit_length, edit_origin, moved}
+use Rattle.assignment_search.proofs.EditLemmas.{Origin, Old, First, Second, edit_length, edit_origin, moved}
 
 -- ---- sums over leaves
 
@@ -159,23 +159,13 @@ module _ (numbers : List ℕ) (i : ℕ) (within : i < length numbers) (fresh : (
   abbrev edited : List ℕ
   edited = take i numbers ++ (get_or numbers i 0 ∷ length numbers ∷ (length numbers + 1) ∷ drop (suc i) numbers)
 
-  -- where a number of the edited list comes from
-  data Origin (j : ℕ) : Type 0 where
-    Old : (k : ℕ) → k < length numbers → j ≡ moved i k → get_or edited j 0 ≡ get_or numbers k 0 → Origin j
-    First : j ≡ suc i → get_or edited j 0 ≡ length numbers → Origin j
-    Second : j ≡ suc (suc i) → get_or edited j 0 ≡ length numbers + 1 → Origin j
-
-  origin : (j : ℕ) → j < length numbers + 2 → Origin j
-  origin j l =
-      ⊎_elim
-      (λ old. Old (old.0) (old.1.0) (old.1.1.0) (old.1.1.1))
-      (λ new. ⊎_elim (λ first. First (first.0) (first.1)) (λ second. Second (second.0) (second.1)) new)
-      (edit_origin numbers i j (length numbers) (length numbers + 1) 0 within l)
+  origin : (j : ℕ) → j < length numbers + 2 → Origin numbers i (length numbers) (length numbers + 1) 0 j
+  origin j l = edit_origin numbers i j (length numbers) (length numbers + 1) 0 within l
 
   pub edited_fresh : (j : ℕ) → j < length numbers + 2 → get_or edited j 0 < length numbers + 2
   edited_fresh j l = by (origin j l)
     where
-      by : Origin j → get_or edited j 0 < length numbers + 2
+      by : Origin numbers i (length numbers) (length numbers + 1) 0 j → get_or edited j 0 < length numbers + 2
       by (Old k low at is) = omega (arith, is, fresh k low)
       by (First at is) = omega (arith, is)
       by (Second at is) = omega (arith, is)
@@ -183,7 +173,7 @@ module _ (numbers : List ℕ) (i : ℕ) (within : i < length numbers) (fresh : (
   pub edited_apart : (j k : ℕ) → j < length numbers + 2 → k < length numbers + 2 → get_or edited j 0 ≡ get_or edited k 0 → j ≡ k
   edited_apart j k lj lk same = by (origin j lj) (origin k lk)
     where
-      by : Origin j → Origin k → j ≡ k
+      by : Origin numbers i (length numbers) (length numbers + 1) 0 j → Origin numbers i (length numbers) (length numbers + 1) 0 k → j ≡ k
       by (Old a la ja isa) (Old b lb kb isb) = ja ∙ ap (moved i) (apart a b la lb (sym isa ∙ same ∙ isb)) ∙ sym kb
       by (Old a la ja isa) (First kb isb) = absurd (omega (arith, same, isa, isb, fresh a la))
       by (Old a la ja isa) (Second kb isb) = absurd (omega (arith, same, isa, isb, fresh a la))

@@ -4,7 +4,7 @@ use Rattle.std.proofs.lemmas.Int.{to_z-of_z}
 use Rattle.assignment_search.specs.declared.step.Outcome.{Outcome}
 use Rattle.assignment_search.specs.declared.step.Outcome.TheVariants.{Full, Fixed, Parted}
 use Rattle.assignment_search.proofs.EditLemmas.{edit_length}
-use Rattle.assignment_search.proofs.AnswerLemmas.{small_back, new_end_small, so_far_start, so_far_leaf, so_far_raised, so_far_grow, lowest_small, answer_met, answer_full}
+use Rattle.assignment_search.proofs.AnswerLemmas.{small_back, new_end_small, said_of, so_far_start, so_far_leaf, so_far_raised, so_far_grow, lowest_small, answer_met, answer_full}
 use Rattle.assignment_search.proofs.OpenLemmas.{lowest_at}
 use Rattle.assignment_search.proofs.branch_and_bound.branch.Goals as goal
 
@@ -72,38 +72,33 @@ next-requires-clause-lowest c =
 
 pub part-requires-clause-first_small : goal.part-requires-clause-first_small
 part-requires-clause-first_small c =
-    let g = c.args.graph.now in
     let ends = c.in-Parted.ends in
-    let said = subst (λ (o : Outcome). IsNext g c.deref-in-loop-values.result.now c.deref-in-loop-values-2.result.now c.first-place.result c.loop-values.limit c.args.budget o) c.in-Parted.is c.in_ok-ends.ensures in
-    new_end_small g _ (said.0).parent ends.first.node ends.first.value (said.0).parting.first
+    let said = subst (λ (o : Outcome). IsNext c.args.graph.now c.deref-in-loop-values.result.now c.deref-in-loop-values-2.result.now c.first-place.result c.loop-values.limit c.args.budget o) c.in-Parted.is c.in_ok-ends.ensures in
+    new_end_small c.args.graph.now _ (said.0).parent ends.first.node ends.first.value (said.0).parting.first
 
 pub part-requires-clause-second_small : goal.part-requires-clause-second_small
 part-requires-clause-second_small c =
-    let g = c.args.graph.now in
     let ends = c.in-Parted.ends in
-    let said = subst (λ (o : Outcome). IsNext g c.deref-in-loop-values.result.now c.deref-in-loop-values-2.result.now c.first-place.result c.loop-values.limit c.args.budget o) c.in-Parted.is c.in_ok-ends.ensures in
-    new_end_small g _ (said.0).parent ends.second.node ends.second.value (said.0).parting.second
+    let said = subst (λ (o : Outcome). IsNext c.args.graph.now c.deref-in-loop-values.result.now c.deref-in-loop-values-2.result.now c.first-place.result c.loop-values.limit c.args.budget o) c.in-Parted.is c.in_ok-ends.ensures in
+    new_end_small c.args.graph.now _ (said.0).parent ends.second.node ends.second.value (said.0).parting.second
 
 pub grow-requires-clause-first : goal.grow-requires-clause-first
 grow-requires-clause-first c =
-    let g = c.args.graph.now in
     let ends = c.in-Parted.ends in
-    let said = subst (λ (o : Outcome). IsNext g c.deref-in-loop-values.result.now c.deref-in-loop-values-2.result.now c.first-place.result c.loop-values.limit c.args.budget o) c.in-Parted.is c.in_ok-ends.ensures in
-    new_end_small g _ (said.0).parent ends.first.node ends.first.value (said.0).parting.first
+    let said = subst (λ (o : Outcome). IsNext c.args.graph.now c.deref-in-loop-values.result.now c.deref-in-loop-values-2.result.now c.first-place.result c.loop-values.limit c.args.budget o) c.in-Parted.is c.in_ok-ends.ensures in
+    new_end_small c.args.graph.now _ (said.0).parent ends.first.node ends.first.value (said.0).parting.first
 
 pub grow-requires-clause-second : goal.grow-requires-clause-second
 grow-requires-clause-second c =
-    let g = c.args.graph.now in
     let ends = c.in-Parted.ends in
-    let said = subst (λ (o : Outcome). IsNext g c.deref-in-loop-values.result.now c.deref-in-loop-values-2.result.now c.first-place.result c.loop-values.limit c.args.budget o) c.in-Parted.is c.in_ok-ends.ensures in
-    new_end_small g _ (said.0).parent ends.second.node ends.second.value (said.0).parting.second
+    let said = subst (λ (o : Outcome). IsNext c.args.graph.now c.deref-in-loop-values.result.now c.deref-in-loop-values-2.result.now c.first-place.result c.loop-values.limit c.args.budget o) c.in-Parted.is c.in_ok-ends.ensures in
+    new_end_small c.args.graph.now _ (said.0).parent ends.second.node ends.second.value (said.0).parting.second
 
 pub loop-values-smaller-in-Continue-branch-7 : goal.loop-values-smaller-in-Continue-branch-7
 loop-values-smaller-in-Continue-branch-7 c =
     let g = c.args.graph.now in
     let nodes : List Node = c.loop-values.nodes.items in
     let values : List ℤ = c.loop-values.values.items in
-    let new : List Node = c.grow.new.nodes.items in
     let ends = c.in-Parted.ends in
     let p = c.first-place.result in
     let lowest : IsLowest nodes values p = lowest_at c.args.graph.now c.args.budget c.cost_of-limit.result c.loop-values.leaves nodes values p c.requires.good c.loop-values.invariant.tree c.loop-values.invariant.open_leaves c.first-place.ensures.lowest in
@@ -111,8 +106,7 @@ loop-values-smaller-in-Continue-branch-7 c =
     let b = ap (λ (xs : List Node). length xs) c.deref-in-loop-values.ensures.value in
     let room : length c.deref-in-loop-values.result.now + 2 ≤ c.args.budget = said.1 in
     let size = ap (λ (xs : List Node). length xs) c.in_ok-grow-in-Parted.ensures.nodes ∙ edit_length nodes p (Branch ends.vehicle ends.row) ends.first.node ends.second.node lowest.within in
-    let less : c.loop-values.limit + (c.args.budget - length new) < c.loop-values.limit + (c.args.budget - length nodes) = omega (arith, size, room, b) in
-    less
+    omega (arith, size, room, b)
 
 pub loop-values-preserved-in-Continue-branch-7 : goal.loop-values-preserved-in-Continue-branch-7
 loop-values-preserved-in-Continue-branch-7 c =
@@ -125,8 +119,7 @@ loop-values-preserved-in-Continue-branch-7 c =
     let p = c.first-place.result in
     let ends = c.in-Parted.ends in
     let lowest : IsLowest nodes values p = lowest_at c.args.graph.now c.args.budget c.cost_of-limit.result c.loop-values.leaves nodes values p c.requires.good c.loop-values.invariant.tree c.loop-values.invariant.open_leaves c.first-place.ensures.lowest in
-    let said : IsNext g nodes values p now budget c.in_ok-ends.field-0 = subst (λ (ns : List Node). IsNext g ns values p now budget c.in_ok-ends.field-0) c.deref-in-loop-values.ensures.value
-    (subst (λ (zs : List ℤ). IsNext g c.deref-in-loop-values.result.now zs p now budget c.in_ok-ends.field-0) c.deref-in-loop-values-2.ensures.value c.in_ok-ends.ensures) in
+    let said = said_of g c.deref-in-loop-values.result.now nodes c.deref-in-loop-values-2.result.now values p now budget c.in_ok-ends.field-0 c.deref-in-loop-values.ensures.value c.deref-in-loop-values-2.ensures.value c.in_ok-ends.ensures in
     let parted : IsNext g nodes values p now budget (Parted ends) = subst (IsNext g nodes values p now budget) c.in-Parted.is said in
     let under : now ≤ limit = c.loop-values.invariant.under in
     let below : rounded_up (get_or values p (pos 0)) <ℤ pos now = parted.2 in
@@ -154,12 +147,9 @@ returns-in-Fixed c =
     let values : List ℤ = c.loop-values.values.items in
     let p = c.first-place.result in
     let best : List (Option ℕ) = c.in-Fixed.best in
-    let low = rounded_up (get_or values p (pos 0)) in
-    let good = c.requires.good in
     let tree = c.loop-values.invariant.tree in
     let lowest : IsLowest nodes values p = lowest_at c.args.graph.now c.args.budget c.cost_of-limit.result c.loop-values.leaves nodes values p c.requires.good c.loop-values.invariant.tree c.loop-values.invariant.open_leaves c.first-place.ensures.lowest in
-    let said : IsNext g nodes values p now budget c.in_ok-ends.field-0 = subst (λ (ns : List Node). IsNext g ns values p now budget c.in_ok-ends.field-0) c.deref-in-loop-values.ensures.value
-    (subst (λ (zs : List ℤ). IsNext g c.deref-in-loop-values.result.now zs p now budget c.in_ok-ends.field-0) c.deref-in-loop-values-2.ensures.value c.in_ok-ends.ensures) in
+    let said = said_of g c.deref-in-loop-values.result.now nodes c.deref-in-loop-values-2.result.now values p now budget c.in_ok-ends.field-0 c.deref-in-loop-values.ensures.value c.deref-in-loop-values-2.ensures.value c.in_ok-ends.ensures in
     let fixed : IsNext g nodes values p now budget (Fixed best) = subst (IsNext g nodes values p now budget) c.in-Fixed.is said in
     let back : to_z w128 (of_z w128 c.bound_at-bound.result) ≡ c.bound_at-bound.result = to_z-of_z w128 c.bound_at-bound.result (record { sfits = c.bound_at-bound.type_inv }) in
     let made = c.found_of-in-Fixed.ensures in
@@ -177,11 +167,9 @@ returns-in-Met c =
     let p = c.first-place.result in
     let plan : List (Option ℕ) = c.loop-values.plan in
     let low = rounded_up (get_or values p (pos 0)) in
-    let good = c.requires.good in
     let tree = c.loop-values.invariant.tree in
     let lowest : IsLowest nodes values p = lowest_at c.args.graph.now c.args.budget c.cost_of-limit.result c.loop-values.leaves nodes values p c.requires.good c.loop-values.invariant.tree c.loop-values.invariant.open_leaves c.first-place.ensures.lowest in
-    let said : IsNext g nodes values p now budget c.in_ok-ends.field-0 = subst (λ (ns : List Node). IsNext g ns values p now budget c.in_ok-ends.field-0) c.deref-in-loop-values.ensures.value
-    (subst (λ (zs : List ℤ). IsNext g c.deref-in-loop-values.result.now zs p now budget c.in_ok-ends.field-0) c.deref-in-loop-values-2.ensures.value c.in_ok-ends.ensures) in
+    let said = said_of g c.deref-in-loop-values.result.now nodes c.deref-in-loop-values-2.result.now values p now budget c.in_ok-ends.field-0 c.deref-in-loop-values.ensures.value c.deref-in-loop-values-2.ensures.value c.in_ok-ends.ensures in
     let reached : pos now ≤ℤ low = subst (IsNext g nodes values p now budget) c.in-Met.is said in
     let back : to_z w128 (of_z w128 c.bound_at-bound.result) ≡ c.bound_at-bound.result = to_z-of_z w128 c.bound_at-bound.result (record { sfits = c.bound_at-bound.type_inv }) in
     let made = c.found_of.ensures in
@@ -198,12 +186,10 @@ returns-in-Full c =
     let nodes : List Node = c.loop-values.nodes.items in
     let values : List ℤ = c.loop-values.values.items in
     let p = c.first-place.result in
-    let good = c.requires.good in
     let tree = c.loop-values.invariant.tree in
     let best : List (Option ℕ) = c.in_ok-best-in-Full.best in
     let lowest : IsLowest nodes values p = lowest_at c.args.graph.now c.args.budget c.cost_of-limit.result c.loop-values.leaves nodes values p c.requires.good c.loop-values.invariant.tree c.loop-values.invariant.open_leaves c.first-place.ensures.lowest in
-    let said : IsNext g nodes values p now budget c.in_ok-ends.field-0 = subst (λ (ns : List Node). IsNext g ns values p now budget c.in_ok-ends.field-0) c.deref-in-loop-values.ensures.value
-    (subst (λ (zs : List ℤ). IsNext g c.deref-in-loop-values.result.now zs p now budget c.in_ok-ends.field-0) c.deref-in-loop-values-2.ensures.value c.in_ok-ends.ensures) in
+    let said = said_of g c.deref-in-loop-values.result.now nodes c.deref-in-loop-values-2.result.now values p now budget c.in_ok-ends.field-0 c.deref-in-loop-values.ensures.value c.deref-in-loop-values-2.ensures.value c.in_ok-ends.ensures in
     let spent : IsNext g nodes values p now budget Full = subst (IsNext g nodes values p now budget) c.in-Full.is said in
     let less = c.in_ok-best-in-Full.ensures.cost in
     let inv = c.loop-values.invariant in
