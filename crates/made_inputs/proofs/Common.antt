@@ -20,7 +20,7 @@ pub use Rattle.made_inputs.specs.Accepted.{AreReadable, IsFleetText, IsNetworkTe
 pub use Rattle.pool_base.proofs.lemmas.DistinctLemmas.{any-distinct, length-distinct}
 pub use Rattle.pool_base.proofs.lemmas.InOrderLemmas.{all_or_first-all, all_or_first-ok, first_fault-all}
 pub use Rattle.pool_base.specs.Header.{fleet_header, network_header, script_header}
-pub use Rattle.pool_base.specs.InOrder.{all_or_first, refused_where, ◌>>=◌}
+pub use Rattle.pool_base.specs.InOrder.{all_or_first, ◌>>=◌}
 pub use Rattle.pool_base.specs.Numeral.{number_at, number_up_to}
 pub use Rattle.pool_io.specs.Table.{rows_under, table_of}
 pub use Rattle.rand_core.specs.Stream.{Stream, next_u64}
