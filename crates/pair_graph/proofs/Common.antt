@@ -8,6 +8,6 @@ pub use Rattle.pair_graph.specs.work.RrGraph.{IsRrGraphUpTo, IsTaskOfFirst}
 pub use Rattle.pair_graph.specs.work.RvGraph.{IsRvGraphUpTo}
 pub use Rattle.pool_base.specs.Times.{point_count, travel_time}
 pub use Rattle.stop_orders.specs.Settled.{IsRrEdge, IsRvEdge, IsTrip, greatest, no_rider, no_vehicle, pair_task, rider_at, trip_task}
-pub use Rattle.stop_orders.specs.Task.{IsLeg, IsServable, IsTask, Serves, no_leg}
+pub use Rattle.stop_orders.specs.Task.{IsLeastDelay, IsLeg, IsServable, IsTask, Serves, no_leg}
 pub use Rattle.stop_orders.specs.declared.settled.Settled.{Settled}
 pub use Rattle.stop_orders.specs.declared.task.Task.{Task}

@@ -1,4 +1,3 @@
 pub mod lemmas
-pub mod Graphs
 pub mod PairTasks
 pub mod Common

@@ -1,5 +1,5 @@
 use Rattle.std.proofs.Common.{◌≡◌, ℕ, zero, suc, ⊎_elim, inr, Option, Some, None, ◌+◌, ◌<◌, ◌≤◌, min, List, [], ◌∷◌, length, map, get_or, refl, sym, ap, ◌∙◌, subst, arith, eqb, Bool, true, false, cond}
-use Rattle.pair_graph.proofs.Common.{get_or_default, All-nil, Settled, Task, IsTask, IsLeg, IsServable, Serves, no_leg, IsTrip, IsRrEdge, pair_task, trip_task, IsRvEdge, rider_at, no_rider, no_vehicle, greatest}
+use Rattle.pair_graph.proofs.Common.{get_or_default, All-nil, Settled, Task, IsTask, IsLeg, IsServable, IsLeastDelay, Serves, no_leg, IsTrip, IsRrEdge, pair_task, trip_task, IsRvEdge, rider_at, no_rider, no_vehicle, greatest}
 use Rattle.std.specs.List.{filter}
 use Rattle.std.proofs.lemmas.Bool.Decides.{Decides-eqb}
 use Rattle.stop_orders.specs.declared.stop.Stop.{Stop}
@@ -8,7 +8,6 @@ use Rattle.stop_orders.specs.declared.settled_vehicle.SettledVehicle.{SettledVeh
 use Rattle.stop_orders.specs.declared.settled_rider.SettledRider.{SettledRider}
 use Rattle.std.specs.Bool.{MatchBool}
 use Rattle.std.specs.Option.{IfSome, IfNone, is_some}
-use Rattle.stop_orders.specs.declared.route.Route.{Route}
 use Rattle.stop_orders.specs.Order.{IsOrder, is_of_rider}
 use Rattle.stop_orders.specs.Sound.{IsSound}
 
@@ -113,13 +112,11 @@ one_trip riders r h =
     under (suc i) d lt = absurd (omega arith)
 
 -- the answer of a search says whether some order serves
-pub found_serves : (tau : ℕ → ℕ → ℕ) (task other : Task) (found : Option Route) (answer : Bool) → task ≡ other → answer ≡ is_some found
-    → IfSome found (λ route. Serves tau task route.stops.items) → IfNone found ((stops : List Stop) → Serves tau task stops → ⊥)
+pub found_serves : (tau : ℕ → ℕ → ℕ) (task other : Task) (found : Option ℕ) (answer : Bool) → task ≡ other → answer ≡ is_some found
+    → IfSome found (IsLeastDelay tau task) → IfNone found (IsServable tau task → ⊥)
     → MatchBool answer (IsServable tau other) (IsServable tau other → ⊥)
-found_serves tau task other None answer same is serves none =
-    rw is (λ s. none s.0 (subst (λ (t : Task). Serves tau t s.0) (sym same) s.1))
-found_serves tau task other (Some route) answer same is serves none =
-    rw is (route.stops.items, subst (λ (t : Task). Serves tau t route.stops.items) same serves)
+found_serves tau task other None answer same is least none = rw is (λ s. none (subst (IsServable tau) (sym same) s))
+found_serves tau task other (Some cost) answer same is least none = rw is (subst (IsServable tau) same (least.stops, least.serves))
 
 -- the same of an edge between a vehicle and a rider
 pub rv_answer : (tau : ℕ → ℕ → ℕ) (settled : Settled) (v r : ℕ) (answer : Bool) → v < length settled.vehicles → r < length settled.riders

@@ -8,7 +8,7 @@ ghost use Rattle.pair_graph.specs.work.RrGraph.{IsRrGraphUpTo, IsTaskOfFirst, Is
 
 use arrayvec::ArrayVec;
 use pool_base::{OutOfMemory, Steps, Times};
-use small_routing::{Workspace, least_delay_with};
+use small_routing::{Workspace, least_cost_with};
 use std::alloc::Global;
 use std::marker::Brand;
 use std::sync::ledger::{Blank, Ledger};
@@ -138,8 +138,8 @@ fn starts_at<L: Ledger>(
     ensures task { OnOk result (IsTaskOfPair settled.entry.now first second task.new) }
 {
     task.start = place;
-    let route = least_delay_with(workspace, task, times, steps)?;
-    Ok(route.is_some())
+    let cost = least_cost_with(workspace, task, times, steps)?;
+    Ok(cost.is_some())
 }
 
 /// The task of a rider and an empty vehicle that is ready now at the rider's origin; there is room for another rider.

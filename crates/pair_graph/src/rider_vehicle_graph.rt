@@ -7,7 +7,7 @@ ghost use Rattle.pair_graph.specs.work.RvGraph.{IsRvGraphUpTo};
 
 use crate::rv_edge::RvEdge;
 use pool_base::{OutOfMemory, Steps, Times};
-use small_routing::{Workspace, least_delay_with};
+use small_routing::{Workspace, least_cost_with};
 use std::alloc::Global;
 use std::marker::Brand;
 use std::sync::ledger::{Blank, Ledger};
@@ -94,6 +94,6 @@ fn can_serve<L: Ledger>(
 {
     let trip = [rider];
     let task = task_of(settled, vehicle, &trip);
-    let route = least_delay_with(workspace, &task, times, steps)?;
-    Ok(route.is_some())
+    let cost = least_cost_with(workspace, &task, times, steps)?;
+    Ok(cost.is_some())
 }

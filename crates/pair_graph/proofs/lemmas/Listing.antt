@@ -3,6 +3,7 @@ use Rattle.pair_graph.proofs.Common.{length_push, get_or_append_left, get_or_pus
 use Rattle.std.specs.List.{All, Contains}
 use Rattle.std.proofs.lemmas.Bool.{cases_lt}
 use Rattle.stop_orders.specs.PairList.{IsBefore}
+pub use Rattle.pair_graph.specs.work.Listing.{ListsBefore}
 
 none_before : (p : ℕ × ℕ) → IsBefore p (0, 0) → ⊥
 none_before p h = let none : p.0 ≡ 0 = (let le = h.0 in omega arith) in let lt = h.1 none in omega arith
@@ -26,16 +27,11 @@ before_next p a b h =
 next_before : (p : ℕ × ℕ) (a b : ℕ) → IsBefore p (a, b) → IsBefore p (a, b + 1)
 next_before p a b h = (h.0, λ e. let lt = h.1 e in omega arith)
 
--- a list of the pairs of a relation, in order; an entry has a pair, and a pair has an entry
 module _ (X : Type 0) (pair : X → ℕ × ℕ) (entry : ℕ → ℕ → X) (none : X) (E : ℕ → ℕ → Type 0) where
-  -- the list has the pairs that stand before a and b
-  pub record ListsBefore (a b : ℕ) (xs : List X) : Type 0 where
-    pub right : All (λ x. E (pair x).0 (pair x).1) xs
-    pub rising : (k : ℕ) → k + 1 < length xs → IsBefore (pair (get_or xs k none)) (pair (get_or xs (k + 1) none))
-    pub before : All (λ x. IsBefore (pair x) (a, b)) xs
-    pub whole : (c d : ℕ) → E c d → IsBefore (c, d) (a, b) → Contains xs (entry c d)
+  abbrev Lists : ℕ → ℕ → List X → Type 0
+  Lists a b xs = ListsBefore X pair entry none E a b xs
 
-  pub lists_none : ListsBefore 0 0 []
+  pub lists_none : Lists 0 0 []
   lists_none =
       record {
         right = All-nil (λ x. E (pair x).0 (pair x).1);
@@ -44,7 +40,7 @@ module _ (X : Type 0) (pair : X → ℕ × ℕ) (entry : ℕ → ℕ → X) (non
         whole = λ c d e h. absurd (none_before (c, d) h);
       }
 
-  pub lists_taken : (a b : ℕ) (xs : List X) (x : X) → pair x ≡ (a, b) → x ≡ entry a b → E a b → ListsBefore a b xs → ListsBefore a (b + 1) (xs ++ x ∷ [])
+  pub lists_taken : (a b : ℕ) (xs : List X) (x : X) → pair x ≡ (a, b) → x ≡ entry a b → E a b → Lists a b xs → Lists a (b + 1) (xs ++ x ∷ [])
   lists_taken a b xs x is same e l =
       let n = length_push xs x in
       record {
@@ -64,7 +60,7 @@ module _ (X : Type 0) (pair : X → ℕ × ℕ) (entry : ℕ → ℕ → X) (non
             (before_next (c, d) a b h);
       }
 
-  pub lists_passed : (a b : ℕ) (xs : List X) → (E a b → ⊥) → ListsBefore a b xs → ListsBefore a (b + 1) xs
+  pub lists_passed : (a b : ℕ) (xs : List X) → (E a b → ⊥) → Lists a b xs → Lists a (b + 1) xs
   lists_passed a b xs never l =
       record {
         right = l.right;
@@ -74,7 +70,7 @@ module _ (X : Type 0) (pair : X → ℕ × ℕ) (entry : ℕ → ℕ → X) (non
       }
 
   -- the pairs between two second numbers are none
-  pub lists_skipped : (a b c : ℕ) (xs : List X) → b ≤ c → ((d : ℕ) → b ≤ d → d < c → E a d → ⊥) → ListsBefore a b xs → ListsBefore a c xs
+  pub lists_skipped : (a b c : ℕ) (xs : List X) → b ≤ c → ((d : ℕ) → b ≤ d → d < c → E a d → ⊥) → Lists a b xs → Lists a c xs
   lists_skipped a b c xs up never l =
       record {
         right = l.right;
@@ -95,7 +91,7 @@ module _ (X : Type 0) (pair : X → ℕ × ℕ) (entry : ℕ → ℕ → X) (non
       raise p h = (h.0, λ e. let lt = h.1 e in omega arith)
 
   -- a first number has no more pairs
-  pub lists_next : (a n : ℕ) (xs : List X) → ((d : ℕ) → E a d → d < n) → ListsBefore a n xs → ListsBefore (a + 1) 0 xs
+  pub lists_next : (a n : ℕ) (xs : List X) → ((d : ℕ) → E a d → d < n) → Lists a n xs → Lists (a + 1) 0 xs
   lists_next a n xs under l =
       record {
         right = l.right;
@@ -120,5 +116,5 @@ module _ (X : Type 0) (pair : X → ℕ × ℕ) (entry : ℕ → ℕ → X) (non
       ]
 
   -- where every first number is below a, the list is whole
-  pub lists_whole : (a n : ℕ) (xs : List X) → n ≤ a → ((c d : ℕ) → E c d → c < n) → ListsBefore a 0 xs → (c d : ℕ) → E c d → Contains xs (entry c d)
+  pub lists_whole : (a n : ℕ) (xs : List X) → n ≤ a → ((c d : ℕ) → E c d → c < n) → Lists a 0 xs → (c d : ℕ) → E c d → Contains xs (entry c d)
   lists_whole a n xs h under l c d e = l.whole c d e (lower_first (c, d) a 0 (let lt = under c d e in omega arith))
