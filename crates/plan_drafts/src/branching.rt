@@ -122,7 +122,8 @@ impl Branching {
         item(&self.ranks, place, (0, 0)).1 as usize
     }
 
-    /// Tries one row after the other, until some in a row are no better. The place of the best one.
+    /// Tries one row after the other, until some in a row are no better. The place of the best one. A row that can't be
+    /// the best any more, however much the cost rises where it is taken, isn't tried for that.
     fn try_rows(
         &mut self,
         table: &RowTable,
@@ -136,9 +137,13 @@ impl Branching {
                 break;
             }
             let row = self.row(place);
-            let taken = self.rise(table, decided, decision(0, row, true), most)?;
             let left = self.rise(table, decided, decision(0, row, false), most)?;
-            let score = score_of(taken, most).wrapping_mul(score_of(left, most));
+            let left = score_of(left, most);
+            if left.wrapping_mul(score_of(most, most)) <= most_score {
+                continue;
+            }
+            let taken = self.rise(table, decided, decision(0, row, true), most)?;
+            let score = left.wrapping_mul(score_of(taken, most));
             if score > most_score {
                 most_score = score;
                 best = place;
