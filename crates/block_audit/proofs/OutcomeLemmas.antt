@@ -169,7 +169,7 @@ pub lines_are : (ids : List ℕ) (lines : List BlockLine) → follow_on 0 lines 
     → lines ≡ lines_of true (told_by lines).batch (judged_outcome ids (told_by lines))
 lines_are ids lines f e can = by (is_printed lines f e)
   where
-    by : (overflow : Bool) × (t : Told) × All IsNodeLine t.tree × (lines ≡ printed overflow t) → lines ≡ lines_of true (told_by lines).batch (judged_outcome ids (told_by lines))
+    by : ((overflow : Bool) × (t : Told) × All IsNodeLine t.tree × (lines ≡ printed overflow t)) → lines ≡ lines_of true (told_by lines).batch (judged_outcome ids (told_by lines))
     by (true, t, drawn, is) =
         let told : told_by lines ≡ overflow_told t.batch t.expired = ap told_by is ∙ overflow_is_told t in
         is ∙ sym (overflow_lines t.batch t.expired) ∙ ap (λ (u : Told). lines_of true u.batch (judged_outcome ids u)) (sym told)
