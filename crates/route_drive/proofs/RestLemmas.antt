@@ -131,19 +131,13 @@ module _ (points : ℕ) (task : Task) (valid : IsTask points task) (i : ℕ) (st
 
   passenger_tests : (k : ℕ) → k < length task.aboard.items → (s : Stop) → After s → is_of_passenger k (g s) ≡ is_of_passenger k s
   passenger_tests k lt (Pick n) h = refl
-  passenger_tests k lt (Drop n) h = elim (cases_Bool (eqb n i)) [
-    | inl e ↦ ap (is_of_passenger k) (renamed_own n e) ∙ ne_eqb (length task.aboard.items) k (λ q. omega arith)
-    | inr e ↦ ap (is_of_passenger k) (renamed_ne n e)
-  ]
+  passenger_tests k lt (Drop n) h = grind (arith, nat_tests, renamed_own n, renamed_ne n)
   passenger_tests k lt (Alight n) h = refl
 
   last_tests : (s : Stop) → After s → is_of_passenger (length task.aboard.items) (g s) ≡ drops i s
   unfolding drops
   last_tests (Pick n) h = refl
-  last_tests (Drop n) h = elim (cases_Bool (eqb n i)) [
-    | inl e ↦ ap (is_of_passenger (length task.aboard.items)) (renamed_own n e) ∙ eq-eqb (length task.aboard.items) (length task.aboard.items) refl ∙ sym e
-    | inr e ↦ ap (is_of_passenger (length task.aboard.items)) (renamed_ne n e) ∙ sym e
-  ]
+  last_tests (Drop n) h = grind (arith, nat_tests, renamed_own n, renamed_ne n)
   last_tests (Alight n) h = let lt : n < length task.aboard.items = h.0 in ne_eqb n (length task.aboard.items) (λ q. omega arith)
 
   is_drop : (s : Stop) → drops i s ≡ true → is_of_rider i s ≡ true

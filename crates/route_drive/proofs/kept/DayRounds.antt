@@ -32,9 +32,7 @@ untold b x e = grind arith
 
 -- a command of a day in a lane other than 0 is a request
 asks_elsewhere : (lane : ℕ) → (lane ≡ 0 → ⊥) → (c : Command) → (not (is_of_day c) ≡ false) × MayStand lane c → IsRequest c
-asks_elsewhere lane other (Submit rider origin destination time party) two = tt
-asks_elsewhere lane other (Seal now) two = absurd (other two.1)
-asks_elsewhere lane other command two = absurd (true≢false two.0)
+asks_elsewhere lane other c two = grind arith
 
 asks_later : (c : Command) → (not (is_of_day c) ≡ false) × (is_seal_command c ≡ false) → IsRequest c
 asks_later c two = grind arith

@@ -42,12 +42,10 @@ left_stops None stops = stops
 left_stops (Some now) stops = to_come now stops
 
 left_is : (seal : Option ℕ) (course : Course) → (left_course seal course).stops.items ≡ left_stops seal course.stops.items
-left_is None course = refl
-left_is (Some now) course = refl
+left_is seal course = grind arith
 
 left_nothing : (seal : Option ℕ) → left_course seal (record { stops = record { items = [] }; target = None }) ≡ record { stops = record { items = [] }; target = None }
-left_nothing None = refl
-left_nothing (Some now) = refl
+left_nothing seal = grind arith
 
 -- what is on its way after a round, for a vehicle
 course_after : (s t : State) (round : NumberedLanes) (es : List Entry) (courses : List Course) (id : ℕ) (v : Vehicle) → map (λ v. v.id) t.vehicles ≡ map (λ v. v.id) s.vehicles → find_vehicle id t.vehicles ≡ Some v

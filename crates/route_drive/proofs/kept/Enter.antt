@@ -96,15 +96,7 @@ module _ (settings : Settings) (roads : Roads) (riders : List BookRider) where
   -- who gets out is aboard
   pub dropped_is_aboard : (v : ℕ) (stop : PlannedStop) (stops : List PlannedStop) (r : BookRider) → stop.pick ≡ false → IsOfVehicle v r.status
       → HasCalls v r.status (calls_of stop.rider (stop ∷ stops)) → (r.status ≡ Aboard v) × (calls_of stop.rider stops ≡ [])
-  dropped_is_aboard v stop stops r pick own calls = by r.status refl own calls
-    where
-      front : calls_of stop.rider (stop ∷ stops) ≡ false ∷ calls_of stop.rider stops
-      front = calls_own stop.rider stop stops refl ∙ ap (λ b. b ∷ calls_of stop.rider stops) pick
-
-      by : (t : Status) → r.status ≡ t → IsOfVehicle v t → HasCalls v t (calls_of stop.rider (stop ∷ stops)) → (r.status ≡ Aboard v) × (calls_of stop.rider stops ≡ [])
-      by (Promised p) e h k = absurd (let a : false ∷ calls_of stop.rider stops ≡ true ∷ false ∷ [] = sym front ∙ k h in cc)
-      by (Aboard u) e h k = (e ∙ ap Aboard h, let a : false ∷ calls_of stop.rider stops ≡ false ∷ [] = sym front ∙ k h in cc)
-      by status e h k = absurd h
+  dropped_is_aboard v stop stops r pick own calls = grind (arith, nat_tests, calls_own stop.rider stop stops refl)
 
   -- the vehicle serves the stops after a drop-off
   pub serves_on_dropped : (v : Vehicle) (free : ℕ) (stop : PlannedStop) (stops : List PlannedStop) (r : BookRider) (p : Passenger) → stop.pick ≡ false → find_rider stop.rider riders ≡ Some r

@@ -210,15 +210,14 @@ module _ (settings : Settings) (roads : Roads) (s : State) (stops : ℕ → List
       pub latest_pickup : leg.latest_pickup ≤ r.time + settings.wait
 
     limit_low : (n : ℕ) → n < length settled.riders → (rider_at settled n).leg.latest_pickup ≤ (request_at b.riders n).time + settings.wait
-    limit_low n h = by (limits.limits n h)
+    limit_low n h = elim (limits.limits n h) [
+      | inl live ↦ subst (λ m. m ≤ (request_at b.riders n).time + settings.wait) (sym live.1) (low (request_at b.riders n) (request_at b.riders n).promise)
+      | inr other ↦ omega (arith, other.1)
+    ]
       where
         low : (q : Rider) (o : Option Promise) → option_map_or (λ (p : Promise). min p.pickup (q.time + settings.wait)) o (q.time + settings.wait) ≤ q.time + settings.wait
         low q None = omega arith
         low q (Some p) = omega arith
-
-        by : HasRightLimit settings b.riders settled n → (rider_at settled n).leg.latest_pickup ≤ (request_at b.riders n).time + settings.wait
-        by (inl live) = subst (λ m. m ≤ (request_at b.riders n).time + settings.wait) (sym live.1) (low (request_at b.riders n) (request_at b.riders n).promise)
-        by (inr other) = let e = other.1 in omega (arith, e)
 
     pub member_leg : (i : ℕ) → i < length trip → HasLeg (get_or trip i 0) (leg_at (map (λ r. (rider_at settled r).leg) trip) i)
     member_leg i h =

@@ -1,6 +1,6 @@
 -- The entries of a round in one order: those of lane 0, with requests of any lanes between.
 use Rattle.std.proofs.Common.{◌≡◌, ◌⊎◌, ℕ, true, eqb, List, [], ◌∷◌, Option, Some, None, refl, sym, subst, inl, inr, arith}
-use Rattle.route_drive.proofs.Common.{AllByRecursion, cases_eq, RepliesAreSteps, step, Command, Submit, Entry, State, sealed_by, IsCloseOf, IsLaneRun, IsLaneRunFrom, of_lane, plain-quiet, IsPlain, eq-eqb, ne_eqb}
+use Rattle.route_drive.proofs.Common.{AllByRecursion, cases_eq, RepliesAreSteps, step, Command, Submit, Entry, State, sealed_by, IsCloseOf, IsLaneRun, IsLaneRunFrom, of_lane, plain-quiet, IsPlain, eq-eqb, ne_eqb, nat_tests}
 use Rattle.route_drive.proofs.kept.Lists.{all_filtered, all_weaker, skips, takes}
 
 -- a request
@@ -61,13 +61,10 @@ of_others P [] all = tt
 of_others P (e ∷ es) all = (λ other. first (all e.lane other), of_others P es (λ lane other. rest lane (all lane other)))
   where
     first : AllByRecursion P (of_lane e.lane (e ∷ es)) → P e
-    first own = let those : AllByRecursion P (e ∷ of_lane e.lane es) = subst (AllByRecursion P) (takes (λ (x : Entry). eqb x.lane e.lane) e es (eq-eqb e.lane e.lane refl)) own in those.0
+    first own = grind (arith, nat_tests)
 
     rest : (lane : ℕ) → AllByRecursion P (of_lane lane (e ∷ es)) → AllByRecursion P (of_lane lane es)
-    rest lane own = elim (cases_eq e.lane lane) [
-      | inl here ↦ let those : AllByRecursion P (e ∷ of_lane lane es) = subst (AllByRecursion P) (takes (λ (x : Entry). eqb x.lane lane) e es (eq-eqb e.lane lane here)) own in those.1
-      | inr other ↦ subst (AllByRecursion P) (skips (λ (x : Entry). eqb x.lane lane) e es (ne_eqb e.lane lane other)) own
-    ]
+    rest lane own = grind (arith, nat_tests)
 
 -- a request is neither a seal nor a close, and so isn't answered with a batch
 pub asked_plain : (c : Command) → IsRequest c → IsPlain c
