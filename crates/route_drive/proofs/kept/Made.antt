@@ -567,7 +567,7 @@ module _ (settings : Settings) (roads : Roads) (s : State) (stops : ℕ → List
       let c = good.exact.vehicle_total in
       let served = times_served_some good.graph good.graph.held good.graph.vehicles n v (omega (arith, c, within)) (ap (λ o. is_in good.graph o n) row.1 ∙ has) in
       let must : must_be_served good.graph n ≡ true = lt-ltb 0 _ (omega (arith, served)) in
-      let one : times_chosen good.graph (good.holds point.Plan).chosen n ≡ 1 = (good.holds point.Plan).holds.lawful.kept n must in
+      let one : times_chosen good.graph (good.holds point.Plan).chosen n ≡ 1 = (good.holds point.Plan).holds.0.kept n must in
       omega (arith, one)
 
   pub closed_bounds : KeepsBounds s planned_state
