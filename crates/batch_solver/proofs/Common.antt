@@ -5,8 +5,9 @@ pub use Rattle.std.specs.List.{AllByRecursion, AllZip, list_any, range_with_len}
 pub use Rattle.batch_snapshot.specs.Batch.{Batch}
 pub use Rattle.batch_solver.specs.Moves.{AreMoves, HasPlaces, idle_vehicles, is_idle, move_line, origins_of, starts_of}
 pub use Rattle.batch_solver.specs.Points.{Posed}
-pub use Rattle.batch_solver.specs.Told.{left_riders, rider_id, row_line, rr_line, rv_line, told_stop, told_stops, vehicle_id}
+pub use Rattle.batch_solver.specs.Told.{left_riders, rider_id, row_line, told_stop}
 pub use Rattle.batch_solver.specs.Trips.{AreLate, AreTrips, IsLate, IsLateOrder, IsTripOf}
+pub use Rattle.batch_solver.specs.lemmas.Named.{told_stops, vehicle_id}
 pub use Rattle.batch_solver.specs.work.Lists.{AreLists}
 pub use Rattle.plan_rules.proofs.lemmas.GraphLemmas.{row_read}
 pub use Rattle.plan_rules.specs.Graph.{Graph, IsGraphRow, IsRowOf, choice_at, cost_at, no_row, riders_at, row_at}
@@ -15,7 +16,7 @@ pub use Rattle.plan_rules.specs.GoodGraph.{IsGoodGraph}
 pub use Rattle.plan_rules.specs.declared.row.TripRow.{TripRow}
 pub use Rattle.plan_rules.specs.lemmas.Plan.{MarksServed, times_chosen}
 pub use Rattle.pool_base.specs.Times.{point_count, travel_time}
-pub use Rattle.promise_check.proofs.lemmas.Promises.{filter_range_skips, filter_range_takes}
+pub use Rattle.promise_check.proofs.lemmas.Promises.{filter_range_below, filter_range_skips, filter_range_takes}
 pub use Rattle.rebalancing.specs.Matching.{IsBestMatching, IsMatching}
 pub use Rattle.request_book.specs.declared.outcome.ChosenTrip.{ChosenTrip}
 pub use Rattle.request_book.specs.declared.outcome.MoveLine.{MoveLine}

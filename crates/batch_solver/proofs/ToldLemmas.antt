@@ -1,5 +1,5 @@
 use Rattle.std.proofs.Common.{◌≡◌, ℕ, ◌+◌, ◌*◌, ◌<◌, ◌≤◌, List, [], ◌∷◌, ◌++◌, length, map, zip, sym, ap, ◌∙◌, subst, arith}
-use Rattle.batch_solver.proofs.Common.{AllByRecursion, length_push, PlannedStop, Settled, Stop, Task, trip_task, IsTask, IsOrderOf, visit_at, visits_of, seconds_of, place_of, seconds_from, visit_place, told_stop, told_stops}
+use Rattle.batch_solver.proofs.Common.{AllByRecursion, length_push, PlannedStop, Settled, Stop, Task, trip_task, IsTask, IsOrderOf, visit_at, visits_of, seconds_of, place_of, seconds_from, visit_place, told_stop}
 use Rattle.std.proofs.lemmas.List.{append_assoc}
 use Rattle.pool_base.specs.TravelTime.{never}
 use Rattle.stop_orders.specs.Order.{IsKnown}
@@ -11,7 +11,8 @@ pub record ToldScan (points : ℕ) (nodes : List ℕ) (tau : ℕ → ℕ → ℕ
   pub within : place < points
   pub soon : free + length rest * 4294968000 ≤ 100000000000
   pub fits : length told + length rest ≤ room
-  pub all : told ++ map (told_stop nodes settled v trip) (zip rest (seconds_from tau task.dwell place free (visits_of task rest))) ≡ told_stops nodes tau settled v trip stops
+  pub all : told ++ map (told_stop nodes settled v trip) (zip rest (seconds_from tau task.dwell place free (visits_of task rest)))
+      ≡ map (told_stop nodes settled v trip) (zip stops (seconds_of tau (trip_task settled v trip) stops))
 
 module _ (points : ℕ) (nodes : List ℕ) (tau : ℕ → ℕ → ℕ) (settled : Settled) (v : ℕ) (trip : List ℕ) (task : Task) (room : ℕ) (stops : List Stop) (valid : IsTask points task) where
   pub told_first : task ≡ trip_task settled v trip → IsOrderOf task stops → length stops ≤ room → ToldScan points nodes tau settled v trip task room stops stops task.start task.ready []

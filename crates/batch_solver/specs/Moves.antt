@@ -7,7 +7,7 @@ use Rattle.rebalancing.specs.Matching.{IsBestMatching, pair_seconds}
 use Rattle.request_book.specs.declared.outcome.MoveLine.{MoveLine}
 use Rattle.stop_orders.specs.Settled.{vehicle_at, rider_at}
 use Rattle.stop_orders.specs.declared.settled.Settled.{Settled}
-use Rattle.batch_solver.specs.Told.{vehicle_id, rider_id}
+use Rattle.batch_solver.specs.Told.{rider_id}
 
 -- the vehicles, rising, in which nobody is aboard, that aren't late, and whose chosen trip has no rider
 abbrev pub idle_vehicles : Settled → Graph → List (Option ℕ) → List ℕ
@@ -22,7 +22,7 @@ pub record AreMoves (tau : ℕ → ℕ → ℕ) (settled : Settled) (idle left :
   pub best : IsBestMatching tau (map (λ v. (vehicle_at settled v).start) idle) (map (λ r. (rider_at settled r).leg.origin) left) pairs
   pub rising : AllPairs (λ (p q : ℕ × ℕ). p.0 < q.0) pairs
   pub told : moves ≡ map (λ pair. record {
-    vehicle = vehicle_id settled (slice_index idle pair.0);
+    vehicle = (vehicle_at settled (slice_index idle pair.0)).id;
     rider = rider_id settled (slice_index left pair.1);
     seconds = pair_seconds tau (map (λ v. (vehicle_at settled v).start) idle) (map (λ r. (rider_at settled r).leg.origin) left) pair;
   }) pairs
@@ -44,7 +44,7 @@ is_idle settled graph chosen v =
 -- a pair of an idle vehicle and a rider who was left out
 abbrev pub move_line : (ℕ → ℕ → ℕ) → Settled → List ℕ → List ℕ → ℕ × ℕ → MoveLine
 move_line tau settled idle left pair = record {
-  vehicle = vehicle_id settled (slice_index idle pair.0);
+  vehicle = (vehicle_at settled (slice_index idle pair.0)).id;
   rider = rider_id settled (slice_index left pair.1);
   seconds = pair_seconds tau (starts_of settled idle) (origins_of settled left) pair;
 }
@@ -52,7 +52,7 @@ move_line tau settled idle left pair = record {
 -- the move of a vehicle to a rider
 abbrev pub move_from_to : (ℕ → ℕ → ℕ) → Settled → ℕ → ℕ → MoveLine
 move_from_to tau settled v r = record {
-  vehicle = vehicle_id settled v;
+  vehicle = (vehicle_at settled v).id;
   rider = rider_id settled r;
   seconds = tau (vehicle_at settled v).start (rider_at settled r).leg.origin;
 }

@@ -9,7 +9,7 @@ use Rattle.request_book.specs.declared.outcome.Planned.{Planned}
 use Rattle.rider_limits.specs.declared.settings.Settings.{Settings}
 use Rattle.stop_orders.specs.Settled.{vehicle_at}
 use Rattle.stop_orders.specs.declared.settled.Settled.{Settled}
-use Rattle.batch_solver.specs.Told.{rider_id, rv_line, rr_line, row_line, left_riders}
+use Rattle.batch_solver.specs.Told.{rider_id, row_line, left_riders}
 use Rattle.batch_solver.specs.Trips.{IsTripOf, IsLate}
 use Rattle.batch_solver.specs.Moves.{AreMoves, idle_vehicles}
 use Rattle.batch_solver.specs.declared.point.Point.{Point}
@@ -24,19 +24,6 @@ pub record Posed : Type 0 where
   pub edges : List RvEdge
   pub pairs : List (ℕ × ℕ)
 
--- lapsed promises, the edges of both graphs, and the rows are told as they are
-pub record TellsGraphs (settled : Settled) (graph : Graph) (edges : List RvEdge) (pairs : List (ℕ × ℕ)) (planned : Planned) : Type 0 where
-  pub lapsed : planned.lapsed ≡ map (λ r. r.id) (filter (λ r. r.lapsed) settled.riders)
-  pub rv : planned.rv ≡ map (rv_line settled) edges
-  pub rr : planned.rr ≡ map (rr_line settled) pairs
-  pub rows : planned.rows ≡ map (row_line settled) graph.rows
-
--- the plan is lawful, costs what is told, and leaves out whom it is told to
-pub record TellsPlan (settled : Settled) (graph : Graph) (chosen : List (Option ℕ)) (planned : Planned) : Type 0 where
-  pub lawful : IsLawful graph chosen
-  pub cost : planned.cost ≡ cost_of graph chosen
-  pub left : planned.left ≡ map (rider_id settled) (left_riders graph chosen)
-
 -- each vehicle that isn't late has a trip, that of the row of its own that a plan gives it, and this holds of the plan
 pub record GivesPlanWith (p : Posed) (planned : Planned) (P : List (Option ℕ) → Type 0) : Type 0 where
   pub chosen : List (Option ℕ)
@@ -47,11 +34,16 @@ pub record GivesPlanWith (p : Posed) (planned : Planned) (P : List (Option ℕ) 
 -- the point holds of a plan of a batch that poses this; that there is a plan at all is the first point
 abbrev pub Holds : Settings → Point → Planned → Posed → Type 0
 Holds settings point.Answer planned p = Unit {0}
-Holds settings point.Graphs planned p = TellsGraphs p.settled p.graph p.edges p.pairs planned
+Holds settings point.Graphs planned p =
+    (planned.lapsed ≡ map (λ r. r.id) (filter (λ r. r.lapsed) p.settled.riders))
+    × (planned.rv ≡ map (λ edge. ((vehicle_at p.settled edge.vehicle).id, rider_id p.settled edge.rider)) p.edges)
+    × (planned.rr ≡ map (λ (pair : ℕ × ℕ). (rider_id p.settled pair.0, rider_id p.settled pair.1)) p.pairs)
+    × (planned.rows ≡ map (row_line p.settled) p.graph.rows)
 Holds settings point.Late planned p =
     AllZip (IsLate p.points p.tau p.settled) (filter (λ v. (vehicle_at p.settled v).late) (range_with_len 0 (length p.settled.vehicles))) planned.late
 Holds settings point.Trips planned p = GivesPlanWith p planned (λ chosen. Unit {0})
-Holds settings point.Plan planned p = GivesPlanWith p planned (λ chosen. TellsPlan p.settled p.graph chosen planned)
+Holds settings point.Plan planned p =
+    GivesPlanWith p planned (λ chosen. IsLawful p.graph chosen × (planned.cost ≡ cost_of p.graph chosen) × (planned.left ≡ map (rider_id p.settled) (left_riders p.graph chosen)))
 Holds settings point.Bound planned p = ShowsBound p.graph settings.budget planned.bound planned.tree
 Holds settings point.Tree planned p = IsClose p.graph settings.budget planned.cost planned.bound planned.tree × IsFair p.graph planned.bound planned.tree
 Holds settings point.Best planned p = GivesPlanWith p planned (λ chosen. IsBestNear p.graph chosen)

@@ -1,5 +1,6 @@
 ghost use Rattle.std.specs.Prelude.{◌≡◌, ◌<◌, ◌≤◌, ℕ, All, IfOk, filter, length, map};
-ghost use Rattle.batch_solver.specs.Told.{rider_id, rr_line, rv_line, row_line};
+ghost use Rattle.stop_orders.specs.Settled.{vehicle_at};
+ghost use Rattle.batch_solver.specs.Told.{rider_id, row_line};
 
 use arrayvec::ArrayVec;
 use pair_graph::RvEdge;
@@ -46,7 +47,7 @@ pub fn rv_lines(
 ) -> Result<Vec<(VehicleId, RiderId)>, OutOfMemory>
     requires vehicles { All (λ edge. edge.vehicle < length settled.now.vehicles) edges.now }
     requires riders { All (λ edge. edge.rider < length settled.now.riders) edges.now }
-    ensures { IfOk result (λ lines. lines.items ≡ map (rv_line settled.entry.now) edges.now) }
+    ensures { IfOk result (λ lines. lines.items ≡ map (λ edge. ((vehicle_at settled.entry.now edge.vehicle).id, rider_id settled.entry.now edge.rider)) edges.now) }
 {
     let mut lines = Vec::with_capacity(alloc, edges.len())?;
     for edge in edges {
@@ -65,7 +66,7 @@ pub fn rr_lines(
 ) -> Result<Vec<(RiderId, RiderId)>, OutOfMemory>
     requires firsts { All (λ (pair : ℕ × ℕ). pair.0 < length settled.now.riders) pairs.now }
     requires seconds { All (λ (pair : ℕ × ℕ). pair.1 < length settled.now.riders) pairs.now }
-    ensures { IfOk result (λ lines. lines.items ≡ map (rr_line settled.entry.now) pairs.now) }
+    ensures { IfOk result (λ lines. lines.items ≡ map (λ (pair : ℕ × ℕ). (rider_id settled.entry.now pair.0, rider_id settled.entry.now pair.1)) pairs.now) }
 {
     let mut lines = Vec::with_capacity(alloc, pairs.len())?;
     for &(first, second) in pairs {

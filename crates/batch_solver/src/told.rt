@@ -1,9 +1,10 @@
-ghost use Rattle.std.specs.Prelude.{◌≡◌, ◌<◌, ◌≤◌, All, length, slice_index};
+ghost use Rattle.std.specs.Prelude.{◌≡◌, ◌<◌, ◌≤◌, All, length, map, slice_index};
+ghost use Rattle.std.specs.List.{zip};
 ghost use Rattle.pool_base.specs.Times.{point_count, travel_time};
 ghost use Rattle.stop_orders.specs.Order.{IsKnown};
 ghost use Rattle.stop_orders.specs.Settled.{trip_task, vehicle_at};
-ghost use Rattle.stop_orders.specs.Task.{IsTask, IsOrderOf};
-ghost use Rattle.batch_solver.specs.Told.{rider_id, told_stop, told_stops};
+ghost use Rattle.stop_orders.specs.Task.{IsTask, IsOrderOf, seconds_of};
+ghost use Rattle.batch_solver.specs.Told.{rider_id, told_stop};
 
 use arrayvec::ArrayVec;
 use batch_snapshot::Points;
@@ -29,7 +30,8 @@ pub fn tell_stops<const N: usize>(
     requires valid { IsTask (point_count times.now) task.now }
     requires order { IsOrderOf task.now stops.now }
     requires room { length stops.now ≤ N }
-    ensures { result.items ≡ told_stops points.entry.now (travel_time times.entry.now) settled.entry.now vehicle trip.entry.now stops.entry.now }
+    ensures { result.items ≡ map (told_stop points.entry.now settled.entry.now vehicle trip.entry.now)
+        (zip stops.entry.now (seconds_of (travel_time times.entry.now) (trip_task settled.entry.now vehicle trip.entry.now) stops.entry.now)) }
 {
     let mut told = ArrayVec::new();
     let mut place = task.start;

@@ -2,7 +2,8 @@
 use Rattle.std.proofs.Common.{◌≡◌, ◌==◌, ℕ, zero, suc, ◌+◌, ◌<◌, ◌≤◌, ne_eqb, eq-eqb, List, [], ◌++◌, All, length, get_or, map, slice_get, unwrap_or, option_map, Some, Option, ⊎_elim, sym, ap, ◌∙◌, subst, arith}
 use Rattle.block_audit.proofs.Common.{position_or_len, cases_lt, get_or-map, length-map, position_or_len_is, All-append, All-cons, All-map, All-from_get_or, slice_get-get_or, slice_get-map, Batch, IsKept, Vehicle, AnswersWith, HasGraphsWith, IsGoodOutcome, IsGoodPlan, HasTrips, number_among, Node, Answer, Outcome, Planned, RowLine, Settings, Roads}
 use Rattle.std.specs.List.Sorted.{IsStrictlyIncreasing}
-use Rattle.batch_solver.specs.Told.{vehicle_id, rider_id, row_line}
+use Rattle.batch_solver.specs.Told.{rider_id, row_line}
+use Rattle.batch_solver.specs.lemmas.Named.{vehicle_id}
 use Rattle.plan_rules.specs.Graph.{Graph, IsRowOf, row_at, row_vehicle, no_row}
 use Rattle.plan_rules.specs.GoodGraph.{IsGoodGraph}
 use Rattle.plan_rules.specs.Multipliers.{Usable}
@@ -97,7 +98,7 @@ module _ (settings : Settings) (points : List ℕ) (tau : ℕ → ℕ → ℕ) (
   plan_numbered plan good =
       let tree = (good.holds point.Bound).tree in
       subst (λ (nodes : List Node). All (IsNumbered (vehicle_ids batch) plan.rows) nodes) (sym (nodes_are _ _ _ tree.1))
-      (tree_numbered good.graph good.exact.good good.exact.vehicle_total plan.rows (good.holds point.Graphs).rows tree.0 every_row tree.1.sound)
+      (tree_numbered good.graph good.exact.good good.exact.vehicle_total plan.rows (good.holds point.Graphs).3 tree.0 every_row tree.1.sound)
 
   pub answer_numbered : (answer : Answer) → AnswersWith settings points tau settled (IsGoodPlan settings) answer → AreNumbered (vehicle_ids batch) answer
   answer_numbered Overflow good = tt
@@ -113,7 +114,7 @@ rows_few settled rows few =
 pub good_trips : (settings : Settings) (points : List ℕ) (tau : ℕ → ℕ → ℕ) (settled : Settled) (answer : Answer) → AnswersWith settings points tau settled (IsGoodPlan settings) answer → HasTrips answer
 good_trips settings points tau settled Overflow good = tt
 good_trips settings points tau settled (Plan plan) good =
-    subst (λ (rows : List RowLine). All (λ (row : RowLine). length row.riders.items ≤ 6) rows) (sym (good.holds point.Graphs).rows)
+    subst (λ (rows : List RowLine). All (λ (row : RowLine). length row.riders.items ≤ 6) rows) (sym (good.holds point.Graphs).3)
     (rows_few settled good.graph.rows (λ k h. (good.exact.good.rows k h).few))
 
 pub outcome_numbered : (settings : Settings) (roads : Roads) (batch : Batch) (outcome : Outcome) → IsKept batch → IsGoodOutcome settings roads batch outcome → AreNumbered (vehicle_ids batch) outcome.answer

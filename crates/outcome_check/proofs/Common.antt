@@ -14,13 +14,14 @@ pub use Rattle.batch_snapshot.specs.Batch.{Batch}
 pub use Rattle.batch_snapshot.proofs.lemmas.KeptLemmas.{once_apart}
 pub use Rattle.batch_snapshot.specs.Kept.{IsKept}
 pub use Rattle.batch_snapshot.specs.lemmas.Kept.{IsOnce, riders_aboard}
-pub use Rattle.batch_solver.proofs.lemmas.LeftLemmas.{kept_below, kept_few}
+pub use Rattle.batch_solver.proofs.lemmas.LeftLemmas.{kept_few}
 pub use Rattle.batch_solver.proofs.lemmas.MoveLemmas.{has_places, no_moves, none_matched}
 pub use Rattle.batch_solver.proofs.lemmas.TripLemmas.{valid_task, vehicle_read}
 pub use Rattle.batch_solver.specs.Moves.{AreMoves, idle_vehicles, is_idle, move_line}
 pub use Rattle.batch_solver.specs.Outcome.{AnswersWith, HasGraphsWith, IsGoodOutcome, IsGoodPlan, IsOutcomeWith}
-pub use Rattle.batch_solver.specs.Points.{GivesPlanWith, Holds, Posed, TellsPlan}
-pub use Rattle.batch_solver.specs.Told.{left_riders, rider_id, told_stop, told_stops, vehicle_id}
+pub use Rattle.batch_solver.specs.Points.{GivesPlanWith, Holds, Posed}
+pub use Rattle.batch_solver.specs.Told.{left_riders, rider_id, told_stop}
+pub use Rattle.batch_solver.specs.lemmas.Named.{told_stops, vehicle_id}
 pub use Rattle.batch_solver.specs.Trips.{IsLate, IsLateOrder, IsTripOf}
 pub use Rattle.batch_solver.specs.declared.point.Point.{Point}
 pub use Rattle.outcome_check.specs.Verdict.{IsVerdictOf, Meets, point_place}
@@ -28,7 +29,7 @@ pub use Rattle.outcome_check.specs.declared.verdict.Verdict.{Verdict}
 pub use Rattle.outcome_check.specs.declared.verdict.Verdict.TheVariants.{Fails, Good}
 pub use Rattle.outcome_check.specs.work.Moves.{HaveOwnPlaces, IsRisingMatching, IsWithin, TellsMoves}
 pub use Rattle.outcome_check.specs.work.Orders.{HasNoOrder, HasOwnIds}
-pub use Rattle.outcome_check.specs.work.Trips.{GiveRows, GivesTrips, HasNoRowFor, IsLeast, TellsRow, no_chosen}
+pub use Rattle.outcome_check.specs.work.Trips.{GiveRows, GivesTrips, HasNoRowFor, IsLeast, TellsPlan, TellsRow, no_chosen}
 pub use Rattle.pair_graph.specs.RrGraph.{IsRrGraph}
 pub use Rattle.pair_graph.specs.RvGraph.{IsRvGraph}
 pub use Rattle.pair_graph.specs.declared.rv_edge.RvEdge.{RvEdge}
@@ -37,7 +38,7 @@ pub use Rattle.plan_rules.specs.Graph.{Graph, IsRowOf, choice_at, cost_at, no_ro
 pub use Rattle.plan_rules.specs.lemmas.Graph.{HasNoRow}
 pub use Rattle.plan_rules.specs.declared.row.TripRow.{TripRow}
 pub use Rattle.pool_base.specs.Times.{point_count, travel_time}
-pub use Rattle.promise_check.proofs.lemmas.Promises.{filter_range_skips, filter_range_takes, rising_once}
+pub use Rattle.promise_check.proofs.lemmas.Promises.{filter_range_below, filter_range_skips, filter_range_takes, rising_once}
 pub use Rattle.promise_check.specs.Settling.{IsPlaced, IsSettled}
 pub use Rattle.rebalancing.specs.Matching.{IsBestMatching, IsMatching, pair_seconds}
 pub use Rattle.request_book.specs.declared.outcome.Answer.{Answer}

@@ -1,6 +1,7 @@
 //! What is told of the graphs.
-ghost use Rattle.std.specs.Prelude.{◌≡◌, ◌↔◌, ◌<◌, ◌≤◌, ℕ, All, IfOk, IsTrue, length};
-ghost use Rattle.batch_solver.specs.Points.{TellsGraphs};
+ghost use Rattle.std.specs.Prelude.{◌≡◌, ◌↔◌, ◌<◌, ◌≤◌, ℕ, All, IfOk, IsTrue, filter, length, map};
+ghost use Rattle.batch_solver.specs.Told.{rider_id, row_line};
+ghost use Rattle.stop_orders.specs.Settled.{vehicle_at};
 
 use batch_solver::{lapsed_ids, row_lines, rr_lines, rv_lines};
 use pair_graph::RvEdge;
@@ -26,7 +27,10 @@ pub(crate) fn tells_graphs(
     requires row_vehicles { All (λ row. row.vehicle < length settled.now.vehicles) graph.now.rows }
     requires row_riders { All (λ row. All (λ r. r < length settled.now.riders) row.riders.items) graph.now.rows }
     requires few { All (λ row. length row.riders.items ≤ 6) graph.now.rows }
-    ensures { IfOk result (λ yes. IsTrue yes ↔ TellsGraphs settled.entry.now graph.entry.now rv.entry.now rr.entry.now planned.entry.now) }
+    ensures { IfOk result (λ yes. IsTrue yes ↔ ((planned.entry.now.lapsed ≡ map (λ r. r.id) (filter (λ r. r.lapsed) settled.entry.now.riders))
+        × (planned.entry.now.rv ≡ map (λ edge. ((vehicle_at settled.entry.now edge.vehicle).id, rider_id settled.entry.now edge.rider)) rv.entry.now)
+        × (planned.entry.now.rr ≡ map (λ (pair : ℕ × ℕ). (rider_id settled.entry.now pair.0, rider_id settled.entry.now pair.1)) rr.entry.now)
+        × (planned.entry.now.rows ≡ map (row_line settled.entry.now) graph.entry.now.rows))) }
 {
     let lapsed = lapsed_ids(alloc, settled)?;
     if !are_same_riders(&lapsed, planned.lapsed.as_slice()) {

@@ -1,7 +1,8 @@
 //! Moves of idle vehicles.
 ghost use Rattle.std.specs.Prelude.{◌≡◌, ◌↔◌, ◌<◌, ◌≤◌, ℕ, All, IfOk, IsTrue, List, MatchOption, length, slice_index, sum_by};
 ghost use Rattle.batch_solver.specs.Moves.{AreMoves, idle_vehicles, move_line};
-ghost use Rattle.batch_solver.specs.Told.{left_riders, rider_id, vehicle_id};
+ghost use Rattle.batch_solver.specs.Told.{left_riders, rider_id};
+ghost use Rattle.batch_solver.specs.lemmas.Named.{vehicle_id};
 ghost use Rattle.plan_rules.specs.Plan.{IsPlan};
 ghost use Rattle.pool_base.specs.Times.{point_count, travel_time};
 ghost use Rattle.rebalancing.specs.Matching.{IsBestMatching, IsMatching, pair_seconds};

@@ -1,6 +1,7 @@
 //! Orders of stops, read from what is told of them.
 ghost use Rattle.std.specs.Prelude.{◌≡◌, ◌<◌, ◌≤◌, ℕ, List, All, IfNone, IfSome, IsTrue, MatchOption, Some, length, slice_index, ◌↔◌};
-ghost use Rattle.batch_solver.specs.Told.{rider_id, told_stop, told_stops};
+ghost use Rattle.batch_solver.specs.Told.{rider_id, told_stop};
+ghost use Rattle.batch_solver.specs.lemmas.Named.{told_stops};
 ghost use Rattle.pool_base.specs.Times.{point_count, travel_time};
 ghost use Rattle.stop_orders.specs.Order.{IsKnown};
 ghost use Rattle.stop_orders.specs.Settled.{IsTrip, trip_task, vehicle_at};

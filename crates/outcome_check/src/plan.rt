@@ -2,7 +2,7 @@
 ghost use Rattle.std.specs.Prelude.{◌≡◌, ◌↔◌, IfOk, IsTrue, length};
 ghost use Rattle.batch_solver.specs.Told.{left_riders};
 ghost use Rattle.plan_rules.specs.Plan.{IsLawful};
-ghost use Rattle.batch_solver.specs.Points.{TellsPlan};
+ghost use Rattle.outcome_check.specs.work.Trips.{TellsPlan};
 
 use crate::graphs::are_same_riders;
 use batch_solver::{left_riders, rider_ids};

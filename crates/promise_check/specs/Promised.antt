@@ -1,4 +1,4 @@
-use Rattle.std.specs.Prelude.{◌≡◌, ◌==◌, ℕ, ◌+◌, ◌≤◌, false, List, length, map, min, filter, slice_index_or}
+use Rattle.std.specs.Prelude.{◌==◌, ℕ, ◌+◌, ◌≤◌, false, List, length, map, min, filter, slice_index_or}
 use Rattle.std.specs.Option.{option_map_or}
 use Rattle.std.specs.List.{range_with_len}
 use Rattle.batch_snapshot.specs.declared.rider.Rider.{Rider}

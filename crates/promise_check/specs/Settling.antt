@@ -37,7 +37,7 @@ pub record IsSettled (settings : Settings) (points : List ℕ) (tau : ℕ → �
   pub vehicle_count : length settled.vehicles ≡ length batch.vehicles
   pub rider_count : length settled.riders ≡ length batch.riders
   pub placed : (v : ℕ) (x : Vehicle) → slice_get batch.vehicles v ≡ Some x → IsPlaced settings points tau batch.sealed_at x (vehicle_at settled v)
-  -- late is a vehicle exactly where no order serves its passengers alone
+  -- a vehicle is late exactly where no order serves its passengers alone
   pub late : (v : ℕ) → v < length settled.vehicles
       → MatchBool (vehicle_at settled v).late (IsServable tau (vehicle_task settings.dwell (vehicle_at settled v) []) → ⊥) (IsServable tau (vehicle_task settings.dwell (vehicle_at settled v) []))
   -- a live vehicle keeps all riders promised to it, another one none

@@ -1,20 +1,15 @@
 -- Riders who are in no chosen row.
 use Rattle.std.proofs.Common.{◌≡◌, ◌==◌, ℕ, ◌+◌, ◌<◌, ◌≤◌, Bool, true, false, not, List, [], ◌∷◌, ◌++◌, length, get_or, nat_lt, Option, sym, ap, ◌∙◌, arith}
-use Rattle.batch_solver.proofs.Common.{range_with_len, get_or_read, All-filter, All-from_get_or, Graph, times_chosen, filter_range_takes, filter_range_skips, MarksServed}
-use Rattle.std.specs.List.{All, filter}
+use Rattle.batch_solver.proofs.Common.{range_with_len, get_or_read, Graph, times_chosen, filter_range_takes, filter_range_skips, MarksServed}
+use Rattle.std.specs.List.{filter}
 use Rattle.std.proofs.lemmas.List.Sums.{length-filter, count_by-le-length}
-use Rattle.std.proofs.lemmas.List.FromFn.{length-range_with_len, get_or-range_with_len}
+use Rattle.std.proofs.lemmas.List.FromFn.{length-range_with_len}
 
 -- who is counted in no row isn't counted above 0
 pub none_counted : (n : ℕ) → (n == 0) ≡ not (nat_lt 0 n)
 none_counted n = grind arith
 
--- numbers that are kept of those below n
-pub kept_below : (p : ℕ → Bool) (n : ℕ) → All (λ r. r < n) (filter p (range_with_len 0 n))
-kept_below p n =
-    All-filter p (λ r. r < n) (range_with_len 0 n)
-    (All-from_get_or (λ r. r < n) (range_with_len 0 n) 0 (λ i h. let e = length-range_with_len 0 n in let at = get_or-range_with_len 0 n i 0 (omega arith) in omega arith))
-
+-- numbers that are kept of those below n are no more than n
 pub kept_few : (p : ℕ → Bool) (n : ℕ) → length (filter p (range_with_len 0 n)) ≤ n
 kept_few p n = let e = length-range_with_len 0 n in let few = count_by-le-length p (range_with_len 0 n) in rw (length-filter p (range_with_len 0 n)) (omega arith)
 

@@ -1,18 +1,16 @@
 -- Moves of idle vehicles to riders who were left out.
-use Rattle.std.proofs.Common.{◌≡◌, ℕ, zero, suc, ◌<◌, List, [], ◌∷◌, length, get_or, map, refl, sym, ap, subst, arith}
-use Rattle.batch_solver.proofs.Common.{length-map, All-nil, All-map, IsMatching, IsBestMatching, MoveLine, IsTrip, vehicle_at, rider_at, IsSound, no_leg, Settled, AreMoves, move_line, HasPlaces, origins_of, starts_of}
-use Rattle.std.specs.List.{All, AllPairs}
+use Rattle.std.proofs.Common.{◌≡◌, ℕ, zero, suc, ◌<◌, List, [], ◌∷◌, length, get_or, refl, sym, ap, subst, arith}
+use Rattle.batch_solver.proofs.Common.{length-map, All-nil, All-map, IsMatching, IsBestMatching, MoveLine, IsTrip, vehicle_at, rider_at, IsSound, no_leg, Settled, AreMoves, HasPlaces, origins_of, starts_of}
+use Rattle.std.specs.List.{All}
+use Rattle.batch_solver.proofs.lemmas.TripLemmas.{no_trip}
 
 -- the places of a sound batch that has vehicles
 pub has_places : (k points : ℕ) (tau : ℕ → ℕ → ℕ) (settled : Settled) → IsSound k points tau settled → 0 < length settled.vehicles → HasPlaces points settled
 has_places k points tau settled sound some = record {
-  vehicles = λ v l. ((sound.each v l).tasks [] none (omega arith)).start;
+  vehicles = λ v l. ((sound.each v l).tasks [] (no_trip (length settled.riders)) (omega arith)).start;
   riders = λ r l. (((sound.each 0 some).tasks (r ∷ []) (alone r l) (omega arith)).riders 0 no_leg (omega arith)).origin;
 }
   where
-    none : IsTrip (length settled.riders) []
-    none = record { rising = λ i l. absurd (omega arith); within = λ i d l. absurd (omega arith) }
-
     under : (r : ℕ) → r < length settled.riders → (i d : ℕ) → i < 1 → get_or (r ∷ []) i d < length settled.riders
     under r low zero d l = low
     under r low (suc i) d l = absurd (omega arith)
@@ -37,10 +35,6 @@ module _ (tau : ℕ → ℕ → ℕ) (settled : Settled) (idle left : List ℕ) 
       let origins : length (origins_of settled left) ≡ length left = length-map left (λ r. (rider_at settled r).leg.origin) in
       let w = m.within i d l in
       (omega (arith, w.0), omega (arith, w.1))
-
-  pub moves_told : (pairs : List (ℕ × ℕ)) → IsBestMatching tau (starts_of settled idle) (origins_of settled left) pairs → AllPairs (λ (p q : ℕ × ℕ). p.0 < q.0) pairs
-      → (moves : List MoveLine) → moves ≡ map (move_line tau settled idle left) pairs → AreMoves tau settled idle left moves
-  moves_told pairs best rising moves told = record { pairs = pairs; best = best; rising = rising; told = told }
 
 -- there is nothing to match without vehicles
 pub none_matched : (tau : ℕ → ℕ → ℕ) (to : List ℕ) (pairs : List (ℕ × ℕ)) → IsMatching tau [] to pairs → pairs ≡ []

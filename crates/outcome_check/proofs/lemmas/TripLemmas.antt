@@ -1,6 +1,6 @@
 -- Trips give one plan, if any.
 use Rattle.std.proofs.Common.{◌≡◌, ◌≢◌, ℕ, zero, suc, ◌+◌, ◌<◌, ◌⊎◌, not, Bool, true, false, cond, List, [], ◌∷◌, length, get_or, filter, Contains, Option, Some, None, MatchOption, refl, sym, ap, ◌∙◌, subst, inl, inr, arith, ⊎_elim}
-use Rattle.outcome_check.proofs.Common.{kept_below, length-map, AllZip, range_with_len, IsStrictlyIncreasing, get_or_default, All-contains, filter_passes, length-range_with_len, get_or-range_with_len, Graph, IsRowOf, HasNoRow, choice_at, riders_at, no_row, ChosenTrip, PlannedStop, Settings, Settled, Stop, Pick, Drop, Alight, IsKnown, is_of_rider, IsTrip, trip_task, vehicle_at, rider_at, IsOrderOf, seconds_of, IsTripGraphOf, rider_id, told_stop, told_stops, IsTripOf, has_head, has_later, head_or_tail, same_rising, graph_in_order, one_place, HasOwnIds, GivesTrips, TellsRow, HasNoRowFor, GiveRows, no_chosen}
+use Rattle.outcome_check.proofs.Common.{filter_range_below, length-map, AllZip, range_with_len, IsStrictlyIncreasing, get_or_default, All-contains, filter_passes, length-range_with_len, get_or-range_with_len, Graph, IsRowOf, HasNoRow, choice_at, riders_at, no_row, ChosenTrip, PlannedStop, Settings, Settled, Stop, Pick, Drop, Alight, IsKnown, is_of_rider, IsTrip, trip_task, vehicle_at, rider_at, IsOrderOf, seconds_of, IsTripGraphOf, rider_id, told_stop, told_stops, IsTripOf, has_head, has_later, head_or_tail, same_rising, graph_in_order, one_place, HasOwnIds, GivesTrips, TellsRow, HasNoRowFor, GiveRows, no_chosen}
 use Rattle.std.proofs.lemmas.List.{ext_get_or}
 use Rattle.std.proofs.lemmas.Slice.Zip.{AllZip-long}
 use Rattle.std.proofs.lemmas.List.Kept.{IsStrictlyIncreasing-filter}
@@ -146,7 +146,7 @@ module _ (points : List ℕ) (settings : Settings) (tau : ℕ → ℕ → ℕ) (
     trip_at chosen gives k h = all_zip_at (IsTripOf points tau settled graph chosen) timely trips 0 no_chosen gives.trips_given k h
 
     inside : (k : ℕ) → k < length timely → get_or timely k 0 < graph.vehicles
-    inside k h = let below = kept_below (λ v. not (vehicle_at settled v).late) (length settled.vehicles) k 0 h in let n = exact.vehicle_total in omega (arith, below, n)
+    inside k h = let below = filter_range_below (λ v. not (vehicle_at settled v).late) (length settled.vehicles) k 0 h in let n = exact.vehicle_total in omega (arith, below, n)
 
     pub no_plan_short : length timely ≢ length trips → (chosen : List (Option ℕ)) → GivesTrips points tau settled graph chosen trips → ⊥
     no_plan_short differs chosen gives = differs (all_zip_long (IsTripOf points tau settled graph chosen) timely trips gives.trips_given)

@@ -1,7 +1,8 @@
 -- Moves, read as pairs of places of two lists.
 use Rattle.std.specs.Prelude.{◌≡◌, ℕ, ◌<◌, List, All, AllPairs, length, map, slice_index}
 use Rattle.batch_solver.specs.Moves.{move_line}
-use Rattle.batch_solver.specs.Told.{rider_id, vehicle_id}
+use Rattle.batch_solver.specs.Told.{rider_id}
+use Rattle.batch_solver.specs.lemmas.Named.{vehicle_id}
 use Rattle.rebalancing.specs.Matching.{IsMatching}
 use Rattle.request_book.specs.declared.outcome.MoveLine.{MoveLine}
 use Rattle.stop_orders.specs.Settled.{rider_at, vehicle_at}

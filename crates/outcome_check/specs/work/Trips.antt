@@ -1,10 +1,12 @@
 -- The row of which a trip tells.
-use Rattle.std.specs.Prelude.{◌≡◌, ℕ, ◌<◌, ◌≤◌, List, [], Option, length, slice_index, slice_index_or}
-use Rattle.batch_solver.specs.Told.{vehicle_id, told_stops}
+use Rattle.std.specs.Prelude.{◌≡◌, ℕ, ◌<◌, ◌≤◌, List, [], Option, length, map, slice_index, slice_index_or}
+use Rattle.batch_solver.specs.Told.{rider_id, left_riders}
+use Rattle.batch_solver.specs.lemmas.Named.{vehicle_id, told_stops}
 use Rattle.batch_solver.specs.Trips.{AreTrips}
 use Rattle.plan_rules.specs.Graph.{Graph, IsRowOf, riders_at, cost_at}
-use Rattle.plan_rules.specs.Plan.{IsPlan}
+use Rattle.plan_rules.specs.Plan.{IsPlan, IsLawful, cost_of}
 use Rattle.request_book.specs.declared.outcome.ChosenTrip.{ChosenTrip}
+use Rattle.request_book.specs.declared.outcome.Planned.{Planned}
 use Rattle.stop_orders.specs.Settled.{trip_task}
 use Rattle.stop_orders.specs.Task.{Serves, IsOrderOf, ReachesAll, order_delay}
 use Rattle.stop_orders.specs.declared.settled.Settled.{Settled}
@@ -32,6 +34,10 @@ IsLeast tau task delay = (others : List Stop) → IsOrderOf task others → Reac
 pub record GivesTrips (points : List ℕ) (tau : ℕ → ℕ → ℕ) (settled : Settled) (graph : Graph) (chosen : List (Option ℕ)) (trips : List ChosenTrip) : Type 0 where
   pub plan : IsPlan graph chosen
   pub trips_given : AreTrips points tau settled graph chosen trips
+
+-- the plan is lawful, costs what is told, and leaves out whom it is told to
+abbrev pub TellsPlan : Settled → Graph → List (Option ℕ) → Planned → Type 0
+TellsPlan settled graph chosen planned = IsLawful graph chosen × (planned.cost ≡ cost_of graph chosen) × (planned.left ≡ map (rider_id settled) (left_riders graph chosen))
 
 -- some trip tells of no row of its vehicle
 pub record HasNoRowFor (points : List ℕ) (tau : ℕ → ℕ → ℕ) (settled : Settled) (graph : Graph) (vehicles : List ℕ) (trips : List ChosenTrip) : Type 0 where

@@ -554,7 +554,7 @@ module _ (settings : Settings) (roads : Roads) (s : State) (stops : ℕ → List
       subst (λ xs. has_node xs n ≡ true) (sym row.2.trip) (subst (λ m. has_node (vehicle_at settled v).held.items m ≡ true) at (is_node_at (vehicle_at settled v).held.items listed.0 listed.1)) in
       let served = times_served_some good.graph good.graph.held good.graph.vehicles n v (omega (arith, good.exact.vehicle_total, within)) (ap (λ o. is_in good.graph o n) row.1 ∙ has) in
       let must : must_be_served good.graph n ≡ true = lt-ltb 0 _ (omega (arith, served)) in
-      omega (arith, (good.holds point.Plan).holds.lawful.kept n must)
+      omega (arith, (good.holds point.Plan).holds.0.kept n must)
 
   pub closed_bounds : KeepsBounds s planned_state
   closed_bounds z limit was = by was.of.status refl was.bound

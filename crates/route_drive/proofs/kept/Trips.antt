@@ -120,7 +120,7 @@ module _ (settings : Settings) (roads : Roads) (s : State) (stops : ℕ → List
   nothing_lapses planned good = (
     none_zip (IsLate points (travel_time times) settled) (filter (λ v. (vehicle_at settled v).late) (range_with_len 0 (length settled.vehicles))) planned.late
         (filter_none (λ v. (vehicle_at settled v).late) (range_with_len 0 (length settled.vehicles)) (along_range (λ v. (vehicle_at settled v).late ≡ false) (length settled.vehicles) not_late)) (good.holds point.Late),
-    (good.holds point.Graphs).lapsed ∙ ap (map (λ r. r.id)) (filter_none (λ r. r.lapsed) settled.riders
+    (good.holds point.Graphs).0 ∙ ap (map (λ r. r.id)) (filter_none (λ r. r.lapsed) settled.riders
         (recursion_from_All (λ r. r.lapsed ≡ false) settled.riders (All-from_get_or (λ r. r.lapsed ≡ false) settled.riders no_rider not_lapsed))),
   )
 
@@ -141,7 +141,7 @@ module _ (settings : Settings) (roads : Roads) (s : State) (stops : ℕ → List
         (at.0, subst (λ a. IsTripOf points (travel_time times) settled good.graph (good.holds point.Plan).chosen a t) at.1 back.2)
 
     lawful : IsLawful good.graph (good.holds point.Plan).chosen
-    lawful = (good.holds point.Plan).holds.lawful
+    lawful = (good.holds point.Plan).holds.0
 
     pub row_of : (k row : ℕ) → k < length settled.vehicles → choice_at (good.holds point.Plan).chosen k ≡ Some row → IsRowOf good.graph k row
     row_of k row h e = let c = good.exact.vehicle_total in plan_choice good.graph (good.holds point.Plan).chosen k row lawful.plan (omega (arith, c, h)) e

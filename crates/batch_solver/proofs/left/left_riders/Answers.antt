@@ -1,6 +1,6 @@
 use Rattle.std.proofs.Common.{◌≡◌, ◌==◌, ◌<◌, [], ◌∷◌, ◌++◌, sym, ap, ◌∙◌, arith}
-use Rattle.batch_solver.proofs.Common.{times_chosen}
-use Rattle.batch_solver.proofs.lemmas.LeftLemmas.{left_takes, left_skips, kept_below, kept_few}
+use Rattle.batch_solver.proofs.Common.{filter_range_below, times_chosen}
+use Rattle.batch_solver.proofs.lemmas.LeftLemmas.{left_takes, left_skips, kept_few}
 use Rattle.batch_solver.proofs.left.left_riders.Goals.{then-not-index+in_ok-push, else-not-index}
 use Rattle.batch_solver.proofs.left.left_riders.Goals as goal
 
@@ -21,7 +21,7 @@ loop-rider-preserved c =
 pub returns-clause-within : goal.returns-clause-within
 returns-clause-within c =
     let end : c.loop-rider.rider ≡ c.args.graph.now.riders = omega arith in
-    rw (c.loop-rider.invariant, end) (kept_below (λ r. times_chosen c.args.graph.now c.args.chosen.now r == 0) c.args.graph.now.riders)
+    rw (c.loop-rider.invariant, end) (filter_range_below (λ r. times_chosen c.args.graph.now c.args.chosen.now r == 0) c.args.graph.now.riders)
 
 pub returns-clause-few : goal.returns-clause-few
 returns-clause-few c =

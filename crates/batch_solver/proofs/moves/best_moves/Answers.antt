@@ -1,7 +1,7 @@
 use Rattle.std.proofs.Common.{map, ap, ◌∙◌}
 use Rattle.batch_solver.proofs.Common.{point_count, travel_time, IsBestMatching, move_line, starts_of, origins_of}
 use Rattle.std.proofs.lemmas.Result.{IfOk-weaker}
-use Rattle.batch_solver.proofs.lemmas.MoveLemmas.{starts_within, origins_within, pairs_within, moves_told}
+use Rattle.batch_solver.proofs.lemmas.MoveLemmas.{starts_within, origins_within, pairs_within}
 use Rattle.batch_solver.proofs.moves.best_moves.Goals as goal
 
 pub rebalance-requires-clause-idle_places : goal.rebalance-requires-clause-idle_places
@@ -24,5 +24,5 @@ returns c =
     let settled = c.args.settled.now in
     let best : IsBestMatching tau (starts_of settled c.args.vehicles.now) (origins_of settled c.args.riders.now) c.in_ok-moves.moves.pairs = rw (c.deref.ensures.value, c.in_ok-starts.ensures, c.deref-2.ensures.value, c.in_ok-origins.ensures) at c.in_ok-moves.ensures.best in
     IfOk-weaker c.told_moves.result _ _
-    (λ moves told. moves_told tau settled c.args.vehicles.now c.args.riders.now c.in_ok-moves.moves.pairs best c.in_ok-moves.ensures.rising moves.items (told ∙ ap (map (move_line tau settled c.args.vehicles.now c.args.riders.now)) c.as_slice.ensures))
+    (λ moves told. record { pairs = c.in_ok-moves.moves.pairs; best = best; rising = c.in_ok-moves.ensures.rising; told = told ∙ ap (map (move_line tau settled c.args.vehicles.now c.args.riders.now)) c.as_slice.ensures })
     c.told_moves.ensures

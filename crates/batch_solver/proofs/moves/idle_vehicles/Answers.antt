@@ -1,6 +1,6 @@
 use Rattle.std.proofs.Common.{◌≡◌, [], ◌∷◌, ◌++◌, length, sym, ap, ◌∙◌, arith}
-use Rattle.batch_solver.proofs.Common.{filter_range_takes, filter_range_skips, is_idle}
-use Rattle.batch_solver.proofs.lemmas.LeftLemmas.{kept_below, kept_few}
+use Rattle.batch_solver.proofs.Common.{filter_range_below, filter_range_takes, filter_range_skips, is_idle}
+use Rattle.batch_solver.proofs.lemmas.LeftLemmas.{kept_few}
 use Rattle.batch_solver.proofs.moves.idle_vehicles.Goals.{then-is_idle+in_ok-push, else-is_idle}
 use Rattle.batch_solver.proofs.moves.idle_vehicles.Goals as goal
 
@@ -19,7 +19,7 @@ pub returns-clause-within : goal.returns-clause-within
 returns-clause-within c =
     let all = ap length c.as_slice-vehicle-end.ensures in
     let end : c.loop-vehicle.vehicle ≡ length c.args.settled.now.vehicles = omega arith in
-    rw (c.loop-vehicle.invariant, end) (kept_below (is_idle c.args.settled.now c.args.graph.now c.args.chosen.now) (length c.args.settled.now.vehicles))
+    rw (c.loop-vehicle.invariant, end) (filter_range_below (is_idle c.args.settled.now c.args.graph.now c.args.chosen.now) (length c.args.settled.now.vehicles))
 
 pub returns-clause-few : goal.returns-clause-few
 returns-clause-few c =

@@ -1,6 +1,6 @@
 use Rattle.std.proofs.Common.{◌≡◌, ◌==◌, ◌<◌, ◌≤◌, length, sym, ◌∙◌, arith}
-use Rattle.batch_solver.proofs.Common.{nil_from_length, times_chosen, point_count, travel_time, idle_vehicles}
-use Rattle.batch_solver.proofs.lemmas.LeftLemmas.{kept_below, kept_few}
+use Rattle.batch_solver.proofs.Common.{filter_range_below, nil_from_length, times_chosen, point_count, travel_time, idle_vehicles}
+use Rattle.batch_solver.proofs.lemmas.LeftLemmas.{kept_few}
 use Rattle.batch_solver.proofs.lemmas.MoveLemmas.{has_places, no_moves}
 use Rattle.batch_solver.proofs.moves.move_lines.Goals as goal
 
@@ -18,7 +18,7 @@ best_moves-requires-clause-places c =
 pub best_moves-requires-clause-riders : goal.best_moves-requires-clause-riders
 best_moves-requires-clause-riders c =
     let total = c.requires.riders in
-    rw (c.requires.left, ← total) (kept_below (λ r. times_chosen c.args.graph.now c.args.chosen.now r == 0) c.args.graph.now.riders)
+    rw (c.requires.left, ← total) (filter_range_below (λ r. times_chosen c.args.graph.now c.args.chosen.now r == 0) c.args.graph.now.riders)
 
 pub best_moves-requires-clause-few_riders : goal.best_moves-requires-clause-few_riders
 best_moves-requires-clause-few_riders c =

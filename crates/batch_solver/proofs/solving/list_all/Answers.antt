@@ -1,5 +1,5 @@
 use Rattle.std.proofs.Common.{◌<◌, ◌≤◌, ℕ, List, length, map, All, sym, ap, ◌∙◌, subst, arith}
-use Rattle.batch_solver.proofs.Common.{TripRow, travel_time, ChosenTrip, MoveLine, rider_id, rr_line, row_line, left_riders, AreTrips, AreLate, AreMoves, idle_vehicles}
+use Rattle.batch_solver.proofs.Common.{TripRow, travel_time, ChosenTrip, MoveLine, rider_id, row_line, left_riders, AreTrips, AreLate, AreMoves, idle_vehicles}
 use Rattle.request_book.specs.declared.outcome.LateVehicle.{LateVehicle}
 use Rattle.batch_solver.proofs.GraphLemmas.{rows_of_riders, rows_are_few}
 use Rattle.batch_solver.proofs.solving.list_all.Goals as goal
@@ -26,12 +26,10 @@ returns-clause-lists c =
     let tau = travel_time c.args.times.now in
     let left = c.in_ok-left.ensures.left in
     record {
-      told = record {
-        lapsed = c.put.ensures ∙ c.in_ok-lapsed_ids.ensures;
-        rv = c.put-3.ensures ∙ c.in_ok-rv_lines.ensures;
-        rr = c.put-4.ensures ∙ c.in_ok-rr_lines.ensures ∙ ap (λ (pairs : List (ℕ × ℕ)). map (rr_line settled) pairs) c.all.ensures;
-        rows = c.put-5.ensures ∙ c.in_ok-row_lines.ensures ∙ ap (λ (rows : List TripRow). map (row_line settled) rows) c.rows.ensures.value;
-      };
+      lapsed = c.put.ensures ∙ c.in_ok-lapsed_ids.ensures;
+      rv = c.put-3.ensures ∙ c.in_ok-rv_lines.ensures;
+      rr = c.put-4.ensures ∙ c.in_ok-rr_lines.ensures ∙ ap (λ (pairs : List (ℕ × ℕ)). map (λ (pair : ℕ × ℕ). (rider_id settled pair.0, rider_id settled pair.1)) pairs) c.all.ensures;
+      rows = c.put-5.ensures ∙ c.in_ok-row_lines.ensures ∙ ap (λ (rows : List TripRow). map (row_line settled) rows) c.rows.ensures.value;
       late = subst (λ (late : List LateVehicle). AreLate points tau settled late) (sym c.put-2.ensures) c.in_ok-late_lines.ensures;
       trips = subst (λ (trips : List ChosenTrip). AreTrips points tau settled graph chosen trips) (sym c.put-6.ensures) c.in_ok-trips.ensures;
       left = c.put-7.ensures ∙ c.in_ok-rider_ids.ensures ∙ ap (λ (riders : List ℕ). map (rider_id settled) riders) (c.deref.ensures.value ∙ left);

@@ -1,5 +1,5 @@
 use Rattle.std.proofs.Common.{◌≡◌, ◌<◌, ℕ, false, true, List, length, get_or, All, rules, sym, ◌∙◌, subst, arith}
-use Rattle.outcome_check.proofs.Common.{kept_below, AllZip, both_ways, get_or_default, travel_time, LateVehicle, vehicle_at, IsLate}
+use Rattle.outcome_check.proofs.Common.{filter_range_below, AllZip, both_ways, get_or_default, travel_time, LateVehicle, vehicle_at, IsLate}
 use borrow.Author.Count.{below_more}
 use Rattle.outcome_check.proofs.lemmas.LateLemmas.{no_late}
 use Rattle.outcome_check.proofs.lemmas.TripLemmas.{all_zip_from, all_zip_long, all_zip_at}
@@ -18,7 +18,7 @@ is_late-requires-clause-vehicle c =
     let settled = c.args.settled.now in
     let xs = c.in_ok-vehicles.vehicles.items in
     let within : c.loop-place.place < length xs = omega (arith, c.len-place-end.ensures, c.in_ok-vehicles.vehicles.ok.0) in
-    let all : All (λ v. v < length settled.vehicles) xs = subst (λ (ys : List ℕ). All (λ v. v < length settled.vehicles) ys) (sym c.in_ok-vehicles.ensures) (kept_below (λ v. (vehicle_at settled v).late) (length settled.vehicles)) in
+    let all : All (λ v. v < length settled.vehicles) xs = subst (λ (ys : List ℕ). All (λ v. v < length settled.vehicles) ys) (sym c.in_ok-vehicles.ensures) (filter_range_below (λ v. (vehicle_at settled v).late) (length settled.vehicles)) in
     subst (λ (v : ℕ). v < length settled.vehicles) (sym c.index-vehicle.ensures) (all c.loop-place.place c.index-vehicle.result.now within)
 
 pub returns-then-not-branch : goal.returns-then-not-branch

@@ -1,5 +1,5 @@
 use Rattle.std.proofs.Common.{◌≡◌, ◌==◌, ◌<◌, ◌≤◌, ℕ, List, [], All, length, sym, ap, ◌∙◌, subst, arith}
-use Rattle.outcome_check.proofs.Common.{kept_below, kept_few, IsStrictlyIncreasing, nil_from_length, IfOk-weaker, point_count, travel_time, MoveLine, AreMoves, idle_vehicles, is_idle, no_moves}
+use Rattle.outcome_check.proofs.Common.{filter_range_below, kept_few, IsStrictlyIncreasing, nil_from_length, IfOk-weaker, point_count, travel_time, MoveLine, AreMoves, idle_vehicles, is_idle, no_moves}
 use Rattle.std.proofs.lemmas.Bool.{eq-eqb, eqb-true}
 use Rattle.plan_rules.specs.lemmas.Plan.{times_chosen}
 use Rattle.outcome_check.proofs.lemmas.IdleLemmas.{own_places, none_move}
@@ -24,10 +24,10 @@ are_best-requires-clause-places c =
     let few : length c.in_ok-idle.idle.items ≤ length settled.vehicles = c.in_ok-idle.ensures.few in
     let left_out : All (λ r. r < length settled.riders) left =
     subst (λ (n : ℕ). All (λ r. r < n) left) c.requires.riders
-    (subst (λ (rs : List ℕ). All (λ r. r < graph.riders) rs) (sym c.requires.left) (kept_below (λ r. times_chosen graph chosen r == 0) graph.riders)) in
+    (subst (λ (rs : List ℕ). All (λ r. r < graph.riders) rs) (sym c.requires.left) (filter_range_below (λ r. times_chosen graph chosen r == 0) graph.riders)) in
     let idle : c.deref.result.now ≡ idle_vehicles settled graph chosen = c.deref.ensures.value ∙ c.in_ok-idle.ensures.value in
     own_places c.requires.sound.0 (point_count c.args.times.now) (travel_time c.args.times.now) settled c.deref.result.now left c.requires.sound.1 (omega arith)
-    (subst (λ (vs : List ℕ). All (λ v. v < length settled.vehicles) vs) (sym idle) (kept_below (is_idle settled graph chosen) (length settled.vehicles))) left_out
+    (subst (λ (vs : List ℕ). All (λ v. v < length settled.vehicles) vs) (sym idle) (filter_range_below (is_idle settled graph chosen) (length settled.vehicles))) left_out
     (subst (λ (vs : List ℕ). IsStrictlyIncreasing vs) (sym idle) (kept_rises (is_idle settled graph chosen) (length settled.vehicles)))
     (subst (λ (rs : List ℕ). IsStrictlyIncreasing rs) (sym c.requires.left) (kept_rises (λ r. times_chosen graph chosen r == 0) graph.riders))
 

@@ -1,5 +1,5 @@
 use Rattle.std.proofs.Common.{◌≡◌, ◌<◌, ℕ, not, List, All, length, get_or, Some, None, Contains, sym, ap, ◌∙◌, subst, arith}
-use Rattle.outcome_check.proofs.Common.{kept_below, IsStrictlyIncreasing, choice_at, travel_time, vehicle_at, HasNoRowFor, GiveRows}
+use Rattle.outcome_check.proofs.Common.{filter_range_below, IsStrictlyIncreasing, choice_at, travel_time, vehicle_at, HasNoRowFor, GiveRows}
 use Rattle.outcome_check.proofs.lemmas.TripLemmas.{kept_rises, no_plan_short, no_plan, plan_given}
 use Rattle.outcome_check.proofs.trips.plan_of_trips.Goals as goal
 
@@ -12,7 +12,7 @@ returns-then-len-trips c = λ chosen gives.
 pub rows_of_trips-requires-clause-vehicles : goal.rows_of_trips-requires-clause-vehicles
 rows_of_trips-requires-clause-vehicles c =
     let settled = c.args.settled.now in
-    subst (λ (vs : List ℕ). All (λ v. v < length settled.vehicles) vs) (sym (c.deref.ensures.value ∙ c.in_ok-vehicles.ensures)) (kept_below (λ v. not (vehicle_at settled v).late) (length settled.vehicles))
+    subst (λ (vs : List ℕ). All (λ v. v < length settled.vehicles) vs) (sym (c.deref.ensures.value ∙ c.in_ok-vehicles.ensures)) (filter_range_below (λ v. not (vehicle_at settled v).late) (length settled.vehicles))
 
 pub returns-in_default : goal.returns-in_default
 returns-in_default c = λ chosen gives.
@@ -31,7 +31,7 @@ plan_of_rows-requires-clause-within c =
     let settled = c.args.settled.now in
     let count : length settled.vehicles ≡ c.vehicle_count.result = sym (c.vehicle_count.ensures.value ∙ c.requires.graph.1.vehicle_total) in
     subst (λ (n : ℕ). All (λ v. v < n) c.deref-2.result.now) count
-    (subst (λ (vs : List ℕ). All (λ v. v < length settled.vehicles) vs) (sym (c.deref-2.ensures.value ∙ c.in_ok-vehicles.ensures)) (kept_below (λ v. not (vehicle_at settled v).late) (length settled.vehicles)))
+    (subst (λ (vs : List ℕ). All (λ v. v < length settled.vehicles) vs) (sym (c.deref-2.ensures.value ∙ c.in_ok-vehicles.ensures)) (filter_range_below (λ v. not (vehicle_at settled v).late) (length settled.vehicles)))
 
 pub returns : goal.returns
 returns c =

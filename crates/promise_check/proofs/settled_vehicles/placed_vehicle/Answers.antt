@@ -1,4 +1,4 @@
-use Rattle.std.proofs.Common.{◌≡◌, refl}
+use Rattle.std.proofs.Common.{refl}
 use Rattle.promise_check.proofs.settled_vehicles.placed_vehicle.Goals as goal
 
 pub returns-clause-placed : goal.returns-clause-placed
