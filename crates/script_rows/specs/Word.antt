@@ -9,7 +9,7 @@ use Rattle.script_rows.specs.declared.word.Word.TheVariants.{Submit, Cancel, Rep
 
 -- the command that a field names
 unfoldable pub word_of : List ℕ → Option Word
-word_of field = option_map (λ named. named.1) (find (λ named. bytes_eq named.0 field)
+word_of field = option_map (λ (named : List ℕ × Word). named.1) (find (λ (named : List ℕ × Word). bytes_eq named.0 field)
     ((codes "submit", Submit) ∷ (codes "cancel", Cancel) ∷ (codes "report", Report)
     ∷ (codes "pickup", Pickup) ∷ (codes "dropoff", Dropoff) ∷ (codes "seal", Seal) ∷ []))
 
