@@ -1,4 +1,4 @@
-use Rattle.std.specs.Prelude.{ℕ, ◌-◌, List, [], ◌∷◌, Option, option_map, codes}
+use Rattle.std.specs.Prelude.{ℕ, ◌-◌, List, [], ◌∷◌, Option, codes}
 use Rattle.std.specs.List.{find}
 use Rattle.std.specs.Str.{bytes_eq}
 use Rattle.pool_base.specs.Header.{script_header, party_header}
@@ -7,11 +7,18 @@ use Rattle.script_rows.specs.declared.version.ScriptVersion.TheVariants.{One, Tw
 use Rattle.script_rows.specs.declared.word.Word.{Word}
 use Rattle.script_rows.specs.declared.word.Word.TheVariants.{Submit, Cancel, Report, Pickup, Dropoff, Seal}
 
+-- the word of a command
+abbrev pub command_word : Word → List ℕ
+command_word Submit = codes "submit"
+command_word Cancel = codes "cancel"
+command_word Report = codes "report"
+command_word Pickup = codes "pickup"
+command_word Dropoff = codes "dropoff"
+command_word Seal = codes "seal"
+
 -- the command that a field names
 unfoldable pub word_of : List ℕ → Option Word
-word_of field = option_map (λ (named : List ℕ × Word). named.1) (find (λ (named : List ℕ × Word). bytes_eq named.0 field)
-    ((codes "submit", Submit) ∷ (codes "cancel", Cancel) ∷ (codes "report", Report)
-    ∷ (codes "pickup", Pickup) ∷ (codes "dropoff", Dropoff) ∷ (codes "seal", Seal) ∷ []))
+word_of field = find (λ word. bytes_eq (command_word word) field) (Submit ∷ Cancel ∷ Report ∷ Pickup ∷ Dropoff ∷ Seal ∷ [])
 
 -- how many columns a script has: the second version adds the party
 abbrev pub columns_of : ScriptVersion → ℕ

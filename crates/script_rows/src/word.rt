@@ -16,8 +16,8 @@ pub(crate) enum Word {
 }
 
 impl Word {
-    ghost use Rattle.script_rows.specs.Word.{word_of, used_by};
-    ghost use Rattle.script_rows.specs.work.Words.{command_word, is_named};
+    ghost use Rattle.script_rows.specs.Word.{command_word, word_of, used_by};
+    ghost use Rattle.script_rows.specs.work.Words.{is_named};
 
     fn name(self) -> &'static str
         ensures { result.now ≡ command_word self }
@@ -39,6 +39,7 @@ impl Word {
     }
 
     /// The command that a field names.
+    #[tactic(auto, unfolding(crate::specs::Word::word_of))]
     pub(crate) fn of(field: &[u8]) -> Option<Word>
         ensures { result ≡ word_of field.now }
     {

@@ -1,32 +1,19 @@
-use Rattle.std.proofs.Common.{◌≡◌, ℕ, false, not, eqb, nat_lt, List, [], ◌∷◌, map, Ok, refl, subst, arith}
+use Rattle.std.proofs.Common.{◌≡◌, ℕ, false, not, eqb, nat_lt, List, Ok, refl, subst, arith}
 use Rattle.script_rows.proofs.Common.{field_at, refused_where, then_ok, refused_where-passed, Command, Number, LaneRange, RoundBack, UnknownCommand, ExtraField, SealLane, Line, ScriptVersion, three_in, command_in, leaves_empty, line_in, IsBehind, MayStand, round_before}
-use Rattle.std.specs.List.{find}
-use Rattle.std.specs.Option.{ok_or, option_map}
-use Rattle.std.specs.Str.{bytes_eq}
+use Rattle.std.specs.Option.{ok_or}
 use Rattle.std.proofs.lemmas.Bool.{ltb-false}
 use Rattle.std.proofs.lemmas.Bool.Decides.{nat_tests}
 use Rattle.pool_base.specs.Numeral.{number_in, number_at, number_up_to}
 use Rattle.pool_base.proofs.lemmas.NumeralLemmas.{number_in-at, number_in-within}
 use Rattle.request_book.specs.declared.command.Command.TheVariants.{Seal as seal, Close as close}
 use Rattle.script_rows.specs.declared.word.Word.{Word}
-use Rattle.script_rows.specs.declared.word.Word.TheVariants.{Submit, Cancel, Report, Pickup, Dropoff, Seal}
+use Rattle.script_rows.specs.declared.word.Word.TheVariants.{Seal}
 use Rattle.script_rows.specs.Word.{word_of}
-use Rattle.script_rows.specs.work.Words.{command_word, is_named}
 
 -- before the first row stands round 0
 pub round_before-first : (records : List (List (List ℕ))) → round_before records 0 ≡ 0
 unfolding number_up_to
 round_before-first records = refl
-
--- words and the table of them
-named : (field : List ℕ) (words : List Word) → find (is_named field) words ≡ option_map (λ (row : List ℕ × Word). row.1) (find (λ (row : List ℕ × Word). bytes_eq row.0 field) (map (λ word. (command_word word, word)) words))
-named field [] = refl
-named field (word ∷ words) = grind (arith, named field words)
-
--- the word that a field names
-pub word_of-named : (field : List ℕ) → find (is_named field) (Submit ∷ Cancel ∷ Report ∷ Pickup ∷ Dropoff ∷ Seal ∷ []) ≡ word_of field
-unfolding word_of
-word_of-named field = named field (Submit ∷ Cancel ∷ Report ∷ Pickup ∷ Dropoff ∷ Seal ∷ [])
 
 -- a command by its word stands where its word may
 MayStand-command_in : (version : ScriptVersion) (row : ℕ) (fields : List (List ℕ)) (word : Word) (command : Command) (lane : ℕ) → command_in version row fields word ≡ Ok command → (elim word [ Seal ↦ not (eqb lane 0) | _ ↦ false ]) ≡ false → MayStand lane command
