@@ -3,8 +3,8 @@ use Rattle.trip_growth.proofs.Common.{serves}
 use Rattle.trip_growth.proofs.lemmas.TripSearch.{one_rider}
 use Rattle.trip_growth.proofs.candidate.may_share.Goals as goal
 
-pub returns : goal.returns
-returns c = λ no s.
+pub returns-else-riders-ne1 : goal.returns-else-riders-ne1
+returns-else-riders-ne1 c = λ no s.
     let one = one_rider c.args.riders.now (omega arith) in
     let yes = c.has.ensures.1 (c.requires.edges _ _ (subst (λ v. serves c.args.growth.now (v ++ c.args.rider ∷ [])) one s)) in
     absurd (cc)
