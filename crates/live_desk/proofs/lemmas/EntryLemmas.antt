@@ -29,15 +29,10 @@ pub lines-append : (xs ys : List (List ℕ)) → lines_text (xs ++ ys) ≡ lines
 unfolding lines_text
 lines-append xs ys = flat_map-append (λ line. line ++ 10 ∷ []) xs ys
 
-lines-none : lines_text [] ≡ []
-unfolding lines_text
-lines-none = refl
-
 pub entries-append : (proof : Bool) (p : ℕ) (xs ys : List Entry) → p < 2 ^ 64
     → lines_text (entries_lines proof p (xs ++ ys)) ≡ lines_text (entries_lines proof p xs) ++ lines_text (entries_lines proof (next_position p xs) ys)
-unfolding entries_lines
-entries-append proof p [] ys low =
-    ap (λ (k : ℕ). lines_text (entries_lines proof k ys)) (sym (next-none p low)) ∙ ap (λ (t : List ℕ). t ++ lines_text (entries_lines proof (next_position p []) ys)) (sym lines-none)
+unfolding entries_lines lines_text
+entries-append proof p [] ys low = ap (λ (k : ℕ). lines_text (entries_lines proof k ys)) (sym (next-none p low))
 entries-append proof p (e ∷ es) ys low =
     let block : List (List ℕ) = (entry_line p e ∷ []) ++ entry_block proof e.command e.reply in
     lines-append block (entries_lines proof (one_more p) (es ++ ys))
