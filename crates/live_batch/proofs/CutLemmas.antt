@@ -1,5 +1,6 @@
 -- From what two passes called to the entries of the journal.
-use Rattle.std.proofs.Common.{◌≡◌, ℕ, ◌+◌, Bool, true, false, eqb, List, [], ◌∷◌, ◌++◌, map, refl, sym, ap, subst, ◌∙◌, arith}
+use Rattle.std.proofs.Common.{◌≡◌, ℕ, ◌+◌, Bool, eqb, List, [], ◌∷◌, ◌++◌, map, refl, sym, ap, subst, ◌∙◌, arith}
+use Rattle.std.proofs.lemmas.Bool.Decides.{nat_tests}
 use Rattle.std.specs.Prelude.{Option, filter}
 use Rattle.std.specs.List.{enumerate_from}
 use Rattle.batch_snapshot.specs.Batch.{Batch}
@@ -12,9 +13,9 @@ use Rattle.script_rows.specs.declared.line.Line.{Line}
 use Rattle.seat_lock.specs.Values.{calls_of, GainsCalls, PassValue}
 use Rattle.shared_book.specs.Locked.{calls_from}
 use Rattle.shared_book.specs.declared.locked.LockedReply.{LockedReply}
-use Rattle.live_desk.specs.Desk.{desk_call, desk_log, desk_root, pass_of, DeskView, IsDesk}
+use Rattle.live_desk.specs.Desk.{desk_call, desk_log, desk_root, DeskView, IsDesk}
 use Rattle.live_desk.specs.declared.desk.LaneCommand.{LaneCommand}
-use Rattle.live_batch.specs.Phase.{entry_command, commands_in, commands_of_pass, ClosesBatch, HasRunOpen, RanRows, TakesRun}
+use Rattle.live_batch.specs.Phase.{commands_in, commands_of_pass, ClosesBatch, HasRunOpen, RanRows, TakesRun}
 use Rattle.live_batch.specs.declared.read_on.Halt.{Halt}
 
 module _ (nodes : List ℕ) (wait : ℕ) where
@@ -23,13 +24,7 @@ module _ (nodes : List ℕ) (wait : ℕ) where
       → map (λ p. p.1.call) (filter (λ p. eqb p.1.lane pass) (enumerate_from n (map desk_call (calls_from nodes wait s es)))) ≡ commands_of_pass pass es
   unfolding calls_from
   commands-cut pass n s [] = refl
-  commands-cut pass n s (e ∷ es) = by (eqb (pass_of e.lane) pass) refl (commands-cut pass (n + 1) (step nodes wait s e.command).0 es)
-    where
-      by : (b : Bool) → eqb (pass_of e.lane) pass ≡ b
-          → map (λ p. p.1.call) (filter (λ p. eqb p.1.lane pass) (enumerate_from (n + 1) (map desk_call (calls_from nodes wait (step nodes wait s e.command).0 es)))) ≡ commands_of_pass pass es
-          → map (λ p. p.1.call) (filter (λ p. eqb p.1.lane pass) (enumerate_from n (map desk_call (calls_from nodes wait s (e ∷ es))))) ≡ commands_of_pass pass (e ∷ es)
-      by true is rest = rw is (ap (λ l. entry_command e ∷ l) rest)
-      by false is rest = rw is rest
+  commands-cut pass n s (e ∷ es) = grind (arith, nat_tests, commands-cut pass (n + 1) (step nodes wait s e.command).0 es)
 
 -- the commands of a pass, where the journal was empty before
 pass-commands : (d : DeskView) (before : List _) (passes : List (PassValue DeskView LaneCommand LockedReply)) (k : ℕ) (p : PassValue DeskView LaneCommand LockedReply)

@@ -14,19 +14,13 @@ use Rattle.shared_book.specs.declared.locked.LockedReply.{LockedReply}
 use Rattle.seat_lock.specs.Values.{PassValue}
 use Rattle.seat_lock.specs.declared.logged.LoggedCall.{LoggedCall}
 use Rattle.script_rows.specs.declared.line.Line.{Line}
-use Rattle.live_batch.specs.declared.read_on.Halt.{Halt}
-use Rattle.live_batch.specs.declared.read_on.Halt.TheVariants as stop
-use Rattle.live_rows.specs.Rows.{NoRows, TakesRows}
-use Rattle.live_batch.proofs.lemmas.RowLemmas.{takes-all, takes-more, takes-start}
-use Rattle.live_batch.specs.Phase.{commands_in, row_command, GoesOn, RanRows, TakesRun}
+use Rattle.live_rows.specs.Rows.{TakesRows}
+use Rattle.live_batch.proofs.lemmas.RowLemmas.{takes-more}
+use Rattle.live_batch.specs.Phase.{commands_in, row_command, GoesOn, RanRows}
 
 -- rows were run so far
 abbrev pub HasRun : {B : Type 0} → ℕ → Option (List Line) → Option (List Line) → PassValue B LaneCommand LockedReply → Type 0
 HasRun round old now p = RanRows round (commands_in p) (TakesRows old now)
-
--- and these are all, but for one that is held back
-abbrev HasReadOn : {B : Type 0} → ℕ → Option (List Line) → Option (List Line) → PassValue B LaneCommand LockedReply → Halt → Type 0
-HasReadOn round old new p end = RanRows round (commands_in p) (TakesRun end old new)
 
 -- one more row
 pub run-more : (round : ℕ) (old now next : Option (List Line)) {B : Type 0} (p q : PassValue B LaneCommand LockedReply) (line : Line) (call : ℕ × LoggedCall LaneCommand LockedReply)
@@ -43,31 +37,9 @@ run-more round old now next p q line call so_far taken may calls is = record {
   taken = takes-more old now next so_far.run (line ∷ []) so_far.taken taken;
 }
 
--- at the end
-pub run-ends : (round : ℕ) (old now next : Option (List Line)) {B : Type 0} (p : PassValue B LaneCommand LockedReply) → HasRun round old now p → NoRows now
-    → HasReadOn round old next p stop.Ended
-run-ends round old now next p so_far end = record {
-  run = so_far.run;
-  going = so_far.going;
-  called = so_far.called;
-  taken = takes-all old now so_far.run so_far.taken end;
-}
-
--- at a fault
-pub run-fails : (round : ℕ) (old now next : Option (List Line)) {B : Type 0} (p : PassValue B LaneCommand LockedReply) → HasRun round old now p
-    → HasReadOn round old next p stop.ReadFault × HasReadOn round old next p stop.OutOfMemory
-run-fails round old now next p so_far = (
-  record { run = so_far.run; going = so_far.going; called = so_far.called; taken = takes-start old now so_far.run so_far.taken },
-  record { run = so_far.run; going = so_far.going; called = so_far.called; taken = takes-start old now so_far.run so_far.taken },
-)
-
-pub no-calls : {B : Type 0} (p q : PassValue B LaneCommand LockedReply) → q.calls ≡ p.calls → (round : ℕ) (old now : Option (List Line)) → HasRun round old now p → HasRun round old now q
-no-calls p q same round old now so_far = record {
-  run = so_far.run;
-  going = so_far.going;
-  called = ap (λ (cs : List (ℕ × LoggedCall LaneCommand LockedReply)). map (λ c. c.1.call) cs) same ∙ so_far.called;
-  taken = so_far.taken;
-}
+-- the same rows, of which something else holds
+pub ran-so : (round : ℕ) (cs : List LaneCommand) (Are Be : List Line → Type 0) → ((run : List Line) → Are run → Be run) → RanRows round cs Are → RanRows round cs Be
+ran-so round cs Are Be so ran = record { run = ran.run; going = ran.going; called = ran.called; taken = so ran.run ran.taken }
 
 -- what holds of a result that is no error
 pub called_ok : {A E : Type 0} {P : A → Type 0} (r : Result A E) → is_err r ≡ false → IfOk r P → (x : A) × P x

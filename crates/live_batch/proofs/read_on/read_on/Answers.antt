@@ -2,16 +2,16 @@ use Rattle.std.proofs.Common.{ℕ, sym, subst, ◌∙◌, refl, arith}
 use Rattle.seat_lock.specs.Values.{entry}
 use Rattle.script_rows.specs.Line.{IsBehind}
 use Rattle.live_batch.specs.Phase.{GoesOn}
-use Rattle.live_batch.proofs.ReadLemmas.{run-ends, run-fails, run-more, called_ok}
+use Rattle.live_batch.proofs.ReadLemmas.{ran-so, run-more, called_ok}
+use Rattle.live_batch.proofs.lemmas.RowLemmas.{takes-all, takes-start}
 use Rattle.live_batch.proofs.read_on.read_on.Goals as goal
 
 pub returns-in-Ok-None-clause-read : goal.returns-in-Ok-None-clause-read
 returns-in-Ok-None-clause-read g c =
-    run-ends c.args.round (g.L.RowSource.to_come c.args.lines.now) (g.L.RowSource.to_come c.rows.lines) (g.L.RowSource.to_come c.next.new.self) c.rows.pass c.rows.invariant.2 (rw c.in-Ok-None.field-0-is at c.in-Ok-None.ensures.row)
+    ran-so c.args.round _ _ _ (λ run taken. takes-all (g.L.RowSource.to_come c.args.lines.now) (g.L.RowSource.to_come c.rows.lines) run taken (rw c.in-Ok-None.field-0-is at c.in-Ok-None.ensures.row)) c.rows.invariant.2
 
 pub returns-in-Err-ReadFault-clause-read : goal.returns-in-Err-ReadFault-clause-read
-returns-in-Err-ReadFault-clause-read g c =
-    (run-fails c.args.round (g.L.RowSource.to_come c.args.lines.now) (g.L.RowSource.to_come c.rows.lines) (g.L.RowSource.to_come c.next.new.self) c.rows.pass c.rows.invariant.2).0
+returns-in-Err-ReadFault-clause-read g c = ran-so c.args.round _ _ _ (takes-start (g.L.RowSource.to_come c.args.lines.now) (g.L.RowSource.to_come c.rows.lines)) c.rows.invariant.2
 
 pub rows-preserved : goal.rows-preserved
 rows-preserved g c =
