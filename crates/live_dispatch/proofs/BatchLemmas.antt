@@ -1,8 +1,8 @@
 -- The entries that a row gave, or a batch from its seal to its close.
-use Rattle.std.proofs.Common.{◌≡◌, ◌≢◌, ℕ, Bool, true, false, cond, eqb, List, [], ◌∷◌, ◌++◌, map, Option, None, Some, refl, sym, ap, subst, ◌∙◌, append-nil, All, filter, option_map}
-use Rattle.live_dispatch.proofs.Common.{IsInZero, filter-mapped, eqb-false, All-head, All-tail, Batch, of_lane, IsCloseOf, IsLaneRunFrom, IsLaneRun, IsLaneBeginning, IsGoodClose, IsGoodFor, LaneClosesAreGood, ClosesAreGood, plain-quiet, closes-join, ends-closed, stands-plain, GoesOn, commands_of_pass, entry_command, row_command, pass_of, LaneCommand, state_after, RepliesAreSteps, step, Command, Close, Entry, Reply, State, Settings, entry_notices, Roads, MayStand, Line, calls_from, sealed_by, snapshot_after, in_lane}
+use Rattle.std.proofs.Common.{◌≡◌, ◌≢◌, ℕ, Bool, true, false, cond, eqb, List, [], ◌∷◌, ◌++◌, map, Option, None, Some, refl, sym, ap, subst, ◌∙◌, append-nil, All, arith, filter, option_map}
+use Rattle.live_dispatch.proofs.Common.{IsInZero, filter-mapped, eqb-false, nat_tests, All-head, All-tail, All-weaker, Batch, of_lane, IsCloseOf, IsLaneRunFrom, IsLaneRun, IsLaneBeginning, IsGoodClose, IsGoodFor, LaneClosesAreGood, ClosesAreGood, each-told, closes-join, ends-closed, stands-plain, GoesOn, commands_of_pass, entry_command, row_command, pass_of, LaneCommand, state_after, RepliesAreSteps, step, Command, Close, Entry, Reply, State, Settings, entry_notices, Roads, MayStand, Line, calls_from, sealed_by, in_lane}
 use Rattle.std.proofs.lemmas.Bool.{eq-eqb, ne_eqb, eqb-true}
-use Rattle.std.proofs.lemmas.List.Elements.{filter_agree}
+use Rattle.std.proofs.lemmas.List.Elements.{All-filter, All-from_recursion, All-map, filter_agree, recursion_from_All}
 use Rattle.std.specs.List.{AllByRecursion}
 use Rattle.batch_solver.specs.Outcome.{IsGoodOutcome}
 use Rattle.dispatch_engine.specs.lemmas.Lanes.{IsPlain}
@@ -37,11 +37,7 @@ rows-told (r ∷ rs) = ap (λ l. r.command ∷ l) (rows-told rs)
 
 -- the first pass plays lane 0
 zero-pass : (es : List Entry) → filter (λ e. eqb (pass_of e.lane) 0) es ≡ of_lane 0 es
-zero-pass es = filter_agree (λ (e : Entry). eqb (pass_of e.lane) 0) (λ (e : Entry). eqb e.lane 0) (λ e. by (eqb e.lane 0)) es
-  where
-    by : (b : Bool) → eqb (cond b 0 1) 0 ≡ b
-    by true = refl
-    by false = refl
+zero-pass es = filter_agree (λ (e : Entry). eqb (pass_of e.lane) 0) (λ (e : Entry). eqb e.lane 0) (λ e. grind (arith, nat_tests)) es
 
 pub zero-commands : (es : List Entry) → map (λ e. e.command) (of_lane 0 es) ≡ map told (commands_of_pass 0 es)
 zero-commands es = sym (entries-told (of_lane 0 es)) ∙ ap (λ l. map told (map entry_command l)) (sym (zero-pass es))
@@ -49,18 +45,7 @@ zero-commands es = sym (entries-told (of_lane 0 es)) ∙ ap (λ l. map told (map
 -- the second pass plays each other lane
 other-pass : (lane : ℕ) (es : List Entry) → lane ≢ 0 → filter (λ c. eqb c.lane lane) (commands_of_pass 1 es) ≡ map entry_command (of_lane lane es)
 other-pass lane [] other = refl
-other-pass lane (e ∷ es) other = by (eqb e.lane 0) refl (other-pass lane es other)
-  where
-    kept : (b : Bool) → filter (λ c. eqb c.lane lane) (commands_of_pass 1 es) ≡ map entry_command (of_lane lane es)
-        → cond b (entry_command e ∷ filter (λ c. eqb c.lane lane) (commands_of_pass 1 es)) (filter (λ c. eqb c.lane lane) (commands_of_pass 1 es)) ≡ map entry_command (cond b (e ∷ of_lane lane es) (of_lane lane es))
-    kept true same = ap (λ l. entry_command e ∷ l) same
-    kept false same = same
-
-    by : (b : Bool) → eqb e.lane 0 ≡ b → filter (λ c. eqb c.lane lane) (commands_of_pass 1 es) ≡ map entry_command (of_lane lane es)
-        → filter (λ c. eqb c.lane lane) (map entry_command (cond (eqb (cond b 0 1) 1) (e ∷ filter (λ e. eqb (pass_of e.lane) 1) es) (filter (λ e. eqb (pass_of e.lane) 1) es)))
-        ≡ map entry_command (cond (eqb e.lane lane) (e ∷ of_lane lane es) (of_lane lane es))
-    by true h same = same ∙ ap (λ b. map entry_command (cond b (e ∷ of_lane lane es) (of_lane lane es))) (sym (ne_eqb e.lane lane (λ is. other (sym is ∙ eqb-true e.lane 0 h))))
-    by false h same = kept (eqb e.lane lane) same
+other-pass lane (e ∷ es) other = grind (arith, nat_tests, other-pass lane es other)
 
 rows-lane : (lane : ℕ) (rows : List Line) → filter (λ c. eqb c.lane lane) (map row_command rows) ≡ map row_command (filter (λ l. eqb l.lane lane) rows)
 rows-lane lane rows = filter-mapped row_command (λ (c : LaneCommand). eqb c.lane lane) rows
@@ -73,21 +58,12 @@ other-commands lane es rows other are =
     ∙ rows-told (filter (λ (l : Line). eqb l.lane lane) rows)
 
 -- rows that went on are plain, and outside lane 0
-rows-plain : (round : ℕ) (rows : List Line) → All (GoesOn round) rows → AllByRecursion IsPlain (map (λ l. l.command) rows)
-rows-plain round [] going = tt
-rows-plain round (r ∷ rs) going =
-    let here : GoesOn round r = All-head (GoesOn round) r rs going in
-    (stands-plain r.lane r.command here.1.0 here.0.stands, rows-plain round rs (All-tail (GoesOn round) r rs going))
+rows-plain : (round : ℕ) (rows : List Line) → All (GoesOn round) rows → All (λ l. IsPlain l.command) rows
+rows-plain round rows going = All-weaker (GoesOn round) (λ (l : Line). IsPlain l.command) (λ l here. stands-plain l.lane l.command here.1.0 here.0.stands) rows going
 
 lane-plain : (round lane : ℕ) (rows : List Line) → All (GoesOn round) rows → AllByRecursion IsPlain (in_lane rows lane)
-lane-plain round lane [] going = tt
-lane-plain round lane (r ∷ rs) going =
-    let here : GoesOn round r = All-head (GoesOn round) r rs going in
-    by (eqb r.lane lane) (stands-plain r.lane r.command here.1.0 here.0.stands) (lane-plain round lane rs (All-tail (GoesOn round) r rs going))
-  where
-    by : (b : Bool) → IsPlain r.command → AllByRecursion IsPlain (in_lane rs lane) → AllByRecursion IsPlain (map (λ l. l.command) (cond b (r ∷ filter (λ l. eqb l.lane lane) rs) (filter (λ l. eqb l.lane lane) rs)))
-    by true plain more = (plain, more)
-    by false plain more = more
+lane-plain round lane rows going =
+    recursion_from_All IsPlain _ (All-map IsPlain (λ (l : Line). l.command) _ (All-filter (λ (l : Line). eqb l.lane lane) (λ (l : Line). IsPlain l.command) rows (rows-plain round rows going)))
 
 pub rows-of : (round : ℕ) (rows : List Line) → All (GoesOn round) rows → AreOf round rows
 rows-of round [] going = tt
@@ -98,9 +74,8 @@ rows-of round (r ∷ rs) going =
 zero-rows : (round : ℕ) (rows : List Line) → All (GoesOn round) rows → in_lane rows 0 ≡ []
 zero-rows round [] going = refl
 zero-rows round (r ∷ rs) going =
-    let here : GoesOn round r = All-head (GoesOn round) r rs going in
-    ap (λ b. map (λ (l : Line). l.command) (cond b (r ∷ filter (λ l. eqb l.lane 0) rs) (filter (λ l. eqb l.lane 0) rs))) (ne_eqb r.lane 0 here.1.0)
-    ∙ zero-rows round rs (All-tail (GoesOn round) r rs going)
+    let here : r.lane ≢ 0 = (All-head (GoesOn round) r rs going).1.0 in
+    grind (arith, nat_tests, zero-rows round rs (All-tail (GoesOn round) r rs going))
 
 -- so each entry outside lane 0 is plain
 in-zero : (es : List Entry) → AllByRecursion IsPlain (map told (commands_of_pass 1 es)) → AllByRecursion IsInZero es
@@ -126,29 +101,20 @@ none-left (e ∷ es) are = absurd cc
 abbrev pub some_close : ℕ → Entry
 some_close batch = record { lane = 0; command = Close batch (record { expired = []; answer = Overflow }); reply = Accepted }
 
-module _ (nodes : List ℕ) (wait : ℕ) where
-  -- entries of plain commands are a run of them
-  plain-lane : (lane : ℕ) (s : State) (es : List Entry) → RepliesAreSteps nodes wait s es → AllByRecursion IsPlain (map (λ e. e.command) (of_lane lane es)) → IsLaneRun (map (λ e. e.command) (of_lane lane es)) (of_lane lane es)
-  unfolding RepliesAreSteps
-  plain-lane lane s [] replies plain = tt
-  plain-lane lane s (e ∷ es) replies plain =
-      by (eqb e.lane lane) (λ p. ap sealed_by replies.0 ∙ (plain-quiet nodes wait s e.command p).told) (plain-lane lane (step nodes wait s e.command).0 es replies.1) plain
-    where
-      by : (b : Bool) → (IsPlain e.command → sealed_by e.reply ≡ None) → (AllByRecursion IsPlain (map (λ e. e.command) (of_lane lane es)) → IsLaneRun (map (λ e. e.command) (of_lane lane es)) (of_lane lane es))
-          → AllByRecursion IsPlain (map (λ e. e.command) (cond b (e ∷ of_lane lane es) (of_lane lane es))) → IsLaneRun (map (λ e. e.command) (cond b (e ∷ of_lane lane es) (of_lane lane es))) (cond b (e ∷ of_lane lane es) (of_lane lane es))
-      by true quiet more plain = (refl, subst (λ (p : Option ℕ). IsLaneRunFrom p (map (λ e. e.command) (of_lane lane es)) (of_lane lane es)) (sym (quiet plain.0)) (more plain.1))
-      by false quiet more plain = more plain
+-- a plain command seals no batch
+abbrev Told : Entry → Type 0
+Told e = IsPlain e.command → sealed_by e.reply ≡ None
 
+-- entries of plain commands are a run of them
+own-run : (es : List Entry) → AllByRecursion Told es → AllByRecursion IsPlain (map (λ e. e.command) es) → IsLaneRun (map (λ e. e.command) es) es
+own-run [] told plain = tt
+own-run (e ∷ es) told plain = (refl, subst (λ p. IsLaneRunFrom p (map (λ e. e.command) es) es) (sym (told.0 plain.0)) (own-run es told.1 plain.1))
+
+module _ (nodes : List ℕ) (wait : ℕ) where
   call-commands : (s : State) (es : List Entry) → map (λ c. c.call) (filter (λ c. eqb c.lane 0) (calls_from nodes wait s es)) ≡ map (λ e. e.command) (of_lane 0 es)
   unfolding calls_from
   call-commands s [] = refl
-  call-commands s (e ∷ es) = by (eqb e.lane 0) (record { lane = e.lane; call = e.command; reply = record { reply = e.reply; snapshot = snapshot_after e.reply (step nodes wait s e.command).0 } })
-      (filter (λ c. eqb c.lane 0) (calls_from nodes wait (step nodes wait s e.command).0 es)) refl (call-commands (step nodes wait s e.command).0 es)
-    where
-      by : (b : Bool) (c : LoggedCall Command LockedReply) (rest : List (LoggedCall Command LockedReply)) → c.call ≡ e.command → map (λ c. c.call) rest ≡ map (λ e. e.command) (of_lane 0 es)
-          → map (λ c. c.call) (cond b (c ∷ rest) rest) ≡ map (λ e. e.command) (cond b (e ∷ of_lane 0 es) (of_lane 0 es))
-      by true c rest is same = (λ i. is i ∷ same i)
-      by false c rest is same = same
+  call-commands s (e ∷ es) = grind (arith, call-commands (step nodes wait s e.command).0 es)
 
 module _ (settings : Settings) (roads : Roads) where
   good-calls : (b : Batch) (outcome : Outcome) → IsGoodOutcome settings roads b outcome → (calls : List (LoggedCall Command LockedReply)) → map (λ c. c.call) calls ≡ Close b.number outcome ∷ [] → LaneClosesAreGood settings roads (Some b) calls
@@ -164,7 +130,7 @@ module _ (settings : Settings) (roads : Roads) where
   module _ (b : Batch) (s : State) (es : List Entry) (round : ℕ) (run : List Line) (sealed : s.sealed ≡ Some b) (replies : RepliesAreSteps roads.nodes settings.wait s es)
       (going : All (GoesOn round) run) (called : commands_of_pass 1 es ≡ map row_command run) where
     zeroth : AllByRecursion IsInZero es
-    zeroth = in-zero es (subst (AllByRecursion IsPlain) (sym (rows-told run) ∙ ap (map told) (sym called)) (rows-plain round run going))
+    zeroth = in-zero es (subst (AllByRecursion IsPlain) (sym (rows-told run) ∙ ap (map told) (sym called)) (recursion_from_All IsPlain _ (All-map IsPlain (λ (l : Line). l.command) run (rows-plain round run going))))
 
     last : (c : Batch) → s.sealed ≡ Some c → Some b ≡ Some c
     last c is = sym sealed ∙ is
@@ -173,7 +139,8 @@ module _ (settings : Settings) (roads : Roads) where
     batch-others lane other =
         let are : map (λ e. e.command) (of_lane lane es) ≡ in_lane run lane = other-commands lane es run other called in
         subst (λ cs. IsLaneRun cs (of_lane lane es)) are
-        (plain-lane roads.nodes settings.wait lane s es replies (subst (AllByRecursion IsPlain) (sym are) (lane-plain round lane run going)))
+        (own-run (of_lane lane es) (recursion_from_All Told _ (All-filter (λ e. eqb e.lane lane) Told es (All-from_recursion Told es (each-told roads.nodes settings.wait s es replies))))
+        (subst (AllByRecursion IsPlain) (sym are) (lane-plain round lane run going)))
 
     pub batch-closes : (outcome : Outcome) → IsGoodOutcome settings roads b outcome → map (λ e. e.command) (of_lane 0 es) ≡ Close b.number outcome ∷ [] → ClosesAreGood settings roads s es
     batch-closes outcome good are =

@@ -1,12 +1,13 @@
 -- The names that the proofs of this crate cite from elsewhere, passed on from one place. Declares nothing.
 pub use Rattle.std.proofs.KnownBytes.{Appends-nil, Appends-trans}
 pub use Rattle.std.proofs.Math.Seq.{take-append-add, take-append_seam}
-pub use Rattle.std.proofs.lemmas.Bool.{and_left, cases_lt, cases_order, eqb-false}
+pub use Rattle.std.proofs.lemmas.Bool.{cases_lt, cases_order, eqb-false}
+pub use Rattle.std.proofs.lemmas.Bool.Decides.{nat_tests}
 pub use Rattle.std.proofs.lemmas.List.{get_or_past, map-append}
 pub use Rattle.std.proofs.lemmas.List.Elements.{All-head, All-nil, All-push, All-same, All-tail, All-weaker, filter-append}
 pub use Rattle.std.specs.Io.KnownBytes.{Appends}
 pub use Rattle.batch_snapshot.specs.Batch.{Batch}
-pub use Rattle.dispatch_engine.proofs.lemmas.LaneLemmas.{IsInZero, closes-join, ends-closed, plain-quiet}
+pub use Rattle.dispatch_engine.proofs.lemmas.LaneLemmas.{IsInZero, closes-join, each-told, ends-closed}
 pub use Rattle.dispatch_engine.proofs.lemmas.RunLemmas.{begun-next, filter-mapped, position-more, run-append, run-more, snapshot-known, state-more}
 pub use Rattle.dispatch_engine.proofs.lemmas.StandLemmas.{stands-plain}
 unfoldable pub use Rattle.dispatch_engine.specs.Lane.{ClosesAreGood}
@@ -26,7 +27,7 @@ pub use Rattle.live_desk.specs.Desk.{IsPassedOn, Outputs, desk_of, desk_root, en
 pub use Rattle.live_desk.specs.declared.desk.LaneCommand.{LaneCommand}
 pub use Rattle.live_dispatch.specs.Live.{AreWhole, BeginsRows, ButLast, HasAppended, IsBegunRun, IsRoundBeginning, journals_notices, journals_text, rows_text}
 pub use Rattle.live_dispatch.specs.declared.fault.LiveFault.{LiveFault}
-pub use Rattle.live_dispatch.specs.work.Rows.{EndsIn, in_lane, last_of, round_numbers, start_text}
+pub use Rattle.live_dispatch.specs.work.Rows.{EndsIn, EndsWith, in_lane, last_of, round_numbers, start_text}
 pub use Rattle.live_dispatch.specs.work.Standing.{AppendsSome, Awaits, GivesNext, HasCut, HasEnded, HasRunOn, HasTaken, HaveCome, Moment, Opens, Stands, WritesSome, ended_by, entry_for, moment, of_line, of_report, outputs_of, row_text}
 pub use Rattle.live_rows.specs.Rows.{ComesBehind, TakesRows}
 pub use Rattle.pool_io.specs.Faults.{Rose}
@@ -55,4 +56,4 @@ pub use Rattle.script_rows.specs.declared.line.Line.{Line}
 pub use Rattle.script_rows.specs.lemmas.Named.{rounds_of}
 pub use Rattle.shared_book.proofs.lemmas.LockedLemmas.{applied-fits, step-seals}
 unfoldable pub use Rattle.shared_book.specs.Locked.{calls_from}
-pub use Rattle.shared_book.specs.Locked.{is_light, sealed_by, snapshot_after}
+pub use Rattle.shared_book.specs.Locked.{is_light, sealed_by}

@@ -1,6 +1,6 @@
 -- How a run ends.
 use Rattle.std.proofs.Common.{◌≡◌, ℕ, ◌≤◌, Bool, List, ◌∷◌, ◌++◌, Option, Some, Result, Ok, Err, refl, sym, ap, subst, arith}
-use Rattle.live_dispatch.proofs.Common.{Appends-trans, Batch, position_after_run, end_text, SinkView, WritesText, ReportFault, AreRows, BeginWithRows, FaultsFrom, TakesRun, all-begin, Halt, IsPassedOn, Outputs, Rose, BookView, next_position, Settings, Roads, Line, rounds_of, BeginsRows, journals_text, LiveFault, HasCut, HasEnded, HasRunOn, HaveCome, Moment, Opens, Stands, ended_by, of_report, outputs_of, row_text}
+use Rattle.live_dispatch.proofs.Common.{Appends-trans, Batch, position_after_run, end_text, SinkView, WritesText, ReportFault, AreRows, BeginWithRows, FaultsFrom, TakesRun, all-begin, runs-begin, Halt, IsPassedOn, Outputs, Rose, BookView, next_position, Settings, Roads, Line, rounds_of, BeginsRows, journals_text, LiveFault, HasCut, HasEnded, HasRunOn, HaveCome, Moment, Opens, Stands, ended_by, of_report, outputs_of, row_text}
 use Rattle.live_dispatch.proofs.StandLemmas.{begins-here, begins-last}
 use Rattle.live_dispatch.proofs.StepLemmas.{batch-begins, batch-stands, lines-behind, row-begins}
 use Rattle.live_dispatch.proofs.WriteLemmas.{whole-some}
@@ -10,6 +10,15 @@ use Rattle.live_dispatch.specs.declared.fault.LiveFault.TheVariants as live
 
 faults-kept : (end : Halt) (row : Line) (before now : ℕ) → end ≡ stop.Held row → FaultsFrom end before now → before ≤ now
 faults-kept end row before now is from = subst (λ e. FaultsFrom e before now) is from
+
+-- the fault of a report, by that of the run
+pub write_of : (fault : ReportFault) → of_report fault ≡ live.WriteFault → fault ≡ report.WriteFault
+write_of report.WriteFault e = refl
+write_of report.OutOfMemory e = absurd cc
+
+pub no_read_of : (fault : ReportFault) → of_report fault ≡ live.ReadFault → ⊥
+no_read_of report.WriteFault e = absurd cc
+no_read_of report.OutOfMemory e = absurd cc
 
 module _ (settings : Settings) (roads : Roads) (start : Moment) where
   -- with a fault
@@ -57,14 +66,6 @@ module _ (settings : Settings) (roads : Roads) (start : Moment) where
           read_fault = λ e. absurd cc;
           writes = omega (arith, falls, stands.writes);
         }
-
-    write_of : (fault : ReportFault) → of_report fault ≡ live.WriteFault → fault ≡ report.WriteFault
-    write_of report.WriteFault e = refl
-    write_of report.OutOfMemory e = absurd cc
-
-    no_read_of : (fault : ReportFault) → of_report fault ≡ live.ReadFault → ⊥
-    no_read_of report.WriteFault e = absurd cc
-    no_read_of report.OutOfMemory e = absurd cc
 
     part-end : (fault : ReportFault) → WritesText (record { before = now.sink; after = sink }) last_line (Err fault) → HasEnded settings roads start failed last (Err (of_report fault))
     part-end fault w =
@@ -152,18 +153,9 @@ module _ (settings : Settings) (roads : Roads) (start : Moment) where
         let stands = batch-stood done reads (AreRows start.rows) has_cut (omega arith) are in
         all-ended (behind_it reads) (AreRows start.rows) stands stands.are failed last.sink last ended (λ i. record { sink = last.sink; notifiers = same i }) wrote
 
-    pub batch-unread : (done : Unit {0}) (failed : ℕ) (last : Outputs) (ended : Result (Unit {0}) LiveFault) → HasCut book cut closed fault (Ok done) → end ≡ stop.ReadFault
-        → FaultsFrom end reads failed → ended ≡ Err live.ReadFault → last ≡ outputs → HasEnded settings roads start failed last ended
-    batch-unread done failed last ended has_cut is from ended_is last_is =
-        let are : BeginWithRows start.rows lines = subst (λ e. TakesRun e start.rows rows lines) is (lines-behind settings roads start b round book rows outputs closed end fault reads on) in
+    pub batch-stopped : (done : Unit {0}) (failed : ℕ) (last : Outputs) (why : LiveFault) (ended : Result (Unit {0}) LiveFault) → HasCut book cut closed fault (Ok done)
+        → ended ≡ Err why → last ≡ outputs → (why ≡ live.WriteFault → ⊥) → (why ≡ live.ReadFault → Rose reads failed) → HasEnded settings roads start failed last ended
+    batch-stopped done failed last why ended has_cut ended_is last_is no_write rose =
+        let are = runs-begin end start.rows rows lines (lines-behind settings roads start b round book rows outputs closed end fault reads on) in
         let stands = batch-stood done reads (BeginWithRows start.rows) has_cut (omega arith) are in
-        let rose : Rose reads failed = subst (λ e. FaultsFrom e reads failed) is from in
-        let were = start-reads in
-        stood-ended (behind_it reads) (BeginWithRows start.rows) stands stands.are failed last live.ReadFault ended ended_is last_is (λ e. absurd cc) (λ e. omega (arith, rose, were))
-
-    pub batch-out : (done : Unit {0}) (failed : ℕ) (last : Outputs) (ended : Result (Unit {0}) LiveFault) → HasCut book cut closed fault (Ok done) → end ≡ stop.OutOfMemory
-        → ended ≡ Err live.OutOfMemory → last ≡ outputs → HasEnded settings roads start failed last ended
-    batch-out done failed last ended has_cut is ended_is last_is =
-        let are : BeginWithRows start.rows lines = subst (λ e. TakesRun e start.rows rows lines) is (lines-behind settings roads start b round book rows outputs closed end fault reads on) in
-        let stands = batch-stood done reads (BeginWithRows start.rows) has_cut (omega arith) are in
-        stood-ended (behind_it reads) (BeginWithRows start.rows) stands stands.are failed last live.OutOfMemory ended ended_is last_is (λ e. absurd cc) (λ e. absurd cc)
+        stood-ended (behind_it reads) (BeginWithRows start.rows) stands stands.are failed last why ended ended_is last_is no_write (λ e. omega (arith, rose e, start-reads))

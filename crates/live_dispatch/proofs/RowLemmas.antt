@@ -1,7 +1,7 @@
 -- The rounds of rows with some more rows of one round.
-use Rattle.std.proofs.Common.{◌≡◌, ◌≢◌, ℕ, ◌<◌, ◌≤◌, Bool, true, false, ◌&&◌, cond, eqb, List, [], ◌∷◌, ◌++◌, map, Option, None, Some, refl, sym, ap, subst, ◌∙◌, append_assoc, append-nil, inl, inr, arith}
-use Rattle.live_dispatch.proofs.Common.{cases_lt, cases_order, and_left, map-append, get_or_past, All-head, All-tail, All-nil, All-push, All-weaker, All-same, filter-append, round_line, Command, Line, NumberedLanes, lane_at, round_of, rounds_of, round_numbers, in_lane, EndsIn, last_of, start_text}
-use Rattle.std.specs.List.{All, filter, list_any, range_with_len}
+use Rattle.std.proofs.Common.{◌≡◌, ◌≢◌, ℕ, ◌<◌, ◌≤◌, ◌&&◌, cond, eqb, List, [], ◌∷◌, ◌++◌, get_or, map, Option, None, Some, refl, sym, ap, subst, ◌∙◌, append_assoc, append-nil, inl, inr, arith}
+use Rattle.live_dispatch.proofs.Common.{cases_lt, cases_order, nat_tests, map-append, get_or_past, All-head, All-tail, All-nil, All-push, All-weaker, All-same, filter-append, round_line, Command, Line, NumberedLanes, lane_at, round_of, rounds_of, round_numbers, in_lane, EndsIn, EndsWith, last_of, start_text}
+use Rattle.std.specs.List.{All, filter, range_with_len}
 use Rattle.std.proofs.lemmas.Bool.{eq-eqb, ne_eqb}
 use Rattle.std.proofs.lemmas.List.FromFn.{length-map-range_with_len, get_or-map-range_with_len}
 use Rattle.pool_base.specs.Distinct.{distinct}
@@ -21,34 +21,20 @@ of_round-append xs ys number lane =
     ap (map (λ (l : Line). l.command)) (filter-append (λ (l : Line). eqb l.round number && eqb l.lane lane) xs ys)
     ∙ map-append (λ (l : Line). l.command) (filter (λ (l : Line). eqb l.round number && eqb l.lane lane) xs) (filter (λ (l : Line). eqb l.round number && eqb l.lane lane) ys)
 
--- one row's command, where it counts
-abbrev kept : Bool → Line → List Line → List Command
-kept b row rest = map (λ l. l.command) (cond b (row ∷ rest) rest)
-
-kept-same : (b : Bool) (row : Line) (xs ys : List Line) → map (λ l. l.command) xs ≡ map (λ l. l.command) ys → kept b row xs ≡ kept b row ys
-kept-same true row xs ys e = ap (λ cs. row.command ∷ cs) e
-kept-same false row xs ys e = e
-
 -- of rows of one round the lane alone decides
 of_round-own : (rows : List Line) (number lane : ℕ) → AreOf number rows → of_round rows number lane ≡ in_lane rows lane
 of_round-own [] number lane are = refl
-of_round-own (row ∷ rows) number lane are =
-    ap (λ b. kept (b && eqb row.lane lane) row (filter (λ (l : Line). eqb l.round number && eqb l.lane lane) rows)) (eq-eqb row.round number are.0)
-    ∙ kept-same (eqb row.lane lane) row (filter (λ (l : Line). eqb l.round number && eqb l.lane lane) rows) (filter (λ (l : Line). eqb l.lane lane) rows) (of_round-own rows number lane are.2)
+of_round-own (row ∷ rows) number lane are = grind (arith, nat_tests, are.0, of_round-own rows number lane are.2)
 
 -- rows of another round add nothing
 of_round-other : (rows : List Line) (own number lane : ℕ) → own ≢ number → AreOf own rows → of_round rows number lane ≡ []
 of_round-other [] own number lane other are = refl
-of_round-other (row ∷ rows) own number lane other are =
-    ap (λ b. kept b row (filter (λ (l : Line). eqb l.round number && eqb l.lane lane) rows)) (and_left (eqb row.round number) (eqb row.lane lane) (ne_eqb row.round number (λ e. other (sym are.0 ∙ e))))
-    ∙ of_round-other rows own number lane other are.2
+of_round-other (row ∷ rows) own number lane other are = grind (arith, nat_tests, are.0, of_round-other rows own number lane other are.2)
 
 -- nor has a lane beyond the sixteenth any
 in_lane-beyond : (rows : List Line) (number lane : ℕ) → 16 ≤ lane → AreOf number rows → in_lane rows lane ≡ []
 in_lane-beyond [] number lane beyond are = refl
-in_lane-beyond (row ∷ rows) number lane beyond are =
-    ap (λ b. kept b row (filter (λ (l : Line). eqb l.lane lane) rows)) (ne_eqb row.lane lane (λ e. (let lt : row.lane < 16 = are.1 in omega (arith, e, lt))))
-    ∙ in_lane-beyond rows number lane beyond are.2
+in_lane-beyond (row ∷ rows) number lane beyond are = grind (arith, nat_tests, are.1, in_lane-beyond rows number lane beyond are.2)
 
 -- a lane of a round that is made of rows
 round-lane : (lines : List Line) (number lane : ℕ) → lane < 16 → lane_at (round_of lines number) lane ≡ of_round lines number lane
@@ -71,10 +57,6 @@ lane-grows lines rows number lane are = elim (cases_lt lane 16) [
 ]
 
 -- functions that agree on a list
-map-same : {X Y : Type 0} (f g : X → Y) (xs : List X) → ((x : X) → f x ≡ g x) → map f xs ≡ map g xs
-map-same f g [] same = refl
-map-same f g (x ∷ xs) same = (λ i. same x i ∷ map-same f g xs same i)
-
 map-on : {X Y : Type 0} (f g : X → Y) (xs : List X) → All (λ x. f x ≡ g x) xs → map f xs ≡ map g xs
 map-on f g [] same = refl
 map-on f g (x ∷ xs) same = (λ i. All-head (λ y. f y ≡ g y) x xs same i ∷ map-on f g xs (All-tail (λ y. f y ≡ g y) x xs same) i)
@@ -82,17 +64,15 @@ map-on f g (x ∷ xs) same = (λ i. All-head (λ y. f y ≡ g y) x xs same i ∷
 -- the rounds of other numbers stay as they were
 round-other : (lines rows : List Line) (own number : ℕ) → own ≢ number → AreOf own rows → round_of (lines ++ rows) number ≡ round_of lines number
 round-other lines rows own number other are =
-    let made : List (List Command) → NumberedLanes = λ ls. record { number = number; lanes = ls } in
-    ap made (map-same (of_round (lines ++ rows) number) (of_round lines number) (range_with_len 0 16)
-    (λ lane. of_round-append lines rows number lane ∙ ap (λ cs. of_round lines number lane ++ cs) (of_round-other rows own number lane other are) ∙ append-nil (of_round lines number lane)))
+    let same = λ (lane : ℕ). of_round-append lines rows number lane ∙ ap (λ cs. of_round lines number lane ++ cs) (of_round-other rows own number lane other are) ∙ append-nil (of_round lines number lane) in
+    ap (λ (ls : List (List Command)). record { number = number; lanes = ls }) (map-on (of_round (lines ++ rows) number) (of_round lines number) (range_with_len 0 16) (λ k d lt. same (get_or (range_with_len 0 16) k d)))
 
 -- a number that no row has gives a round without commands
 of_round-none : (lines : List Line) (number lane : ℕ) → All (λ n. n ≢ number) (round_numbers lines) → of_round lines number lane ≡ []
 of_round-none [] number lane none = refl
 of_round-none (row ∷ rows) number lane none =
-    ap (λ b. kept b row (filter (λ (l : Line). eqb l.round number && eqb l.lane lane) rows))
-    (and_left (eqb row.round number) (eqb row.lane lane) (ne_eqb row.round number (All-head (λ n. n ≢ number) row.round (round_numbers rows) none)))
-    ∙ of_round-none rows number lane (All-tail (λ n. n ≢ number) row.round (round_numbers rows) none)
+    let here : row.round ≢ number = All-head (λ n. n ≢ number) row.round (round_numbers rows) none in
+    grind (arith, nat_tests, of_round-none rows number lane (All-tail (λ n. n ≢ number) row.round (round_numbers rows) none))
 
 round-none : (lines : List Line) (number lane : ℕ) → All (λ n. n ≢ number) (round_numbers lines) → lane_at (round_of lines number) lane ≡ []
 round-none lines number lane none = elim (cases_lt lane 16) [
@@ -102,12 +82,6 @@ round-none lines number lane none = elim (cases_lt lane 16) [
 
 numbers-append : (xs ys : List Line) → round_numbers (xs ++ ys) ≡ round_numbers xs ++ round_numbers ys
 numbers-append xs ys = map-append (λ (l : Line). l.round) xs ys
-
--- numbers that end in one that is there already
-record EndsWith (ns : List ℕ) (last : ℕ) (front : List ℕ) : Type 0 where
-  ends : distinct ns ≡ front ++ last ∷ []
-  here : list_any (λ n. eqb n last) ns ≡ true
-  below : All (λ n. n ≤ last) ns
 
 ends-more : (ns : List ℕ) (last : ℕ) (front : List ℕ) → EndsWith ns last front → EndsWith (ns ++ last ∷ []) last front
 ends-more ns last front e = record {
@@ -153,10 +127,7 @@ rounds-shape lines rows own front low are ends =
     ∙ ap (λ rs. rs ++ round_of all own ∷ []) (fronts-same lines rows own front low are)
 
 ends-of : (lines rows : List Line) (own : ℕ) (front : List ℕ) → All (λ n. n < own) front → EndsWith (round_numbers lines ++ round_numbers rows) own front → EndsIn (lines ++ rows) (Some own)
-ends-of lines rows own front low ends =
-    EndsIn.in_round front own (ap distinct (numbers-append lines rows) ∙ ends.ends) low
-    (ap (list_any (λ n. eqb n own)) (numbers-append lines rows) ∙ ends.here)
-    (All-same (λ n. n ≤ own) (round_numbers (lines ++ rows)) (round_numbers lines ++ round_numbers rows) (numbers-append lines rows) ends.below)
+ends-of lines rows own front low ends = EndsIn.in_round front own (subst (λ ns. EndsWith ns own front) (sym (numbers-append lines rows)) ends) low
 
 -- what holds of rows with some more rows of a round
 pub record AreMore (round : Option ℕ) (lines rows : List Line) (number : ℕ) : Type 0 where
@@ -164,15 +135,13 @@ pub record AreMore (round : Option ℕ) (lines rows : List Line) (number : ℕ) 
   pub rounds : RoundsGrow round lines rows number
 
 -- rows of the last round
-more-last : (lines rows : List Line) (last : ℕ) (front : List ℕ) → distinct (round_numbers lines) ≡ front ++ last ∷ [] → All (λ n. n < last) front
-    → list_any (λ n. eqb n last) (round_numbers lines) ≡ true → All (λ n. n ≤ last) (round_numbers lines) → AreOf last rows → AreMore (Some last) lines rows last
-more-last lines rows last front ends low here below are =
-    let was : EndsWith (round_numbers lines) last front = record { ends = ends; here = here; below = below } in
+more-last : (lines rows : List Line) (last : ℕ) (front : List ℕ) → EndsWith (round_numbers lines) last front → All (λ n. n < last) front → AreOf last rows → AreMore (Some last) lines rows last
+more-last lines rows last front was low are =
     let now : EndsWith (round_numbers lines ++ round_numbers rows) last front = ends-rows last front rows are (round_numbers lines) was in
     record {
       ends = ends-of lines rows last front low now;
       rounds = RoundsGrow.joins (map (round_of lines) front) (ap (λ b. cond b [] (round_line last)) (eq-eqb last last refl))
-          (ap (map (round_of lines)) ends ∙ map-append (round_of lines) front (last ∷ []))
+          (ap (map (round_of lines)) was.ends ∙ map-append (round_of lines) front (last ∷ []))
           (rounds-shape lines rows last front low are now);
     }
 
@@ -196,17 +165,14 @@ rows-more _ lines row rows number (EndsIn.in_none empty) low are =
     more-new None lines row rows number refl
     (subst (λ (ls : List Line). All (λ n. n < number) (round_numbers ls)) (sym empty) (All-nil (λ n. n < number))) are
     (subst (λ (ls : List Line). All (λ n. n < number) (distinct (round_numbers ls))) (sym empty) (All-nil (λ n. n < number)))
-rows-more _ lines row rows number (EndsIn.in_round front last ends low_front here below) low are = elim (cases_order last number) [
+rows-more _ lines row rows number (EndsIn.in_round front last ends low_front) low are = elim (cases_order last number) [
   | inl same ↦ subst (λ n. AreMore (Some n) lines (row ∷ rows) number) (sym same)
-      (more-last lines (row ∷ rows) number front (ends ∙ ap (λ n. front ++ n ∷ []) same)
-      (subst (λ n. All (λ m. m < n) front) same low_front)
-      (subst (λ m. list_any (λ n. eqb n m) (round_numbers lines) ≡ true) same here)
-      (subst (λ m. All (λ n. n ≤ m) (round_numbers lines)) same below) are)
+      (more-last lines (row ∷ rows) number front (subst (λ n. EndsWith (round_numbers lines) n front) same ends) (subst (λ n. All (λ m. m < n) front) same low_front) are)
   | inr order ↦ elim order [
     | inl later ↦
         more-new (Some last) lines row rows number (ap (λ b. cond b [] (round_line number)) (ne_eqb last number (λ e. omega (arith, later, e))))
-        (All-weaker (λ n. n ≤ last) (λ n. n < number) (λ n h. omega (arith, h, later)) (round_numbers lines) below) are
-        (All-same (λ n. n < number) (distinct (round_numbers lines)) (front ++ last ∷ []) ends
+        (All-weaker (λ n. n ≤ last) (λ n. n < number) (λ n h. omega (arith, h, later)) (round_numbers lines) ends.below) are
+        (All-same (λ n. n < number) (distinct (round_numbers lines)) (front ++ last ∷ []) ends.ends
         (All-push (λ n. n < number) front last (All-weaker (λ n. n < last) (λ n. n < number) (λ n h. omega (arith, h, later)) front low_front) later))
     | inr back ↦ absurd (omega (arith, low, back))
   ]

@@ -101,23 +101,21 @@ module _ (settings : Settings) (roads : Roads) where
   pub record HasGrown (s : State) (p : ℕ) (round : Option ℕ) (lines rows : List Line) (number : ℕ) (journals : List Journal) (es : List Entry) : Type 0 where
     pub fronts : List NumberedLanes
     pub done : List Journal
-    -- the last journal, or an empty one, and what it becomes
+    -- the last journal, or an empty one, to which the entries come
     pub front : Journal
-    pub journal : Journal
-    pub is : journal ≡ with_more front es
-    pub one : (e : Entry) → es ≡ e ∷ [] → ButLast (done ++ journal ∷ []) journals
+    pub one : (e : Entry) → es ≡ e ∷ [] → ButLast (done ++ with_more front es ∷ []) journals
     pub rounds : rounds_of (lines ++ rows) ≡ fronts ++ round_of (lines ++ rows) number ∷ []
     pub run : IsRun settings roads s p fronts done
-    pub base : journal.base ≡ after s done
-    pub first : journal.first ≡ position_after_run p done
-    pub whole : ((lane : ℕ) → IsLaneRun (in_lane rows lane) (of_lane lane es)) → IsRoundRun settings roads (round_of (lines ++ rows) number) journal
-    pub begun : ((lane : ℕ) → IsLaneBeginning (in_lane rows lane) (of_lane lane es)) → IsRoundBeginning settings roads (round_of (lines ++ rows) number) journal
+    pub base : front.base ≡ after s done
+    pub first : front.first ≡ position_after_run p done
+    pub whole : ((lane : ℕ) → IsLaneRun (in_lane rows lane) (of_lane lane es)) → IsRoundRun settings roads (round_of (lines ++ rows) number) (with_more front es)
+    pub begun : ((lane : ℕ) → IsLaneBeginning (in_lane rows lane) (of_lane lane es)) → IsRoundBeginning settings roads (round_of (lines ++ rows) number) (with_more front es)
     pub text : (fs : List Entry) → journals_text settings.proof (fronts ++ round_of (lines ++ rows) number ∷ []) (done ++ with_more front fs ∷ [])
         ≡ journals_text settings.proof (rounds_of lines) journals ++ (start_text round number ++ lines_text (entries_lines settings.proof (position_after_run p journals) fs))
     pub old_text : journals_text settings.proof (fronts ++ round_of (lines ++ rows) number ∷ []) journals ≡ journals_text settings.proof (rounds_of lines) journals
     pub notices : (fs : List Entry) → journals_notices settings roads (done ++ with_more front fs ∷ []) ≡ journals_notices settings roads journals ++ notices_from roads.nodes settings.wait (after s journals) fs
-    pub state : after s (done ++ journal ∷ []) ≡ state_after roads.nodes settings.wait (after s journals) es
-    pub position : position_after_run p (done ++ journal ∷ []) ≡ next_position (position_after_run p journals) es
+    pub state : after s (done ++ with_more front es ∷ []) ≡ state_after roads.nodes settings.wait (after s journals) es
+    pub position : position_after_run p (done ++ with_more front es ∷ []) ≡ next_position (position_after_run p journals) es
 
   module _ (s : State) (p : ℕ) (round : Option ℕ) (lines rows : List Line) (number : ℕ) (es : List Entry) (low : p < 2 ^ 64) (are : AreOf number rows) where
     -- the last round grows
@@ -141,8 +139,6 @@ module _ (settings : Settings) (roads : Roads) where
           fronts = front;
           done = done;
           front = j;
-          journal = k;
-          is = refl;
           one = λ e one. subst (λ xs. ButLast (done ++ with_more j xs ∷ []) (done ++ j ∷ [])) (sym one) (ButLast.later done j.first j.base j.entries e);
           rounds = rounds;
           run = run;
@@ -208,8 +204,6 @@ module _ (settings : Settings) (roads : Roads) where
           fronts = rounds_of lines;
           done = journals;
           front = none_yet;
-          journal = k;
-          is = refl;
           one = λ e one. subst (λ xs. ButLast (journals ++ with_more none_yet xs ∷ []) journals) (sym one) (ButLast.only journals none_yet.first none_yet.base e);
           rounds = rounds;
           run = run;
@@ -272,7 +266,7 @@ module _ (settings : Settings) (roads : Roads) where
   pub run-begins : (s : State) (p : ℕ) (round : Option ℕ) (lines : List Line) (js : List Journal) → EndsIn lines round → IsRun settings roads s p (rounds_of lines) js → IsBegunRun settings roads s p (rounds_of lines) js
   run-begins s p _ lines js (EndsIn.in_none empty) run =
       subst (λ ls. IsBegunRun settings roads s p (rounds_of ls) js) (sym empty) (none-begun s p js (subst (λ ls. IsRun settings roads s p (rounds_of ls) js) empty run))
-  run-begins s p _ lines js (EndsIn.in_round front last ends low here below) run =
-      let are : rounds_of lines ≡ map (round_of lines) front ++ round_of lines last ∷ [] = ap (map (round_of lines)) ends ∙ map-append (round_of lines) front (last ∷ []) in
+  run-begins s p _ lines js (EndsIn.in_round front last ends low) run =
+      let are : rounds_of lines ≡ map (round_of lines) front ++ round_of lines last ∷ [] = ap (map (round_of lines)) ends.ends ∙ map-append (round_of lines) front (last ∷ []) in
       subst (λ rs. IsBegunRun settings roads s p rs js) (sym are)
       (last-begun s p (map (round_of lines) front) (round_of lines last) js (run-last s p (map (round_of lines) front) (round_of lines last) js (subst (λ rs. IsRun settings roads s p rs js) are run)))

@@ -1,16 +1,8 @@
 -- What stands of a run after more rows.
 use Rattle.std.proofs.Common.{◌≡◌, ℕ, ◌+◌, ◌<◌, ◌≤◌, List, [], ◌∷◌, ◌++◌, codes, length, take, drop, Option, Some, refl, sym, ap, subst, ◌∙◌, append_assoc, append-nil, take-append-drop, length-append, inl, inr, arith}
-use Rattle.live_dispatch.proofs.Common.{Appends, Appends-trans, take-append-add, of_lane, IsLaneRun, IsLaneBeginning, ClosesAreGood, IsReady, IsRun, position_after_run, run-more, lines_text, end_text, entries_lines, entry_text, Change, SinkView, numbered, AppendsPart, next_position, state_after, RepliesAreSteps, Entry, Journal, State, Settings, notices_from, HaveHeard, NotifierView, Notice, all-heard-more, Roads, round_of, Line, rounds_of, BeginWithRows, AreWhole, BeginsRows, ButLast, HasAppended, IsBegunRun, journals_notices, journals_text, rows_text, EndsIn, in_lane, last_of, start_text, Moment, Stands, entries-append, next-low, one-text}
+use Rattle.live_dispatch.proofs.Common.{Appends, Appends-nil, Appends-trans, take-append-add, of_lane, IsLaneRun, IsLaneBeginning, ClosesAreGood, IsReady, IsRun, position_after_run, run-more, lines_text, end_text, entries_lines, entry_text, Change, SinkView, numbered, AppendsPart, next_position, state_after, RepliesAreSteps, Entry, Journal, State, Settings, notices_from, HaveHeard, NotifierView, Notice, all-heard-more, Roads, round_of, Line, rounds_of, BeginWithRows, AreWhole, BeginsRows, ButLast, HasAppended, IsBegunRun, journals_notices, journals_text, rows_text, EndsIn, in_lane, last_of, start_text, Moment, Stands, entries-append, next-low, one-text}
 use Rattle.live_dispatch.proofs.RowLemmas.{AreMore, AreOf, rows-more}
 use Rattle.live_dispatch.proofs.RunLemmas.{HasGrown, has-grown, run-begins, with_more}
-
--- bytes that were written are a part of them and some more
-pub part-of : (old new : Option (List ℕ)) (bytes rest : List ℕ) → Appends old new bytes → 0 < length rest → AppendsPart old new (bytes ++ rest)
-part-of old new bytes rest written some = (
-  length bytes + 0,
-  omega (arith, length-append bytes rest, some),
-  subst (λ (l : List ℕ). Appends old new l) (sym (take-append-add bytes rest 0 ∙ append-nil bytes)) written,
-)
 
 -- bytes and a part of a text are a part of both
 pub part-behind : (old new : Option (List ℕ)) (front text : List ℕ) (k : ℕ) → k < length text → Appends old new (front ++ take k text) → AppendsPart old new (front ++ text)
@@ -20,8 +12,9 @@ part-behind old new front text k short written = (
   subst (λ (l : List ℕ). Appends old new l) (sym (take-append-add front text k)) written,
 )
 
-some-append : (xs ys : List ℕ) → 0 < length ys → 0 < length (xs ++ ys)
-some-append xs ys some = omega (arith, length-append xs ys, some)
+-- bytes that were written are a part of them and some more
+part-of : (old new : Option (List ℕ)) (bytes rest : List ℕ) → Appends old new bytes → 0 < length rest → AppendsPart old new (bytes ++ rest)
+part-of old new bytes rest written some = part-behind old new bytes rest 0 some (subst (λ (l : List ℕ). Appends old new l) (sym (append-nil bytes)) written)
 
 pub end-some : (n : ℕ) → 0 < length (end_text n)
 unfolding end_text lines_text
@@ -46,9 +39,6 @@ module _ (settings : Settings) (roads : Roads) (start before : Moment) (Before :
       (subst (λ s. RepliesAreSteps roads.nodes settings.wait s es) stands.state gives.replies)
       (subst (λ s. ClosesAreGood settings roads s es) stands.state gives.closes)
 
-  journals : List Journal
-  journals = grown.done ++ grown.journal ∷ []
-
   -- what was written, and what comes to it
   abbrev old_text : List ℕ
   old_text = journals_text settings.proof (rounds_of stands.lines) stands.journals
@@ -63,10 +53,6 @@ module _ (settings : Settings) (roads : Roads) (start before : Moment) (Before :
   whole_of : List Entry → List Journal
   whole_of fs = grown.done ++ with_more grown.front fs ∷ []
 
-  journals-are : journals ≡ whole_of es
-  unfolding journals whole_of
-  journals-are = ap (λ j. grown.done ++ j ∷ []) grown.is
-
   whole-text : (fs : List Entry) → journals_text settings.proof (rounds_of all) (whole_of fs) ≡ old_text ++ more_of fs
   unfolding whole_of
   whole-text fs =
@@ -78,29 +64,23 @@ module _ (settings : Settings) (roads : Roads) (start before : Moment) (Before :
   unfolding whole_of
   whole-notices fs = grown.notices fs ∙ ap (λ s. journals_notices settings roads stands.journals ++ notices_from roads.nodes settings.wait s fs) (sym stands.state)
 
-  unfold-text : journals_text settings.proof (rounds_of all) journals ≡ old_text ++ more_of es
-  unfold-text = ap (λ js. journals_text settings.proof (rounds_of all) js) journals-are ∙ whole-text es
-
-  notices-are : journals_notices settings roads journals ≡ journals_notices settings roads stands.journals ++ notices_from roads.nodes settings.wait before.book.state es
-  notices-are = ap (λ js. journals_notices settings roads js) journals-are ∙ whole-notices es
-
   pub stands-after : (now : Moment) (Now : List Line → Type 0) → Now all → ((lane : ℕ) → IsLaneRun (in_lane (row ∷ rest) lane) (of_lane lane es))
       → now.round ≡ Some number → now.book.state ≡ state_after roads.nodes settings.wait before.book.state es
       → next_position now.book.first now.book.entries ≡ next_position (next_position before.book.first before.book.entries) es
       → IsReady settings roads now.book → Appends before.sink.written now.sink.written (more_of es)
       → HaveHeard (notices_from roads.nodes settings.wait before.book.state es) before.notifiers now.notifiers
       → before.sink.faults ≤ now.sink.faults → before.reads ≤ now.reads → Stands settings roads start now Now
-  unfolding journals
+  unfolding whole_of
   stands-after now Now are lanes round state position ready text told writes reads = record {
     lines = all;
     are = are;
     ends = subst (EndsIn all) (sym round) more.ends;
-    journals = journals;
-    run = subst (λ rs. IsRun settings roads start.book.base start.book.first rs journals) (sym grown.rounds)
-        (run-more settings roads start.book.base start.book.first grown.fronts grown.done (round_of all number) grown.journal grown.run grown.base grown.first (grown.whole lanes));
-    text = subst (λ (t : List ℕ). Appends start.sink.written now.sink.written t) (sym unfold-text)
+    journals = whole_of es;
+    run = subst (λ rs. IsRun settings roads start.book.base start.book.first rs (whole_of es)) (sym grown.rounds)
+        (run-more settings roads start.book.base start.book.first grown.fronts grown.done (round_of all number) (with_more grown.front es) grown.run grown.base grown.first (grown.whole lanes));
+    text = subst (λ (t : List ℕ). Appends start.sink.written now.sink.written t) (sym (whole-text es))
         (Appends-trans start.sink.written before.sink.written now.sink.written old_text (more_of es) stands.text text);
-    told = subst (λ (ns : List Notice). HaveHeard ns start.notifiers now.notifiers) (sym notices-are)
+    told = subst (λ (ns : List Notice). HaveHeard ns start.notifiers now.notifiers) (sym (whole-notices es))
         (all-heard-more (journals_notices settings roads stands.journals) (notices_from roads.nodes settings.wait before.book.state es) start.notifiers before.notifiers now.notifiers stands.told told);
     state = state ∙ ap (λ s. state_after roads.nodes settings.wait s es) stands.state ∙ sym grown.state;
     position = position ∙ ap (λ n. next_position n es) stands.position ∙ sym grown.position;
@@ -115,25 +95,25 @@ module _ (settings : Settings) (roads : Roads) (start before : Moment) (Before :
     sinks = record { before = start.sink; after = record { written = written; faults = faults } }
 
     abbrev all_text : List ℕ
-    all_text = journals_text settings.proof (rounds_of all) journals
+    all_text = journals_text settings.proof (rounds_of all) (whole_of es)
 
     begins-of : (notifiers : List NotifierView) (bytes unwritten : List ℕ) → bytes ++ unwritten ≡ old_text ++ more_of es → Appends start.sink.written written bytes
-        → (whole : List Journal) → AreWhole sinks all_text journals whole → HasAppended start.sink.written written (journals_text settings.proof (rounds_of all) whole)
+        → (whole : List Journal) → AreWhole sinks all_text (whole_of es) whole → HasAppended start.sink.written written (journals_text settings.proof (rounds_of all) whole)
         → HaveHeard (journals_notices settings roads whole) start.notifiers notifiers
         → BeginsRows settings roads start.book start.rows sinks (record { before = start.notifiers; after = notifiers })
-    unfolding journals
+    unfolding whole_of
     begins-of notifiers bytes unwritten parts appended whole are_whole has told =
-        let end : List ℕ = end_text (position_after_run start.book.first journals) in
-        let is : bytes ++ (unwritten ++ end) ≡ rows_text settings roads start.book.first all journals =
-        sym (append_assoc bytes unwritten end) ∙ ap (λ t. t ++ end) (parts ∙ sym unfold-text) in
+        let end : List ℕ = end_text (position_after_run start.book.first (whole_of es)) in
+        let is : bytes ++ (unwritten ++ end) ≡ rows_text settings roads start.book.first all (whole_of es) =
+        sym (append_assoc bytes unwritten end) ∙ ap (λ t. t ++ end) (parts ∙ sym (whole-text es)) in
         record {
           lines = all;
           begin = begin;
-          journals = journals;
-          run = subst (λ rs. IsBegunRun settings roads start.book.base start.book.first rs journals) (sym grown.rounds)
-              (IsBegunRun.some grown.fronts grown.done (round_of all number) grown.journal grown.run grown.base grown.first (grown.begun lanes));
+          journals = whole_of es;
+          run = subst (λ rs. IsBegunRun settings roads start.book.base start.book.first rs (whole_of es)) (sym grown.rounds)
+              (IsBegunRun.some grown.fronts grown.done (round_of all number) (with_more grown.front es) grown.run grown.base grown.first (grown.begun lanes));
           text = subst (λ (t : List ℕ). AppendsPart start.sink.written written t) is
-              (part-of start.sink.written written bytes (unwritten ++ end) appended (some-append unwritten end (end-some (position_after_run start.book.first journals))));
+              (part-of start.sink.written written bytes (unwritten ++ end) appended (omega (arith, length-append unwritten end, end-some (position_after_run start.book.first (whole_of es)))));
           whole = whole;
           are_whole = are_whole;
           written = has;
@@ -146,9 +126,9 @@ module _ (settings : Settings) (roads : Roads) (start before : Moment) (Before :
     begins-whole notifiers text heard =
         let bytes : List ℕ = old_text ++ more_of es in
         let appended : Appends start.sink.written written bytes = Appends-trans start.sink.written before.sink.written written old_text (more_of es) stands.text text in
-        begins-of notifiers bytes [] (append-nil bytes) appended journals (inl refl)
-        ([], subst (λ (t : List ℕ). Appends start.sink.written written t) (sym unfold-text ∙ sym (append-nil all_text)) appended)
-        (subst (λ (ns : List Notice). HaveHeard ns start.notifiers notifiers) (sym notices-are)
+        begins-of notifiers bytes [] (append-nil bytes) appended (whole_of es) (inl refl)
+        ([], subst (λ (t : List ℕ). Appends start.sink.written written t) (sym (whole-text es) ∙ sym (append-nil all_text)) appended)
+        (subst (λ (ns : List Notice). HaveHeard ns start.notifiers notifiers) (sym (whole-notices es))
         (all-heard-more (journals_notices settings roads stands.journals) (notices_from roads.nodes settings.wait before.book.state es) start.notifiers before.notifiers notifiers stands.told heard))
 
     -- the text breaks off within the last entry
@@ -176,9 +156,9 @@ module _ (settings : Settings) (roads : Roads) (start before : Moment) (Before :
         (ap (λ t. t ++ drop k last) at_front ∙ append_assoc front (take k last) (drop k last) ∙ ap (λ t. front ++ t) (take-append-drop k last) ∙ joined)
         appended (whole_of fs)
         (inr (
-          subst (λ js. ButLast js (whole_of fs)) (ap (λ xs. grown.done ++ (record { first = f.first; base = f.base; entries = xs }) ∷ []) (append_assoc f.entries fs (e ∷ []) ∙ ap (λ xs. f.entries ++ xs) (sym is)) ∙ sym journals-are)
+          subst (λ js. ButLast js (whole_of fs)) (ap (λ xs. grown.done ++ (record { first = f.first; base = f.base; entries = xs }) ∷ []) (append_assoc f.entries fs (e ∷ []) ∙ ap (λ xs. f.entries ++ xs) (sym is)))
               (ButLast.later grown.done f.first f.base (f.entries ++ fs) e),
-          subst (λ (t : List ℕ). AppendsPart start.sink.written written t) (joined ∙ sym unfold-text) (part-behind start.sink.written written front last k short here),
+          subst (λ (t : List ℕ). AppendsPart start.sink.written written t) (joined ∙ sym (whole-text es)) (part-behind start.sink.written written front last k short here),
         ))
         (take k last, subst (λ (t : List ℕ). Appends start.sink.written written (t ++ take k last)) (sym (whole-text fs)) here)
         (subst (λ (ns : List Notice). HaveHeard ns start.notifiers notifiers) (sym (whole-notices fs))
@@ -187,14 +167,14 @@ module _ (settings : Settings) (roads : Roads) (start before : Moment) (Before :
     -- one entry, or the line of its round before it, isn't written whole
     pub begins-one : (e : Entry) → es ≡ e ∷ [] → AppendsPart before.sink.written written (more_of es)
         → BeginsRows settings roads start.book start.rows sinks (record { before = start.notifiers; after = before.notifiers })
-    unfolding journals
+    unfolding whole_of
     begins-one e is part =
         let more : List ℕ = more_of es in
         let here : Appends start.sink.written written (old_text ++ take part.0 more) = Appends-trans start.sink.written before.sink.written written old_text (take part.0 more) stands.text part.2 in
         begins-of before.notifiers (old_text ++ take part.0 more) (drop part.0 more)
         (append_assoc old_text (take part.0 more) (drop part.0 more) ∙ ap (λ t. old_text ++ t) (take-append-drop part.0 more))
         here stands.journals
-        (inr (grown.one e is, subst (λ (t : List ℕ). AppendsPart start.sink.written written t) (sym unfold-text) (part-behind start.sink.written written old_text more part.0 part.1 here)))
+        (inr (grown.one e is, subst (λ (t : List ℕ). AppendsPart start.sink.written written t) (sym (whole-text es)) (part-behind start.sink.written written old_text more part.0 part.1 here)))
         (take part.0 more, subst (λ (t : List ℕ). Appends start.sink.written written (t ++ take part.0 more)) (sym (ap (λ rs. journals_text settings.proof rs stands.journals) grown.rounds ∙ grown.old_text)) here)
         stands.told
 
@@ -208,20 +188,6 @@ module _ (settings : Settings) (roads : Roads) (start now : Moment) (Now : List 
 
   begun : IsBegunRun settings roads start.book.base start.book.first (rounds_of stands.lines) stands.journals
   begun = run-begins settings roads start.book.base start.book.first now.round stands.lines stands.journals stands.ends stands.run
-
-  pub begins-here : (faults : ℕ) → BeginWithRows start.rows stands.lines
-      → BeginsRows settings roads start.book start.rows (record { before = start.sink; after = record { written = now.sink.written; faults = faults } }) (record { before = start.notifiers; after = now.notifiers })
-  begins-here faults begin = record {
-    lines = stands.lines;
-    begin = begin;
-    journals = stands.journals;
-    run = begun;
-    text = part-of start.sink.written now.sink.written lines_text_is last_line stands.text (end-some (position_after_run start.book.first stands.journals));
-    whole = stands.journals;
-    are_whole = inl refl;
-    written = ([], subst (λ (t : List ℕ). Appends start.sink.written now.sink.written t) (sym (append-nil lines_text_is)) stands.text);
-    told = stands.told;
-  }
 
   wrote : (written : Option (List ℕ)) → (part : AppendsPart now.sink.written written last_line) → Appends start.sink.written written (lines_text_is ++ take part.0 last_line)
   wrote written part = Appends-trans start.sink.written now.sink.written written lines_text_is (take part.0 last_line) stands.text part.2
@@ -239,3 +205,7 @@ module _ (settings : Settings) (roads : Roads) (start now : Moment) (Now : List 
     written = (take part.0 last_line, wrote written part);
     told = stands.told;
   }
+
+  pub begins-here : (faults : ℕ) → BeginWithRows start.rows stands.lines
+      → BeginsRows settings roads start.book start.rows (record { before = start.sink; after = record { written = now.sink.written; faults = faults } }) (record { before = start.notifiers; after = now.notifiers })
+  begins-here faults begin = begins-last now.sink.written faults begin (0, end-some (position_after_run start.book.first stands.journals), Appends-nil now.sink.written)

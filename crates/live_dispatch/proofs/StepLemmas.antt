@@ -35,36 +35,17 @@ module _ (settings : Settings) (roads : Roads) where
     unfolding ClosesAreGood
     own-closes more closes = (stands-good settings roads row.lane before.state row.command own.reply behind.stands, closes)
 
-    no-replies : (s : State) → RepliesAreSteps roads.nodes settings.wait s []
-    unfolding RepliesAreSteps
-    no-replies s = tt
-
-    no-closes : (s : State) → ClosesAreGood settings roads s []
-    unfolding ClosesAreGood
-    no-closes s = tt
-
     own-notices : (more : List Entry) → notices_from roads.nodes settings.wait before.state (own ∷ more) ≡ notices_from roads.nodes settings.wait (step roads.nodes settings.wait before.state row.command).0 more
     unfolding notices_from
     own-notices more = ap (λ ns. ns ++ notices_from roads.nodes settings.wait (step roads.nodes settings.wait before.state row.command).0 more) (stands-silent row.lane before.state row.command own.reply behind.stands)
-
-    own-silent : notices_from roads.nodes settings.wait before.state (own ∷ []) ≡ []
-    unfolding notices_from
-    own-silent = own-notices []
 
     own-state : (more : List Entry) → state_after roads.nodes settings.wait before.state (own ∷ more) ≡ state_after roads.nodes settings.wait (step roads.nodes settings.wait before.state row.command).0 more
     unfolding state_after
     own-state more = refl
 
-    own-next : state_after roads.nodes settings.wait before.state (own ∷ []) ≡ (step roads.nodes settings.wait before.state row.command).0
-    unfolding state_after
-    own-next = refl
-
     own-gives : Gives settings roads before.state row.round (row ∷ []) (own ∷ [])
-    own-gives = record {
-      are = (refl, behind.lane, tt);
-      replies = own-replies [] (no-replies (step roads.nodes settings.wait before.state row.command).0);
-      closes = own-closes [] (no-closes (step roads.nodes settings.wait before.state row.command).0);
-    }
+    unfolding RepliesAreSteps ClosesAreGood
+    own-gives = record { are = (refl, behind.lane, tt); replies = own-replies [] tt; closes = own-closes [] tt }
 
     -- what is known once the command was taken
     taken-state : (new : BookView) (sealed : Option Batch) → HasTaken before row.lane row.command sealed new → new.state ≡ (step roads.nodes settings.wait before.state row.command).0
@@ -79,12 +60,13 @@ module _ (settings : Settings) (roads : Roads) where
         ∙ next-append before.first before.entries ((record { lane = row.lane; command = row.command; reply = taken.reply }) ∷ [])
 
     taken-ready : (new : BookView) → HasTaken before row.lane row.command None new → IsReady settings roads new
+    unfolding state_after
     taken-ready new taken =
         let none : sealed_by own.reply ≡ None = sym (taken-reply new None taken) in
         record {
           nodes = taken.applied.nodes ∙ ready.nodes;
           wait = taken.applied.wait ∙ ready.wait;
-          closed = ap (λ (s : State). s.sealed) (taken-state new None taken ∙ sym own-next)
+          closed = ap (λ (s : State). s.sealed) (taken-state new None taken)
               ∙ ends-closed roads.nodes settings.wait before.state None (in_lane (row ∷ []) 0) (own ∷ []) (ap (option_map (λ (b : Batch). b.number)) ready.closed)
               own-gives.replies ((λ other. stands-plain row.lane row.command other behind.stands), tt) (row-lanes row own.reply none 0);
         }
@@ -99,6 +81,7 @@ module _ (settings : Settings) (roads : Roads) where
 
     pub row-stands : (now : Moment) → HasTaken book row.lane row.command None now.book → now.round ≡ Some row.round → Appends before.sink.written now.sink.written (row_text settings.proof before.round book row)
         → now.rows ≡ before.rows → now.notifiers ≡ before.notifiers → before.sink.faults ≤ now.sink.faults → now.reads ≡ before.reads → Stands settings roads start now (HaveCome start now None)
+    unfolding state_after notices_from
     row-stands now taken round text rows notifiers writes reads =
         let e : Entry = entry_for book row.lane row.command in
         let ready = stands.ready in
@@ -108,11 +91,11 @@ module _ (settings : Settings) (roads : Roads) where
         (subst (λ r. TakesRows start.rows r (stands.lines ++ row ∷ [])) (sym rows) stands.are)
         (row-lanes row e.reply none)
         round
-        (taken-state book row ready row.round (last_of before.round) refl behind now.book None taken ∙ sym (own-next book row ready row.round (last_of before.round) refl behind))
+        (taken-state book row ready row.round (last_of before.round) refl behind now.book None taken)
         (taken-position book row ready row.round (last_of before.round) refl behind now.book None taken)
         (taken-ready book row ready row.round (last_of before.round) refl behind now.book taken)
         (subst (λ (t : List ℕ). Appends before.sink.written now.sink.written t) (row-more (row_text settings.proof before.round book row) refl) text)
-        (subst (λ (ns : List Notice). HaveHeard ns before.notifiers now.notifiers) (sym (own-silent book row ready row.round (last_of before.round) refl behind))
+        (subst (λ (ns : List Notice). HaveHeard ns before.notifiers now.notifiers) (sym (own-notices book row ready row.round (last_of before.round) refl behind []))
         (subst (λ ns. HaveHeard [] before.notifiers ns) (sym notifiers) (all-heard-nothing before.notifiers)))
         writes
         (omega (arith, reads))
@@ -125,11 +108,12 @@ module _ (settings : Settings) (roads : Roads) where
 
     row-begins-by : (written : Option (List ℕ)) (faults : ℕ) (some : AppendsSome before.sink.written written mine_text) (unwritten : List ℕ) → some.unwritten ≡ unwritten
         → BeginsRows settings roads start.book start.rows (record { before = start.sink; after = record { written = written; faults = faults } }) (record { before = start.notifiers; after = before.notifiers })
+    unfolding notices_from
     row-begins-by written faults some [] is =
         begins-whole settings roads start before (HaveCome start before (Some row)) stands row [] row.round (mine ∷ []) behind.round (own-gives book row stands.ready row.round (last_of before.round) refl behind)
         written faults (takes-start start.rows before.rows (stands.lines ++ row ∷ []) stands.are) (row-begun row mine.reply) before.notifiers
         (some-whole before.sink.written written mine_text some is)
-        (subst (λ (ns : List Notice). HaveHeard ns before.notifiers before.notifiers) (sym (own-silent book row stands.ready row.round (last_of before.round) refl behind)) (all-heard-nothing before.notifiers))
+        (subst (λ (ns : List Notice). HaveHeard ns before.notifiers before.notifiers) (sym (own-notices book row stands.ready row.round (last_of before.round) refl behind [])) (all-heard-nothing before.notifiers))
     row-begins-by written faults some (x ∷ xs) is =
         begins-one settings roads start before (HaveCome start before (Some row)) stands row [] row.round (mine ∷ []) behind.round (own-gives book row stands.ready row.round (last_of before.round) refl behind)
         written faults (takes-start start.rows before.rows (stands.lines ++ row ∷ []) stands.are) (row-begun row mine.reply) mine refl

@@ -2,9 +2,8 @@
 use Rattle.std.proofs.Common.{◌≡◌, ℕ, ◌<◌, ◌≤◌, ◌^◌, Bool, List, [], ◌∷◌, ◌++◌, Option, None, Some, Result, Ok, Err, refl, sym, ap, subst, ◌∙◌, arith}
 use Rattle.live_dispatch.proofs.Common.{Appends, Appends-nil, Batch, IsReady, SinkView, Outputs, ReportFault, AreRows, BeginWithRows, takes-all, takes-begin, takes-more, takes-none, takes-start, TakesRows, Rose, BookView, IsBook, next_position, state_after, Entry, Settings, HaveHeard, all-heard-nothing, Roads, IsBehind, Line, rounds_of, journals_notices, journals_text, LiveFault, EndsIn, last_of, AppendsSome, Awaits, GivesNext, HasEnded, HasTaken, HaveCome, Moment, Opens, Stands, WritesSome, of_line, of_report, outputs_of, row_text}
 use Rattle.live_rows.specs.declared.lines.LineFault.{LineFault}
-use Rattle.live_dispatch.proofs.EndLemmas.{begun-ended, stood-ended}
+use Rattle.live_dispatch.proofs.EndLemmas.{begun-ended, no_read_of, stood-ended, write_of}
 use Rattle.live_dispatch.proofs.StepLemmas.{row-begins}
-use Rattle.dispatch_report.specs.declared.fault.ReportFault.TheVariants as report
 use Rattle.live_rows.specs.declared.lines.LineFault.TheVariants as line
 use Rattle.live_dispatch.specs.declared.fault.LiveFault.TheVariants as live
 
@@ -36,14 +35,6 @@ line-write line.OutOfMemory e = absurd cc
 line-read : (fault : LineFault) → of_line fault ≡ live.ReadFault → fault ≡ line.ReadFault
 line-read line.ReadFault e = refl
 line-read line.OutOfMemory e = absurd cc
-
-report-write : (fault : ReportFault) → of_report fault ≡ live.WriteFault → fault ≡ report.WriteFault
-report-write report.WriteFault e = refl
-report-write report.OutOfMemory e = absurd cc
-
-report-read : (fault : ReportFault) → of_report fault ≡ live.ReadFault → ⊥
-report-read report.WriteFault e = absurd cc
-report-read report.OutOfMemory e = absurd cc
 
 module _ (settings : Settings) (roads : Roads) (start : Moment) where
   -- what stands says nothing of how far reading is, but for the rows and the count of its faults
@@ -97,8 +88,8 @@ module _ (settings : Settings) (roads : Roads) (start : Moment) where
       (begun-ended settings roads start failed (record { sink = later; notifiers = now.notifiers }) (of_report fault) ended (is ∙ ap Err why_is)
       (row-begins settings roads start now row stands behind later.written later.faults
       (subst (λ p. AppendsSome now.sink.written later.written (row_text p now.round now.book row)) proof_is wrote.bytes))
-      (λ e. (let risen : Rose now.sink.faults later.faults = wrote.fault (ap Err (report-write fault e)) in omega (arith, risen, were)))
-      (λ e. absurd (report-read fault e)) (omega (arith, falls, were)))
+      (λ e. (let risen : Rose now.sink.faults later.faults = wrote.fault (ap Err (write_of fault e)) in omega (arith, risen, were)))
+      (λ e. absurd (no_read_of fault e)) (omega (arith, falls, were)))
 
   -- a row sealed a batch
   pub row-opens : (now : Moment) (row : Line) → Stands settings roads start now (HaveCome start now (Some row)) → IsBehind (last_of now.round) row → (proof : Bool) → proof ≡ settings.proof → (b : Batch) (later : Moment) (A : Type 0) (x : A)

@@ -14,11 +14,16 @@ round_numbers lines = map (λ l. l.round) lines
 abbrev pub in_lane : List Line → ℕ → List Command
 in_lane rows lane = map (λ l. l.command) (filter (λ l. l.lane == lane) rows)
 
+-- numbers that end in one that is there already
+pub record EndsWith (ns : List ℕ) (last : ℕ) (front : List ℕ) : Type 0 where
+  pub ends : distinct ns ≡ front ++ last ∷ []
+  pub here : list_any (λ n. n == last) ns ≡ true
+  pub below : All (λ n. n ≤ last) ns
+
 -- the round of the last row, if there are rows; those before it have lower numbers
 pub data EndsIn (lines : List Line) : Option ℕ → Type 0 where
   in_none : lines ≡ [] → EndsIn lines None
-  in_round : (front : List ℕ) (last : ℕ) → distinct (round_numbers lines) ≡ front ++ last ∷ [] → All (λ n. n < last) front
-      → list_any (λ n. n == last) (round_numbers lines) ≡ true → All (λ n. n ≤ last) (round_numbers lines) → EndsIn lines (Some last)
+  in_round : (front : List ℕ) (last : ℕ) → EndsWith (round_numbers lines) last front → All (λ n. n < last) front → EndsIn lines (Some last)
 
 -- the round of the last row, or 0
 abbrev pub last_of : Option ℕ → ℕ

@@ -1,6 +1,7 @@
 use Rattle.std.proofs.Common.{Err, ap, refl, sym, subst}
-use Rattle.live_dispatch.proofs.Common.{FaultsFrom, outputs_seen, notifiers_seen}
-use Rattle.live_dispatch.proofs.EndLemmas.{batch-failed, batch-held, batch-last, batch-out, batch-unread}
+use Rattle.live_dispatch.proofs.Common.{FaultsFrom, Rose, outputs_seen, notifiers_seen}
+use Rattle.live_dispatch.proofs.EndLemmas.{batch-failed, batch-held, batch-last, batch-stopped}
+use Rattle.live_dispatch.specs.declared.fault.LiveFault.TheVariants as live
 use Rattle.live_dispatch.proofs.batch.after_batch.Goals as goal
 
 pub returns-in-Held-clause-went : goal.returns-in-Held-clause-went
@@ -16,15 +17,16 @@ returns-in-Ended-clause-went g c = λ start b reads from on.
 
 pub returns-in-ReadFault-clause-went : goal.returns-in-ReadFault-clause-went
 returns-in-ReadFault-clause-went g c = λ start b reads from on.
-    batch-unread c.args.setup.now.settings.now c.args.setup.now.network.now start b c.args.round c.args.opened.book _ _ _ _ _ reads on c.cut_batch.new.book c.in-Ok.field-0
-    (g.L.RowSource.faults c.stop.result.rows) _ c.stop.result.ended c.in-Ok.ensures c.in-ReadFault.is (subst (λ r. FaultsFrom c.args.opened.stop reads (g.L.RowSource.faults r)) (sym c.stop.ensures.rows) from)
-    c.stop.ensures.ended (λ i. outputs_seen g.K.Sink.written g.K.Sink.faults g.N.Notifier.told g.N.Notifier.faults g.N.Notifier.steady (c.stop.ensures.sink i) (c.stop.ensures.notifiers i))
+    batch-stopped c.args.setup.now.settings.now c.args.setup.now.network.now start b c.args.round c.args.opened.book _ _ _ _ _ reads on c.cut_batch.new.book c.in-Ok.field-0
+    (g.L.RowSource.faults c.stop.result.rows) _ live.ReadFault c.stop.result.ended c.in-Ok.ensures c.stop.ensures.ended
+    (λ i. outputs_seen g.K.Sink.written g.K.Sink.faults g.N.Notifier.told g.N.Notifier.faults g.N.Notifier.steady (c.stop.ensures.sink i) (c.stop.ensures.notifiers i)) (λ e. absurd cc)
+    (λ e. subst (λ r. Rose reads (g.L.RowSource.faults r)) (sym c.stop.ensures.rows) (subst (λ end. FaultsFrom end reads (g.L.RowSource.faults c.args.opened.lines)) c.in-ReadFault.is from))
 
 pub returns-in-OutOfMemory-clause-went : goal.returns-in-OutOfMemory-clause-went
 returns-in-OutOfMemory-clause-went g c = λ start b reads from on.
-    batch-out c.args.setup.now.settings.now c.args.setup.now.network.now start b c.args.round c.args.opened.book _ _ _ _ _ reads on c.cut_batch.new.book c.in-Ok.field-0
-    (g.L.RowSource.faults c.stop-in-OutOfMemory.result.rows) _ c.stop-in-OutOfMemory.result.ended c.in-Ok.ensures c.in-OutOfMemory.is
-    c.stop-in-OutOfMemory.ensures.ended (λ i. outputs_seen g.K.Sink.written g.K.Sink.faults g.N.Notifier.told g.N.Notifier.faults g.N.Notifier.steady (c.stop-in-OutOfMemory.ensures.sink i) (c.stop-in-OutOfMemory.ensures.notifiers i))
+    batch-stopped c.args.setup.now.settings.now c.args.setup.now.network.now start b c.args.round c.args.opened.book _ _ _ _ _ reads on c.cut_batch.new.book c.in-Ok.field-0
+    (g.L.RowSource.faults c.stop-in-OutOfMemory.result.rows) _ live.OutOfMemory c.stop-in-OutOfMemory.result.ended c.in-Ok.ensures c.stop-in-OutOfMemory.ensures.ended
+    (λ i. outputs_seen g.K.Sink.written g.K.Sink.faults g.N.Notifier.told g.N.Notifier.faults g.N.Notifier.steady (c.stop-in-OutOfMemory.ensures.sink i) (c.stop-in-OutOfMemory.ensures.notifiers i)) (λ e. absurd cc) (λ e. absurd cc)
 
 pub returns-in-Err-clause-went : goal.returns-in-Err-clause-went
 returns-in-Err-clause-went g c = λ start b reads from on.
