@@ -3,22 +3,11 @@
 //! A sink is watched: its bytes pass through unchanged, and what they say of rounds and batches is shown. A gate shows
 //! how far labels and days are.
 //!
-//! A caller:
+//! A caller, as `ridepool_program` watches the report that it writes:
 //!
 //! ```
-//! // What stands on the terminal and in the sink after some rounds; nothing where a call fails.
-//! fn watched(alloc: Global, rounds: &[&[u8]]) -> Result<(Vec<u8>, Vec<u8>), AllocError> {
-//!     let mut terminal = Vec::new(alloc);
-//!     let sink = MemorySink::new(alloc, 1000, Vec::new(alloc));
-//!     let mut watched = WatchedSink::over(alloc, sink, Some(&mut terminal));
-//!     for text in rounds {
-//!         if watched.write(text).is_err() {
-//!             return Err(AllocError);
-//!         }
-//!     }
-//!     let written = Vec::from_slice(alloc, watched.into_inner().written())?;
-//!     Ok((terminal, written))
-//! }
+//! let sink = OpeningSink::over(rt, StdSink::over(rt.stdout()), path, file);
+//! let mut sink = WatchedSink::over(rt.alloc(), sink, terminal_of(rt));
 //! ```
 //!
 //! Main clauses: `WatchedSink::over`; `WatchedSink::into_inner`; the clauses of `pool_io::Sink`, which it meets
