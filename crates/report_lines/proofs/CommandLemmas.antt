@@ -119,7 +119,7 @@ module _ (text : List ℕ) where
   told_submit (((((rider, origin), destination), time), (party, reply)), is, e) =
       let ids = is.0.0 in (
         (Submit rider origin destination time party, reply),
-        ((ids.0.0, ids.0.1, ids.1, is.0.1, is.1.0), is.1.1),
+        ((ids.0.0, ids.0.1, ids.1, is.0.1, is.1.0.0, is.1.0.1), is.1.1),
         e ∙ joined (numbered (codes "submit ") rider ++ spaced origin ++ spaced destination ++ spaced time) (if party == 1 then [] else spaced party) (spaced_reply reply),
       )
 
