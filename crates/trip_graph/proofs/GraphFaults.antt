@@ -43,7 +43,8 @@ module _ (most points : ℕ) (tau : ℕ → ℕ → ℕ) (settled : Settled) (su
         let cost = row.least.has_delay in
         record {
           vehicle = (let b = row.served.vehicle in omega arith);
-          members = record { below = λ i l. (let b = row.served.riders.within i 0 l in omega arith); rising = row.served.riders.rising };
+          below = λ i l. (let b = row.served.riders.within i 0 l in omega arith);
+          rising = row.served.riders.rising;
           few = omega arith;
           cheap = omega arith;
         }
