@@ -123,7 +123,15 @@ answer seen e answered hides limited =
     record {
       answered = answered;
       limited = limited;
-      refused = hides;
+      refused = (
+        (λ is. subst HidesNoMemory is hides refl),
+        (λ is. subst HidesNoMemory is hides refl),
+        (λ is. subst HidesNoMemory is hides refl),
+        (λ is. subst HidesNoMemory is hides refl),
+        (λ is. subst HidesNoMemory is hides refl),
+        (λ is. subst HidesNoMemory is hides refl),
+        (λ is. subst HidesNoMemory is hides refl),
+      );
     }
 
 good_answer : (seen : Seen) (settings : Settings) (e : RunStatus) → AreGood seen.words settings → AnswersAs settings.mode settings seen e → HidesNoMemory e → IsLimited seen.sources e → Answers seen e
