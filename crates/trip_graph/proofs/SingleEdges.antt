@@ -1,8 +1,9 @@
 -- The edges between vehicles and riders are the rows of one rider.
 use Rattle.std.proofs.Common.{◌≡◌, ℕ, zero, suc, ◌+◌, ◌<◌, ◌≤◌, inl, inr, List, [], ◌∷◌, ◌++◌, length, get_or, map, take, refl, sym, ap, ◌∙◌, subst, arith, add-one}
-use Rattle.trip_graph.proofs.Common.{cases_lt, length-map, get_or-map, map-append, take_more, RvEdge, IsRvGraph, no_edge, Settled, CanServe, IsRvEdge, TripOf, AreRowsOfSize, ComesBefore, IsLower, trips_of, HasOneRider, edges_upto, single_edge, AreLevelsUpTo}
+use Rattle.trip_graph.proofs.Common.{cases_lt, length-map, get_or-map, get_or_default, map-append, take_more, RvEdge, IsRvGraph, no_edge, Settled, CanServe, IsRvEdge, TripOf, AreRowsOfSize, ComesBefore, IsLower, trips_of, HasOneRider, edges_upto, single_edge, AreLevelsUpTo}
 use Rattle.std.specs.List.{All, Contains}
 use Rattle.std.proofs.lemmas.List.{append-nil, append_assoc, take_all}
+use Rattle.trip_growth.proofs.lemmas.TripSearch.{one_rider}
 use Rattle.pair_graph.specs.lemmas.Edge.{pair_of}
 use Rattle.pair_graph.proofs.lemmas.Listing.{ListsBefore, lists_none, lists_taken, lists_skipped, lists_next, lists_whole}
 
@@ -11,11 +12,6 @@ no_trip = record { riders = record { items = [] }; cost = 0 }
 
 abbrev entry : ℕ → ℕ → RvEdge
 entry v r = record { vehicle = v; rider = r }
-
-one_of : (riders : List ℕ) → length riders ≡ 1 → riders ≡ get_or riders 0 0 ∷ []
-one_of [] e = absurd (omega arith)
-one_of (x ∷ []) e = refl
-one_of (x ∷ y ∷ riders) e = absurd (omega arith)
 
 lower_one : (x y : ℕ) → ComesBefore (x ∷ []) (y ∷ []) → x < y
 lower_one x y (inl shorter) = absurd (omega arith)
@@ -31,7 +27,7 @@ module _ (tau : ℕ → ℕ → ℕ) (settled : Settled) where
     rider_at k = get_or (get_or rows k no_trip).riders.items 0 0
 
     trip_is : (k : ℕ) → k < length rows → (get_or rows k no_trip).riders.items ≡ rider_at k ∷ []
-    trip_is k lt = one_of (get_or rows k no_trip).riders.items (own.some.sized k no_trip lt)
+    trip_is k lt = one_rider (get_or rows k no_trip).riders.items (own.some.sized k no_trip lt)
 
     trip_read : (k : ℕ) → k < length rows → get_or (trips_of rows) k [] ≡ rider_at k ∷ []
     trip_read k lt = get_or-map (λ (row : TripOf). row.riders.items) rows k no_trip [] lt ∙ trip_is k lt
@@ -143,9 +139,4 @@ module _ (tau : ℕ → ℕ → ℕ) (settled : Settled) where
 pub have_one : (tau : ℕ → ℕ → ℕ) (settled : Settled) (count : ℕ) (lists : List (List TripOf)) → AreLevelsUpTo tau settled 1 count lists → All (λ (rows : List TripOf). All HasOneRider rows) lists
 have_one tau settled count lists level k d lt =
     let own = level.each k (let e = level.total in omega arith) in
-    subst (λ (rows : List TripOf). All HasOneRider rows) (default_of lists k d lt) own.some.sized
-  where
-    default_of : (ls : List (List TripOf)) (i : ℕ) (e : List TripOf) → i < length ls → get_or ls i [] ≡ get_or ls i e
-    default_of [] i e h = absurd (omega arith)
-    default_of (x ∷ ls) zero e h = refl
-    default_of (x ∷ ls) (suc i) e h = default_of ls i e (omega arith)
+    subst (λ (rows : List TripOf). All HasOneRider rows) (get_or_default lists k [] d lt) own.some.sized
