@@ -202,12 +202,14 @@ impl Factors {
                 self.work = self.work.wrapping_add(places.len() as u64);
             }
         }
-        self.take_from(column, count, self.pivots.len());
+        let end = self.pivots.len();
+        self.take_from(column, count, end);
     }
 
     /// Takes the first triangle's columns from a column over the conditions, as far as there are any.
     pub fn reduce(&mut self, column: &mut Sparse) {
-        self.take_from(column, 0, self.above.len());
+        let end = self.above.len();
+        self.take_from(column, 0, end);
     }
 
     /// Takes these columns from one, in their order.
@@ -232,7 +234,8 @@ impl Factors {
         for place in costs.places() {
             marks |= mark_of(place);
         }
-        marks = self.price_by(costs, count, self.pivots.len(), marks);
+        let end = self.pivots.len();
+        marks = self.price_by(costs, count, end, marks);
         for number in 0..count {
             if self.above.meets(number, marks) {
                 let place = self.pivot(number).0;
