@@ -39,9 +39,12 @@ const MOST_PASSES: u32 = 1000;
 /// How many columns for each condition the dual simplex takes in at most for a solution.
 const MOST_DUAL_PIVOTS: u64 = 20;
 
-/// After going through so many numbers of factors, or an eighth as many rows, it takes no more columns in: then any
-/// solution must do. One beside another rests after a quarter of that.
-const MOST_WORK: u64 = 8_000_000_000;
+/// After going through so many numbers of factors and columns it takes no more columns in: then any solution must do. One
+/// beside another rests after half of that.
+const MOST_WORK: u64 = 1_500_000_000;
+
+/// How many numbers a look at a row or a column counts as.
+const A_LOOK: u64 = 8;
 
 /// A basis with its factors and prices, to come back to.
 #[derive(Drop)]
@@ -86,8 +89,8 @@ pub struct Relaxation {
     candidates: Vec<(i64, u32)>,
     turns: u32,
     pivots: u64,
-    /// How many rows passes looked at so far, and after how much work it rests.
-    looked: u64,
+    /// How many numbers of columns were gone through so far, and after how much work it rests.
+    work: u64,
     most_work: u64,
     /// The best multipliers of the last solution and their value, in 1/1024 second.
     multipliers: Vec<i64>,
@@ -120,7 +123,7 @@ impl Relaxation {
             candidates: Vec::new(alloc),
             turns: 0,
             pivots: 0,
-            looked: 0,
+            work: 0,
             most_work: MOST_WORK,
             multipliers: Vec::new(alloc),
             value: i64::MIN,
@@ -144,7 +147,7 @@ impl Relaxation {
         start: &[Option<u32>],
     ) -> Result<Self, OutOfMemory> {
         let mut relaxation = Relaxation::new(alloc, table, start)?;
-        relaxation.most_work = MOST_WORK / 4;
+        relaxation.most_work = MOST_WORK / 2;
         for column in self.pool.columns() {
             relaxation.add(table, *column as usize)?;
         }
@@ -287,10 +290,15 @@ impl Relaxation {
         self.value
     }
 
+    /// Counts looks at so many rows or columns.
+    fn count_looks(&mut self, count: usize) {
+        let looks = (count as u64).saturating_mul(A_LOOK);
+        self.work = self.work.saturating_add(looks);
+    }
+
     /// Whether it takes no more columns in.
     pub fn is_tired(&self) -> bool {
-        let work = self.looked.saturating_mul(8);
-        work.saturating_add(self.basis.factors.work) > self.most_work
+        self.work.saturating_add(self.basis.factors.work) > self.most_work
     }
 
     /// How many columns came in so far.

@@ -4,12 +4,12 @@
 //! fall back to their rows without them, the riders whom the vehicle served before go where they are
 //! cheapest, and the vehicles that lost riders fill up. A move that isn't taken is undone by its log.
 
-use crate::beside::Beside;
+use crate::beside::{Beside, mark_of};
 use crate::present::Present;
 use crate::regrets::Regrets;
 use pool_base::OutOfMemory;
 use row_tables::Draws;
-use row_tables::fixed_point::item;
+use row_tables::fixed_point::{item, set_at};
 use row_tables::lists::short;
 use std::alloc::Global;
 
@@ -38,6 +38,8 @@ struct Annealing<'a> {
     beside: &'a Beside,
     draws: Draws,
     present: Present,
+    /// For each vehicle marks of the riders who can be added to its row.
+    marks: Vec<u64>,
     /// What the move at hand costs, in seconds, the rows that it replaced, whom it dropped, and the vehicles that
     /// lost a rider.
     change: i64,
@@ -64,6 +66,7 @@ pub fn anneal<'a>(
         beside,
         draws: Draws::new(seed),
         present: Present::new(alloc, regrets.table)?,
+        marks: vec![in alloc; 0; regrets.table.vehicle_count()]?,
         change: 0,
         log: Vec::new(alloc),
         dropped: Vec::new(alloc),
@@ -72,7 +75,11 @@ pub fn anneal<'a>(
         least: 0,
         found: Vec::new(alloc),
     };
-    annealing.present.adopt(regrets.table, rows);
+    for row in rows {
+        if let Some(row) = *row {
+            annealing.replace(row);
+        }
+    }
     annealing.run()?;
     Ok(annealing.found)
 }
@@ -216,8 +223,11 @@ impl Annealing<'_> {
     fn best_with(&self, rider: u32) -> Option<u32> {
         let mut least = 0;
         let mut best = None;
-        for vehicle in self.beside.vehicles_with(rider) {
-            if let Some(row) = self.present.row(*vehicle as usize) {
+        for (vehicle, marks) in self.marks.iter().enumerate() {
+            if marks & mark_of(rider) == 0 {
+                continue;
+            }
+            if let Some(row) = self.present.row(vehicle) {
                 if let Some(wider) = self.beside.with(row, rider) {
                     let cost = self.beside.change(row, wider);
                     if cost < least {
@@ -277,6 +287,7 @@ impl Annealing<'_> {
         let old = self.present.row(vehicle);
         self.present.release(self.regrets.table, vehicle);
         self.present.give(self.regrets.table, row);
+        set_at(&mut self.marks, vehicle, self.beside.marks(row));
         old
     }
 

@@ -14,8 +14,8 @@ pub struct Beside {
     /// For each row the riders who can be added, rising, and the rows with these.
     added: Lists,
     wider: Lists,
-    /// For each rider the vehicles with a row that has her.
-    vehicles: Lists,
+    /// For each row 64 marks of the riders who can be added.
+    marks: Vec<u64>,
     /// What each row costs, less what it costs to leave out its riders.
     worths: Vec<i64>,
 }
@@ -26,7 +26,7 @@ impl Beside {
             without: rows_without(alloc, table)?,
             added: Lists::new(alloc),
             wider: Lists::new(alloc),
-            vehicles: vehicles_with(alloc, table)?,
+            marks: Vec::new(alloc),
             worths: Vec::new(alloc),
         };
         beside.wider.transpose(&beside.without, table.row_count())?;
@@ -40,11 +40,14 @@ impl Beside {
     /// Lists who is added: the wider rows of a row stand by rising riders, as the rows of a vehicle do.
     fn list_added(&mut self, table: &RowTable) -> Result<(), OutOfMemory> {
         for row in 0..table.row_count() {
+            let mut marks = 0;
             for wider in self.wider.list(row) {
                 let rider = first_other(table.riders_of(*wider as usize), table.riders_of(row));
                 self.added.push(rider as usize)?;
+                marks |= mark_of(rider);
             }
             self.added.end()?;
+            self.marks.push(marks)?;
         }
         Ok(())
     }
@@ -70,9 +73,9 @@ impl Beside {
         at(&self.worths, next as usize).saturating_sub(at(&self.worths, row as usize))
     }
 
-    /// The vehicles with a row that has this rider.
-    pub fn vehicles_with(&self, rider: u32) -> &[u32] {
-        self.vehicles.list(rider as usize)
+    /// Marks of the riders who can be added to this row.
+    pub fn marks(&self, row: u32) -> u64 {
+        item(&self.marks, row as usize, 0)
     }
 
     /// The riders who can be added to this row, rising.
@@ -145,21 +148,9 @@ fn first_other(riders: &[u32], others: &[u32]) -> u32 {
     u32::MAX
 }
 
-/// For each rider the vehicles with a row that has her.
-fn vehicles_with(alloc: Global, table: &RowTable) -> Result<Lists, OutOfMemory> {
-    let mut vehicles = Lists::new(alloc);
-    for rider in 0..table.rider_count() {
-        let mut last = None;
-        for row in table.rows_with(rider) {
-            let vehicle = table.vehicle(*row as usize);
-            if last != Some(vehicle) {
-                vehicles.push(vehicle)?;
-                last = Some(vehicle);
-            }
-        }
-        vehicles.end()?;
-    }
-    Ok(vehicles)
+/// One of 64 marks for a rider: she is none of those with other marks.
+pub fn mark_of(rider: u32) -> u64 {
+    1 << (rider % 64)
 }
 
 /// What the row costs, less what it costs to leave out its riders.

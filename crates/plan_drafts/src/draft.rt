@@ -11,6 +11,7 @@ use linear_relaxation::Relaxation;
 use pool_base::OutOfMemory;
 use row_tables::{Draft, Drafter, RowTable, Share, first_multipliers};
 use std::alloc::Global;
+use std::ops::Range;
 use std::thread;
 use std::thread::Threads;
 
@@ -41,15 +42,15 @@ const IDLE: u32 = 300;
 
 const STEPS: u32 = 500;
 
-/// How many scouts there are where one rider more might be served, elsewhere, and where the gap is at most this part
-/// of the cost.
-const MOST_SCOUTS: u64 = 12;
-
+/// How many scouts go at once, and how many where the gap is at most this part of the cost; and how often they go where
+/// one rider more might be served, as long as a better plan is found each time.
 const SCOUTS: u64 = 4;
 
 const FEW_SCOUTS: u64 = 2;
 
 const NEAR_PART: i64 = 2000;
+
+const MOST_TIMES: u64 = 3;
 
 /// Drafts by the relaxation of all rows, as this crate does.
 #[derive(Clone, Copy)]
@@ -169,19 +170,38 @@ impl<'a> Drafting<'a> {
     /// Has scouts look for plans, and merges these. Scouts anneal where the gap is so wide that a rider more might be
     /// served.
     fn make_more_plans<R: Threads + Sync>(&mut self, rt: &R) -> Result<(), OutOfMemory> {
-        let mut count = if self.is_near() { FEW_SCOUTS } else { SCOUTS };
+        let count = if self.is_near() { FEW_SCOUTS } else { SCOUTS };
+        let mut times = 1;
         let mut beside = None;
         if self.tree.gap(self.tree.draft.bound) >= self.regrets.table.penalty() / 4 {
-            count = MOST_SCOUTS;
+            times = MOST_TIMES;
             beside = Some(Beside::new(self.alloc, self.regrets.table)?);
         }
+        for time in 0..times {
+            let cost = self.tree.draft.cost;
+            let first = count.saturating_mul(time);
+            self.scout(rt, beside.as_ref(), first..first.saturating_add(count))?;
+            if self.tree.draft.cost >= cost {
+                break;
+            }
+        }
+        Ok(())
+    }
+
+    /// Has the scouts of these numbers look for plans, and merges these.
+    fn scout<R: Threads + Sync>(
+        &mut self,
+        rt: &R,
+        beside: Option<&Beside>,
+        numbers: Range<u64>,
+    ) -> Result<(), OutOfMemory> {
         let start = Start {
             regrets: &self.regrets,
             relaxation: &self.decided.relaxation,
             tree: &self.tree,
-            beside: beside.as_ref(),
+            beside,
         };
-        let scouts = send_scouts(rt, self.alloc, start, count, self.workers)?;
+        let scouts = send_scouts(rt, self.alloc, start, numbers, self.workers)?;
         for scout in &scouts {
             if !scout.is_done {
                 return Err(OutOfMemory);
@@ -208,16 +228,16 @@ impl<'a> Drafting<'a> {
     }
 }
 
-/// Has so many scouts look for plans, by at most so many workers.
+/// Has the scouts of these numbers look for plans, by at most so many workers.
 fn send_scouts<R: Threads + Sync>(
     rt: &R,
     alloc: Global,
     start: Start,
-    count: u64,
+    numbers: Range<u64>,
     workers: u8,
 ) -> Result<Vec<Scout>, OutOfMemory> {
     let mut scouts: Vec<Scout> = Vec::new(alloc);
-    for number in 0..count {
+    for number in numbers {
         scouts.push(Scout::new(alloc, start, number)?)?;
     }
     let workers = usize::from(workers).max(1);

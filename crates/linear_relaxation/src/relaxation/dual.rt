@@ -139,8 +139,11 @@ impl Relaxation {
         for condition in self.row.places() {
             let value = self.row.at(condition);
             let value = if is_high { value } else { value.wrapping_neg() };
-            self.products
-                .add_all(self.pool.places_with(condition), value);
+            let places = self.pool.places_with(condition);
+            self.products.add_all(places, value);
+            self.work = self
+                .work
+                .saturating_add((places.len() as u64).saturating_mul(2));
         }
     }
 }

@@ -1,8 +1,8 @@
 //! In which order the columns of a basis come in, and at which conditions.
 //!
-//! Conditions with a single column left come first, each with that column, and columns with a single condition
-//! left last: both need no arithmetic. The rest comes between, by rising size.
-use crate::relaxation::factors::Factors;
+//! Columns with a single condition left come first, and then conditions with a single column left, each with that
+//! column: both need no arithmetic. The rest comes by rising size.
+use crate::relaxation::factors::{Factors, NONE};
 use crate::relaxation::sparse::Sparse;
 use pool_base::OutOfMemory;
 use row_tables::RowTable;
@@ -12,9 +12,6 @@ use std::alloc::Global;
 
 /// A number of a column may be divided by from here on.
 pub const LEAST_PIVOT: i64 = ONE / 1000;
-
-/// No number.
-const NONE: u32 = u32::MAX;
 
 /// The columns or the conditions, each with the numbers of those that it meets, and how many of these are left; none
 /// once it is done.
@@ -70,12 +67,12 @@ pub struct Ordering {
     columns: Side,
     conditions: Side,
     queue: Vec<u32>,
-    /// The condition and the number of each column in order, no condition for the rest.
+    /// The number and the condition of each column in order, no condition for the rest.
     order: Vec<(u32, u32)>,
     /// How many conditions of each column of the rest are left, and its number.
     rest: Vec<(u32, u32)>,
-    /// The numbers of the columns that come last and their conditions, from the last to the first.
-    last: Vec<(u32, u32)>,
+    /// The conditions with a single column left, and the numbers of these.
+    single: Vec<(u32, u32)>,
     /// The column at each condition.
     placed: Vec<u32>,
 }
@@ -88,7 +85,7 @@ impl Ordering {
             queue: Vec::new(alloc),
             order: Vec::new(alloc),
             rest: Vec::new(alloc),
-            last: Vec::new(alloc),
+            single: Vec::new(alloc),
             placed: Vec::new(alloc),
         }
     }
@@ -106,7 +103,7 @@ impl Ordering {
         factors.clear();
         reset(&mut self.placed, columns.len(), NONE)?;
         for turn in 0..self.order.len() {
-            let (condition, place) = item(&self.order, turn, (NONE, NONE));
+            let (place, condition) = item(&self.order, turn, (NONE, NONE));
             let place = place as usize;
             match self.enter(condition, place, factors, numbers)? {
                 None => return Ok(false),
@@ -132,15 +129,15 @@ impl Ordering {
     ) -> Result<Option<usize>, OutOfMemory> {
         let met = self.columns.lists.list(place);
         if condition != NONE {
-            factors.enter_ones(condition as usize, met)?;
+            factors.add_ones(condition as usize, met, &self.placed)?;
             return Ok(Some(condition as usize));
         }
         numbers.clear();
         numbers.add_all(met, ONE);
-        factors.solve(numbers);
+        factors.reduce(numbers);
         let found = self.emptiest_condition(numbers);
         if let Some(condition) = found {
-            factors.enter(condition, numbers)?;
+            factors.add(condition, numbers, &self.placed)?;
             set_at(&mut self.conditions.counts, condition, 0);
         }
         Ok(found)
@@ -158,24 +155,27 @@ impl Ordering {
             .transpose(&self.columns.lists, columns.len())?;
         self.columns.count_all()?;
         self.conditions.count_all()?;
-        self.last.clear();
+        self.single.clear();
         self.order.clear();
         peel(
             &mut self.columns,
             &mut self.conditions,
             &mut self.queue,
-            &mut self.last,
+            &mut self.order,
         )?;
         peel(
             &mut self.conditions,
             &mut self.columns,
             &mut self.queue,
-            &mut self.order,
+            &mut self.single,
         )?;
         self.order_rest()
     }
 
     fn order_rest(&mut self) -> Result<(), OutOfMemory> {
+        for pair in &self.single {
+            self.order.push((pair.1, pair.0))?;
+        }
         self.rest.clear();
         for place in 0..self.columns.lists.len() {
             let count = self.columns.count(place);
@@ -185,10 +185,7 @@ impl Ordering {
         }
         self.rest.as_mut_slice().sort_unstable();
         for other in &self.rest {
-            self.order.push((NONE, other.1))?;
-        }
-        for pair in self.last.iter().rev() {
-            self.order.push((pair.1, pair.0))?;
+            self.order.push((other.1, NONE))?;
         }
         Ok(())
     }

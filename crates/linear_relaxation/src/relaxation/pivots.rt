@@ -115,6 +115,7 @@ impl Relaxation {
 
     /// Takes those of the next columns among the candidates that better the solution, and do so more than others.
     fn look_at(&mut self, count: usize) -> Result<(), OutOfMemory> {
+        self.count_looks(count);
         for _ in 0..count {
             let place = self.pool.next();
             let cost = self.pool.reduced_cost(place, &self.prices);

@@ -28,7 +28,7 @@ impl Relaxation {
     /// puts up to so many rows of each vehicle into the pool. How many.
     pub fn pass(&mut self, table: &RowTable, most_rows: usize) -> Result<usize, OutOfMemory> {
         let before = self.pool.columns().len();
-        self.looked = self.looked.saturating_add(table.row_count() as u64);
+        self.count_looks(table.row_count());
         let mut value = table.value_of_riders(&self.tried);
         for vehicle in 0..table.vehicle_count() {
             let condition = table.rider_count().saturating_add(vehicle);
