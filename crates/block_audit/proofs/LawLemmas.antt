@@ -1,5 +1,5 @@
 -- By which point lines fail that tell what no outcome can.
-use Rattle.std.proofs.Common.{◌≡◌, ◌≢◌, ℕ, ◌<◌, ◌≤◌, List, Contains, length, IfSome, ⊎_elim, subst, sym, arith}
+use Rattle.std.proofs.Common.{◌≡◌, ◌≢◌, ℕ, ◌<◌, ◌≤◌, true, List, Contains, length, IfSome, ⊎_elim, subst, sym, arith}
 use Rattle.block_audit.proofs.Common.{cases_lt, All-contains, Batch, point_place, Point, lines_of, BlockLine, Row, Trip, Late, LateText, RowText, TripText, Outcome, Settings, Roads, BeginsWithWrong, CanBeTold, HasTrips, judged_outcome, told_by}
 use Rattle.std.specs.List.{All}
 use Rattle.block_audit.proofs.NumberedLemmas.{vehicle_ids}

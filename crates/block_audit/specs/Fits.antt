@@ -1,5 +1,5 @@
 -- Which outcomes a block can tell.
-use Rattle.std.specs.Prelude.{ℕ, ◌≤◌, length, IfSome}
+use Rattle.std.specs.Prelude.{ℕ, ◌≤◌, length, IfSome, true}
 use Rattle.std.specs.List.{All}
 use Rattle.report_lines.specs.BlockLine.{IsBlockLine}
 use Rattle.dispatch_report.specs.Block.{lines_of}
