@@ -33,7 +33,7 @@ position_push p (k ∷ ks) j = position_push (next_position p k.entries) ks j
 
 batches_push : (n : ℕ) (js : List Journal) (j : Journal) → batches_after n (js ++ j ∷ []) ≡ min (batches_after n js + count_by (λ e. closes e.command e.reply) j.entries) (2 ^ 64 - 1)
 batches_push n [] j = refl
-batches_push n (k ∷ ks) j = batches_push _ ks j
+batches_push n (k ∷ ks) j = batches_push (min (n + count_by (λ e. closes e.command e.reply) k.entries) (2 ^ 64 - 1)) ks j
 
 told_push : (js : List Journal) (j : Journal) → JournalsAreTold js → AreTold j.first j.entries → JournalsAreTold (js ++ j ∷ [])
 told_push [] j told one = (one, tt)

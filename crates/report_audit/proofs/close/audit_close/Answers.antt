@@ -1,5 +1,5 @@
-use Rattle.std.proofs.Common.{ap, subst}
-use Rattle.report_audit.proofs.Common.{Batch, IsKept, Outcome}
+use Rattle.std.proofs.Common.{◌≡◌, ◌≢◌, ℕ, ◌<◌, ◌^◌, refl, ap, subst, ◌∙◌}
+use Rattle.report_audit.proofs.Common.{Batch, IsKept, Outcome, close_line, next_position}
 use Rattle.report_audit.proofs.ClosingLemmas.{batch_known, takes_close}
 use Rattle.report_audit.proofs.close.audit_close.Goals as goal
 
@@ -20,3 +20,19 @@ returns-in_ok-_reply-in-Ok-clause-takes g c =
     (ap (λ (b : Batch). b.number) c.snapshot.view_is) c.is_close_line.ensures.low c.requires.sealed c.next_position-position.ensures
     (c.in_ok-is_close_line.ensures.line.0 c.if-not-branch.false) kept c.in-Ok.ensures.good c.in-Ok.ensures.only
     c.in_ok-_reply-in-Ok.ensures.applied
+
+pub returns-in-Err : goal.returns-in-Err
+returns-in-Err g c =
+    let old = c.args.book.now in
+    let n = c.snapshot.inside.batch in
+    let number : n ≡ c.args.snapshot.now.number = ap (λ (b : Batch). b.number) c.snapshot.view_is in
+    let memory = c.in-Err.refusal-is in
+    record {
+      takes = tt;
+      stops = (
+        refl,
+        c.in_ok-is_close_line.ensures.line.0 c.if-not-branch.false ∙ ap (λ (p : ℕ). close_line p c.args.lane n) c.next_position-position.ensures
+            ∙ ap (λ (k : ℕ). close_line (next_position old.first old.entries) c.args.lane k) number,
+        record { low = subst (λ (k : ℕ). k < 2 ^ 64) number c.is_close_line.ensures.low; memory = memory; refuses = c.in-Err.ensures.fault; none = c.in-Err.ensures.none memory },
+      );
+    }
