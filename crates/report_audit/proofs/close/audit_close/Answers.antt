@@ -1,5 +1,6 @@
-use Rattle.std.proofs.Common.{◌≡◌, ◌≢◌, ℕ, ◌<◌, ◌^◌, refl, ap, subst, ◌∙◌}
+use Rattle.std.proofs.Common.{rules, ◌≡◌, ◌≢◌, ℕ, ◌<◌, ◌^◌, refl, ap, subst, ◌∙◌}
 use Rattle.report_audit.proofs.Common.{Batch, IsKept, Outcome, close_line, next_position}
+use Rattle.block_audit.specs.declared.refusal.BlockRefusal.TheVariants as refusal
 use Rattle.report_audit.proofs.ClosingLemmas.{batch_known, takes_close}
 use Rattle.report_audit.proofs.close.audit_close.Goals as goal
 
@@ -26,7 +27,7 @@ returns-in-Err g c =
     let old = c.args.book.now in
     let n = c.snapshot.inside.batch in
     let number : n ≡ c.args.snapshot.now.number = ap (λ (b : Batch). b.number) c.snapshot.view_is in
-    let memory = c.in-Err.refusal-is in
+    let memory : c.in-Err.refusal ≢ refusal.OutOfMemory = search rules in
     record {
       takes = tt;
       stops = (
