@@ -113,9 +113,7 @@ module _ {n m : ℕ} {w : ℕ → ℕ → ℕ} {k : ℕ} {a b q p r c parent pla
         tree = IsRooted-kept grown.tree q (slice_index po rider + 1) (omega arith) (omega arith) (λ t lt. refl);
         rider_within = hr;
         position_within = position;
-        last_edge =
-            let is : w (slice_index r (slice_index po rider)) rider + slice_index ta rider ≡ slice_index a (slice_index r (slice_index po rider)) + slice_index b rider + lowered = reached.exactly rider hr out in
-            omega arith;
+        last_edge = omega (arith, reached.exactly rider hr out);
       }
 
   -- the root stays unmatched at price 0

@@ -72,21 +72,15 @@ module _ (tau : ℕ → ℕ → ℕ) (idle wanted : List ℕ) (s : Matching) (pa
     once_from = λ i j d lt h e. let less : (get_or pairs i d).0 < (get_or pairs j d).0 = chosen.rising i j d lt h in omega arith;
     once_to = λ i j d lt h e.
         let hi : i < length pairs = omega arith in
-        let first = chosen.sound i d hi in
-        let second = chosen.sound j d h in
-        let less : (get_or pairs i d).0 < (get_or pairs j d).0 = chosen.rising i j d lt h in
         let back : (k : ℕ) → (hk : k < length pairs) → slice_index s.vehicle_of.items (get_or pairs k d).1 ≡ (get_or pairs k d).0 = λ k hk.
         let p = chosen.sound k d hk in
         rw p.2 at (priced.forth (get_or pairs k d).0 p.0 (rw p.2 p.1)) in
         let same : (get_or pairs i d).0 ≡ (get_or pairs j d).0 = sym (back i hi) ∙ ap (slice_index s.vehicle_of.items) e ∙ back j h in
-        omega arith;
+        omega (arith, chosen.rising i j d lt h, chosen.sound j d h, chosen.sound i d hi);
   }
 
   pub total-chosen : sum_by (seconds_in s) pairs ≡ sum_by (pair_seconds tau idle wanted) pairs
-  total-chosen = sum_by_same (seconds_in s) (pair_seconds tau idle wanted) pairs (λ k d h.
-      let is : weight_in s (get_or pairs k d).0 (get_or pairs k d).1 ≡ weight_of (pair_seconds tau idle wanted (get_or pairs k d)) = weight_is k d h in
-      let worth : weight_of (pair_seconds tau idle wanted (get_or pairs k d)) + pair_seconds tau idle wanted (get_or pairs k d) ≡ pair_worth = weight_of-is _ (way k d h) in
-      omega arith)
+  total-chosen = sum_by_same (seconds_in s) (pair_seconds tau idle wanted) pairs (λ k d h. omega (arith, weight_of-is _ (way k d h), weight_is k d h))
 
   -- the negated price of a place
   from_at : (i : ℕ) → i < length idle → potential (map negated s.vehicle_price.items) i ≡ negated (slice_index s.vehicle_price.items i)
@@ -99,15 +93,12 @@ module _ (tau : ℕ → ℕ → ℕ) (idle wanted : List ℕ) (s : Matching) (pa
   from_free : (i : ℕ) → i < length idle → (Any (λ (p : ℕ × ℕ). p.0 ≡ i) pairs → ⊥) → slice_index s.vehicle_price.items i ≡ 0
   from_free i h unchosen =
       let hi : i < s.vehicles = rw vehicles h in
-      let rider : ℕ = slice_index s.rider_of.items i in
       ⊎_elim
       (λ (matched : slice_index s.rider_of.items i < s.riders). ⊎_elim
       (λ (weighs : 0 < weight_in s i (slice_index s.rider_of.items i)).
       let c = chosen.complete i hi matched weighs in
       absurd (unchosen (c.0, (i, slice_index s.rider_of.items i), c.1, c.2, refl)))
-      (λ (nothing : weight_in s i (slice_index s.rider_of.items i) ≤ 0).
-      let tight : slice_index s.vehicle_price.items i + slice_index s.rider_price.items (slice_index s.rider_of.items i) ≡ weight_in s i (slice_index s.rider_of.items i) = priced.tight i hi matched in
-      omega arith)
+      (λ (nothing : weight_in s i (slice_index s.rider_of.items i) ≤ 0). omega (arith, priced.tight i hi matched))
       (cases_lt 0 (weight_in s i (slice_index s.rider_of.items i))))
       (λ (free : s.riders ≤ slice_index s.rider_of.items i). priced.free_vehicle i hi hi free)
       (cases_lt (slice_index s.rider_of.items i) s.riders)
@@ -137,17 +128,11 @@ module _ (tau : ℕ → ℕ → ℕ) (idle wanted : List ℕ) (s : Matching) (pa
     from_at_most_0 = λ i h. rw (from_at i h) (negated-most _);
     to_at_most_0 = λ j h. rw (to_at j h) (negated-most _);
     at_most = λ i j hi hj reach.
-        let cover : weight_in s i j ≤ slice_index s.vehicle_price.items i + slice_index s.rider_price.items j = priced.prices.covers i j (rw vehicles hi) (rw riders hj) in
-        let is : weight_in s i j ≡ weight_of (pair_seconds tau idle wanted (i, j)) = weights i j hi hj in
-        let worth : weight_of (pair_seconds tau idle wanted (i, j)) + pair_seconds tau idle wanted (i, j) ≡ pair_worth = weight_of-is _ reach in
-        rw (from_at i hi, to_at j hj) (negated-at_most (slice_index s.vehicle_price.items i) (slice_index s.rider_price.items j) (pair_seconds tau idle wanted (i, j)) pair_worth (omega arith));
+        rw (from_at i hi, to_at j hj) (negated-at_most (slice_index s.vehicle_price.items i) (slice_index s.rider_price.items j) (pair_seconds tau idle wanted (i, j)) pair_worth (omega (arith, weight_of-is _ reach, weights i j hi hj, priced.prices.covers i j (rw vehicles hi) (rw riders hj))));
     equal = λ k d h.
-        let p : ℕ × ℕ = get_or pairs k d in
         let sound = chosen.sound k d h in
         let tight : slice_index s.vehicle_price.items (get_or pairs k d).0 + slice_index s.rider_price.items (get_or pairs k d).1 ≡ weight_in s (get_or pairs k d).0 (get_or pairs k d).1 = rw sound.2 at (priced.tight (get_or pairs k d).0 sound.0 (rw sound.2 sound.1)) in
-        let is : weight_in s (get_or pairs k d).0 (get_or pairs k d).1 ≡ weight_of (pair_seconds tau idle wanted (get_or pairs k d)) = weight_is k d h in
-        let worth : weight_of (pair_seconds tau idle wanted (get_or pairs k d)) + pair_seconds tau idle wanted (get_or pairs k d) ≡ pair_worth = weight_of-is _ (way k d h) in
-        rw (from_at _ (within k d h).0, to_at _ (within k d h).1) (negated-equal (slice_index s.vehicle_price.items (get_or pairs k d).0) (slice_index s.rider_price.items (get_or pairs k d).1) (pair_seconds tau idle wanted (get_or pairs k d)) pair_worth (omega arith));
+        rw (from_at _ (within k d h).0, to_at _ (within k d h).1) (negated-equal (slice_index s.vehicle_price.items (get_or pairs k d).0) (slice_index s.rider_price.items (get_or pairs k d).1) (pair_seconds tau idle wanted (get_or pairs k d)) pair_worth (omega (arith, weight_of-is _ (way k d h), weight_is k d h)));
     from_unmatched = λ i h unchosen. from_at i h ∙ ap negated (from_free i h unchosen);
     to_unmatched = λ j h unchosen. to_at j h ∙ ap negated (to_free j h unchosen);
   }

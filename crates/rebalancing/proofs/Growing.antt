@@ -9,8 +9,7 @@ b_most {n} {m} {w} {done} {next} {a} {b} {q} {p} priced j hj =
     (λ (matched : slice_index p j < n).
     let back : slice_index q (slice_index p j) ≡ j = priced.back j hj (λ e. omega arith) matched in
     let tight : slice_index a (slice_index p j) + slice_index b j ≡ w (slice_index p j) j = rw back at (priced.tight (slice_index p j) matched (rw back hj)) in
-    let light : w (slice_index p j) j ≤ pair_worth = priced.prices.light (slice_index p j) j matched hj in
-    omega arith)
+    omega (arith, priced.prices.light (slice_index p j) j matched hj))
     (λ (free : n ≤ slice_index p j). let is : slice_index b j ≡ 0 = priced.free_rider j hj (λ e. omega arith) free in omega arith)
     (cases_lt (slice_index p j) n)
 
@@ -45,12 +44,7 @@ module _ {n m : ℕ} {w : ℕ → ℕ → ℕ} {k : ℕ} {a b q p : List ℕ} (p
       ⊎_elim
       (λ (new : (slice_index row j + slice_index ta' j ≡ slice_index a k + slice_index b j) × (slice_index po' j ≡ 0)). (rw weight at new.0, new.1))
       (λ (old : (slice_index ta' j ≡ slice_index ta j) × (slice_index po' j ≡ slice_index po j)).
-      let bound : slice_index row j + slice_index ta' j ≤ slice_index a k + slice_index b j = relaxes.bounded j (rw row_length hj) out in
-      let is : slice_index ta' j ≡ slice_index ta j = old.0 in
-      let at : slice_index ta j ≡ huge = far j hj in
-      let price : slice_index b j ≤ pair_worth = b_most priced j hj in
-      let root_price : slice_index a k ≤ pair_worth = priced.prices.a_most k hk in
-      absurd (omega arith))
+      absurd (omega (arith, priced.prices.a_most k hk, b_most priced j hj, far j hj, old.0, relaxes.bounded j (rw row_length hj) out)))
       (relaxes.from j (rw row_length hj) out)
       in
       record {
@@ -124,8 +118,7 @@ module _ {n m : ℕ} {w : ℕ → ℕ → ℕ} {k : ℕ} {a b q p r c parent pla
           rw (parent_old t lt, r_old (slice_index parent t) before, c_old t lt) (grown.tree.edge t pt lt))
           (λ (e : t ≡ length r).
           let before : slice_index po j < length r = reached.of_within j hj out in
-          let exactly : w (slice_index r (slice_index po j)) j + slice_index ta j ≡ slice_index a (slice_index r (slice_index po j)) + slice_index b j + lowered = reached.exactly j hj out in
-          rw (e, parent_new, r_old (slice_index po j) before, c_new) (omega arith))
+          rw (e, parent_new, r_old (slice_index po j) before, c_new) (omega (arith, reached.exactly j hj out)))
           (positions t ht);
       placed = λ t pt ht. ⊎_elim
           (λ (lt : t < length r).
@@ -159,10 +152,7 @@ module _ {n m : ℕ} {w : ℕ → ℕ → ℕ} {k : ℕ} {a b q p r c parent pla
         of_length = relaxes.parent_length ∙ reached.of_length;
         not_past = λ i hi away. ⊎_elim
             (λ (new : (slice_index row i + slice_index ta' i ≡ slice_index a v + lowered + slice_index b i) × (slice_index po' i ≡ length r)).
-            let weight : slice_index row i ≡ w v i = weights i hi in
-            let cover : w v i ≤ slice_index a v + slice_index b i = priced.prices.covers v i v_within hi in
-            let is : slice_index row i + slice_index ta' i ≡ slice_index a v + lowered + slice_index b i = new.0 in
-            omega arith)
+            omega (arith, new.0, priced.prices.covers v i v_within hi, weights i hi))
             (λ old. rw old.0 (reached.not_past i hi (outside i away)))
             (relaxes.from i (rw row_length hi) away);
         of_within = λ i hi away. ⊎_elim
@@ -170,17 +160,12 @@ module _ {n m : ℕ} {w : ℕ → ℕ → ℕ} {k : ℕ} {a b q p r c parent pla
             (λ old. rw old.1 (let h : slice_index po i < length r = reached.of_within i hi (outside i away) in omega (arith, length_push r v)))
             (relaxes.from i (rw row_length hi) away);
         no_earlier = λ i t hi away ht. ⊎_elim
-            (λ (lt : t < length r).
-            let was : w (slice_index r t) i + slice_index ta i ≤ slice_index a (slice_index r t) + slice_index b i + lowered = reached.no_earlier i t hi (outside i away) lt in
-            let less : slice_index ta' i ≤ slice_index ta i = relaxes.no_later i (rw row_length hi) away in
-            rw (r_old t lt) (omega arith))
+            (λ (lt : t < length r). rw (r_old t lt) (omega (arith, relaxes.no_later i (rw row_length hi) away, reached.no_earlier i t hi (outside i away) lt)))
             (λ (e : t ≡ length r). let here : w v i + slice_index ta' i ≤ slice_index a v + lowered + slice_index b i = near i hi away in rw (e, r_new) (omega arith))
             (positions t ht);
         exactly = λ i hi away. ⊎_elim
             (λ (new : (slice_index row i + slice_index ta' i ≡ slice_index a v + lowered + slice_index b i) × (slice_index po' i ≡ length r)).
-            let weight : slice_index row i ≡ w v i = weights i hi in
-            let is : slice_index row i + slice_index ta' i ≡ slice_index a v + lowered + slice_index b i = new.0 in
-            rw (new.1, r_new) (omega arith))
+            rw (new.1, r_new) (omega (arith, new.0, weights i hi)))
             (λ (old : (slice_index ta' i ≡ slice_index ta i) × (slice_index po' i ≡ slice_index po i)).
             let h : slice_index po i < length r = reached.of_within i hi (outside i away) in
             rw (old.0, old.1, r_old (slice_index po i) h) (reached.exactly i hi (outside i away)))
@@ -211,7 +196,4 @@ module _ {n m : ℕ} {w : ℕ → ℕ → ℕ} {k : ℕ} {a b q p r c parent pla
   -- the prices and the fall fit
   pub offset_fits : (i : ℕ) → i < m → slice_index a v + lowered + slice_index b i < 2000000000000
   offset_fits i hi =
-      let first : slice_index a v ≤ pair_worth = priced.prices.a_most v v_within in
-      let second : slice_index b i ≤ pair_worth = b_most priced i hi in
-      let fallen : slice_index a k + lowered ≡ pair_worth = cheap.fallen in
-      omega arith
+      omega (arith, cheap.fallen, b_most priced i hi, priced.prices.a_most v v_within)

@@ -36,33 +36,26 @@ gains_no_more tau from to pairs other a b prices m =
     let f : ℕ × ℕ → ℕ = λ p. get_or a p.0 0 in
     let g : ℕ × ℕ → ℕ = λ p. get_or b p.1 0 in
     let covered : length other * pair_worth ≤ sum_by s other + sum_by f other + sum_by g other = sum_at_least s f g pair_worth other (λ k d h. prices.at_least _ _ (m.within k d h).0 (m.within k d h).1 (m.reachable k d h)) in
-    let exact : length pairs * pair_worth ≡ sum_by s pairs + sum_by f pairs + sum_by g pairs = sum_exactly s f g pair_worth pairs prices.equal in
     let a_within : All (λ (p : ℕ × ℕ). p.0 < length a) other = λ k d h. rw prices.a_length ((m.within k d h).0) in
     let b_within : All (λ (p : ℕ × ℕ). p.1 < length b) other = λ k d h. rw prices.b_length ((m.within k d h).1) in
     let a_most : sum_by f other ≤ sum a = sum_over_different (λ (p : ℕ × ℕ). p.0) other a a_within m.once_from in
     let b_most : sum_by g other ≤ sum b = sum_over_different (λ (p : ℕ × ℕ). p.1) other b b_within m.once_to in
     let a_all : sum a ≤ sum_by f pairs = sum_over_covering (λ (p : ℕ × ℕ). p.0) pairs a prices.a_unmatched in
     let b_all : sum b ≤ sum_by g pairs = sum_over_covering (λ (p : ℕ × ℕ). p.1) pairs b prices.b_unmatched in
-    omega arith
+    omega (arith, sum_exactly s f g pair_worth pairs prices.equal)
 
 -- the total of a matching of at most 500 places is less than the worth of one more pair
 total_short : (tau : ℕ → ℕ → ℕ) (from to : List ℕ) (pairs : List (ℕ × ℕ)) → ((a b : ℕ) → tau a b < never → tau a b ≤ longest) → length from ≤ 500 → IsMatching tau from to pairs → sum_by (pair_seconds tau from to) pairs < pair_worth
 total_short tau from to pairs range few m =
     let most : sum_by (pair_seconds tau from to) pairs ≤ length pairs * longest = sum_by-le (pair_seconds tau from to) longest pairs (λ k d h. range _ _ (m.reachable k d h)) in
-    let short : length pairs ≤ length from = IsMatching-short tau from to pairs m in
-    omega arith
+    omega (arith, IsMatching-short tau from to pairs m)
 
 -- a matching with prices is best
 pub best_by_prices : (tau : ℕ → ℕ → ℕ) (from to : List ℕ) (pairs : List (ℕ × ℕ)) (a b : List ℕ) → ((a b : ℕ) → tau a b < never → tau a b ≤ longest) → length from ≤ 500 → IsMatching tau from to pairs → ArePrices tau from to pairs a b → IsBestMatching tau from to pairs
 best_by_prices tau from to pairs a b range few m prices = record {
   matching = m;
-  most_pairs = λ other n.
-      let gain : length other * pair_worth + sum_by (pair_seconds tau from to) pairs ≤ sum_by (pair_seconds tau from to) other + length pairs * pair_worth = gains_no_more tau from to pairs other a b prices n in
-      let short : sum_by (pair_seconds tau from to) other < pair_worth = total_short tau from to other range few n in
-      omega arith;
-  least_total = λ other n e.
-      let gain : length other * pair_worth + sum_by (pair_seconds tau from to) pairs ≤ sum_by (pair_seconds tau from to) other + length pairs * pair_worth = gains_no_more tau from to pairs other a b prices n in
-      omega arith;
+  most_pairs = λ other n. omega (arith, total_short tau from to other range few n, gains_no_more tau from to pairs other a b prices n);
+  least_total = λ other n e. omega (arith, gains_no_more tau from to pairs other a b prices n);
 }
 
 -- how far a number is below zero
@@ -77,15 +70,11 @@ neg-fall_of (negsuc n) h = refl
 
 falls_cover : (u v : ℤ) (s w : ℕ) → u ≤ℤ pos 0 → v ≤ℤ pos 0 → (u +ℤ v) ≤ℤ (pos s -ℤ pos w) → w ≤ s + fall_of u + fall_of v
 falls_cover u v s w hu hv h =
-    let eu : u ≡ neg_ℤ (pos (fall_of u)) = neg-fall_of u hu in
-    let ev : v ≡ neg_ℤ (pos (fall_of v)) = neg-fall_of v hv in
-    omega (arith, ints)
+    omega (arith, neg-fall_of v hv, neg-fall_of u hu, ints)
 
 falls_equal : (u v : ℤ) (s w : ℕ) → u ≤ℤ pos 0 → v ≤ℤ pos 0 → u +ℤ v ≡ pos s -ℤ pos w → w ≡ s + fall_of u + fall_of v
 falls_equal u v s w hu hv h =
-    let eu : u ≡ neg_ℤ (pos (fall_of u)) = neg-fall_of u hu in
-    let ev : v ≡ neg_ℤ (pos (fall_of v)) = neg-fall_of v hv in
-    omega (arith, ints)
+    omega (arith, neg-fall_of v hv, neg-fall_of u hu, ints)
 
 -- the negated potentials are prices
 pub ArePrices-from_potentials : (tau : ℕ → ℕ → ℕ) (from to : List ℕ) (pairs : List (ℕ × ℕ)) (u v : List ℤ) → IsMatching tau from to pairs → ArePotentials tau from to pairs u v → ArePrices tau from to pairs (map fall_of u) (map fall_of v)

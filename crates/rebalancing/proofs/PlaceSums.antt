@@ -8,9 +8,7 @@ sum_by_same f g [] h = refl
 sum_by_same f g (x ∷ xs) h =
     let first : f x ≡ g x = All-head (λ y. f y ≡ g y) x xs h in
     let rest : sum_by f xs ≡ sum_by g xs = sum_by_same f g xs (All-tail (λ y. f y ≡ g y) x xs h) in
-    let left : sum_by f (x ∷ xs) ≡ f x + sum_by f xs = sum_by-cons f x xs in
-    let right : sum_by g (x ∷ xs) ≡ g x + sum_by g xs = sum_by-cons g x xs in
-    omega arith
+    omega (arith, sum_by-cons g x xs, sum_by-cons f x xs)
 
 -- an element with a property is the first or one of the rest
 pub Any-split : {X : Type 0} (P : X → Type 0) (x : X) (xs : List X) → Any P (x ∷ xs) → P x ⊎ Any P xs

@@ -10,9 +10,7 @@ pub rows_more : (ws row : List ℕ) (n m : ℕ) (f : ℕ → ℕ → ℕ) → le
 rows_more ws row n m f ews erow before last = (
   omega (arith, length-append ws row),
   λ i j hi hj. ⊎_elim
-      (λ (lt : i < n).
-      let place : i * m + j < m * n = mul-add-lt i m j n lt hj in
-      get_or_append_left ws row 0 (i * m + j) (omega arith) ∙ before i j lt hj)
+      (λ (lt : i < n). get_or_append_left ws row 0 (i * m + j) (omega (arith, mul-add-lt i m j n lt hj)) ∙ before i j lt hj)
       (λ (le : n ≤ i).
       let e : i ≡ n = omega arith in
       let at : n * m + j - n * m ≡ j = omega arith in

@@ -5,9 +5,7 @@ module _ {n m : ℕ} {w : ℕ → ℕ → ℕ} {k : ℕ} {a b q r c parent place
   root_apart : (t : ℕ) → 0 < t → t < count → slice_index r 0 ≡ slice_index r t → ⊥
   root_apart t pt ht e =
       let same : slice_index q k ≡ slice_index c t = ap (slice_index q) (sym tree.root ∙ e) ∙ tree.partner t pt ht in
-      let free : m ≤ slice_index q k = tree.root_free in
-      let within : slice_index c t < m = tree.rider t pt ht in
-      omega arith
+      omega (arith, tree.rider t pt ht, tree.root_free)
 
   -- no vehicle is at two positions
   pub vehicles_differ : (s t : ℕ) → s < count → t < count → slice_index r s ≡ slice_index r t → s ≡ t
@@ -44,8 +42,7 @@ module _ {n m : ℕ} {w : ℕ → ℕ → ℕ} {k : ℕ} {a b q p r c parent pla
       let within : slice_index c (suc t) < m = grown.tree.rider (suc t) (omega arith) ht in
       let zero_at : slice_index place (slice_index q i) ≡ 0 = out (omega arith) in
       let at : slice_index place (slice_index c (suc t)) ≡ suc t = grown.tree.placed (suc t) (omega arith) ht in
-      let same : slice_index place (slice_index q i) ≡ slice_index place (slice_index c (suc t)) = ap (slice_index place) rider in
-      absurd (omega arith)
+      absurd (omega (arith, ap (slice_index place) rider))
 
   -- a vehicle is at some position of the tree, or at none
   pub vehicle_cases : (i : ℕ) → i < n → ((t : ℕ) × (t < length r) × (slice_index r t ≡ i)) ⊎ ((t : ℕ) → t < length r → slice_index r t ≢ i)
@@ -71,9 +68,7 @@ module _ {n m : ℕ} {w : ℕ → ℕ → ℕ} {k : ℕ} {a b q p r c parent pla
   -- a rider outside the tree is at no position
   pub rider_outside : (j : ℕ) → slice_index place j ≡ 0 → (t : ℕ) → 0 < t → t < length r → slice_index c t ≢ j
   rider_outside j out t pt ht e =
-      let at : slice_index place (slice_index c t) ≡ t = grown.tree.placed t pt ht in
-      let same : slice_index place (slice_index c t) ≡ slice_index place j = ap (slice_index place) e in
-      absurd (omega arith)
+      absurd (omega (arith, ap (slice_index place) e, grown.tree.placed t pt ht))
 
   pub rider_cases : (j : ℕ) → j < m → ((t : ℕ) × (0 < t) × (t < length r) × (slice_index c t ≡ j)) ⊎ ((t : ℕ) → 0 < t → t < length r → slice_index c t ≢ j)
   rider_cases j hj =
@@ -101,8 +96,7 @@ module _ {n m : ℕ} {w : ℕ → ℕ → ℕ} {k : ℕ} {a b q p r c parent pla
         let out : slice_index place j ≡ 0 = omega arith in
         let same : slice_index b' j ≡ slice_index b j = rise.outside j (λ s ps hs. rider_outside j out s ps (rw grown.tree.c_length at hs)) in
         let bound : w i j + slice_index ta j ≤ slice_index a i + slice_index b j + lowered = rw vehicle.2 at (reached.no_earlier j t hj out vehicle.1) in
-        let later : lowered + by ≤ slice_index ta j = near j hj out in
-        omega arith)
+        omega (arith, near j hj out))
         (⊎_elim (λ (inside : 0 < slice_index place j). inl (slice_index place j, inside, grown.place_most j hj, grown.found j hj inside)) (λ h. inr h) (cases_lt 0 (slice_index place j))))
         (λ (outside : (t : ℕ) → t < length r → slice_index r t ≢ i).
         let same_price : slice_index a' i ≡ slice_index a i = fall.outside i outside in
@@ -138,12 +132,11 @@ module _ {n m : ℕ} {w : ℕ → ℕ → ℕ} {k : ℕ} {a b q p r c parent pla
         absurd (omega arith))
         (cases_lt 0 vehicle.0))
         (λ (outside : (t : ℕ) → t < length r → slice_index r t ≢ i).
-        let same_price : slice_index a' i ≡ slice_index a i = fall.outside i outside in
         let rider_out : (s : ℕ) → 0 < s → s < length r → slice_index c s ≢ slice_index q i = λ s ps hs e.
         let partner : slice_index q (slice_index r s) ≡ slice_index q i = grown.tree.partner s ps hs ∙ e in
         outside s hs (sym (priced.forth (slice_index r s) (grown.tree.vehicle s hs) (rw partner matched)) ∙ ap (slice_index p) partner ∙ priced.forth i hi matched) in
         let same : slice_index b' (slice_index q i) ≡ slice_index b (slice_index q i) = rise.outside (slice_index q i) (λ s ps hs. rider_out s ps (rw grown.tree.c_length at hs)) in
-        omega arith)
+        omega (arith, fall.outside i outside))
         (vehicle_cases i hi)
 
     -- what is unmatched isn't in the tree, but for the root
@@ -178,8 +171,7 @@ module _ {n m : ℕ} {w : ℕ → ℕ → ℕ} {k : ℕ} {a b q p r c parent pla
           let hr : s < length r = rw grown.tree.c_length at hs in
           let partner : slice_index q (slice_index r s) ≡ j = grown.tree.partner s ps hr ∙ e in
           let own : slice_index p j ≡ slice_index r s = ap (slice_index p) (sym partner) ∙ priced.forth (slice_index r s) (grown.tree.vehicle s hr) (rw partner hj) in
-          let within : slice_index r s < n = grown.tree.vehicle s hr in
-          absurd (omega arith) in
+          absurd (omega (arith, grown.tree.vehicle s hr)) in
           rise.outside j out ∙ priced.free_rider j hj ne free;
       free_vehicle = λ i hi lt free. unmatched_outside i hi (λ e. absurd (omega arith)) free ∙ priced.free_vehicle i hi lt free;
       waiting = priced.waiting;
@@ -200,8 +192,7 @@ module _ {n m : ℕ} {w : ℕ → ℕ → ℕ} {k : ℕ} {a b q p r c parent pla
             let before : slice_index parent t < t = grown.tree.earlier t pt ht in
             let was : slice_index a (slice_index r (slice_index parent t)) + slice_index b (slice_index c t) ≡ w (slice_index r (slice_index parent t)) (slice_index c t) = grown.tree.edge t pt ht in
             let fell : slice_index a' (slice_index r (slice_index parent t)) + by ≡ slice_index a (slice_index r (slice_index parent t)) = fall.inside (slice_index parent t) (omega arith) in
-            let rose : slice_index b' (slice_index c t) ≡ slice_index b (slice_index c t) + by = rise.inside t pt (rw grown.tree.c_length ht) in
-            omega arith;
+            omega (arith, rise.inside t pt (rw grown.tree.c_length ht));
         placed = grown.tree.placed;
       };
       rooted = grown.rooted;
@@ -217,28 +208,19 @@ module _ {n m : ℕ} {w : ℕ → ℕ → ℕ} {k : ℕ} {a b q p r c parent pla
       not_past = near;
       of_within = reached.of_within;
       no_earlier = λ j t hj out ht.
-          let was : w (slice_index r t) j + slice_index ta j ≤ slice_index a (slice_index r t) + slice_index b j + lowered = reached.no_earlier j t hj out ht in
-          let fell : slice_index a' (slice_index r t) + by ≡ slice_index a (slice_index r t) = fall.inside t ht in
           let same : slice_index b' j ≡ slice_index b j = rise.outside j (λ s ps hs. rider_outside j out s ps (rw grown.tree.c_length at hs)) in
-          omega arith;
+          omega (arith, fall.inside t ht, reached.no_earlier j t hj out ht);
       exactly = λ j hj out.
           let ht : slice_index po j < length r = reached.of_within j hj out in
-          let was : w (slice_index r (slice_index po j)) j + slice_index ta j ≡ slice_index a (slice_index r (slice_index po j)) + slice_index b j + lowered = reached.exactly j hj out in
-          let fell : slice_index a' (slice_index r (slice_index po j)) + by ≡ slice_index a (slice_index r (slice_index po j)) = fall.inside (slice_index po j) ht in
           let same : slice_index b' j ≡ slice_index b j = rise.outside j (λ s ps hs. rider_outside j out s ps (rw grown.tree.c_length at hs)) in
-          omega arith;
+          omega (arith, fall.inside (slice_index po j) ht, reached.exactly j hj out);
     }
 
     pub IsCheapest-shifted : IsCheapest k a' r cheapest (lowered + by)
     IsCheapest-shifted = record {
       within = cheap.within;
-      least = λ t ht.
-          let was : slice_index a (slice_index r cheapest) ≤ slice_index a (slice_index r t) = cheap.least t ht in
-          let fell : slice_index a' (slice_index r t) + by ≡ slice_index a (slice_index r t) = fall.inside t ht in
-          let fell_there : slice_index a' (slice_index r cheapest) + by ≡ slice_index a (slice_index r cheapest) = fall.inside cheapest cheap.within in
-          omega arith;
+      least = λ t ht. omega (arith, fall.inside cheapest cheap.within, fall.inside t ht, cheap.least t ht);
       fallen =
-          let was : slice_index a k + lowered ≡ pair_worth = cheap.fallen in
           let fell : slice_index a' k + by ≡ slice_index a k = rw grown.tree.root at (fall.inside 0 grown.rooted) in
-          omega arith;
+          omega (arith, cheap.fallen);
     }

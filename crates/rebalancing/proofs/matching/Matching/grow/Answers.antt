@@ -48,7 +48,6 @@ returns-clause-tree c =
     let relaxes : Relaxes c.row.result.now s.rider_price.items (set t.place.items j (length r)) (slice_index s.vehicle_price.items v + t.lowered) (length r) t.tight_at.items t.parent_of.items c.relax.new.tight_at c.relax.new.parent_of =
     rw (price, c.deref_mut.ensures.value, c.deref_mut-2.ensures.value, c.deref-3.ensures.value, c.deref-4.ensures.value, position) at c.relax.ensures.relaxes in
     let tight_length : length c.relax.new.tight_at ≡ t.tight_at.len = omega (arith, relaxes.tight_length, t.tight_at.ok.0) in
-    let of_length : length c.relax.new.parent_of ≡ t.parent_of.len = omega (arith, relaxes.parent_length, t.parent_of.ok.0) in
     let cheaper : IsCheaper s.vehicle_price.items (r ++ v ∷ []) t.cheapest (length r) c.cheaper-tree.result = rw (c.deref.ensures.value, c.deref-2.ensures.value, vehicles, position) at c.cheaper-tree.ensures in
     let old : slice_index (r ++ v ∷ []) t.cheapest ≡ slice_index r t.cheapest = get_or_append_left r (v ∷ []) 0 t.cheapest tree.cheapest.within in
     let new : slice_index (r ++ v ∷ []) (length r) ≡ v = get_or_push r v 0 (length r) refl in
@@ -60,7 +59,7 @@ returns-clause-tree c =
     cheaper in
     record {
       grown = rw (vehicles, riders, parents, position) (IsGrown-more priced tree.grown tree.reached tree.cheapest c.requires.within c.requires.outside c.requires.tight c.requires.matched ev);
-      reached = rw (vehicles, with_items_is t.tight_at c.relax.new.tight_at tight_length, with_items_is t.parent_of c.relax.new.parent_of of_length, position)
+      reached = rw (vehicles, with_items_is t.tight_at c.relax.new.tight_at tight_length, with_items_is t.parent_of c.relax.new.parent_of (omega (arith, relaxes.parent_length, t.parent_of.ok.0)), position)
           (IsReached-more priced tree.grown tree.reached tree.cheapest c.requires.within c.requires.outside c.requires.tight c.requires.matched ev c.row.ensures.length c.row.ensures.weights relaxes);
       cheapest = rw vehicles cheapest;
     }
@@ -80,5 +79,4 @@ overflow_add-index c =
 pub returns-clause-nearest : goal.returns-clause-nearest
 returns-clause-nearest c =
     let t = c.args.tree.now in
-    let tight_length : length c.relax.new.tight_at ≡ t.tight_at.len = omega (arith, ap length c.deref_mut.ensures.value, c.relax.ensures.relaxes.tight_length, t.tight_at.ok.0) in
-    rw (with_items_is t.tight_at c.relax.new.tight_at tight_length) (rw (c.row.ensures.length, c.deref-3.ensures.value) at c.relax.ensures.nearest)
+    rw (with_items_is t.tight_at c.relax.new.tight_at (omega (arith, ap length c.deref_mut.ensures.value, c.relax.ensures.relaxes.tight_length, t.tight_at.ok.0))) (rw (c.row.ensures.length, c.deref-3.ensures.value) at c.relax.ensures.nearest)

@@ -21,6 +21,5 @@ augment-requires c =
 
 pub returns-else-position-ne0-clause-priced : goal.returns-else-position-ne0-clause-priced
 returns-else-position-ne0-clause-priced c =
-    let t = c.args.tree.now in
     let first : c.args.tree.now.cheapest ≡ 0 = omega (arith, c.if-position-ne0.false) in
     IsPriced-root_left c.requires.priced c.requires.tree.grown (rw (first, c.requires.tree.grown.tree.root) at c.requires.price)
