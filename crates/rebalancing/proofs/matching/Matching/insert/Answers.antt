@@ -1,26 +1,25 @@
-use Rattle.std.proofs.Common.{◌≡◌, ℕ, ◌+◌, ◌<◌, ◌≤◌, ◌==◌, cond, length, slice_index, set, count_by, sym, ap, ⊎_elim, arith}
+use Rattle.std.proofs.Common.{◌≡◌, ℕ, ◌+◌, ◌<◌, ◌≤◌, ◌==◌, cond, List, length, slice_index, get_or, set, count_by, sym, ap, inl, inr, arith}
 use Rattle.rebalancing.proofs.Common.{cases_lt, get_or_read, sum_by-set, pair_worth, root_of}
 use Rattle.std.proofs.lemmas.Bool.{ne_eqb}
 use Rattle.rebalancing.proofs.Augmenting.{IsOpen-free}
 use Rattle.rebalancing.proofs.matching.Matching.insert.Goals as goal
 
+-- where the slack is below the price of the tree's cheapest vehicle, the nearest rider is one
+nearest_within : (n m : ℕ) (a r ta : List ℕ) (cheapest vehicle price slack nearest : ℕ) → length a ≡ n → ((i : ℕ) → i < n → slice_index a i ≤ pair_worth) → cheapest < length r → slice_index r cheapest < n
+    → vehicle ≡ get_or r cheapest vehicle → price ≡ get_or a vehicle price → length ta ≡ m → (length ta ≤ nearest → slack ≡ 18446744073709551615) → slack < price → nearest < m
+nearest_within n m a r ta cheapest vehicle price slack nearest long most inside known at_vehicle at_price tight none less =
+    let within : vehicle < n = rw (get_or_read r cheapest vehicle inside at_vehicle 0) known in
+    let is : price ≡ slice_index a vehicle = get_or_read a vehicle price (rw long within) at_price 0 in
+    elim (cases_lt nearest m) as (λ _. nearest < m) [ inl lt ↦ lt | inr ge ↦ absurd (omega (arith, none (omega arith), is, most vehicle within)) ]
+
 pub augment-requires : goal.augment-requires
 augment-requires c =
-    let s = c.search.self in
     let t = c.search.tree in
     let inv = c.search.invariant in
     let shift = c.shift-in-search in
-    let cheapest : c.index.result.now ≡ slice_index t.vehicles.items t.cheapest = get_or_read t.vehicles.items t.cheapest c.index.result.now inv.tree.cheapest.within c.index.ensures 0 in
-    let vehicle : c.index.result.now < c.search.self.vehicles = rw cheapest (inv.tree.grown.tree.vehicle t.cheapest inv.tree.cheapest.within) in
-    let price : c.index-price.result.now ≡ slice_index s.vehicle_price.items c.index.result.now = get_or_read s.vehicle_price.items c.index.result.now c.index-price.result.now (rw inv.priced.prices.a_length vehicle) c.index-price.ensures 0 in
-    let most : slice_index s.vehicle_price.items c.index.result.now ≤ pair_worth = inv.priced.prices.a_most c.index.result.now vehicle in
-    let less : c.slack-slack.result < c.index-price.result.now = c.if-price-slack.false in
-    let tight_length : length t.tight_at.items ≡ s.riders = inv.tree.reached.tight_length in
-    let within : c.search.nearest < c.search.self.riders = ⊎_elim
-    (λ (h : c.search.nearest < c.search.self.riders). h)
-    (λ (h : c.search.self.riders ≤ c.search.nearest). let huge : c.slack-slack.result ≡ 18446744073709551615 = c.slack-slack.ensures.none (omega arith) in absurd (omega arith))
-    (cases_lt c.search.nearest c.search.self.riders) in
-    let slack : t.lowered + c.slack-slack.result ≡ slice_index t.tight_at.items c.search.nearest = c.slack-slack.ensures.some (omega arith) in
+    let within : c.search.nearest < c.search.self.riders = nearest_within _ _ _ t.vehicles.items t.tight_at.items t.cheapest _ _ _ c.search.nearest inv.priced.prices.a_length inv.priced.prices.a_most inv.tree.cheapest.within
+    (inv.tree.grown.tree.vehicle t.cheapest inv.tree.cheapest.within) c.index.ensures c.index-price.ensures inv.tree.reached.tight_length c.slack-slack.ensures.none c.if-price-slack.false in
+    let slack : t.lowered + c.slack-slack.result ≡ slice_index t.tight_at.items c.search.nearest = c.slack-slack.ensures.some (omega (arith, inv.tree.reached.tight_length, within)) in
     let within' : c.search.nearest < shift.new.self.riders = rw shift.ensures.prices_alone within in
     let tight : slice_index shift.new.tree.tight_at.items c.search.nearest ≡ shift.new.tree.lowered = rw shift.ensures.lowered_alone (sym slack) in
     let outside : slice_index shift.new.tree.place.items c.search.nearest ≡ 0 = rw shift.ensures.lowered_alone (inv.next.outside within) in
@@ -34,21 +33,12 @@ augment-requires c =
 
 pub search-smaller : goal.search-smaller
 search-smaller c =
-    let s = c.search.self in
     let t = c.search.tree in
     let inv = c.search.invariant in
     let shift = c.shift-in-search in
     let grow = c.in_ok-nearest-2.ensures in
-    let cheapest : c.index.result.now ≡ slice_index t.vehicles.items t.cheapest = get_or_read t.vehicles.items t.cheapest c.index.result.now inv.tree.cheapest.within c.index.ensures 0 in
-    let vehicle : c.index.result.now < c.search.self.vehicles = rw cheapest (inv.tree.grown.tree.vehicle t.cheapest inv.tree.cheapest.within) in
-    let price : c.index-price.result.now ≡ slice_index s.vehicle_price.items c.index.result.now = get_or_read s.vehicle_price.items c.index.result.now c.index-price.result.now (rw inv.priced.prices.a_length vehicle) c.index-price.ensures 0 in
-    let most : slice_index s.vehicle_price.items c.index.result.now ≤ pair_worth = inv.priced.prices.a_most c.index.result.now vehicle in
-    let less : c.slack-slack.result < c.index-price.result.now = c.if-price-slack.false in
-    let tight_length : length t.tight_at.items ≡ s.riders = inv.tree.reached.tight_length in
-    let within : c.search.nearest < c.search.self.riders = ⊎_elim
-    (λ (h : c.search.nearest < c.search.self.riders). h)
-    (λ (h : c.search.self.riders ≤ c.search.nearest). let huge : c.slack-slack.result ≡ 18446744073709551615 = c.slack-slack.ensures.none (omega arith) in absurd (omega arith))
-    (cases_lt c.search.nearest c.search.self.riders) in
+    let within : c.search.nearest < c.search.self.riders = nearest_within _ _ _ t.vehicles.items t.tight_at.items t.cheapest _ _ _ c.search.nearest inv.priced.prices.a_length inv.priced.prices.a_most inv.tree.cheapest.within
+    (inv.tree.grown.tree.vehicle t.cheapest inv.tree.cheapest.within) c.index.ensures c.index-price.ensures inv.tree.reached.tight_length c.slack-slack.ensures.none c.if-price-slack.false in
     let places : c.grow.new.tree.place.items ≡ set t.place.items c.search.nearest (length t.vehicles.items) = rw shift.ensures.lowered_alone at grow.place in
     let was : slice_index t.place.items c.search.nearest ≡ 0 = inv.next.outside within in
     let positive : 0 < length t.vehicles.items = inv.tree.grown.rooted in
