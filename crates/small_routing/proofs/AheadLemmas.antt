@@ -10,13 +10,9 @@ sum_below-le_one : (f g : ℕ → ℕ) (n i x : ℕ) → i < n → ((k : ℕ) �
 sum_below-le_one f g zero i x b h one = absurd (omega arith)
 sum_below-le_one f g (suc n) i x b h one = elim (cases_eq i n) [
   | inl e ↦
-      let rest : sum_below f n ≤ sum_below g n = sum_below-le g f n (λ k q. h k (omega arith) (λ s. omega arith)) in
       let last : f n ≤ g n + x = subst (λ k. f k ≤ g k + x) e one in
-      omega arith
-  | inr ne ↦
-      let rest : sum_below f n ≤ sum_below g n + x = sum_below-le_one f g n i x (omega arith) (λ k q r. h k (omega arith) r) one in
-      let last : f n ≤ g n = h n (omega arith) (λ s. ne (sym s)) in
-      omega arith
+      omega (arith, last, sum_below-le g f n (λ k q. h k (omega arith) (λ s. omega arith)))
+  | inr ne ↦ omega (arith, sum_below-le_one f g n i x (omega arith) (λ k q r. h k (omega arith) r) one, h n (omega arith) (λ s. ne (sym s)))
 ]
 
 -- who is sooner can still serve whom the other can, with no more delay

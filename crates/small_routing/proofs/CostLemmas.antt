@@ -8,8 +8,7 @@ use Rattle.small_routing.proofs.SearchLemmas.{good_better, settled_good, exhaust
 -- a person's number is below their count
 person_below : (riders passengers done : ℕ) (s : Stop) → IsNextStop riders passengers done s → person_of riders s < riders + passengers
 person_below riders passengers done (Pick i) next = omega (arith, next.0)
-person_below riders passengers done (Drop i) next = omega (arith, next.0)
-person_below riders passengers done (Alight j) next = omega (arith, next.0)
+person_below riders passengers done _ next = omega (arith, next.0)
 
 -- what holds in the loop over the persons
 pub record PricesAll (points : ℕ) (tau : ℕ → ℕ → ℕ) (task : Task) (label : Label) (person : ℕ) (first best : Option ℕ) (labels : List Label) : Type 0 where
@@ -67,8 +66,7 @@ module _ (points : ℕ) (tau : ℕ → ℕ → ℕ) (t : IsTravelTime points tau
   exhausted_persons label persons best more all tried [] way = absurd (more (IsAllDone-from_nil (task_riders task) (task_passengers task) label.done way.completes))
   exhausted_persons label persons best more all tried (s ∷ rest) way =
       let next = (goes_on_next points tau t task valid.rider_count label s rest way).0 in
-      let who = person_below (task_riders task) (task_passengers task) label.done s next in
-      tried (person_of (task_riders task) s) (omega (arith, who, all)) s next refl rest way
+      tried (person_of (task_riders task) s) (omega (arith, person_below (task_riders task) (task_passengers task) label.done s next, all)) s next refl rest way
 
   -- all are dropped, with less delay than what was found
   pub priced_better : (label : Label) (old : Option ℕ) (labels : List Label) → IsAllDone (task_riders task) (task_passengers task) label.done → (NoneBetter (route_of old) label.delay → ⊥)
@@ -85,16 +83,6 @@ module _ (points : ℕ) (tau : ℕ → ℕ → ℕ) (t : IsTravelTime points tau
         exhausted = exhausted_all points tau t task valid label (route_of (Some label.delay)) all (omega arith);
         settled = settled_good points tau task (route_of old) (route_of (Some label.delay)) labels good settled;
       }
-
-  -- all are dropped, with no less delay
-  pub priced_same : (label : Label) (best : Option ℕ) (labels : List Label) → IsAllDone (task_riders task) (task_passengers task) label.done → NoneBetter (route_of best) label.delay
-      → All (IsLabelDone points tau task (route_of best)) labels → Priced points tau task label best best labels
-  priced_same label best labels all none settled = record {
-    found = λ path leads was. was;
-    good = λ d n. n;
-    exhausted = exhausted_all points tau t task valid label (route_of best) all none;
-    settled = settled;
-  }
 
   -- where not even at once all can be served from the first label
   pub never_first : (label : Label) → label ≡ first_label task

@@ -24,8 +24,7 @@ routable points task valid = record {
 -- who may come next is known
 pub known_next : (riders passengers done : ℕ) (s : Stop) → IsNextStop riders passengers done s → IsKnown riders passengers s
 known_next riders passengers done (Pick i) next = next.0
-known_next riders passengers done (Drop i) next = next.0
-known_next riders passengers done (Alight j) next = next.0
+known_next riders passengers done _ next = next.0
 
 lateness-most : (v : Visit) (second : ℕ) → lateness v second ≤ second
 lateness-most (Pickup place latest party) second = omega arith
@@ -44,9 +43,7 @@ module _ (points : ℕ) (tau : ℕ → ℕ → ℕ) (t : IsTravelTime points tau
 
   -- a stop is reached at a small second
   pub second_most : (label : Label) (s : Stop) (second : ℕ) → label.free ≤ 30000000000 → CanVisit tau task label s → second ≡ second_at tau task label s → second ≤ 40000000000
-  second_most label s second small can is =
-      let hop : tau label.place (place_of (visit_at task s)) ≤ longest = t.range label.place (place_of (visit_at task s)) can.0 in
-      omega (arith, is, hop, small)
+  second_most label s second small can is = omega (arith, is, t.range label.place (place_of (visit_at task s)) can.0, small)
 
   -- the numbers stay small
   pub small_next : (label : Label) (s : Stop) (left less : ℕ) → IsSmallLabel points left label → less + 1 ≤ left → IsNextStop (task_riders task) (task_passengers task) label.done s → CanVisit tau task label s
@@ -54,13 +51,11 @@ module _ (points : ℕ) (tau : ℕ → ℕ → ℕ) (t : IsTravelTime points tau
   small_next label s left less small fall next can =
       let known = known_next (task_riders task) (task_passengers task) label.done s next in
       let hop : tau label.place (place_of (visit_at task s)) ≤ longest = t.range label.place (place_of (visit_at task s)) can.0 in
-      let late = lateness-most (visit_at task s) (second_at tau task label s) in
-      let room = room_most s known label.room in
       record {
         place = place_in s known;
         free = omega (arith, small.free, fall, hop, valid.dwell);
-        room = omega (arith, small.room, fall, room);
-        delay = omega (arith, small.delay, small.free, fall, hop, late);
+        room = omega (arith, small.room, fall, room_most s known label.room);
+        delay = omega (arith, small.delay, small.free, fall, hop, lateness-most (visit_at task s) (second_at tau task label s));
       }
 
   -- one more stop leads to the next label
@@ -87,10 +82,7 @@ module _ (points : ℕ) (tau : ℕ → ℕ → ℕ) (t : IsTravelTime points tau
       }
 
   pub left_first : (done : ℕ) (path : List Stop) → path ≡ [] → length path + left_count (task_riders task) (task_passengers task) done ≤ 22
-  left_first done path e =
-      let most = left_count-most (task_riders task) (task_passengers task) done in
-      let none : length path ≡ 0 = ap length e in
-      omega (arith, most, none, valid.rider_count, valid.passenger_count)
+  left_first done path e = omega (arith, left_count-most (task_riders task) (task_passengers task) done, ap length e, valid.rider_count, valid.passenger_count)
 
   leads_from_none : LeadsTo tau task [] (first_label task)
   leads_from_none = record {

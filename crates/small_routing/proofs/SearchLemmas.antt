@@ -1,8 +1,13 @@
-use Rattle.std.proofs.Common.{◌≡◌, ℕ, ◌+◌, ◌<◌, ◌≤◌, List, [], ◌∷◌, length, map, get_or, take, Option, Some, None, sym, ap, ◌∙◌, subst, arith, inl, inr, All}
+use Rattle.std.proofs.Common.{◌≡◌, ℕ, ◌+◌, ◌<◌, ◌≤◌, List, [], ◌∷◌, length, map, get_or, take, Option, Some, None, Result, Ok, Err, OnOk, sym, ap, ◌∙◌, subst, arith, inl, inr, All}
 use Rattle.small_routing.proofs.Common.{cases_lt, All-weaker, All-more, All-map, All-contains, IsTravelTime, Route, Task, Stop, ServesFrom, visits_of, free_seats, order_delay, Serves, IsAllDone, Completes, IsFound, NoneBetter, StaysGood, soon_over, ServesFrom-soon, IsAllDone-from_nil, Completes-none, MakesOrders-all, rest_of_all, Label, Candidate, IsRoutable, task_riders, task_passengers, CanVisit, next_label, GoesOn, rest_delay, RiderCan, PassengerCan, least_ahead, no_label, IsDominated, LeadsTo, IsExhausted, IsTried, IsLabelDone, AreCandidates, Searched}
 use Rattle.std.proofs.lemmas.List.{append-nil}
 use Rattle.small_routing.proofs.AheadLemmas.{is_ahead, goes_on_next}
 use Rattle.small_routing.proofs.LabelLemmas.{known_next}
+
+-- what follows from a result's fact follows where the result is one
+pub on_ok : {A E : Type 0} (r : Result A E) (P Q : Type 0) → (P → Q) → OnOk r P → OnOk r Q
+on_ok (Ok x) P Q f p = f p
+on_ok (Err e) P Q f p = tt
 
 -- a greater delay is no better either
 NoneBetter-more : (best : Option Route) (a b : ℕ) → a ≤ b → NoneBetter best a → NoneBetter best b
@@ -40,17 +45,12 @@ module _ (points : ℕ) (tau : ℕ → ℕ → ℕ) (t : IsTravelTime points tau
       let cost : route.delay ≡ order_delay tau task path = omega (arith, delay, total) in
       let worse_than : NoneBetter old route.delay → ⊥ = λ n. worse (subst (λ d. NoneBetter old d) delay n) in
       let good = good_better old route worse_than in
-      let here : route.delay ≤ label.delay = omega (arith, delay) in
       record {
         found = (subst (λ xs. Serves tau task xs) (sym same) serves, subst (λ xs. route.delay ≡ order_delay tau task xs) (sym same) cost);
         good = good;
-        exhausted = exhausted_all label (Some route) all here;
+        exhausted = exhausted_all label (Some route) all (omega (arith, delay));
         settled = settled_good points tau task old (Some route) labels good settled;
       }
-
-  -- what was found is as good
-  pub searched_no_better : (label : Label) (best : Option Route) (labels : List Label) → IsFound tau task best → IsExhausted tau task best label → All (IsLabelDone points tau task best) labels → Searched points tau task label best best labels
-  searched_no_better label best labels found exhausted settled = record { found = found; good = λ d n. n; exhausted = exhausted; settled = settled }
 
   -- where not even at once all can be served
   pub exhausted_none : (label : Label) (best : Option Route)
@@ -62,8 +62,7 @@ module _ (points : ℕ) (tau : ℕ → ℕ → ℕ) (t : IsTravelTime points tau
   -- where no way on can be better
   pub exhausted_bound : (label : Label) (best : Option Route) (ahead : ℕ) → ahead ≡ least_ahead tau task label → NoneBetter best (label.delay + ahead) → IsExhausted tau task best label
   exhausted_bound label best ahead is none = λ rest way.
-      let least = (is_ahead points tau t task valid.rider_count rest label way).least in
-      NoneBetter-more best (label.delay + ahead) (label.delay + rest_delay tau task label rest) (omega (arith, is, least)) none
+      NoneBetter-more best (label.delay + ahead) (label.delay + rest_delay tau task label rest) (omega (arith, is, (is_ahead points tau t task valid.rider_count rest label way).least)) none
 
   -- where a settled label dominates
   pub exhausted_dominated : (label : Label) (best : Option Route) (labels : List Label) → IsDominated tau labels label → All (IsLabelDone points tau task best) labels → IsExhausted tau task best label
@@ -87,10 +86,6 @@ module _ (points : ℕ) (tau : ℕ → ℕ → ℕ) (t : IsTravelTime points tau
   -- .. or where it can't be made
   pub tried_never : (label : Label) (s : Stop) (best : Option Route) → (CanVisit tau task label s → ⊥) → IsTried tau task best label s
   tried_never label s best never = λ rest way. absurd (never (goes_on_next points tau t task valid.rider_count label s rest way).1)
-
-  -- .. or after a search
-  pub tried_searched : (label next : Label) (s : Stop) (old new : Option Route) (labels : List Label) → next ≡ next_label tau task label s → Searched points tau task next old new labels → IsTried tau task new label s
-  tried_searched label next s old new labels e searched = tried_exhausted label next s new e searched.exhausted
 
   -- where all candidates were tried
   pub exhausted_tried : (label : Label) (best : Option Route) (candidates : List Candidate) → (IsAllDone (task_riders task) (task_passengers task) label.done → ⊥) → AreCandidates tau task label (task_riders task) (task_passengers task) candidates

@@ -1,5 +1,6 @@
-use Rattle.std.proofs.Common.{◌≡◌, ℕ, ◌+◌, ◌-◌, ◌*◌, ◌<◌, ◌≤◌, List, [], ◌∷◌, length, map, Option, None, Some, refl, sym, ap, ◌∙◌, subst, arith, IfSome, IfNone, fold}
+use Rattle.std.proofs.Common.{◌≡◌, ℕ, ◌+◌, ◌-◌, ◌*◌, ◌<◌, ◌≤◌, List, [], ◌∷◌, length, map, Option, None, Some, Result, Ok, Err, refl, sym, ap, ◌∙◌, subst, arith, IfOk, IfSome, IfNone, fold}
 use Rattle.small_routing.proofs.Common.{get_or-map, length-map, All-map, All-weaker, never, longest, IsTravelTime, Leg, Route, Task, Stop, Pick, Drop, Alight, IsKnown, IsOrder, place_of, latest_of, boarding_of, room_after, lateness, Reaches, ServesFrom, delay_from, no_leg, IsTask, persons, leg_at, visit_at, visits_of, free_seats, IsOrderOf, ReachesAll, order_delay, Serves, IsRoutable, IsRoutableLeg, without_latest, without_limits}
+use Rattle.pool_base.specs.declared.memory.OutOfMemory.{OutOfMemory}
 use Rattle.std.specs.List.{AllByRecursion}
 use Rattle.stop_orders.proofs.lemmas.ScanLemmas.{order_short}
 use Rattle.small_routing.proofs.LabelLemmas.{routable}
@@ -32,29 +33,22 @@ routable_unlimited points task valid =
     }
 
 module _ (points : ℕ) (tau : ℕ → ℕ → ℕ) (t : IsTravelTime points tau) (task : Task) (valid : IsTask points task) (alone : task.riders.items ≡ []) where
-  nobody : (i : ℕ) → i < length task.riders.items → ⊥
-  nobody i h = let none : length task.riders.items ≡ 0 = ap length alone in omega arith
-
   -- what differs is the latest second alone
   place_same : (s : Stop) → IsKnown (length task.riders.items) (length task.aboard.items) s → place_of (visit_at (without_limits task) s) ≡ place_of (visit_at task s)
-  place_same (Pick i) h = absurd (nobody i h)
-  place_same (Drop i) h = absurd (nobody i h)
   place_same (Alight j) h = ap (λ leg. leg.destination) (leg_unlimited task.aboard.items j h)
+  place_same _ h = absurd (omega (arith, ap length alone))
 
   late_same : (s : Stop) → IsKnown (length task.riders.items) (length task.aboard.items) s → (second : ℕ) → lateness (visit_at (without_limits task) s) second ≡ lateness (visit_at task s) second
-  late_same (Pick i) h second = absurd (nobody i h)
-  late_same (Drop i) h second = absurd (nobody i h)
   late_same (Alight j) h second = ap (λ leg. second - leg.ideal) (leg_unlimited task.aboard.items j h)
+  late_same _ h second = absurd (omega (arith, ap length alone))
 
   latest_far : (s : Stop) → IsKnown (length task.riders.items) (length task.aboard.items) s → latest_of (visit_at (without_limits task) s) ≡ 18446744073709551615
-  latest_far (Pick i) h = absurd (nobody i h)
-  latest_far (Drop i) h = absurd (nobody i h)
   latest_far (Alight j) h = ap (λ leg. leg.latest_dropoff) (leg_unlimited task.aboard.items j h)
+  latest_far _ h = absurd (omega (arith, ap length alone))
 
   nobody_boards : (s : Stop) → IsKnown (length task.riders.items) (length task.aboard.items) s → boarding_of (visit_at (without_limits task) s) ≡ 0
-  nobody_boards (Pick i) h = absurd (nobody i h)
-  nobody_boards (Drop i) h = absurd (nobody i h)
   nobody_boards (Alight j) h = refl
+  nobody_boards _ h = absurd (omega (arith, ap length alone))
 
   reaches_unlimited : (stops : List Stop) (place free room : ℕ) → AllByRecursion (IsKnown (length task.riders.items) (length task.aboard.items)) stops → ServesFrom tau task.dwell place free room (visits_of (without_limits task) stops)
       → Reaches tau place (visits_of task stops)
@@ -73,10 +67,8 @@ module _ (points : ℕ) (tau : ℕ → ℕ → ℕ) (t : IsTravelTime points tau
       let e = place_same s known.0 in
       let here : tau place (place_of v) < never = subst (λ x. tau place x < never) (sym e) reach.0 in
       let hop : tau place (place_of v) ≤ longest = t.range place (place_of v) here in
-      let far = latest_far s known.0 in
-      let board = nobody_boards s known.0 in
       let rest = serves_unlimited stops (place_of v) (free + tau place (place_of v) + task.dwell) (room_after v room) known.1 (omega (arith, early, hop, valid.dwell)) (subst (λ x. Reaches tau x (visits_of task stops)) (sym e) reach.1) in
-      (here, omega (arith, early, hop, far), omega (arith, board), rest)
+      (here, omega (arith, early, hop, latest_far s known.0), omega (arith, nobody_boards s known.0), rest)
 
   delay_unlimited : (stops : List Stop) (place free : ℕ) → AllByRecursion (IsKnown (length task.riders.items) (length task.aboard.items)) stops → delay_from tau task.dwell place free (visits_of (without_limits task) stops) ≡ delay_from tau task.dwell place free (visits_of task stops)
   delay_unlimited [] place free known = refl
@@ -95,42 +87,32 @@ module _ (points : ℕ) (tau : ℕ → ℕ → ℕ) (t : IsTravelTime points tau
   limited_order : (stops : List Stop) → IsOrderOf task stops → IsOrderOf (without_limits task) stops
   limited_order stops order = subst (λ n. IsOrder (length task.riders.items) n stops) (sym (length-map task.aboard.items without_latest)) order
 
-  pub delay_same : (stops : List Stop) → IsOrderOf task stops → order_delay tau (without_limits task) stops ≡ order_delay tau task stops
+  delay_same : (stops : List Stop) → IsOrderOf task stops → order_delay tau (without_limits task) stops ≡ order_delay tau task stops
   delay_same stops order = delay_unlimited stops task.start task.ready order.known
 
   -- to serve without the limits is to reach all places
-  pub reaches_from_serves : (stops : List Stop) → Serves tau (without_limits task) stops → IsOrderOf task stops × ReachesAll tau task stops
+  reaches_from_serves : (stops : List Stop) → Serves tau (without_limits task) stops → IsOrderOf task stops × ReachesAll tau task stops
   reaches_from_serves stops serves =
       let order = order_unlimited stops serves.order in
       (order, reaches_unlimited stops task.start task.ready (free_seats (without_limits task)) order.known serves.in_time)
 
-  pub serves_from_reaches : (stops : List Stop) → IsOrderOf task stops → ReachesAll tau task stops → Serves tau (without_limits task) stops
-  serves_from_reaches stops order reach =
-      let short = order_short points task stops valid order in
-      record {
-        order = limited_order stops order;
-        in_time = serves_unlimited stops task.start task.ready (free_seats (without_limits task)) order.known (omega (arith, short, valid.ready)) reach;
-      }
+  serves_from_reaches : (stops : List Stop) → IsOrderOf task stops → ReachesAll tau task stops → Serves tau (without_limits task) stops
+  serves_from_reaches stops order reach = record {
+    order = limited_order stops order;
+    in_time = serves_unlimited stops task.start task.ready (free_seats (without_limits task)) order.known (omega (arith, order_short points task stops valid order, valid.ready)) reach;
+  }
 
-  pub unlimited_order : (best : Option Route) → IfSome best (λ route. Serves tau (without_limits task) route.stops.items) → IfSome best (λ route. IsOrderOf task route.stops.items)
-  unlimited_order None h = tt
-  unlimited_order (Some route) h = (reaches_from_serves route.stops.items h).0
-
-  pub unlimited_reaches : (best : Option Route) → IfSome best (λ route. Serves tau (without_limits task) route.stops.items) → IfSome best (λ route. ReachesAll tau task route.stops.items)
-  unlimited_reaches None h = tt
-  unlimited_reaches (Some route) h = (reaches_from_serves route.stops.items h).1
-
-  pub unlimited_delay : (best : Option Route) → IfSome best (λ route. Serves tau (without_limits task) route.stops.items) → IfSome best (λ route. route.delay ≡ order_delay tau (without_limits task) route.stops.items)
-      → IfSome best (λ route. route.delay ≡ order_delay tau task route.stops.items)
-  unlimited_delay None h d = tt
-  unlimited_delay (Some route) h d = d ∙ delay_same route.stops.items (reaches_from_serves route.stops.items h).0
-
-  pub unlimited_least : (best : Option Route) → IfSome best (λ route. (stops : List Stop) → Serves tau (without_limits task) stops → route.delay ≤ order_delay tau (without_limits task) stops)
-      → IfSome best (λ route. (stops : List Stop) → IsOrderOf task stops → ReachesAll tau task stops → route.delay ≤ order_delay tau task stops)
-  unlimited_least None h = tt
-  unlimited_least (Some route) h = λ stops order reach. subst (λ d. route.delay ≤ d) (delay_same stops order) (h stops (serves_from_reaches stops order reach))
-
-  pub unlimited_none : (best : Option Route) → IfNone best ((stops : List Stop) → Serves tau (without_limits task) stops → ⊥)
-      → IfNone best ((stops : List Stop) → IsOrderOf task stops → ReachesAll tau task stops → ⊥)
-  unlimited_none None h = λ stops order reach. h stops (serves_from_reaches stops order reach)
-  unlimited_none (Some route) h = tt
+  -- what is found without the limits serves with them, and is least
+  pub unlimited : (r : Result (Option Route) OutOfMemory) → IfOk r (λ found. IfSome found (λ route. Serves tau (without_limits task) route.stops.items))
+      → IfOk r (λ found. IfSome found (λ route. route.delay ≡ order_delay tau (without_limits task) route.stops.items))
+      → IfOk r (λ found. IfSome found (λ route. (stops : List Stop) → Serves tau (without_limits task) stops → route.delay ≤ order_delay tau (without_limits task) stops))
+      → IfOk r (λ found. IfNone found ((stops : List Stop) → Serves tau (without_limits task) stops → ⊥))
+      → IfOk r (λ found. IfSome found (λ route. IsOrderOf task route.stops.items)) × IfOk r (λ found. IfSome found (λ route. ReachesAll tau task route.stops.items))
+      × IfOk r (λ found. IfSome found (λ route. route.delay ≡ order_delay tau task route.stops.items))
+      × IfOk r (λ found. IfSome found (λ route. (stops : List Stop) → IsOrderOf task stops → ReachesAll tau task stops → route.delay ≤ order_delay tau task stops))
+      × IfOk r (λ found. IfNone found ((stops : List Stop) → IsOrderOf task stops → ReachesAll tau task stops → ⊥))
+  unlimited (Err e) serves delay least none = (tt, tt, tt, tt, tt)
+  unlimited (Ok None) serves delay least none = (tt, tt, tt, tt, λ stops order reach. none stops (serves_from_reaches stops order reach))
+  unlimited (Ok (Some route)) serves delay least none =
+      let own = reaches_from_serves route.stops.items serves in
+      (own.0, own.1, delay ∙ delay_same route.stops.items own.0, λ stops order reach. subst (λ d. route.delay ≤ d) (delay_same stops order) (least stops (serves_from_reaches stops order reach)), tt)

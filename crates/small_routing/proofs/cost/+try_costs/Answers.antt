@@ -1,15 +1,15 @@
-use Rattle.std.proofs.Common.{◌≡◌, ◌+◌, ◌<◌, ◌≤◌, ◌∷◌, ◌++◌, [], Result, Ok, Err, OnOk, subst, sym, ◌∙◌, arith, All}
+use Rattle.std.proofs.Common.{◌≡◌, ◌+◌, ◌<◌, ◌≤◌, ◌∷◌, ◌++◌, [], subst, sym, ◌∙◌, arith, All}
 use Rattle.small_routing.proofs.Common.{All-push, point_count, travel_time, left_count, IsAllDone-at, IsAllDone-not_at, task_riders, task_passengers, labels_of, IsLabelPlaced, IsLabelDone, route_of, Priced}
 use Rattle.std.proofs.lemmas.Bool.{true≢false}
+use Rattle.small_routing.proofs.SearchLemmas.{on_ok}
 use Rattle.small_routing.proofs.CostLemmas.{next_small, prices_more, prices_searched, exhausted_persons, priced_better}
 use Rattle.small_routing.proofs.cost.+try_costs.Goals as goal
 
 pub try_costs-requires : goal.try_costs-requires
 try_costs-requires t c =
     let task = c.args.task.now in
-    let label = c.args.label.now in
     let is = c.in-Some.ensures in
-    let small = next_small (point_count c.args.times.now) (travel_time c.args.times.now) c.args.times.now.table.times task c.requires.valid label c.in-Some.next is.stop c.requires.small is.only.next is.can is.is in
+    let small = next_small (point_count c.args.times.now) (travel_time c.args.times.now) c.args.times.now.table.times task c.requires.valid c.args.label.now c.in-Some.next is.stop c.requires.small is.only.next is.can is.is in
     let measure = c.decreases in
     let left = small.1 in
     let less : left_count (task_riders task) (task_passengers task) c.in-Some.next.done < t = omega (arith, left, measure) in
@@ -39,18 +39,13 @@ returns-then-not-is_of_use t c =
     let label = c.args.label.now in
     let more = IsAllDone-not_at _ _ _ (task_riders task) (task_passengers task) label.done c.len.ensures.value c.len-2.ensures.value c.is_all.ensures c.if-is_all.false in
     let inv = c.loop-person.invariant in
-    let over = c.loop-person-test.false in
     record {
       found = inv.found;
       good = inv.good;
       exhausted = exhausted_persons (point_count c.args.times.now) (travel_time c.args.times.now) c.args.times.now.table.times task c.requires.valid label c.loop-person.person (route_of c.loop-person.best) more
-          (omega (arith, over, c.len-3.ensures.value, c.len-4.ensures.value)) inv.tried;
+          (omega (arith, c.loop-person-test.false, c.len-3.ensures.value, c.len-4.ensures.value)) inv.tried;
       settled = inv.settled;
     }
-
-on_ok : {A E : Type 0} (r : Result A E) (P Q : Type 0) → (P → Q) → OnOk r P → OnOk r Q
-on_ok (Ok x) P Q f p = f p
-on_ok (Err e) P Q f p = tt
 
 pub returns : goal.returns
 returns t c =
@@ -61,8 +56,7 @@ returns t c =
     let best = c.loop-person.best in
     let more = IsAllDone-not_at _ _ _ (task_riders task) (task_passengers task) label.done c.len.ensures.value c.len-2.ensures.value c.is_all.ensures c.if-is_all.false in
     let inv = c.loop-person.invariant in
-    let over = c.loop-person-test.false in
-    let exhausted = exhausted_persons points tau c.args.times.now.table.times task c.requires.valid label c.loop-person.person (route_of best) more (omega (arith, over, c.len-3.ensures.value, c.len-4.ensures.value)) inv.tried in
+    let exhausted = exhausted_persons points tau c.args.times.now.table.times task c.requires.valid label c.loop-person.person (route_of best) more (omega (arith, c.loop-person-test.false, c.len-3.ensures.value, c.len-4.ensures.value)) inv.tried in
     let free : label.free ≤ 30000000000 = omega (arith, c.requires.small.free) in
     let placed : IsLabelPlaced points label = record { place = c.requires.small.place; free = free } in
     let settled : IsLabelDone points tau task (route_of best) label = record { placed = placed; exhausted = exhausted } in

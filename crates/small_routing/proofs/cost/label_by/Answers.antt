@@ -32,22 +32,14 @@ label_after-next-requires-clause-second c =
 pub label_after-next-requires-clause-seats : goal.label_after-next-requires-clause-seats
 label_after-next-requires-clause-seats c = c.in-Some-second_of.ensures.0.2
 
-pub look_ahead-requires-clause-place : goal.look_ahead-requires-clause-place
-look_ahead-requires-clause-place c =
+pub look_ahead-requires : goal.look_ahead-requires
+look_ahead-requires c =
     let task = c.args.task.now in
     let label = c.args.label.now in
     let tau = travel_time c.args.times.now in
     let same : c.label_after-next.result ≡ next_label tau task label c.in-Some.stop = c.label_after-next.ensures ∙ ap (λ n. label_at task label c.in-Some.stop n) c.in-Some-second_of.ensures.1 in
-    (next_small (point_count c.args.times.now) tau c.args.times.now.table.times task c.requires.valid label c.label_after-next.result c.in-Some.stop c.requires.small c.in-Some.ensures.next c.in-Some-second_of.ensures.0 same).0.place
-
-pub look_ahead-requires-clause-free : goal.look_ahead-requires-clause-free
-look_ahead-requires-clause-free c =
-    let task = c.args.task.now in
-    let label = c.args.label.now in
-    let tau = travel_time c.args.times.now in
-    let same : c.label_after-next.result ≡ next_label tau task label c.in-Some.stop = c.label_after-next.ensures ∙ ap (λ n. label_at task label c.in-Some.stop n) c.in-Some-second_of.ensures.1 in
-    let small = (next_small (point_count c.args.times.now) tau c.args.times.now.table.times task c.requires.valid label c.label_after-next.result c.in-Some.stop c.requires.small c.in-Some.ensures.next c.in-Some-second_of.ensures.0 same).0.free in
-    omega (arith, small)
+    let small = (next_small (point_count c.args.times.now) tau c.args.times.now.table.times task c.requires.valid label c.label_after-next.result c.in-Some.stop c.requires.small c.in-Some.ensures.next c.in-Some-second_of.ensures.0 same).0 in
+    record { valid = c.requires.valid; place = small.place; free = omega (arith, small.free) }
 
 pub returns-in_default-look_ahead : goal.returns-in_default-look_ahead
 returns-in_default-look_ahead c =
@@ -78,11 +70,9 @@ returns-then-dominates c =
 
 pub returns : goal.returns
 returns c =
-    let task = c.args.task.now in
-    let label = c.args.label.now in
     record {
       stop = c.in-Some.stop;
       only = c.in-Some.ensures;
       can = c.in-Some-second_of.ensures.0;
-      is = c.label_after-next.ensures ∙ ap (λ n. label_at task label c.in-Some.stop n) c.in-Some-second_of.ensures.1;
+      is = c.label_after-next.ensures ∙ ap (λ n. label_at c.args.task.now c.args.label.now c.in-Some.stop n) c.in-Some-second_of.ensures.1;
     }
