@@ -120,16 +120,13 @@ so_far_grow g budget limit nodes values place ends new news t lowest parted room
     let can = parting.can in
     let has : HasUsable g s.usable = usable_here g (take place nodes) s.usable s.later (grown_reads g low limit (take place nodes) (take place values) (every_row ∷ []) (s.usable ∷ s.later) s.before) in
     let judged : get_or values place (pos 0) ≡ leaf_value g s.usable parted.parent = here.judged ∙ ap (leaf_value g s.usable) (sym parent_is) in
-    let only_up : leaf_value g s.usable parted.parent ≤ℤ leaf_value g (only_row g s.usable ends.vehicle ends.row) parted.parent =
-    value_rises g s.usable (only_row g s.usable ends.vehicle ends.row) parted.parent (λ k e. only_fewer g s.usable ends.vehicle ends.row k e) (usable_only g s.usable ends.vehicle ends.row can has) in
-    let without_up : leaf_value g s.usable parted.parent ≤ℤ leaf_value g (without_row s.usable ends.row) parted.parent =
-    value_rises g s.usable (without_row s.usable ends.row) parted.parent (λ k e. without_fewer s.usable ends.row k e) (usable_without g s.usable ends.vehicle ends.row can has) in
+    let only_up = value_rises g s.usable (only_row g s.usable ends.vehicle ends.row) parted.parent (λ k e. only_fewer g s.usable ends.vehicle ends.row k e) (usable_only g s.usable ends.vehicle ends.row can has) in
+    let without_up = value_rises g s.usable (without_row s.usable ends.row) parted.parent (λ k e. without_fewer s.usable ends.row k e) (usable_without g s.usable ends.vehicle ends.row can has) in
     let floor_only = rounded_up_mono (get_or values place (pos 0)) (leaf_value g (only_row g s.usable ends.vehicle ends.row) parted.parent) (subst (λ (z : ℤ). z ≤ℤ leaf_value g (only_row g s.usable ends.vehicle ends.row) parted.parent) (sym judged) only_up) in
     let floor_without = rounded_up_mono (get_or values place (pos 0)) (leaf_value g (without_row s.usable ends.row) parted.parent) (subst (λ (z : ℤ). z ≤ℤ leaf_value g (without_row s.usable ends.row) parted.parent) (sym judged) without_up) in
     let fit : rounded_up (first_fit_value g s.usable) ≤ℤ low = rounded_up_mono (first_fit_value g s.usable) (get_or values place (pos 0)) here.first_fit in
     let worth : IsWorthBranching g low limit s.usable = record { at_most = fit; below = omega (arith, ints) } in
-    let next : IsGrown g low limit (every_row ∷ []) (take place nodes ++ (Branch ends.vehicle ends.row ∷ ends.first.node ∷ ends.second.node ∷ drop (suc place) nodes)) (take place values ++ (get_or values place (pos 0) ∷ ends.first.value ∷ ends.second.value ∷ drop (suc place) values)) [] =
-    branched g low limit nodes values place ends.vehicle ends.row parted.parent ends.first.node ends.second.node ends.first.value ends.second.value (get_or values place (pos 0)) grown lowest.within parted.leaf s can worth floor_only floor_without parting.first parting.second in
+    let next = branched g low limit nodes values place ends.vehicle ends.row parted.parent ends.first.node ends.second.node ends.first.value ends.second.value (get_or values place (pos 0)) grown lowest.within parted.leaf s can worth floor_only floor_without parting.first parting.second in
     let rises : t.low ≤ℤ low = lowest_floor g t.low limit nodes values place t.grown lowest in
     let root : rounded_up (first_fit_value g every_row) ≤ℤ t.low = t.root in
     let size = ap (λ (ns : List Node). length ns) is ∙ edit_length nodes place (Branch ends.vehicle ends.row) ends.first.node ends.second.node lowest.within in

@@ -1,24 +1,16 @@
 -- Leaf values where the usable rows of one vehicle alone changed.
-use Rattle.std.proofs.Common.{◌≡◌, ◌≢◌, ◌==◌, ◌&&◌, ◌||◌, not, ℕ, zero, suc, ◌<◌, Bool, true, false, List, length, Option, ℤ, pos, negsuc, ◌+ℤ◌, ◌-ℤ◌, FitsSigned, to_z, of_z, refl, sym, ap, ◌∙◌, ⊎_elim, arith, ne_eqb, unwrap_or}
-use Rattle.assignment_search.proofs.Common.{w128, ints, cases_eq, and_left, false≢true, int_sum_below, Graph, row_vehicle, Usable, is_usable_by, reduced_cost, vehicle_term, leaf_value, IsSmall, IsSmallSum, only_row, without_row, int_sum_same, least_below_agrees, nat_tests}
+use Rattle.std.proofs.Common.{◌≡◌, ◌≢◌, ℕ, zero, suc, ◌<◌, List, length, Option, ℤ, pos, negsuc, ◌+ℤ◌, ◌-ℤ◌, FitsSigned, to_z, of_z, sym, ap, ◌∙◌, inl, inr, arith, unwrap_or}
+use Rattle.assignment_search.proofs.Common.{w128, ints, cases_eq, int_sum_below, Graph, row_vehicle, Usable, is_usable_by, reduced_cost, vehicle_term, leaf_value, IsSmall, IsSmallSum, only_row, without_row, int_sum_same, least_below_agrees, nat_tests}
 use Rattle.std.proofs.lemmas.Int.{to_z-of_z}
 use Rattle.assignment_search.specs.work.Apart.{AgreeApart}
 
 -- two sums whose terms differ at one number alone
 int_sum_moved : (n v : ℕ) (f h : ℕ → ℤ) → v < n → ((w : ℕ) → w < n → w ≢ v → f w ≡ h w) → int_sum_below n h ≡ (int_sum_below n f -ℤ f v) +ℤ h v
 int_sum_moved zero v f h l e = absurd (omega (arith, l))
-int_sum_moved (suc n) v f h l e =
-    ⊎_elim
-    (λ (here : v ≡ n).
-    let rest : int_sum_below n f ≡ int_sum_below n h = int_sum_same n f h (λ w low. e w (omega (arith, low)) (λ (is : w ≡ v). omega (arith, low, is, here))) in
-    let first : f v ≡ f n = ap f here in
-    let second : h v ≡ h n = ap h here in
-    omega (arith, ints, rest, first, second))
-    (λ (other : v ≡ n → ⊥).
-    let rest : int_sum_below n h ≡ (int_sum_below n f -ℤ f v) +ℤ h v = int_sum_moved n v f h (omega (arith, l, other)) (λ w low. e w (omega (arith, low))) in
-    let last : f n ≡ h n = e n (omega arith) (λ (is : n ≡ v). other (sym is)) in
-    omega (arith, ints, rest, last))
-    (cases_eq v n)
+int_sum_moved (suc n) v f h l e = elim (cases_eq v n) [
+  | inl here ↦ omega (arith, ints, int_sum_same n f h (λ w low. e w (omega (arith, low)) (λ is. omega (arith, low, is, here))), ap f here, ap h here)
+  | inr other ↦ omega (arith, ints, int_sum_moved n v f h (omega (arith, l, other)) (λ w low. e w (omega (arith, low))), e n (omega arith) (λ is. other (sym is)))
+]
 
 term_apart : (g : Graph) (u w : Usable) (ms : List ℤ) (v x : ℕ) → AgreeApart g v u w → x ≢ v → vehicle_term g u ms x ≡ vehicle_term g w ms x
 term_apart g u w ms v x e other =
@@ -30,8 +22,7 @@ term_apart g u w ms v x e other =
 pub value_moved : (g : Graph) (u w : Usable) (ms : List ℤ) (v : ℕ) (z old new : ℤ) → v < g.vehicles → AgreeApart g v u w → z ≡ leaf_value g u ms → old ≡ vehicle_term g u ms v → new ≡ vehicle_term g w ms v → (z -ℤ old) +ℤ new ≡ leaf_value g w ms
 unfolding leaf_value
 value_moved g u w ms v z old new low e value was is =
-    let moved : int_sum_below g.vehicles (vehicle_term g w ms) ≡ (int_sum_below g.vehicles (vehicle_term g u ms) -ℤ vehicle_term g u ms v) +ℤ vehicle_term g w ms v =
-    int_sum_moved g.vehicles v (vehicle_term g u ms) (vehicle_term g w ms) low (λ x l other. term_apart g u w ms v x e other) in
+    let moved = int_sum_moved g.vehicles v (vehicle_term g u ms) (vehicle_term g w ms) low (λ x l other. term_apart g u w ms v x e other) in
     omega (arith, ints, moved, value, was, is)
 
 -- ---- in 128 bits
@@ -58,14 +49,8 @@ computed z old new h ho hn =
 
 -- ---- the two ends of a branch
 
-kept_only : (a b c : Bool) → b ≡ false → a ≡ (a && (not b || c))
-kept_only a b c e = grind (arith, nat_tests)
-
-kept_without : (a b : Bool) → b ≡ false → a ≡ (a && not b)
-kept_without a b e = grind (arith, nat_tests)
-
 pub only_apart : (g : Graph) (u : Usable) (v k : ℕ) → AgreeApart g v u (only_row g u v k)
-only_apart g u v k j l other = kept_only (u j) (row_vehicle g j == v) (j == k) (ne_eqb (row_vehicle g j) v other)
+only_apart g u v k j l other = grind (arith, nat_tests, other)
 
 pub without_apart : (g : Graph) (u : Usable) (v k : ℕ) → row_vehicle g k ≡ v → AgreeApart g v u (without_row u k)
-without_apart g u v k own j l other = kept_without (u j) (j == k) (ne_eqb j k (λ (is : j ≡ k). other (ap (row_vehicle g) is ∙ own)))
+without_apart g u v k own j l other = grind (arith, nat_tests, λ (is : j ≡ k). other (ap (row_vehicle g) is ∙ own))

@@ -1,5 +1,5 @@
 -- What it costs to give one vehicle another row.
-use Rattle.std.proofs.Common.{◌≡◌, ℕ, zero, suc, ◌+◌, ◌*◌, ◌<◌, ◌≤◌, false, IsTrue, List, length, set, Option, Some, None, sym, ap, ◌∙◌, subst, ⊎_elim, arith}
+use Rattle.std.proofs.Common.{◌≡◌, ℕ, zero, suc, ◌+◌, ◌*◌, ◌<◌, ◌≤◌, false, IsTrue, List, length, set, Option, Some, None, sym, ap, ◌∙◌, subst, inl, inr, arith}
 use Rattle.assignment_search.proofs.Common.{cases_eq, sum_below, Graph, IsGoodGraph, riders_at, cost_at, has_rider, choice_at, is_in, must_be_served, IsLawful, choice_cost, cost_of, left_out, flag, flag-true, flag-false, sum_below_same, times_served_as_count, BettersNothing}
 use Rattle.std.proofs.lemmas.List.{get_or-set_same, get_or-set_other}
 use Rattle.plan_rules.specs.lemmas.Plan.{choice_size}
@@ -9,19 +9,13 @@ use Rattle.plan_rules.proofs.lemmas.ServedLemmas.{served_or_left}
 pub sum_set : (n : ℕ) (f : Option ℕ → ℕ) (chosen : List (Option ℕ)) (v : ℕ) (c : Option ℕ) → v < n → v < length chosen
     → sum_below n (λ w. f (choice_at (set chosen v c) w)) + f (choice_at chosen v) ≡ sum_below n (λ w. f (choice_at chosen w)) + f c
 sum_set zero f chosen v c low within = absurd (omega arith)
-sum_set (suc n) f chosen v c low within =
-    ⊎_elim
-    (λ (here : v ≡ n).
-    let below : sum_below n (λ w. f (choice_at (set chosen v c) w)) ≡ sum_below n (λ w. f (choice_at chosen w)) =
-    sum_below_same n (λ w. f (choice_at (set chosen v c) w)) (λ w. f (choice_at chosen w)) (λ w l. ap f (get_or-set_other chosen v w c None (λ (e : w ≡ v). omega arith))) in
-    let new : f (choice_at (set chosen v c) n) ≡ f c = ap f (subst (λ (w : ℕ). choice_at (set chosen v c) w ≡ c) here (get_or-set_same chosen v c None within)) in
-    let old : f (choice_at chosen v) ≡ f (choice_at chosen n) = ap (λ (w : ℕ). f (choice_at chosen w)) here in
-    omega arith)
-    (λ (other : v ≡ n → ⊥).
-    let rest : sum_below n (λ w. f (choice_at (set chosen v c) w)) + f (choice_at chosen v) ≡ sum_below n (λ w. f (choice_at chosen w)) + f c = sum_set n f chosen v c (omega arith) within in
-    let last : f (choice_at (set chosen v c) n) ≡ f (choice_at chosen n) = ap f (get_or-set_other chosen v n c None (λ (e : n ≡ v). other (sym e))) in
-    omega arith)
-    (cases_eq v n)
+sum_set (suc n) f chosen v c low within = elim (cases_eq v n) [
+  | inl here ↦
+      let below = sum_below_same n (λ w. f (choice_at (set chosen v c) w)) (λ w. f (choice_at chosen w)) (λ w l. ap f (get_or-set_other chosen v w c None (λ (e : w ≡ v). omega arith))) in
+      let new : f (choice_at (set chosen v c) n) ≡ f c = ap f (subst (λ (w : ℕ). choice_at (set chosen v c) w ≡ c) here (get_or-set_same chosen v c None within)) in
+      omega (arith, below, new, ap (λ (w : ℕ). f (choice_at chosen w)) here)
+  | inr other ↦ omega (arith, sum_set n f chosen v c (omega arith) within, ap f (get_or-set_other chosen v n c None (λ (e : n ≡ v). other (sym e))))
+]
 
 -- a row that costs no less than the present one, each with the penalties of those whom only the other serves, betters nothing
 pub dear_betters_nothing : (g : Graph) (chosen : List (Option ℕ)) (v j k : ℕ) → IsGoodGraph g → IsLawful g chosen → v < g.vehicles → choice_at chosen v ≡ Some j
@@ -45,10 +39,7 @@ pub loss_betters_nothing : (g : Graph) (chosen : List (Option ℕ)) (v j k r : �
 loss_betters_nothing g chosen v j k r lawful low chooses must serves lacks changed =
     let within : v < length chosen = subst (λ (n : ℕ). v < n) (sym lawful.plan.sized) low in
     let times = sum_set g.vehicles (λ c. flag (is_in g c r)) chosen v (Some k) low within in
-    let old : flag (is_in g (choice_at chosen v) r) ≡ 1 = flag-true _ (ap (λ (c : Option ℕ). is_in g c r) chooses ∙ serves) in
-    let new : flag (has_rider g k r) ≡ 0 = flag-false _ lacks in
+    let old = flag-true (is_in g (choice_at chosen v) r) (ap (λ (c : Option ℕ). is_in g c r) chooses ∙ serves) in
     let before = times_served_as_count g chosen g.vehicles r in
     let after = times_served_as_count g (set chosen v (Some k)) g.vehicles r in
-    let once = lawful.kept r must in
-    let kept = changed.kept r must in
-    absurd (omega arith)
+    absurd (omega (arith, times, old, flag-false _ lacks, before, after, lawful.kept r must, changed.kept r must))

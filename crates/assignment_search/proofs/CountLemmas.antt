@@ -1,7 +1,7 @@
 -- How many choices there are, and how long a tree can be.
-use Rattle.std.proofs.Common.{◌≡◌, ◌==◌, ◌&&◌, ◌||◌, not, ℕ, zero, suc, ◌+◌, ◌*◌, ◌<◌, ◌≤◌, max, Bool, true, false, List, [], ◌∷◌, length, take, drop, get_or, ℤ, refl, sym, ap, ◌∙◌, subst, ⊎_elim, arith, eq-eqb, eqb-true, ne_eqb}
-use Rattle.assignment_search.proofs.Common.{cases_eq, and_from, or_right, count_below, Graph, IsRowOf, row_vehicle, Usable, is_usable_by, every_row, only_row, without_row, CanBranch, coming_after, ReadsTo, Node, Branch, Leaf, Dead, flag, sum_below_same, sum_below_plus, count_below_same, count_below_some, product_below, choice_count, IsGrown, nat_tests}
-use Rattle.std.proofs.Math.Nat.{add-mul, mul-add, le-max_left, le-max_right, max-le}
+use Rattle.std.proofs.Common.{◌≡◌, ◌==◌, ◌&&◌, ◌||◌, not, ℕ, zero, suc, ◌+◌, ◌*◌, ◌<◌, ◌≤◌, max, Bool, true, List, [], ◌∷◌, length, take, drop, get_or, ℤ, refl, sym, ap, ◌∙◌, subst, ⊎_elim, arith, eqb-true}
+use Rattle.assignment_search.proofs.Common.{cases_eq, count_below, Graph, IsRowOf, row_vehicle, Usable, is_usable_by, every_row, only_row, without_row, CanBranch, coming_after, ReadsTo, Node, Branch, Leaf, Dead, flag, sum_below_same, sum_below_plus, count_below_same, count_below_some, product_below, choice_count, IsGrown, nat_tests}
+use Rattle.std.proofs.Math.Nat.{add-mul, mul-add, le-max_left}
 use Rattle.assignment_search.proofs.GrowthLemmas.{IsSplit, grown_reads}
 
 -- ---- products
@@ -9,9 +9,8 @@ use Rattle.assignment_search.proofs.GrowthLemmas.{IsSplit, grown_reads}
 product_same : (n : ℕ) (f h : ℕ → ℕ) → ((w : ℕ) → w < n → f w ≡ h w) → product_below n f ≡ product_below n h
 product_same zero f h e = refl
 product_same (suc n) f h e =
-    let before : product_below n f ≡ product_below n h = product_same n f h (λ w l. e w (omega (arith, l))) in
-    let last : f n ≡ h n = e n (omega arith) in
-    λ i. before i * last i
+    let before = product_same n f h (λ w l. e w (omega (arith, l))) in
+    λ i. before i * e n (omega arith) i
 
 product_some : (n : ℕ) (f : ℕ → ℕ) → ((w : ℕ) → 1 ≤ f w) → 1 ≤ product_below n f
 product_some zero f e = omega arith
@@ -30,25 +29,20 @@ product_split (suc n) f a b v l first second both =
     let left : product_below n f ≡ product_below n a = product_same n f a (λ w low. first w (λ (e : w ≡ v). omega (arith, low, e, here))) in
     let right : product_below n f ≡ product_below n b = product_same n f b (λ w low. second w (λ (e : w ≡ v). omega (arith, low, e, here))) in
     let last : f n ≡ a n + b n = subst (λ (w : ℕ). f w ≡ a w + b w) here both in
-    let whole : product_below n f * f n ≡ product_below n f * a n + product_below n f * b n =
-    ap (λ (x : ℕ). product_below n f * x) last ∙ mul-add (product_below n f) (a n) (b n) in
+    let whole = ap (λ (x : ℕ). product_below n f * x) last ∙ mul-add (product_below n f) (a n) (b n) in
     whole ∙ (λ i. left i * a n + right i * b n))
     (λ (other : v ≡ n → ⊥).
     let before : product_below n f ≡ product_below n a + product_below n b = product_split n f a b v (omega (arith, l, other)) first second both in
     let left : f n ≡ a n = first n (λ (e : n ≡ v). other (sym e)) in
     let right : f n ≡ b n = second n (λ (e : n ≡ v). other (sym e)) in
-    let whole : product_below n f * f n ≡ product_below n a * f n + product_below n b * f n =
-    ap (λ (x : ℕ). x * f n) before ∙ add-mul (product_below n a) (product_below n b) (f n) in
+    let whole = ap (λ (x : ℕ). x * f n) before ∙ add-mul (product_below n a) (product_below n b) (f n) in
     whole ∙ (λ i. product_below n a * left i + product_below n b * right i))
     (cases_eq v n)
 
 -- ---- the choices at a branch
 
 max_one : (n : ℕ) → 1 ≤ n → max 1 n ≡ n
-max_one n l =
-    let low : n ≤ max 1 n = le-max_right 1 n in
-    let high : max 1 n ≤ n = max-le {a = 1} {b = n} {k = n} l (omega arith) in
-    omega (arith, low, high)
+max_one n l = omega arith
 
 flag_parts : (a b c : Bool) → flag (a && b) ≡ flag (a && (b && (not a || c))) + flag (a && (b && not c))
 flag_parts a b c = grind (arith, nat_tests)

@@ -1,6 +1,6 @@
 -- A leaf where no vehicle has a choice holds one plan, whose cost is the first-fit value.
-use Rattle.std.proofs.Common.{◌≡◌, ◌==◌, ◌&&◌, ℕ, zero, suc, ◌+◌, ◌*◌, ◌/◌, ◌<◌, ◌≤◌, Bool, true, false, ltb, List, [], ◌∷◌, length, Option, Some, None, MatchOption, ℤ, pos, ◌+ℤ◌, ◌-ℤ◌, ◌≤ℤ◌, refl, sym, ap, ◌∙◌, subst, ⊎_elim, arith, eq-eqb, eqb-true, ne_eqb, lt-ltb, le-ltb, unwrap_or}
-use Rattle.assignment_search.proofs.Common.{same_Some, none-some, ints, cases_eq, cases_lt, cases_Bool, and_from, and_parts, cond-true, cond-false, get_or_push, get_or_append_left, sum_below, count_below, int_sum_below, least_below, lesser, Graph, IsRowOf, HasNoRow, riders_at, row_vehicle, has_rider, choice_at, is_in, must_be_served, IsGoodGraph, IsPlan, IsLawful, choice_cost, cost_of, times_chosen, left_out, Usable, multiplier_at, multiplier_sum, is_usable_by, reduced_cost, vehicle_term, rider_term, leaf_value, room_at, first_fit_of, first_fit_below, first_fit, first_fit_value, MayUse, IsSoleRow, IsDeadEnd, Clash, Stranded, rounded_up, flag, flag-true, flag-false, part, int_sum_same, int_sum_le, int_sum_zero, least_below_some, least_below_none, least_below_found, count_below_found, times_served_as_count, times_served_some, in_choice, has_choice, HasUsable, IsFixed, IsSolePlan, false_from_ne_true}
+use Rattle.std.proofs.Common.{◌≡◌, ◌==◌, ◌&&◌, ℕ, zero, suc, ◌+◌, ◌*◌, ◌<◌, ◌≤◌, Bool, true, false, ltb, List, [], ◌∷◌, length, Option, Some, None, MatchOption, ℤ, pos, ◌+ℤ◌, ◌-ℤ◌, ◌≤ℤ◌, refl, sym, ap, ◌∙◌, subst, inl, inr, ⊎_elim, arith, eq-eqb, eqb-true, unwrap_or}
+use Rattle.assignment_search.proofs.Common.{nat_tests, same_Some, none-some, ints, cases_eq, cases_lt, cases_Bool, and_from, and_parts, get_or_push, get_or_append_left, sum_below, count_below, int_sum_below, lesser, Graph, IsRowOf, HasNoRow, riders_at, row_vehicle, has_rider, choice_at, is_in, must_be_served, IsGoodGraph, IsPlan, IsLawful, choice_cost, cost_of, times_chosen, left_out, Usable, multiplier_at, is_usable_by, reduced_cost, vehicle_term, rider_term, leaf_value, room_at, first_fit_of, first_fit_below, first_fit, first_fit_value, MayUse, IsSoleRow, IsDeadEnd, Clash, Stranded, rounded_up, flag, flag-true, flag-false, part, int_sum_same, int_sum_le, int_sum_zero, least_below_some, least_below_none, least_below_found, count_below_found, times_served_as_count, times_served_some, in_choice, has_choice, HasUsable, IsFixed, IsSolePlan, false_from_ne_true}
 use Rattle.plan_rules.proofs.lemmas.DualityLemmas.{choices_sum, multiplier_sum_is, prices_sum, riders_give, served_give}
 use Rattle.plan_rules.proofs.lemmas.TreeLemmas.{rounded_up_mono}
 use Rattle.dual_bound.proofs.lemmas.FirstFitLemmas.{length-first_fit}
@@ -9,17 +9,10 @@ use Rattle.dual_bound.proofs.lemmas.FirstFitValueLemmas.{first_fit_leaves_room, 
 -- where two are counted, two pass
 count_two_found : (n : ℕ) (p : ℕ → Bool) → 2 ≤ count_below n p → (j : ℕ) × (k : ℕ) × (j < k) × (k < n) × (p j ≡ true) × (p k ≡ true)
 count_two_found zero p h = absurd (omega (arith, h))
-count_two_found (suc n) p h =
-    ⊎_elim
-    (λ (passes : p n ≡ true).
-    let last : flag (p n) ≡ 1 = flag-true (p n) passes in
-    let w = count_below_found n p (omega (arith, h, last)) in
-    (w.0, n, w.1, omega arith, w.2, passes))
-    (λ (fails : p n ≡ false).
-    let last : flag (p n) ≡ 0 = flag-false (p n) fails in
-    let w = count_two_found n p (omega (arith, h, last)) in
-    (w.0, w.1, w.2, omega (arith, w.3), w.4, w.5))
-    (cases_Bool (p n))
+count_two_found (suc n) p h = elim (cases_Bool (p n)) [
+  | inl passes ↦ let w = count_below_found n p (omega (arith, h, flag-true (p n) passes)) in (w.0, n, w.1, omega arith, w.2, passes)
+  | inr fails ↦ let w = count_two_found n p (omega (arith, h, flag-false (p n) fails)) in (w.0, w.1, w.2, omega (arith, w.3), w.4, w.5)
+]
 
 module _ (g : Graph) (u : Usable) (chosen : List (Option ℕ)) (good : IsGoodGraph g) (sized : length chosen ≡ g.vehicles) (sole : IsSolePlan g u chosen) (fixed : IsFixed g u) (has : HasUsable g u) (alive : IsDeadEnd g u → ⊥) where
   -- a choice may be used
@@ -78,11 +71,8 @@ module _ (g : Graph) (u : Usable) (chosen : List (Option ℕ)) (good : IsGoodGra
 
   term_is : (ms : List ℤ) (v : ℕ) → v < g.vehicles → (c : Option ℕ) → choice_at chosen v ≡ c → vehicle_term g u ms v ≡ (pos (1024 * choice_cost g c) -ℤ riders_give g ms c)
   term_is ms v l None e =
-      let none : least_below (length g.rows) (is_usable_by g u v) (reduced_cost g ms) ≡ None =
-      least_below_none (length g.rows) (is_usable_by g u v) (reduced_cost g ms) foreign in
-      let term : vehicle_term g u ms v ≡ pos 0 = ap (λ (p : Option ℤ). unwrap_or p (pos 0)) none in
-      let nobody : int_sum_below g.riders (λ r. pos 0) ≡ pos 0 = int_sum_zero g.riders in
-      omega (arith, ints)
+      let none = least_below_none (length g.rows) (is_usable_by g u v) (reduced_cost g ms) foreign in
+      omega (arith, ints, ap (λ (p : Option ℤ). unwrap_or p (pos 0)) none, int_sum_zero g.riders)
     where
       unfit : (c : Option ℕ) → MatchOption c ((j : ℕ) → MayUse g u v j → ⊥) (MayUse g u v) → c ≡ None → (j : ℕ) → MayUse g u v j → ⊥
       unfit None h e = h
@@ -99,12 +89,9 @@ module _ (g : Graph) (u : Usable) (chosen : List (Option ℕ)) (good : IsGoodGra
       let found = least_below_found (length g.rows) (is_usable_by g u v) (reduced_cost g ms) (w.0) (w.1) in
       let parts = and_parts (row_vehicle g (found.0) == v) (u (found.0)) (found.2) in
       let same : found.0 ≡ k = fixed v (found.0) k (record { row = record { within = found.1; own = eqb-true (row_vehicle g (found.0)) v (parts.0) }; usable_row = parts.1 }) may in
-      let reached : w.0 ≡ reduced_cost g ms k = found.3 ∙ ap (reduced_cost g ms) same in
-      let term : vehicle_term g u ms v ≡ w.0 = ap (λ (p : Option ℤ). unwrap_or p (pos 0)) (w.1) in
       let row = good.rows k may.row.within in
-      let riders : multiplier_sum ms (riders_at g k) ≡ int_sum_below g.riders (λ r. part (has_rider g k r) (multiplier_at ms r)) =
-      multiplier_sum_is ms g.riders (riders_at g k) row.rising row.below in
-      omega (arith, ints)
+      let riders = multiplier_sum_is ms g.riders (riders_at g k) row.rising row.below in
+      omega (arith, ints, found.3, ap (reduced_cost g ms) same, ap (λ (p : Option ℤ). unwrap_or p (pos 0)) w.1, riders)
 
   vehicles_are : (ms : List ℤ) → int_sum_below g.vehicles (vehicle_term g u ms) ≡ (pos (1024 * sum_below g.vehicles (λ v. choice_cost g (choice_at chosen v))) -ℤ served_give g ms chosen)
   vehicles_are ms =
@@ -113,27 +100,12 @@ module _ (g : Graph) (u : Usable) (chosen : List (Option ℕ)) (good : IsGoodGra
 
 -- a rider's term is at least her multiplier where she is served, and the penalty where she is left out
 rider_term_ge : (g : Graph) (ms : List ℤ) (r t : ℕ) → multiplier_at ms r ≤ℤ pos (1024 * g.penalty) → (t ≡ 0 → multiplier_at ms r ≡ pos (1024 * g.penalty)) → (part (ltb 0 t) (multiplier_at ms r) +ℤ pos (1024 * (g.penalty * flag (t == 0)))) ≤ℤ rider_term g ms r
-rider_term_ge g ms r t most all =
-    let term : rider_term g ms r ≡ multiplier_at ms r = rider_term_is g ms r most in
-    ⊎_elim
-    (λ (left : t ≡ 0).
-    let served : part (ltb 0 t) (multiplier_at ms r) ≡ pos 0 = cond-false (ltb 0 t) (multiplier_at ms r) (pos 0) (le-ltb 0 t (omega arith)) in
-    let counted : flag (t == 0) ≡ 1 = flag-true _ (eq-eqb t 0 left) in
-    let price : g.penalty * flag (t == 0) ≡ g.penalty = ap (λ (n : ℕ). g.penalty * n) counted ∙ omega arith in
-    let full : multiplier_at ms r ≡ pos (1024 * g.penalty) = all left in
-    omega (arith, ints))
-    (λ (some : t ≡ 0 → ⊥).
-    let served : part (ltb 0 t) (multiplier_at ms r) ≡ multiplier_at ms r = cond-true (ltb 0 t) (multiplier_at ms r) (pos 0) (lt-ltb 0 t (omega arith)) in
-    let counted : flag (t == 0) ≡ 0 = flag-false _ (ne_eqb t 0 some) in
-    let price : g.penalty * flag (t == 0) ≡ 0 = ap (λ (n : ℕ). g.penalty * n) counted ∙ omega arith in
-    omega (arith, ints))
-    (cases_eq t 0)
+rider_term_ge g ms r t most all = grind (arith, ints, nat_tests, rider_term_is g ms r most, all)
 
 riders_ge : (g : Graph) (ms : List ℤ) (chosen : List (Option ℕ)) → ((r : ℕ) → r < g.riders → multiplier_at ms r ≤ℤ pos (1024 * g.penalty)) → ((r : ℕ) → r < g.riders → times_chosen g chosen r ≡ 0 → multiplier_at ms r ≡ pos (1024 * g.penalty))
     → (served_give g ms chosen +ℤ pos (1024 * (g.penalty * left_out g chosen))) ≤ℤ int_sum_below g.riders (rider_term g ms)
 riders_ge g ms chosen most all =
-    let each : int_sum_below g.riders (λ r. part (ltb 0 (times_chosen g chosen r)) (multiplier_at ms r) +ℤ pos (1024 * (g.penalty * flag (times_chosen g chosen r == 0)))) ≤ℤ int_sum_below g.riders (rider_term g ms) =
-    int_sum_le g.riders (λ r. part (ltb 0 (times_chosen g chosen r)) (multiplier_at ms r) +ℤ pos (1024 * (g.penalty * flag (times_chosen g chosen r == 0)))) (rider_term g ms)
+    let each = int_sum_le g.riders (λ r. part (ltb 0 (times_chosen g chosen r)) (multiplier_at ms r) +ℤ pos (1024 * (g.penalty * flag (times_chosen g chosen r == 0)))) (rider_term g ms)
     (λ r l. rider_term_ge g ms r (times_chosen g chosen r) (most r l) (all r l)) in
     omega (arith, ints, prices_sum g ms chosen)
 
@@ -163,9 +135,7 @@ first_fit_left g u r l nowhere =
 -- ---- together
 
 rounded_up_ge : (z : ℤ) (c : ℕ) → pos (1024 * c) ≤ℤ z → pos c ≤ℤ rounded_up z
-rounded_up_ge z c h =
-    let whole : (1024 * c + 1023) / 1024 ≡ c = omega arith in
-    omega (arith, ints, rounded_up_mono (pos (1024 * c)) z h)
+rounded_up_ge z c h = omega (arith, ints, rounded_up_mono (pos (1024 * c)) z h)
 
 module _ (g : Graph) (u : Usable) (chosen : List (Option ℕ)) (good : IsGoodGraph g) (sized : length chosen ≡ g.vehicles) (sole : IsSolePlan g u chosen) (fixed : IsFixed g u) (has : HasUsable g u) (alive : IsDeadEnd g u → ⊥) where
   value_reaches : pos (1024 * cost_of g chosen) ≤ℤ first_fit_value g u

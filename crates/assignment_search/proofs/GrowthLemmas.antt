@@ -1,7 +1,8 @@
 -- Trees that grow.
-use Rattle.std.proofs.Common.{◌≡◌, ◌==◌, ◌||◌, not, ℕ, zero, suc, ◌<◌, ◌≤◌, true, List, [], ◌∷◌, ◌++◌, length, get_or, take, drop, Option, Some, None, ℤ, pos, ◌≤ℤ◌, ◌<ℤ◌, refl, sym, ap, ◌∙◌, subst, ⊎_elim, arith, eq-eqb, ne_eqb, unwrap_or}
-use Rattle.assignment_search.proofs.Common.{none-some, same_Some, ints, int_min_is, cases_eq, and_from, or_left, or_right, lesser, Graph, IsRowOf, row_vehicle, Usable, leaf_value, first_fit_value, every_row, only_row, without_row, CanBranch, rounded_up, least_leaf, IsSoundNode, coming_after, ReadsTo, places_from, value_read, IsLawful, cost_of, IsGreedy, Node, Branch, Leaf, Dead, IsWorthBranching, IsGoodLeaf, IsGoodNode, IsGrown, HasUsable, IsLowest, IsNewEnd, IsFairNode, nat_tests}
+use Rattle.std.proofs.Common.{◌≡◌, ℕ, zero, suc, ◌<◌, ◌≤◌, List, [], ◌∷◌, ◌++◌, length, get_or, take, drop, Option, Some, None, ℤ, pos, ◌≤ℤ◌, refl, sym, ap, ◌∙◌, subst, ⊎_elim, arith, unwrap_or}
+use Rattle.assignment_search.proofs.Common.{none-some, same_Some, ints, int_min_is, cases_eq, lesser, Graph, IsRowOf, row_vehicle, Usable, leaf_value, first_fit_value, every_row, only_row, without_row, CanBranch, rounded_up, least_leaf, IsSoundNode, coming_after, ReadsTo, places_from, value_read, IsLawful, cost_of, IsGreedy, Node, Branch, Leaf, Dead, IsWorthBranching, IsGoodLeaf, IsGoodNode, IsGrown, HasUsable, IsLowest, IsNewEnd, IsFairNode, nat_tests}
 use Rattle.std.specs.List.{AllByRecursion as ByRecursion}
+use Rattle.plan_rules.proofs.lemmas.SumLemmas.{lesser-le_left, lesser-le_right}
 use Rattle.plan_rules.proofs.lemmas.TreeLemmas.{rounded_up_mono}
 
 -- ---- grown trees are sound
@@ -87,8 +88,7 @@ raise_node g low new limit u (Leaf ms) z up floor h = record { sized = h.sized; 
 raise_node g low new limit u Dead z up floor h = h
 raise_node g low new limit u (Branch v k) z up floor h =
     let w = h.1 in
-    let most : rounded_up (first_fit_value g u) ≤ℤ low = w.at_most in
-    (h.0, record { at_most = omega (arith, ints); below = w.below })
+    (h.0, record { at_most = omega (arith, ints, w.at_most, up); below = w.below })
 
 pub raised : (g : Graph) (low new : ℤ) (limit : ℕ) (nodes : List Node) (values : List ℤ) (coming rest : List Usable) → low ≤ℤ new → LeavesAbove new nodes values → IsGrown g low limit coming nodes values rest → IsGrown g new limit coming nodes values rest
 raised g low new limit [] [] coming rest up above h = h
@@ -131,18 +131,14 @@ least_high : (g : Graph) (low : ℤ) (limit : ℕ) (nodes : List Node) (values :
 least_high g low limit [] values coming rest i ms h l e = absurd (omega (arith, l))
 least_high g low limit (Leaf ns ∷ nodes) (w ∷ values) (u ∷ us) rest zero ms h l e =
     let leaf = h.0 in
-    let same : rounded_up (leaf_value g u ns) ≡ rounded_up w = ap rounded_up (sym leaf.judged) in
-    (lesser (least_leaf g (places_from g us nodes)) (rounded_up (leaf_value g u ns)), refl, right (least_leaf g (places_from g us nodes)) same)
-  where
-    right : (o : Option ℤ) → rounded_up (leaf_value g u ns) ≡ rounded_up w → lesser o (rounded_up (leaf_value g u ns)) ≤ℤ rounded_up w
-    right None same = omega (arith, ints)
-    right (Some y) same = omega (arith, ints, int_min_is y (rounded_up (leaf_value g u ns)))
+    let least = least_leaf g (places_from g us nodes) in
+    let value = rounded_up (leaf_value g u ns) in
+    (lesser least value, refl, omega (arith, ints, ap rounded_up leaf.judged, lesser-le_right least value))
 least_high g low limit (Leaf ns ∷ nodes) (w ∷ values) (u ∷ us) rest (suc i) ms h l e =
     let before = least_high g low limit nodes values us rest i ms (h.1) (omega (arith, l)) e in
-    let is : lesser (least_leaf g (places_from g us nodes)) (rounded_up (leaf_value g u ns)) ≡ lesser (Some (before.0)) (rounded_up (leaf_value g u ns)) = ap (λ (o : Option ℤ). lesser o (rounded_up (leaf_value g u ns))) (before.1) in
-    let old : before.0 ≤ℤ rounded_up (get_or values i (pos 0)) = before.2 in
-    let all : lesser (least_leaf g (places_from g us nodes)) (rounded_up (leaf_value g u ns)) ≤ℤ rounded_up (get_or values i (pos 0)) = omega (arith, ints, int_min_is (before.0) (rounded_up (leaf_value g u ns))) in
-    (lesser (least_leaf g (places_from g us nodes)) (rounded_up (leaf_value g u ns)), refl, all)
+    let least = least_leaf g (places_from g us nodes) in
+    let value = rounded_up (leaf_value g u ns) in
+    (lesser least value, refl, omega (arith, ints, ap (λ (o : Option ℤ). lesser o value) before.1, lesser-le_left before.0 value, before.2))
 least_high g low limit (n ∷ nodes) (w ∷ values) (u ∷ us) rest zero ms h l e = absurd (differ e)
   where
     differ : n ≡ Leaf ms → ⊥
@@ -155,9 +151,7 @@ pub value_is : (g : Graph) (limit : ℕ) (nodes : List Node) (values : List ℤ)
 value_is g limit nodes values i grown lowest =
     let low = rounded_up (get_or values i (pos 0)) in
     let w = least_high g low limit nodes values (every_row ∷ []) [] i lowest.multipliers grown lowest.within lowest.leaf in
-    let below : w.0 ≤ℤ low = w.2 in
-    let above : low ≤ℤ w.0 = least_low g low limit nodes values (every_row ∷ []) [] grown (w.0) (w.1) in
-    let same : w.0 ≡ low = omega (arith, ints) in
+    let same : w.0 ≡ low = omega (arith, ints, w.2, least_low g low limit nodes values (every_row ∷ []) [] grown (w.0) (w.1)) in
     ap (λ (o : Option ℤ). unwrap_or o (pos 0)) (w.1) ∙ same
 
 -- ---- what the leaves and branches of a grown tree are
@@ -172,11 +166,10 @@ nodes_fair g low limit held greedy (n ∷ nodes) (z ∷ values) (u ∷ us) rest 
     fair Dead h = tt
     fair (Branch v k) h =
         let worth = h.1 in
-        let below : rounded_up (first_fit_value g u) <ℤ pos limit = worth.below in
         record {
           at_most = worth.at_most;
-          below_held = omega (arith, ints);
-          below_greedy = λ chosen is lawful. let least : limit ≤ cost_of g chosen = greedy chosen is lawful in omega (arith, ints);
+          below_held = omega (arith, ints, worth.below, held);
+          below_greedy = λ chosen is lawful. omega (arith, ints, worth.below, greedy chosen is lawful);
         }
 nodes_fair g low limit held greedy nodes values coming rest h = absurd h
 

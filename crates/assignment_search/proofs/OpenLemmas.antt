@@ -1,12 +1,11 @@
 -- The heap of a tree's open leaves.
-use Rattle.std.proofs.Common.{◌≡◌, ◌==◌, ℕ, zero, suc, ◌+◌, ◌<◌, ◌≤◌, Bool, true, false, cond, List, [], ◌∷◌, ◌++◌, length, take, drop, get_or, ℤ, pos, ◌≤ℤ◌, refl, sym, ap, ◌∙◌, subst, ⊎_elim, arith, eq-eqb, eqb-true, int_lt}
-use Rattle.assignment_search.proofs.Common.{AllByRecursion, IsHeap, Reverse, ints, cases_eq, both_ways, sum_by-cons, sum_by_popped, Graph, IsGoodGraph, Node, Branch, Leaf, Dead, IsLowest, HasLeaf, IsTreeSoFar, OpenLeaf, leaf_cmp, leaf_sum, AreOpen, nat_tests}
+use Rattle.std.proofs.Common.{◌≡◌, ◌==◌, ℕ, zero, suc, ◌+◌, ◌<◌, ◌≤◌, false, cond, List, [], ◌∷◌, ◌++◌, length, take, drop, get_or, ℤ, pos, ◌≤ℤ◌, refl, sym, ap, ◌∙◌, subst, ⊎_elim, arith, int_lt}
+use Rattle.assignment_search.proofs.Common.{AllByRecursion, IsHeap, Reverse, ints, cases_eq, sum_by-cons, sum_by_popped, Graph, IsGoodGraph, Node, Branch, Leaf, Dead, IsLowest, HasLeaf, IsTreeSoFar, OpenLeaf, leaf_cmp, leaf_sum, AreOpen, nat_tests}
 use Rattle.std.specs.List.{sum_by}
 use Rattle.std.specs.List.Sorted.{IsPermutation}
 use Rattle.std.specs.Ordering.{ordering_then, int_cmp, is_lt}
 use Rattle.std.specs.BinaryHeap.{heap_items}
 use Rattle.std.specs.declared.cmp.Ordering.{Ordering}
-use Rattle.std.specs.declared.cmp.Ordering.TheVariants.{Less, Equal, Greater}
 use Rattle.assignment_search.proofs.AnswerLemmas.{so_far_leaf}
 use Rattle.assignment_search.specs.declared.open_leaves.OpenLeaves.{OpenLeaves}
 use Rattle.assignment_search.proofs.EditLemmas.{Origin, Old, First, Second, edit_length, edit_origin, moved}
@@ -77,8 +76,9 @@ equal p v q z = cond (int_lt z v) 0 (cond (int_lt v z) 0 (cond (q == p) 1 0))
 less_none : (v z : ℤ) (q : ℕ) → less v q z ≡ 0 → v ≤ℤ z
 less_none v z q e = grind (arith, ints)
 
-less_zero : (v z : ℤ) (q : ℕ) → int_lt z v ≡ false → less v q z ≡ 0
-less_zero v z q e = ap (λ (t : Bool). cond t 1 0) e
+-- the heap's order is by value first
+not_less : (v z : ℤ) (q : ℕ) (o : Ordering) → is_lt (ordering_then (int_cmp z v) o) ≡ false → less v q z ≡ 0
+not_less v z q o e = grind (arith, ints)
 
 equal_some : (p : ℕ) (v : ℤ) (q : ℕ) (z : ℤ) → 1 ≤ equal p v q z → (q ≡ p) × (z ≡ v)
 equal_some p v q z some = (grind (arith, ints, nat_tests), grind (arith, ints, nat_tests))
@@ -86,25 +86,11 @@ equal_some p v q z some = (grind (arith, ints, nat_tests), grind (arith, ints, n
 equal_same : (p : ℕ) (v : ℤ) → equal p v p v ≡ 1
 equal_same p v = grind (arith, ints, nat_tests)
 
--- ---- the heap's order
-
-first_not_lt : (a b : Ordering) → is_lt (ordering_then a b) ≡ false → is_lt a ≡ false
-first_not_lt Less b e = e
-first_not_lt Equal b e = refl
-first_not_lt Greater b e = e
-
-int_not_lt : (x y : ℤ) → is_lt (int_cmp x y) ≡ false → int_lt x y ≡ false
-int_not_lt x y h = by (int_lt x y) (int_lt y x) refl h
-  where
-    by : (s t : Bool) → int_lt x y ≡ s → is_lt (cond s Less (cond t Greater Equal)) ≡ false → int_lt x y ≡ false
-    by true t e h = absurd (both_ways true h refl)
-    by false t e h = e
-
 none_less : (x : Reverse OpenLeaf) (heap : List (Reverse OpenLeaf)) → AllByRecursion (λ y. is_lt (leaf_cmp y.0 x.0) ≡ false) heap → sum_by (λ leaf. less x.0.value leaf.0.number leaf.0.value) heap ≡ 0
 none_less x [] h = refl
 none_less x (y ∷ heap) h =
     let rest = none_less x heap (h.1) in
-    let here = less_zero x.0.value y.0.value y.0.number (int_not_lt y.0.value x.0.value (first_not_lt _ _ (h.0))) in
+    let here = not_less x.0.value y.0.value y.0.number _ h.0 in
     omega (arith, sum_by-cons (λ (leaf : Reverse OpenLeaf). less x.0.value leaf.0.number leaf.0.value) y heap, rest, here)
 
 -- ---- the leaf that comes first

@@ -1,6 +1,6 @@
 -- The fewer rows are usable, the greater is a leaf's value.
 use Rattle.std.proofs.Common.{◌≡◌, ◌==◌, ◌||◌, not, ℕ, ◌<◌, Bool, true, false, List, length, Option, Some, None, ℤ, pos, ◌≤ℤ◌, refl, sym, ap, ◌∙◌, arith, eq-eqb, eqb-true, unwrap_or}
-use Rattle.assignment_search.proofs.Common.{none-some, ints, and_from, and_parts, int_sum_below, least_below, Graph, IsRowOf, row_vehicle, Usable, is_usable_by, reduced_cost, vehicle_term, leaf_value, MayUse, only_row, without_row, int_sum_le, least_below_some, least_below_none, least_below_found, HasUsable}
+use Rattle.assignment_search.proofs.Common.{none-some, ints, and_from, and_parts, least_below, Graph, IsRowOf, row_vehicle, Usable, is_usable_by, reduced_cost, vehicle_term, leaf_value, MayUse, only_row, without_row, int_sum_le, least_below_some, least_below_none, least_below_found, HasUsable}
 
 -- a vehicle that keeps a row has no lesser term
 pub term_rises : (g : Graph) (u w : Usable) (ms : List ℤ) (v : ℕ) → ((k : ℕ) → w k ≡ true → u k ≡ true) → ((k : ℕ) → IsRowOf g v k → (j : ℕ) × MayUse g w v j) → vehicle_term g u ms v ≤ℤ vehicle_term g w ms v
@@ -18,25 +18,19 @@ term_rises g u w ms v fewer has = by_least (least_below (length g.rows) (is_usab
 
     by_least : (o : Option ℤ) → least_below (length g.rows) (is_usable_by g w v) (reduced_cost g ms) ≡ o → vehicle_term g u ms v ≤ℤ unwrap_or o (pos 0)
     by_least None e =
-        let none : least_below (length g.rows) (is_usable_by g u v) (reduced_cost g ms) ≡ None =
-        least_below_none (length g.rows) (is_usable_by g u v) (reduced_cost g ms) (λ k l. none_at e k l (is_usable_by g u v k) refl) in
-        let term : vehicle_term g u ms v ≡ pos 0 = ap (λ (o : Option ℤ). unwrap_or o (pos 0)) none in
-        omega (arith, ints)
+        let none = least_below_none (length g.rows) (is_usable_by g u v) (reduced_cost g ms) (λ k l. none_at e k l (is_usable_by g u v k) refl) in
+        omega (arith, ints, ap (λ (o : Option ℤ). unwrap_or o (pos 0)) none)
     by_least (Some z) e =
         let r = least_below_found (length g.rows) (is_usable_by g w v) (reduced_cost g ms) z e in
         let parts = and_parts (row_vehicle g (r.0) == v) (w (r.0)) (r.2) in
         let passes : is_usable_by g u v (r.0) ≡ true = and_from (row_vehicle g (r.0) == v) (u (r.0)) (parts.0) (fewer (r.0) (parts.1)) in
         let s = least_below_some (length g.rows) (is_usable_by g u v) (reduced_cost g ms) (r.0) (r.1) passes in
-        let term : vehicle_term g u ms v ≡ s.0 = ap (λ (o : Option ℤ). unwrap_or o (pos 0)) (s.1) in
-        let least : s.0 ≤ℤ reduced_cost g ms (r.0) = s.2 in
-        let reached : z ≡ reduced_cost g ms (r.0) = r.3 in
-        omega (arith, ints)
+        omega (arith, ints, ap (λ (o : Option ℤ). unwrap_or o (pos 0)) s.1, s.2, r.3)
 
 pub value_rises : (g : Graph) (u w : Usable) (ms : List ℤ) → ((k : ℕ) → w k ≡ true → u k ≡ true) → HasUsable g w → leaf_value g u ms ≤ℤ leaf_value g w ms
 unfolding leaf_value
 value_rises g u w ms fewer has =
-    let vehicles : int_sum_below g.vehicles (vehicle_term g u ms) ≤ℤ int_sum_below g.vehicles (vehicle_term g w ms) =
-    int_sum_le g.vehicles (vehicle_term g u ms) (vehicle_term g w ms) (λ v l. term_rises g u w ms v fewer (has v)) in
+    let vehicles = int_sum_le g.vehicles (vehicle_term g u ms) (vehicle_term g w ms) (λ v l. term_rises g u w ms v fewer (has v)) in
     omega (arith, ints)
 
 pub only_fewer : (g : Graph) (u : Usable) (v k j : ℕ) → only_row g u v k j ≡ true → u j ≡ true

@@ -1,7 +1,8 @@
 -- What lowers a ceiling of the first-fit multipliers keeps it one.
-use Rattle.std.proofs.Common.{◌≡◌, ℕ, zero, suc, ◌*◌, ◌<◌, ◌≤◌, true, List, [], ◌∷◌, length, get_or, set, ℤ, pos, ◌+ℤ◌, ◌-ℤ◌, ◌*ℤ◌, ◌≤ℤ◌, All, sym, ap, ◌∙◌, subst, ⊎_elim, arith}
-use Rattle.dual_bound.proofs.Common.{ints, cases_eq, cases_lt, get_or_past, int_sum_below, Graph, riders_at, row_vehicle, cost_at, IsGoodGraph, Usable, multiplier_at, multiplier_sum, least_cost, room_at, first_fit, first_fit_value, int_sum_same, int_sum_le, IsModest, HasLeastCosts, AreCeilings}
-use Rattle.std.proofs.lemmas.List.{get_or_default, get_or-set_same, get_or-set_other, length-set}
+use Rattle.std.proofs.Common.{◌≡◌, ℕ, zero, suc, ◌*◌, ◌<◌, ◌≤◌, true, List, [], ◌∷◌, length, get_or, set, ℤ, pos, ◌+ℤ◌, ◌-ℤ◌, ◌*ℤ◌, ◌≤ℤ◌, All, ap, ◌∙◌, subst, ⊎_elim, arith}
+use Rattle.dual_bound.proofs.Common.{ints, cases_lt, get_or_past, int_sum_below, Graph, riders_at, row_vehicle, cost_at, IsGoodGraph, Usable, multiplier_at, multiplier_sum, least_cost, room_at, first_fit, first_fit_value, int_sum_same, int_sum_le, IsModest, HasLeastCosts, AreCeilings}
+use Rattle.std.proofs.lemmas.List.{get_or_default, length-set}
+use Rattle.dual_bound.proofs.lemmas.FirstFitLemmas.{set_all}
 use Rattle.dual_bound.proofs.lemmas.FirstFitValueLemmas.{positive_sum, first_fit_leaves_room, first_fit_value_is}
 
 -- where multipliers aren't negative, each is at most what they come to
@@ -43,15 +44,8 @@ ceilings_first g u rooms good sized all =
 pub ceilings_lower : (g : Graph) (u : Usable) (rooms : List ℤ) (r : ℕ) (z : ℤ) → AreCeilings g u rooms → r < g.riders → multiplier_at (first_fit g u) r ≤ℤ z → IsModest z → AreCeilings g u (set rooms r z)
 ceilings_lower g u rooms r z before low above modest = record {
   sized = length-set rooms r z ∙ before.sized;
-  above = λ q. ⊎_elim
-      (λ (here : q ≡ r). subst (λ (p : ℕ). multiplier_at (first_fit g u) p ≤ℤ get_or (set rooms r z) p (pos (1024 * g.penalty))) (sym here)
-      (subst (λ (w : ℤ). multiplier_at (first_fit g u) r ≤ℤ w) (sym (get_or-set_same rooms r z (pos (1024 * g.penalty)) (omega (arith, low, before.sized)))) above))
-      (λ (other : q ≡ r → ⊥). subst (λ (w : ℤ). multiplier_at (first_fit g u) q ≤ℤ w) (sym (get_or-set_other rooms r q z (pos (1024 * g.penalty)) other)) (before.above q))
-      (cases_eq q r);
-  modest = λ q. ⊎_elim
-      (λ (here : q ≡ r). subst IsModest (sym (ap (λ (p : ℕ). get_or (set rooms r z) p (pos 0)) here ∙ get_or-set_same rooms r z (pos 0) (omega (arith, low, before.sized)))) modest)
-      (λ (other : q ≡ r → ⊥). subst IsModest (sym (get_or-set_other rooms r q z (pos 0) other)) (before.modest q))
-      (cases_eq q r);
+  above = set_all (λ q w. multiplier_at (first_fit g u) q ≤ℤ w) rooms r z (pos (1024 * g.penalty)) (omega (arith, low, before.sized)) above before.above;
+  modest = set_all (λ _ w. IsModest w) rooms r z (pos 0) (omega (arith, low, before.sized)) modest before.modest;
 }
 
 -- a list of costs has no large number
@@ -69,7 +63,6 @@ ceiling_of_value g u costs rooms x y good least ceilings is_x is_y =
     let many : x ≡ int_sum_below g.vehicles (λ r. get_or costs r (pos 0)) = is_x ∙ ap (λ (n : ℕ). int_sum_below n (λ r. get_or costs r (pos 0))) least.sized in
     let cheapest : int_sum_below g.vehicles (λ r. get_or costs r (pos 0)) ≡ int_sum_below g.vehicles (least_cost g u) = int_sum_same g.vehicles (λ r. get_or costs r (pos 0)) (least_cost g u) least.value in
     let all : y ≡ int_sum_below g.riders (λ r. get_or rooms r (pos 0)) = is_y ∙ ap (λ (n : ℕ). int_sum_below n (λ r. get_or rooms r (pos 0))) ceilings.sized in
-    let over : int_sum_below g.riders (multiplier_at (first_fit g u)) ≤ℤ int_sum_below g.riders (λ r. get_or rooms r (pos 0)) =
-    int_sum_le g.riders (multiplier_at (first_fit g u)) (λ r. get_or rooms r (pos 0))
+    let over = int_sum_le g.riders (multiplier_at (first_fit g u)) (λ r. get_or rooms r (pos 0))
     (λ r low. subst (λ (w : ℤ). multiplier_at (first_fit g u) r ≤ℤ w) (get_or_default rooms r (pos (1024 * g.penalty)) (pos 0) (omega (arith, low, ceilings.sized))) (ceilings.above r)) in
     omega (arith, ints, value, many, cheapest, all, over)

@@ -1,5 +1,5 @@
 -- The cheapest of all rows is the cheapest of the usable ones where it is one of them.
-use Rattle.std.proofs.Common.{◌≡◌, ◌==◌, ℕ, ◌≤◌, true, List, length, get_or, ℤ, pos, ◌≤ℤ◌, Option, sym, ap, ◌∙◌, subst, arith, eq-eqb, eqb-true, unwrap_or}
+use Rattle.std.proofs.Common.{◌≡◌, ◌==◌, ℕ, ◌≤◌, true, List, length, get_or, ℤ, pos, Option, ap, subst, arith, eq-eqb, eqb-true, unwrap_or}
 use Rattle.dual_bound.proofs.Common.{ints, and_from, and_parts, Graph, row_vehicle, cost_at, Usable, is_usable_by, least_cost, least_below_some, least_below_found, AreCheapest}
 use Rattle.plan_rules.specs.Tree.{MayUse}
 
@@ -10,9 +10,5 @@ cheapest_is_least g u listed v k cheapest here may =
     let s = least_below_some (length g.rows) (is_usable_by g u v) f k may.row.within passes in
     let r = least_below_found (length g.rows) (is_usable_by g u v) f (s.0) (s.1) in
     let own : row_vehicle g (r.0) ≡ v = eqb-true (row_vehicle g (r.0)) v ((and_parts (row_vehicle g (r.0) == v) (u (r.0)) (r.2)).0) in
-    let dear : cost_at g (get_or listed v 0) ≤ cost_at g (r.0) = subst (λ (w : ℕ). cost_at g (get_or listed w 0) ≤ cost_at g (r.0)) own (cheapest (r.0) (r.1)) in
-    let low : cost_at g k ≤ cost_at g (r.0) = subst (λ (j : ℕ). cost_at g j ≤ cost_at g (r.0)) (sym here) dear in
-    let reached : s.0 ≡ pos (cost_at g (r.0)) = r.3 in
-    let least : s.0 ≤ℤ pos (cost_at g k) = s.2 in
-    let same : pos (cost_at g k) ≡ s.0 = omega (arith, ints, low, reached, least) in
-    same ∙ sym (ap (λ (o : Option ℤ). unwrap_or o (pos 0)) (s.1))
+    let dear = subst (λ (w : ℕ). cost_at g (get_or listed w 0) ≤ cost_at g (r.0)) own (cheapest (r.0) (r.1)) in
+    omega (arith, ints, ap (cost_at g) here, dear, r.3, s.2, ap (λ (o : Option ℤ). unwrap_or o (pos 0)) s.1)

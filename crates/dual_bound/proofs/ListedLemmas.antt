@@ -1,6 +1,6 @@
 -- The first-fit pass over a list of the rider's rows.
-use Rattle.std.proofs.Common.{◌≡◌, ◌==◌, ◌⊎◌, ◌&&◌, ◌||◌, ℕ, suc, ◌+◌, ◌<◌, ◌≤◌, Bool, true, false, List, [], ◌∷◌, length, get_or, Option, Some, None, ℤ, ◌≤ℤ◌, refl, sym, ap, ◌∙◌, subst, ⊎_elim, inl, inr, arith, eqb-true}
-use Rattle.dual_bound.proofs.Common.{same_Some, none-some, int_min, ints, cases_eq, cases_Bool, both_ways, and_parts, least_below, lesser, Graph, riders_at, has_rider, Usable, room_at, least_below_some, least_below_found, lesser-le_right, lesser-le_left, list_start, list_end, IsListed, IsIndexOf, or_cases}
+use Rattle.std.proofs.Common.{◌≡◌, ◌==◌, ◌⊎◌, ◌&&◌, ℕ, suc, ◌+◌, ◌<◌, ◌≤◌, Bool, true, false, List, [], ◌∷◌, length, get_or, Option, Some, None, ℤ, ◌≤ℤ◌, refl, sym, ap, ◌∙◌, subst, ⊎_elim, inl, inr, arith, eqb-true}
+use Rattle.dual_bound.proofs.Common.{same_Some, none-some, int_min, ints, cases_eq, both_ways, and_parts, least_below, lesser, Graph, riders_at, has_rider, Usable, room_at, least_below_some, least_below_found, lesser-le_right, lesser-le_left, list_start, list_end, IsListed, IsIndexOf, or_cases}
 use Rattle.std.specs.List.{list_any}
 use Rattle.plan_rules.proofs.lemmas.SumLemmas.{int_min_cases}
 use Rattle.dual_bound.specs.declared.rider_index.RiderIndex.{RiderIndex}
@@ -26,12 +26,7 @@ least_is n p f o covers reached (Some z) e =
     let c = covers (w.0) (w.1) (w.2) in
     let v = reached (c.0) (c.1) in
     let x = least_below_some n p f (v.0) (v.1) (v.2) in
-    let same : x.0 ≡ z = same_Some (x.0) z (sym (x.1) ∙ e) in
-    let low : c.0 ≤ℤ f (w.0) = c.2 in
-    let is : z ≡ f (w.0) = w.3 in
-    let high : x.0 ≤ℤ f (v.0) = x.2 in
-    let here : c.0 ≡ f (v.0) = v.3 in
-    let equal : c.0 ≡ z = omega (arith, ints, same, low, is, high, here) in
+    let equal : c.0 ≡ z = omega (arith, ints, same_Some (x.0) z (sym (x.1) ∙ e), c.2, w.3, x.2, v.3) in
     c.1 ∙ ap Some equal
 
 pub listed_take : (n : ℕ) (p : ℕ → Bool) (f : ℕ → ℤ) (listed : List ℕ) (from to k : ℕ) (o new : Option ℤ) (x : ℤ) → IsLeastListed n p f listed from to o → get_or listed to 0 ≡ k → k < n → p k ≡ true → x ≡ f k → new ≡ Some (lesser o x)
@@ -89,8 +84,7 @@ listed_done g usable ms index r to o all ended least =
     least_is n p f o
     (λ k l yes.
     let has : has_rider g k r ≡ true = (and_parts (usable k) (has_rider g k r) yes).1 in
-    let here : IsListed index.rows.items (list_start index r) (list_end index r) k =
-    at_of (λ (q : ℕ). IsListed index.rows.items (list_start index q) (list_end index q) k) (riders_at g k) r (λ i low. all k i l low) has in
+    let here = at_of (λ (q : ℕ). IsListed index.rows.items (list_start index q) (list_end index q) k) (riders_at g k) r (λ i low. all k i l low) has in
     let w = least.covers here.place here.from_on (omega (arith, here.before, ended)) here.within (subst (λ (j : ℕ). j < n) (sym here.row) l) (subst (λ (j : ℕ). p j ≡ true) (sym here.row) yes) in
     (w.0, w.1, subst (λ (j : ℕ). w.0 ≤ℤ f j) here.row (w.2)))
     least.reached (least_below n p f) refl

@@ -1,7 +1,7 @@
 -- Marks on riders of usable and of sole rows.
-use Rattle.std.proofs.Common.{◌≡◌, ◌⊎◌, ℕ, ◌+◌, ◌<◌, ◌≤◌, Bool, true, false, List, length, get_or, refl, sym, ◌∙◌, subst, ⊎_elim, arith}
-use Rattle.plan_rules.proofs.Common.{list_any, cases_eq, cases_lt, or_cases, or_left, or_right, both_ways, get_or_past, Graph, row_at, riders_at, row_vehicle, has_rider, must_be_served, IsGraphRow, IsRowOf, IsGoodGraph, Usable, IsSoleRow, IsClash, IsStranded, StandsInSome, MarksSole}
-use Rattle.plan_rules.proofs.lemmas.GraphLemmas.{rider_below}
+use Rattle.std.proofs.Common.{◌≡◌, ◌⊎◌, ℕ, ◌+◌, ◌<◌, Bool, true, false, List, length, get_or, sym, ◌∙◌, subst, ⊎_elim, arith}
+use Rattle.plan_rules.proofs.Common.{list_any, cases_eq, or_cases, or_right, both_ways, get_or_past, Graph, row_at, riders_at, has_rider, must_be_served, IsGraphRow, IsGoodGraph, Usable, IsSoleRow, IsClash, IsStranded, StandsInSome, MarksSole}
+use Rattle.plan_rules.proofs.lemmas.GraphLemmas.{rider_below, vehicle_below}
 use Rattle.plan_rules.proofs.lemmas.PlanLemmas.{must_below}
 use Rattle.plan_rules.proofs.lemmas.MarkLemmas.{IsMarking, any_marked, marked_one}
 
@@ -98,10 +98,4 @@ clash_from g usable n k marks here some before =
 
 pub no_clash : (g : Graph) (usable : Usable) (marks : List Bool) → IsGoodGraph g → MarksSole g usable g.vehicles marks → IsClash g usable → ⊥
 no_clash g usable marks good marked c =
-    marked.apart c.first c.second c.first_row c.second_row c.rider (low c.first c.first_row c.first_sole.row.row) (low c.second c.second_row c.second_sole.row.row) c.differ c.first_sole c.second_sole c.in_first c.in_second
-  where
-    low : (v k : ℕ) → IsRowOf g v k → v < g.vehicles
-    low v k row =
-        let below : row_vehicle g k < g.vehicles = (good.rows k row.within).vehicle in
-        let own : row_vehicle g k ≡ v = row.own in
-        omega arith
+    marked.apart c.first c.second c.first_row c.second_row c.rider (vehicle_below g c.first c.first_row good.rows c.first_sole.row.row) (vehicle_below g c.second c.second_row good.rows c.second_sole.row.row) c.differ c.first_sole c.second_sole c.in_first c.in_second

@@ -1,6 +1,6 @@
 -- Rows: rising riders, and the order of vehicles.
 use Rattle.std.proofs.Common.{◌≡◌, ◌==◌, ◌⊎◌, ℕ, zero, suc, ◌+◌, ◌-◌, ◌<◌, ◌≤◌, true, false, List, [], ◌∷◌, ◌++◌, length, get_or, eqb, not, Ordering, Less, Equal, Greater, nat_cmp, refl, sym, ap, ◌∙◌, subst, inl, inr, ⊎_elim, arith}
-use Rattle.plan_rules.proofs.Common.{ordering_then, ordering_index, get_or_push, get_or_append_left, cases_eq, cases_lt, both_ways, nat_tests, Graph, row_at, row_vehicle, IsInOrder, AreRisingBelow, IsStartOf, row_cmp}
+use Rattle.plan_rules.proofs.Common.{ordering_then, ordering_index, get_or_push, get_or_append_left, cases_eq, both_ways, nat_tests, Graph, row_at, row_vehicle, IsInOrder, AreRisingBelow, IsStartOf, row_cmp}
 use Rattle.plan_rules.specs.GraphFault.{HasRowsInOrder, IsFirstUnordered}
 
 -- the first i numbers rise and are below `riders`, and `least` is one above the last of them
@@ -49,10 +49,7 @@ vehicles_rise g order j (suc n) l =
 pub start_next : (g : Graph) (v row end : ℕ) → HasRowsInOrder g → IsStartOf g v row → row ≤ end → end ≤ length g.rows → ((k : ℕ) → row ≤ k → k < end → row_vehicle g k ≡ v) → (end < length g.rows → row_vehicle g end ≡ v → ⊥) → IsStartOf g (v + 1) end
 start_next g v row end order start up within own next = record {
   within = within;
-  below = λ k l. ⊎_elim
-      (λ (before : k < row). let low : row_vehicle g k < v = start.below k before in omega arith)
-      (λ (inside : row ≤ k). let same : row_vehicle g k ≡ v = own k inside l in omega arith)
-      (cases_lt k row);
+  below = λ k l. grind (arith, l, start.below k, own k);
   above = λ k a b.
       let first : v ≤ row_vehicle g end = start.above end up (omega (arith, a, b)) in
       let differs = next (omega (arith, a, b)) in

@@ -1,16 +1,14 @@
 -- The first-fit pass.
-use Rattle.std.proofs.Common.{◌≡◌, ◌&&◌, ℕ, zero, suc, ◌+◌, ◌*◌, ◌<◌, ◌≤◌, List, [], ◌∷◌, ◌++◌, length, get_or, set, ℤ, pos, ◌-ℤ◌, ◌*ℤ◌, refl, sym, ap, ◌∙◌, subst, ⊎_elim, arith, add-one, ◌+ℤ◌}
+use Rattle.std.proofs.Common.{◌≡◌, ◌&&◌, ℕ, zero, suc, ◌+◌, ◌*◌, ◌<◌, ◌≤◌, List, [], ◌∷◌, ◌++◌, length, get_or, set, ℤ, pos, ◌-ℤ◌, ◌*ℤ◌, refl, sym, ap, ◌∙◌, subst, ⊎_elim, inl, inr, arith, add-one, ◌+ℤ◌}
 use Rattle.dual_bound.proofs.Common.{ints, cases_eq, cases_lt, get_or_push, get_or_append_left, get_or_past, length_push, least_below, lesser, Graph, row_at, has_rider, Usable, multiplier_at, multiplier_sum, least_cost, room_at, first_fit_of, first_fit_below, TripRow, IsModest}
 use Rattle.std.proofs.lemmas.List.{get_or-set_same, get_or-set_other, ext_get_or}
 
 -- what holds of each number at its place holds with one more at the end
 pub push_all : (P : ℕ → ℤ → Type 0) (xs : List ℤ) (n : ℕ) (z : ℤ) → length xs ≡ n → ((v : ℕ) → v < n → P v (get_or xs v (pos 0))) → P n z → (v : ℕ) → v < n + 1 → P v (get_or (xs ++ z ∷ []) v (pos 0))
-push_all P xs n z long before here v l =
-    ⊎_elim
-    (λ (last : v ≡ n).
-    subst (P v) (sym (get_or_push xs z (pos 0) v (long ∙ sym last))) (subst (λ (w : ℕ). P w z) (sym last) here))
-    (λ (other : v ≡ n → ⊥). subst (P v) (sym (get_or_append_left xs (z ∷ []) (pos 0) v (omega (arith, l, long)))) (before v (omega (arith, l))))
-    (cases_eq v n)
+push_all P xs n z long before here v l = elim (cases_eq v n) [
+  | inl last ↦ subst (P v) (sym (get_or_push xs z (pos 0) v (long ∙ sym last))) (subst (λ w. P w z) (sym last) here)
+  | inr other ↦ subst (P v) (sym (get_or_append_left xs (z ∷ []) (pos 0) v (omega (arith, l, long)))) (before v (omega (arith, l)))
+]
 
 pub room_from : (g : Graph) (usable : Usable) (ms : List ℤ) (k : ℕ) (x : TripRow) (least value : ℤ) → x ≡ row_at g k → least ≡ least_cost g usable x.vehicle → value ≡ (pos 1024 *ℤ (pos x.cost -ℤ least) -ℤ multiplier_sum ms x.riders.items) → value ≡ room_at g usable ms k
 room_from g usable ms k x least value read cheapest is =
@@ -37,9 +35,7 @@ pub length-first_fit : (g : Graph) (usable : Usable) (n : ℕ) → length (first
 unfolding first_fit_below
 length-first_fit g usable zero = refl
 length-first_fit g usable (suc n) =
-    let more = length_push (first_fit_below g usable n) (first_fit_of g usable (first_fit_below g usable n) n) in
-    let before = length-first_fit g usable n in
-    omega (arith, more, before)
+    omega (arith, length_push (first_fit_below g usable n) (first_fit_of g usable (first_fit_below g usable n) n), length-first_fit g usable n)
 
 first_fit_suc : (g : Graph) (usable : Usable) (n : ℕ) → first_fit_below g usable (n + 1) ≡ first_fit_below g usable n ++ first_fit_of g usable (first_fit_below g usable n) n ∷ []
 unfolding first_fit_below
@@ -76,9 +72,9 @@ first_fit_done g usable n ms long same =
 pub modest_zero : (z : ℤ) → z ≡ pos 0 → IsModest z
 modest_zero z e = record { low = omega (arith, ints, e); high = omega (arith, ints, e) }
 
-pub modest_set : (ms : List ℤ) (n : ℕ) (m : ℤ) → IsModest m → ((r : ℕ) → IsModest (multiplier_at ms r)) → n < length ms → (r : ℕ) → IsModest (multiplier_at (set ms n m) r)
-modest_set ms n m here others l r =
-    ⊎_elim
-    (λ (same : r ≡ n). subst IsModest (sym (ap (λ (q : ℕ). get_or (set ms n m) q (pos 0)) same ∙ get_or-set_same ms n m (pos 0) l)) here)
-    (λ (other : r ≡ n → ⊥). subst IsModest (sym (get_or-set_other ms n r m (pos 0) other)) (others r))
-    (cases_eq r n)
+-- what holds of each number of a list holds with one set
+pub set_all : (P : ℕ → ℤ → Type 0) (xs : List ℤ) (n : ℕ) (z d : ℤ) → n < length xs → P n z → ((r : ℕ) → P r (get_or xs r d)) → (r : ℕ) → P r (get_or (set xs n z) r d)
+set_all P xs n z d low here others r = elim (cases_eq r n) [
+  | inl same ↦ subst (λ q. P q (get_or (set xs n z) q d)) (sym same) (subst (P n) (sym (get_or-set_same xs n z d low)) here)
+  | inr other ↦ subst (P r) (sym (get_or-set_other xs n r z d other)) (others r)
+]

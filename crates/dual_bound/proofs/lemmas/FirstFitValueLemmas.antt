@@ -1,6 +1,6 @@
 -- What the first-fit multipliers are worth: none is negative, and the cheapest usable rows stay the cheapest.
-use Rattle.std.proofs.Common.{◌≡◌, ◌==◌, ◌&&◌, ℕ, zero, suc, ◌*◌, ◌<◌, ◌≤◌, Bool, true, false, List, [], ◌∷◌, ◌++◌, length, Option, Some, None, ℤ, pos, ◌+ℤ◌, ◌*ℤ◌, ◌≤ℤ◌, refl, sym, ap, ◌∙◌, subst, ⊎_elim, arith, eq-eqb, eqb-true, ne_eqb, unwrap_or}
-use Rattle.dual_bound.proofs.Common.{none-some, int_min, ints, int_min_is, cases_eq, cases_lt, cases_Bool, and_from, and_parts, cond-true, cond-false, get_or_push, get_or_append_left, get_or_past, length_push, int_sum_below, least_below, lesser, Graph, riders_at, row_vehicle, cost_at, has_rider, must_be_served, IsGoodGraph, Usable, multiplier_at, multiplier_sum, is_usable_by, reduced_cost, vehicle_term, rider_term, leaf_value, least_cost, room_at, first_fit_of, first_fit_below, first_fit, first_fit_value, part, int_sum_same, int_sum_plus, int_sum_single, least_below_some, least_below_none, least_below_found, lesser-le_right, lesser-le_left, nat_tests, false_from_ne_true}
+use Rattle.std.proofs.Common.{◌≡◌, ◌==◌, ◌&&◌, ℕ, zero, suc, ◌*◌, ◌<◌, ◌≤◌, Bool, true, false, List, [], ◌∷◌, ◌++◌, length, Option, Some, None, ℤ, pos, ◌+ℤ◌, ◌*ℤ◌, ◌≤ℤ◌, refl, sym, ap, ◌∙◌, subst, arith, eq-eqb, eqb-true, unwrap_or}
+use Rattle.dual_bound.proofs.Common.{none-some, ints, int_min_is, and_from, and_parts, get_or_push, get_or_append_left, get_or_past, length_push, int_sum_below, least_below, lesser, Graph, riders_at, row_vehicle, cost_at, has_rider, IsGoodGraph, Usable, multiplier_at, multiplier_sum, is_usable_by, reduced_cost, vehicle_term, rider_term, leaf_value, least_cost, room_at, first_fit_of, first_fit_below, first_fit, first_fit_value, part, int_sum_same, int_sum_plus, int_sum_single, least_below_some, least_below_none, least_below_found, lesser-le_right, lesser-le_left, nat_tests, false_from_ne_true}
 use Rattle.plan_rules.proofs.lemmas.DualityLemmas.{multiplier_sum_is}
 use Rattle.dual_bound.proofs.lemmas.FirstFitLemmas.{length-first_fit}
 
@@ -18,11 +18,8 @@ none_sum (x ∷ xs) = omega (arith, ints, none_sum xs)
 
 least_cost_le : (g : Graph) (u : Usable) (k : ℕ) → k < length g.rows → u k ≡ true → least_cost g u (row_vehicle g k) ≤ℤ pos (cost_at g k)
 least_cost_le g u k l may =
-    let v = row_vehicle g k in
-    let w = least_below_some (length g.rows) (is_usable_by g u v) (λ j. pos (cost_at g j)) k l (and_from (row_vehicle g k == v) (u k) (eq-eqb (row_vehicle g k) v refl) may) in
-    let is : least_cost g u v ≡ w.0 = ap (λ (o : Option ℤ). unwrap_or o (pos 0)) (w.1) in
-    let low : w.0 ≤ℤ pos (cost_at g k) = w.2 in
-    subst (λ (z : ℤ). z ≤ℤ pos (cost_at g k)) (sym is) low
+    let w = least_below_some (length g.rows) (is_usable_by g u (row_vehicle g k)) (λ j. pos (cost_at g j)) k l (and_from (row_vehicle g k == row_vehicle g k) (u k) (eq-eqb (row_vehicle g k) _ refl) may) in
+    omega (arith, ints, ap (λ (o : Option ℤ). unwrap_or o (pos 0)) w.1, w.2)
 
 room_first : (g : Graph) (u : Usable) → LeavesRoom g u []
 room_first g u = record {
@@ -35,23 +32,7 @@ room_first g u = record {
 
 pushed_at : (ms : List ℤ) (n : ℕ) (m : ℤ) (r : ℕ) → length ms ≡ n → multiplier_at (ms ++ m ∷ []) r ≡ multiplier_at ms r +ℤ part (n == r) m
 pushed_at ms n m r long =
-    ⊎_elim
-    (λ (here : n ≡ r).
-    let now : multiplier_at (ms ++ m ∷ []) r ≡ m = get_or_push ms m (pos 0) r (long ∙ here) in
-    let old : multiplier_at ms r ≡ pos 0 = get_or_past ms r (pos 0) (omega (arith, long, here)) in
-    let counts : part (n == r) m ≡ m = cond-true (n == r) m (pos 0) (eq-eqb n r here) in
-    omega (arith, ints))
-    (λ (other : n ≡ r → ⊥).
-    let none : part (n == r) m ≡ pos 0 = cond-false (n == r) m (pos 0) (ne_eqb n r other) in
-    let same : multiplier_at (ms ++ m ∷ []) r ≡ multiplier_at ms r =
-    ⊎_elim
-    (λ (low : r < n). get_or_append_left ms (m ∷ []) (pos 0) r (omega (arith, low, long)))
-    (λ (high : n ≤ r).
-    get_or_past (ms ++ m ∷ []) r (pos 0) (omega (arith, high, other, long, length_push ms m))
-    ∙ sym (get_or_past ms r (pos 0) (omega (arith, high, long))))
-    (cases_lt r n) in
-    omega (arith, ints))
-    (cases_eq n r)
+    grind (arith, ints, nat_tests, long, length_push ms m, get_or_push ms m (pos 0) r, get_or_append_left ms (m ∷ []) (pos 0) r, get_or_past ms r (pos 0), get_or_past (ms ++ m ∷ []) r (pos 0))
 
 part_of_sum : (a b : Bool) (x m : ℤ) → part a (x +ℤ part b m) ≡ part a x +ℤ part b (part a m)
 part_of_sum a b x m = grind (arith, ints)
@@ -61,26 +42,18 @@ pushed_sum : (g : Graph) (k : ℕ) (ms : List ℤ) (n : ℕ) (m : ℤ) → IsGoo
 pushed_sum g k ms n m good l low long =
     let row = good.rows k l in
     let more = ms ++ m ∷ [] in
-    let before : multiplier_sum ms (riders_at g k) ≡ int_sum_below g.riders (λ r. part (has_rider g k r) (multiplier_at ms r)) =
-    multiplier_sum_is ms g.riders (riders_at g k) row.rising row.below in
-    let after : multiplier_sum more (riders_at g k) ≡ int_sum_below g.riders (λ r. part (has_rider g k r) (multiplier_at more r)) =
-    multiplier_sum_is more g.riders (riders_at g k) row.rising row.below in
-    let each : int_sum_below g.riders (λ r. part (has_rider g k r) (multiplier_at more r)) ≡ int_sum_below g.riders (λ r. part (has_rider g k r) (multiplier_at ms r) +ℤ part (n == r) (part (has_rider g k r) m)) =
-    int_sum_same g.riders (λ r. part (has_rider g k r) (multiplier_at more r)) (λ r. part (has_rider g k r) (multiplier_at ms r) +ℤ part (n == r) (part (has_rider g k r) m))
+    let before = multiplier_sum_is ms g.riders (riders_at g k) row.rising row.below in
+    let after = multiplier_sum_is more g.riders (riders_at g k) row.rising row.below in
+    let each = int_sum_same g.riders (λ r. part (has_rider g k r) (multiplier_at more r)) (λ r. part (has_rider g k r) (multiplier_at ms r) +ℤ part (n == r) (part (has_rider g k r) m))
     (λ r _. ap (part (has_rider g k r)) (pushed_at ms n m r long) ∙ part_of_sum (has_rider g k r) (n == r) (multiplier_at ms r) m) in
-    let apart : int_sum_below g.riders (λ r. part (has_rider g k r) (multiplier_at ms r) +ℤ part (n == r) (part (has_rider g k r) m)) ≡ int_sum_below g.riders (λ r. part (has_rider g k r) (multiplier_at ms r)) +ℤ int_sum_below g.riders (λ r. part (n == r) (part (has_rider g k r) m)) =
-    int_sum_plus g.riders (λ r. part (has_rider g k r) (multiplier_at ms r)) (λ r. part (n == r) (part (has_rider g k r) m)) in
-    let one : int_sum_below g.riders (λ r. part (n == r) (part (has_rider g k r) m)) ≡ part (has_rider g k n) m =
-    int_sum_single g.riders n (λ r. part (has_rider g k r) m) low in
+    let apart = int_sum_plus g.riders (λ r. part (has_rider g k r) (multiplier_at ms r)) (λ r. part (n == r) (part (has_rider g k r) m)) in
+    let one = int_sum_single g.riders n (λ r. part (has_rider g k r) m) low in
     omega (arith, ints)
 
 -- the next multiplier takes no more room than there is
 next_positive : (o : Option ℤ) (p : ℕ) → ((y : ℤ) → o ≡ Some y → pos 0 ≤ℤ y) → pos 0 ≤ℤ lesser o (pos p)
 next_positive None p h = omega (arith, ints)
-next_positive (Some y) p h =
-    let low : pos 0 ≤ℤ y = h y refl in
-    let is = int_min_is y (pos p) in
-    omega (arith, ints)
+next_positive (Some y) p h = omega (arith, ints, h y refl, int_min_is y (pos p))
 
 next_fits : (o : Option ℤ) (w z : ℤ) → o ≡ Some w → lesser o z ≤ℤ w
 next_fits o w z e = subst (λ (q : Option ℤ). lesser q z ≤ℤ w) (sym e) (lesser-le_left w z)
@@ -90,8 +63,7 @@ room_next g u n ms good low long before =
     let p : ℕ → Bool = λ k. u k && has_rider g k n in
     let least = least_below (length g.rows) p (room_at g u ms) in
     let m = first_fit_of g u ms n in
-    let positive : pos 0 ≤ℤ m =
-    next_positive least (1024 * g.penalty)
+    let positive = next_positive least (1024 * g.penalty)
     (λ y e.
     let w = least_below_found (length g.rows) p (room_at g u ms) y e in
     let may = (and_parts (u (w.0)) (has_rider g (w.0) n) (w.2)).0 in
@@ -106,15 +78,13 @@ room_next g u n ms good low long before =
     roomy : pos 0 ≤ℤ first_fit_of g u ms n → (k : ℕ) → k < length g.rows → u k ≡ true → (b : Bool) → has_rider g k n ≡ b → pos 0 ≤ℤ room_at g u (ms ++ first_fit_of g u ms n ∷ []) k
     roomy positive k l may true e =
         let m = first_fit_of g u ms n in
-        let sum : multiplier_sum (ms ++ m ∷ []) (riders_at g k) ≡ multiplier_sum ms (riders_at g k) +ℤ m =
-        pushed_sum g k ms n m good l low long ∙ ap (λ (c : Bool). multiplier_sum ms (riders_at g k) +ℤ part c m) e in
+        let sum = pushed_sum g k ms n m good l low long ∙ ap (λ (c : Bool). multiplier_sum ms (riders_at g k) +ℤ part c m) e in
         let w = least_below_some (length g.rows) (λ j. u j && has_rider g j n) (room_at g u ms) k l (and_from (u k) (has_rider g k n) may e) in
         let fits : m ≤ℤ w.0 = next_fits (least_below (length g.rows) (λ j. u j && has_rider g j n) (room_at g u ms)) (w.0) (pos (1024 * g.penalty)) (w.1) in
         omega (arith, ints, sum, fits, w.2)
     roomy positive k l may false e =
         let m = first_fit_of g u ms n in
-        let sum : multiplier_sum (ms ++ m ∷ []) (riders_at g k) ≡ multiplier_sum ms (riders_at g k) +ℤ pos 0 =
-        pushed_sum g k ms n m good l low long ∙ ap (λ (c : Bool). multiplier_sum ms (riders_at g k) +ℤ part c m) e in
+        let sum = pushed_sum g k ms n m good l low long ∙ ap (λ (c : Bool). multiplier_sum ms (riders_at g k) +ℤ part c m) e in
         omega (arith, ints, sum, before.room k l may)
 
 room_below : (g : Graph) (u : Usable) (n : ℕ) → IsGoodGraph g → n ≤ g.riders → LeavesRoom g u (first_fit_below g u n)
@@ -148,26 +118,17 @@ vehicle_term_is g u ms v roomy = by_least (least_below (length g.rows) (is_usabl
 
     by_least : (o : Option ℤ) → least_below (length g.rows) (is_usable_by g u v) (λ k. pos (cost_at g k)) ≡ o → vehicle_term g u ms v ≡ pos 1024 *ℤ least_cost g u v
     by_least None e =
-        let none : least_below (length g.rows) (is_usable_by g u v) (reduced_cost g ms) ≡ None =
-        least_below_none (length g.rows) (is_usable_by g u v) (reduced_cost g ms) (unfit e) in
-        let term : vehicle_term g u ms v ≡ pos 0 = ap (λ (o : Option ℤ). unwrap_or o (pos 0)) none in
-        let cost : least_cost g u v ≡ pos 0 = ap (λ (o : Option ℤ). unwrap_or o (pos 0)) e in
-        omega (arith, ints, term, cost)
+        let none = least_below_none (length g.rows) (is_usable_by g u v) (reduced_cost g ms) (unfit e) in
+        omega (arith, ints, ap (λ (o : Option ℤ). unwrap_or o (pos 0)) none, ap (λ (o : Option ℤ). unwrap_or o (pos 0)) e)
     by_least (Some y) e =
-        let cost : least_cost g u v ≡ y = ap (λ (o : Option ℤ). unwrap_or o (pos 0)) e in
         let cheapest = least_below_found (length g.rows) (is_usable_by g u v) (λ k. pos (cost_at g k)) y e in
-        let paid : y ≡ pos (cost_at g (cheapest.0)) = cheapest.3 in
         let w = least_below_some (length g.rows) (is_usable_by g u v) (reduced_cost g ms) (cheapest.0) (cheapest.1) (cheapest.2) in
-        let low : w.0 ≤ℤ reduced_cost g ms (cheapest.0) = w.2 in
-        let top : reduced_cost g ms (cheapest.0) ≤ℤ pos (1024 * cost_at g (cheapest.0)) = reduced_le g ms (cheapest.0) roomy.positive in
         let best = least_below_found (length g.rows) (is_usable_by g u v) (reduced_cost g ms) (w.0) (w.1) in
         let parts = and_parts (row_vehicle g (best.0) == v) (u (best.0)) (best.2) in
-        let own : row_vehicle g (best.0) ≡ v = eqb-true (row_vehicle g (best.0)) v (parts.0) in
-        let above : (pos 1024 *ℤ least_cost g u (row_vehicle g (best.0))) ≤ℤ reduced_cost g ms (best.0) = reduced_ge g u ms (best.0) roomy (best.1) (parts.1) in
-        let same : least_cost g u (row_vehicle g (best.0)) ≡ least_cost g u v = ap (least_cost g u) own in
-        let reached : w.0 ≡ reduced_cost g ms (best.0) = best.3 in
-        let term : vehicle_term g u ms v ≡ w.0 = ap (λ (o : Option ℤ). unwrap_or o (pos 0)) (w.1) in
-        omega (arith, ints, cost, paid, low, top, above, same, reached, term)
+        let same = ap (least_cost g u) (eqb-true (row_vehicle g (best.0)) v (parts.0)) in
+        let above = reduced_ge g u ms (best.0) roomy (best.1) (parts.1) in
+        let top = reduced_le g ms (cheapest.0) roomy.positive in
+        omega (arith, ints, ap (λ (o : Option ℤ). unwrap_or o (pos 0)) e, cheapest.3, w.2, top, same, above, best.3, ap (λ (o : Option ℤ). unwrap_or o (pos 0)) w.1)
 
 pub rider_term_is : (g : Graph) (ms : List ℤ) (r : ℕ) → multiplier_at ms r ≤ℤ pos (1024 * g.penalty) → rider_term g ms r ≡ multiplier_at ms r
 rider_term_is g ms r most = grind (arith, ints, int_min_is (multiplier_at ms r) (pos (1024 * g.penalty)), most)
@@ -179,11 +140,9 @@ int_sum_scale (suc n) f = omega (arith, ints, int_sum_scale n f)
 roomy_value : (g : Graph) (u : Usable) (ms : List ℤ) → LeavesRoom g u ms → leaf_value g u ms ≡ pos 1024 *ℤ int_sum_below g.vehicles (least_cost g u) +ℤ int_sum_below g.riders (multiplier_at ms)
 unfolding leaf_value
 roomy_value g u ms roomy =
-    let vehicles : int_sum_below g.vehicles (vehicle_term g u ms) ≡ int_sum_below g.vehicles (λ v. pos 1024 *ℤ least_cost g u v) =
-    int_sum_same g.vehicles (vehicle_term g u ms) (λ v. pos 1024 *ℤ least_cost g u v) (λ v l. vehicle_term_is g u ms v roomy) in
+    let vehicles = int_sum_same g.vehicles (vehicle_term g u ms) (λ v. pos 1024 *ℤ least_cost g u v) (λ v l. vehicle_term_is g u ms v roomy) in
     let scaled = int_sum_scale g.vehicles (least_cost g u) in
-    let riders : int_sum_below g.riders (rider_term g ms) ≡ int_sum_below g.riders (multiplier_at ms) =
-    int_sum_same g.riders (rider_term g ms) (multiplier_at ms) (λ r l. rider_term_is g ms r (roomy.most r)) in
+    let riders = int_sum_same g.riders (rider_term g ms) (multiplier_at ms) (λ r l. rider_term_is g ms r (roomy.most r)) in
     omega (arith, ints)
 
 pub first_fit_value_is : (g : Graph) (u : Usable) → IsGoodGraph g → first_fit_value g u ≡ pos 1024 *ℤ int_sum_below g.vehicles (least_cost g u) +ℤ int_sum_below g.riders (multiplier_at (first_fit g u))

@@ -1,22 +1,18 @@
 -- Weak duality: a leaf value is at most the cost of each lawful plan of usable rows.
-use Rattle.std.proofs.Common.{◌≡◌, ◌==◌, ◌&&◌, ℕ, suc, ◌*◌, ◌<◌, ◌≤◌, Bool, true, false, ◌||◌, ltb, List, [], ◌∷◌, length, get_or, Option, Some, None, MatchOption, ℤ, pos, ◌+ℤ◌, ◌-ℤ◌, ◌≤ℤ◌, refl, sym, ap, ◌∙◌, ⊎_elim, arith, eq-eqb, eqb-true, lt-ltb, le-ltb, unwrap_or}
-use Rattle.plan_rules.proofs.Common.{int_min, IsStrictlyIncreasing, ints, int_min_is, cases_eq, cases_Bool, and_from, cond-true, cond-false, sum_below, count_below, int_sum_below, least_below, Graph, row_at, riders_at, row_vehicle, has_rider, IsRowOf, HasNoRow, choice_at, is_in, must_be_served, IsGraphRow, IsGoodGraph, IsLawful, choice_cost, cost_of, times_chosen, left_out, Usable, multiplier_at, multiplier_sum, reduced_cost, is_usable_by, vehicle_term, rider_term, leaf_value, is_choice_usable, is_within}
-use Rattle.plan_rules.proofs.lemmas.SumLemmas.{flag, flag-true, sum_below_scale, int_sum_same, int_sum_le, int_sum_plus, int_sum_minus, int_sum_pos, int_sum_zero, int_sum_swap, part, part-or, int_sum_single, int_sum_once, least_below_some, least_below_none, all_below_at}
+use Rattle.std.proofs.Common.{◌≡◌, ◌==◌, ℕ, suc, ◌*◌, ◌<◌, ◌≤◌, true, ◌||◌, ltb, List, [], ◌∷◌, length, get_or, Option, Some, None, MatchOption, ℤ, pos, ◌+ℤ◌, ◌-ℤ◌, ◌≤ℤ◌, sym, ap, ◌∙◌, arith, eq-eqb, eqb-true, unwrap_or}
+use Rattle.plan_rules.proofs.Common.{nat_tests, and_parts, false_from_ne_true, IsStrictlyIncreasing, ints, int_min_is, and_from, sum_below, count_below, int_sum_below, Graph, row_at, riders_at, row_vehicle, IsRowOf, HasNoRow, choice_at, is_in, IsGraphRow, IsGoodGraph, IsLawful, choice_cost, cost_of, times_chosen, left_out, Usable, multiplier_at, multiplier_sum, reduced_cost, is_usable_by, vehicle_term, rider_term, leaf_value, is_choice_usable, is_within}
+use Rattle.plan_rules.proofs.lemmas.SumLemmas.{flag, sum_below_scale, int_sum_same, int_sum_le, int_sum_plus, int_sum_minus, int_sum_pos, int_sum_zero, int_sum_swap, part, part-or, int_sum_single, int_sum_once, least_below_some, least_below_none, all_below_at}
 use Rattle.plan_rules.proofs.lemmas.GraphLemmas.{has, tail_rises, head_apart, times_served_as_count}
 
 -- the multipliers of rising riders, summed over all riders
 pub multiplier_sum_is : (ms : List ℤ) (n : ℕ) (xs : List ℕ) → IsStrictlyIncreasing xs → ((i : ℕ) → i < length xs → get_or xs i 0 < n) → multiplier_sum ms xs ≡ int_sum_below n (λ r. part (has xs r) (multiplier_at ms r))
 multiplier_sum_is ms n [] rises low = sym (int_sum_zero n)
 multiplier_sum_is ms n (x ∷ xs) rises low =
-    let rest : multiplier_sum ms xs ≡ int_sum_below n (λ r. part (has xs r) (multiplier_at ms r)) =
-    multiplier_sum_is ms n xs (tail_rises x xs rises) (λ i l. low (suc i) (omega arith)) in
-    let first : int_sum_below n (λ r. part (x == r) (multiplier_at ms r)) ≡ multiplier_at ms x =
-    int_sum_single n x (multiplier_at ms) (low 0 (omega arith)) in
-    let split : int_sum_below n (λ r. part (x == r || has xs r) (multiplier_at ms r)) ≡ int_sum_below n (λ r. part (x == r) (multiplier_at ms r) +ℤ part (has xs r) (multiplier_at ms r)) =
-    int_sum_same n (λ r. part (x == r || has xs r) (multiplier_at ms r)) (λ r. part (x == r) (multiplier_at ms r) +ℤ part (has xs r) (multiplier_at ms r))
+    let rest = multiplier_sum_is ms n xs (tail_rises x xs rises) (λ i l. low (suc i) (omega arith)) in
+    let first = int_sum_single n x (multiplier_at ms) (low 0 (omega arith)) in
+    let split = int_sum_same n (λ r. part (x == r || has xs r) (multiplier_at ms r)) (λ r. part (x == r) (multiplier_at ms r) +ℤ part (has xs r) (multiplier_at ms r))
     (λ r l. part-or (x == r) (has xs r) (multiplier_at ms r) (head_apart x xs r rises)) in
-    let both : int_sum_below n (λ r. part (x == r) (multiplier_at ms r) +ℤ part (has xs r) (multiplier_at ms r)) ≡ int_sum_below n (λ r. part (x == r) (multiplier_at ms r)) +ℤ int_sum_below n (λ r. part (has xs r) (multiplier_at ms r)) =
-    int_sum_plus n (λ r. part (x == r) (multiplier_at ms r)) (λ r. part (has xs r) (multiplier_at ms r)) in
+    let both = int_sum_plus n (λ r. part (x == r) (multiplier_at ms r)) (λ r. part (has xs r) (multiplier_at ms r)) in
     omega (arith, ints)
 
 -- what a choice's riders give, summed over all riders
@@ -31,16 +27,11 @@ served_give g ms chosen = int_sum_below g.riders (λ r. part (ltb 0 (times_chose
 pub choices_sum : (g : Graph) (ms : List ℤ) (chosen : List (Option ℕ)) → ((r : ℕ) → times_chosen g chosen r ≤ 1)
     → int_sum_below g.vehicles (λ v. pos (1024 * choice_cost g (choice_at chosen v)) -ℤ riders_give g ms (choice_at chosen v)) ≡ (pos (1024 * sum_below g.vehicles (λ v. choice_cost g (choice_at chosen v))) -ℤ served_give g ms chosen)
 choices_sum g ms chosen few =
-    let apart : int_sum_below g.vehicles (λ v. pos (1024 * choice_cost g (choice_at chosen v)) -ℤ riders_give g ms (choice_at chosen v)) ≡ int_sum_below g.vehicles (λ v. pos (1024 * choice_cost g (choice_at chosen v))) -ℤ int_sum_below g.vehicles (λ v. riders_give g ms (choice_at chosen v)) =
-    int_sum_minus g.vehicles (λ v. pos (1024 * choice_cost g (choice_at chosen v))) (λ v. riders_give g ms (choice_at chosen v)) in
-    let costs : int_sum_below g.vehicles (λ v. pos (1024 * choice_cost g (choice_at chosen v))) ≡ pos (sum_below g.vehicles (λ v. 1024 * choice_cost g (choice_at chosen v))) =
-    int_sum_pos g.vehicles (λ v. 1024 * choice_cost g (choice_at chosen v)) in
-    let scaled : sum_below g.vehicles (λ v. 1024 * choice_cost g (choice_at chosen v)) ≡ 1024 * sum_below g.vehicles (λ v. choice_cost g (choice_at chosen v)) =
-    sum_below_scale g.vehicles 1024 (λ v. choice_cost g (choice_at chosen v)) in
-    let swapped : int_sum_below g.vehicles (λ v. riders_give g ms (choice_at chosen v)) ≡ int_sum_below g.riders (λ r. int_sum_below g.vehicles (λ v. part (is_in g (choice_at chosen v) r) (multiplier_at ms r))) =
-    int_sum_swap g.vehicles g.riders (λ v r. part (is_in g (choice_at chosen v) r) (multiplier_at ms r)) in
-    let counted : int_sum_below g.riders (λ r. int_sum_below g.vehicles (λ v. part (is_in g (choice_at chosen v) r) (multiplier_at ms r))) ≡ int_sum_below g.riders (λ r. part (ltb 0 (times_chosen g chosen r)) (multiplier_at ms r)) =
-    int_sum_same g.riders (λ r. int_sum_below g.vehicles (λ v. part (is_in g (choice_at chosen v) r) (multiplier_at ms r))) (λ r. part (ltb 0 (times_chosen g chosen r)) (multiplier_at ms r))
+    let apart = int_sum_minus g.vehicles (λ v. pos (1024 * choice_cost g (choice_at chosen v))) (λ v. riders_give g ms (choice_at chosen v)) in
+    let costs = int_sum_pos g.vehicles (λ v. 1024 * choice_cost g (choice_at chosen v)) in
+    let scaled = sum_below_scale g.vehicles 1024 (λ v. choice_cost g (choice_at chosen v)) in
+    let swapped = int_sum_swap g.vehicles g.riders (λ v r. part (is_in g (choice_at chosen v) r) (multiplier_at ms r)) in
+    let counted = int_sum_same g.riders (λ r. int_sum_below g.vehicles (λ v. part (is_in g (choice_at chosen v) r) (multiplier_at ms r))) (λ r. part (ltb 0 (times_chosen g chosen r)) (multiplier_at ms r))
     (λ r l. once r) in
     omega (arith, ints)
   where
@@ -55,14 +46,10 @@ choices_sum g ms chosen few =
 pub prices_sum : (g : Graph) (ms : List ℤ) (chosen : List (Option ℕ))
     → int_sum_below g.riders (λ r. part (ltb 0 (times_chosen g chosen r)) (multiplier_at ms r) +ℤ pos (1024 * (g.penalty * flag (times_chosen g chosen r == 0)))) ≡ served_give g ms chosen +ℤ pos (1024 * (g.penalty * left_out g chosen))
 prices_sum g ms chosen =
-    let apart : int_sum_below g.riders (λ r. part (ltb 0 (times_chosen g chosen r)) (multiplier_at ms r) +ℤ pos (1024 * (g.penalty * flag (times_chosen g chosen r == 0)))) ≡ int_sum_below g.riders (λ r. part (ltb 0 (times_chosen g chosen r)) (multiplier_at ms r)) +ℤ int_sum_below g.riders (λ r. pos (1024 * (g.penalty * flag (times_chosen g chosen r == 0)))) =
-    int_sum_plus g.riders (λ r. part (ltb 0 (times_chosen g chosen r)) (multiplier_at ms r)) (λ r. pos (1024 * (g.penalty * flag (times_chosen g chosen r == 0)))) in
-    let prices : int_sum_below g.riders (λ r. pos (1024 * (g.penalty * flag (times_chosen g chosen r == 0)))) ≡ pos (sum_below g.riders (λ r. 1024 * (g.penalty * flag (times_chosen g chosen r == 0)))) =
-    int_sum_pos g.riders (λ r. 1024 * (g.penalty * flag (times_chosen g chosen r == 0))) in
-    let scaled : sum_below g.riders (λ r. 1024 * (g.penalty * flag (times_chosen g chosen r == 0))) ≡ 1024 * sum_below g.riders (λ r. g.penalty * flag (times_chosen g chosen r == 0)) =
-    sum_below_scale g.riders 1024 (λ r. g.penalty * flag (times_chosen g chosen r == 0)) in
-    let counted : sum_below g.riders (λ r. g.penalty * flag (times_chosen g chosen r == 0)) ≡ g.penalty * left_out g chosen =
-    sum_below_scale g.riders g.penalty (λ r. flag (times_chosen g chosen r == 0)) in
+    let apart = int_sum_plus g.riders (λ r. part (ltb 0 (times_chosen g chosen r)) (multiplier_at ms r)) (λ r. pos (1024 * (g.penalty * flag (times_chosen g chosen r == 0)))) in
+    let prices = int_sum_pos g.riders (λ r. 1024 * (g.penalty * flag (times_chosen g chosen r == 0))) in
+    let scaled = sum_below_scale g.riders 1024 (λ r. g.penalty * flag (times_chosen g chosen r == 0)) in
+    let counted = sum_below_scale g.riders g.penalty (λ r. flag (times_chosen g chosen r == 0)) in
     let whole : pos (sum_below g.riders (λ r. 1024 * (g.penalty * flag (times_chosen g chosen r == 0)))) ≡ pos (1024 * (g.penalty * left_out g chosen)) =
     ap pos (scaled ∙ ap (λ (n : ℕ). 1024 * n) counted) in
     omega (arith, ints)
@@ -73,57 +60,26 @@ at_some o z d e = ap (λ (p : Option ℤ). unwrap_or p d) e
 -- a vehicle's term is at most what its usable choice costs, less its riders' multipliers
 vehicle_term_le : (g : Graph) (usable : Usable) (ms : List ℤ) (v : ℕ) (c : Option ℕ) → ((k : ℕ) → k < length g.rows → IsGraphRow g.vehicles g.riders (row_at g k)) → MatchOption c (HasNoRow g v) (IsRowOf g v) → is_choice_usable usable c ≡ true → vehicle_term g usable ms v ≤ℤ (pos (1024 * choice_cost g c) -ℤ riders_give g ms c)
 vehicle_term_le g usable ms v None rows own may =
-    let none : least_below (length g.rows) (is_usable_by g usable v) (reduced_cost g ms) ≡ None =
-    least_below_none (length g.rows) (is_usable_by g usable v) (reduced_cost g ms)
-    (λ k l. foreign k l (row_vehicle g k == v) refl) in
-    let term : vehicle_term g usable ms v ≡ pos 0 = ap (λ (p : Option ℤ). unwrap_or p (pos 0)) none in
-    let nobody : int_sum_below g.riders (λ r. pos 0) ≡ pos 0 = int_sum_zero g.riders in
-    omega (arith, ints)
-  where
-    foreign : (k : ℕ) → k < length g.rows → (b : Bool) → (row_vehicle g k == v) ≡ b → is_usable_by g usable v k ≡ false
-    foreign k l true e = absurd (own k (record { within = l; own = eqb-true (row_vehicle g k) v e }))
-    foreign k l false e = ap (λ (b : Bool). b && usable k) e
+    let none = least_below_none (length g.rows) (is_usable_by g usable v) (reduced_cost g ms)
+    (λ k l. false_from_ne_true (is_usable_by g usable v k) (λ e. own k (record { within = l; own = eqb-true (row_vehicle g k) v (and_parts (row_vehicle g k == v) (usable k) e).0 }))) in
+    omega (arith, ints, ap (λ (p : Option ℤ). unwrap_or p (pos 0)) none, int_sum_zero g.riders)
 vehicle_term_le g usable ms v (Some k) rows own may =
-    let passes : is_usable_by g usable v k ≡ true = and_from (row_vehicle g k == v) (usable k) (eq-eqb (row_vehicle g k) v own.own) may in
-    let w = least_below_some (length g.rows) (is_usable_by g usable v) (reduced_cost g ms) k own.within passes in
-    let term : vehicle_term g usable ms v ≡ w.0 = at_some _ (w.0) (pos 0) (w.1) in
-    let least : w.0 ≤ℤ reduced_cost g ms k = w.2 in
+    let w = least_below_some (length g.rows) (is_usable_by g usable v) (reduced_cost g ms) k own.within (and_from (row_vehicle g k == v) (usable k) (eq-eqb (row_vehicle g k) v own.own) may) in
     let row = rows k own.within in
-    let riders : multiplier_sum ms (riders_at g k) ≡ int_sum_below g.riders (λ r. part (has_rider g k r) (multiplier_at ms r)) =
-    multiplier_sum_is ms g.riders (riders_at g k) row.rising row.below in
-    omega (arith, ints)
+    let riders = multiplier_sum_is ms g.riders (riders_at g k) row.rising row.below in
+    omega (arith, ints, at_some _ w.0 (pos 0) w.1, w.2, riders)
 
 -- a rider's term is at most her multiplier where she is served, and the penalty where she is left out
 rider_term_le : (g : Graph) (ms : List ℤ) (chosen : List (Option ℕ)) (r : ℕ) → IsLawful g chosen → rider_term g ms r ≤ℤ (part (ltb 0 (times_chosen g chosen r)) (multiplier_at ms r) +ℤ pos (1024 * (g.penalty * flag (times_chosen g chosen r == 0))))
 rider_term_le g ms chosen r lawful =
-    ⊎_elim
-    (λ (must : must_be_served g r ≡ true).
-    let term : rider_term g ms r ≡ multiplier_at ms r = cond-true (must_be_served g r) (multiplier_at ms r) (int_min (multiplier_at ms r) (pos (1024 * g.penalty))) must in
-    let times : times_chosen g chosen r ≡ 1 = lawful.kept r must in
-    let served : part (ltb 0 (times_chosen g chosen r)) (multiplier_at ms r) ≡ multiplier_at ms r = cond-true (ltb 0 (times_chosen g chosen r)) (multiplier_at ms r) (pos 0) (lt-ltb 0 (times_chosen g chosen r) (omega arith)) in
-    omega (arith, ints))
-    (λ (may : must_be_served g r ≡ false).
-    let term : rider_term g ms r ≡ int_min (multiplier_at ms r) (pos (1024 * g.penalty)) = cond-false (must_be_served g r) (multiplier_at ms r) (int_min (multiplier_at ms r) (pos (1024 * g.penalty))) may in
-    let least = int_min_is (multiplier_at ms r) (pos (1024 * g.penalty)) in
-    ⊎_elim
-    (λ (left : times_chosen g chosen r ≡ 0).
-    let served : part (ltb 0 (times_chosen g chosen r)) (multiplier_at ms r) ≡ pos 0 = cond-false (ltb 0 (times_chosen g chosen r)) (multiplier_at ms r) (pos 0) (le-ltb 0 (times_chosen g chosen r) (omega arith)) in
-    let counted : flag (times_chosen g chosen r == 0) ≡ 1 = flag-true _ (eq-eqb (times_chosen g chosen r) 0 left) in
-    let price : g.penalty * flag (times_chosen g chosen r == 0) ≡ g.penalty = ap (λ (n : ℕ). g.penalty * n) counted ∙ omega arith in
-    omega (arith, ints))
-    (λ (some : times_chosen g chosen r ≡ 0 → ⊥).
-    let served : part (ltb 0 (times_chosen g chosen r)) (multiplier_at ms r) ≡ multiplier_at ms r = cond-true (ltb 0 (times_chosen g chosen r)) (multiplier_at ms r) (pos 0) (lt-ltb 0 (times_chosen g chosen r) (omega arith)) in
-    omega (arith, ints))
-    (cases_eq (times_chosen g chosen r) 0))
-    (cases_Bool (must_be_served g r))
+    grind (arith, ints, nat_tests, int_min_is (multiplier_at ms r) (pos (1024 * g.penalty)), lawful.kept r)
 
 -- the vehicles' terms together
 vehicles_le : (g : Graph) (usable : Usable) (ms : List ℤ) (chosen : List (Option ℕ)) → IsGoodGraph g → IsLawful g chosen → is_within g usable chosen ≡ true
     → int_sum_below g.vehicles (vehicle_term g usable ms) ≤ℤ (pos (1024 * sum_below g.vehicles (λ v. choice_cost g (choice_at chosen v))) -ℤ served_give g ms chosen)
 unfolding is_within
 vehicles_le g usable ms chosen good lawful within =
-    let each : int_sum_below g.vehicles (vehicle_term g usable ms) ≤ℤ int_sum_below g.vehicles (λ v. pos (1024 * choice_cost g (choice_at chosen v)) -ℤ riders_give g ms (choice_at chosen v)) =
-    int_sum_le g.vehicles (vehicle_term g usable ms) (λ v. pos (1024 * choice_cost g (choice_at chosen v)) -ℤ riders_give g ms (choice_at chosen v))
+    let each = int_sum_le g.vehicles (vehicle_term g usable ms) (λ v. pos (1024 * choice_cost g (choice_at chosen v)) -ℤ riders_give g ms (choice_at chosen v))
     (λ v l. vehicle_term_le g usable ms v (choice_at chosen v) good.rows (lawful.plan.own v l) (all_below_at g.vehicles (λ v. is_choice_usable usable (choice_at chosen v)) v within l)) in
     omega (arith, ints, choices_sum g ms chosen lawful.once)
 
@@ -131,8 +87,7 @@ vehicles_le g usable ms chosen good lawful within =
 riders_le : (g : Graph) (ms : List ℤ) (chosen : List (Option ℕ)) → IsLawful g chosen
     → int_sum_below g.riders (rider_term g ms) ≤ℤ (served_give g ms chosen +ℤ pos (1024 * (g.penalty * left_out g chosen)))
 riders_le g ms chosen lawful =
-    let each : int_sum_below g.riders (rider_term g ms) ≤ℤ int_sum_below g.riders (λ r. part (ltb 0 (times_chosen g chosen r)) (multiplier_at ms r) +ℤ pos (1024 * (g.penalty * flag (times_chosen g chosen r == 0)))) =
-    int_sum_le g.riders (rider_term g ms) (λ r. part (ltb 0 (times_chosen g chosen r)) (multiplier_at ms r) +ℤ pos (1024 * (g.penalty * flag (times_chosen g chosen r == 0)))) (λ r l. rider_term_le g ms chosen r lawful) in
+    let each = int_sum_le g.riders (rider_term g ms) (λ r. part (ltb 0 (times_chosen g chosen r)) (multiplier_at ms r) +ℤ pos (1024 * (g.penalty * flag (times_chosen g chosen r == 0)))) (λ r l. rider_term_le g ms chosen r lawful) in
     omega (arith, ints, prices_sum g ms chosen)
 
 -- weak duality

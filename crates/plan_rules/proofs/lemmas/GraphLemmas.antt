@@ -1,7 +1,7 @@
 -- Riders of rows, and how often riders are served.
-use Rattle.std.proofs.Common.{◌≡◌, ◌==◌, ℕ, zero, suc, ◌+◌, ◌<◌, ◌≤◌, Bool, true, false, IsTrue, List, [], ◌∷◌, length, get_or, Option, Some, None, MatchOption, refl, sym, ap, ◌∙◌, subst, ⊎_elim, arith, add-one, eqb-true, eq-eqb}
-use Rattle.plan_rules.proofs.Common.{list_any, IsStrictlyIncreasing, cases_lt, cases_Bool, or_cases, both_ways, list_any_at, get_or_read, count_below, TripRow, Graph, no_row, row_at, riders_at, row_vehicle, has_rider, IsRowOf, HasNoRow, choice_at, is_in, times_served, IsGraphRow, HoldsRightly, IsStartOf, nat_tests, false_from_ne_true}
-use Rattle.plan_rules.proofs.lemmas.SumLemmas.{flag, flag-true, flag-false, count_below_more, count_below_none, count_below_some, count_below_found}
+use Rattle.std.proofs.Common.{◌≡◌, ◌==◌, ℕ, zero, suc, ◌+◌, ◌<◌, ◌≤◌, Bool, true, false, IsTrue, List, [], ◌∷◌, length, get_or, Option, Some, None, MatchOption, refl, sym, ap, ◌∙◌, subst, arith, add-one, eq-eqb}
+use Rattle.plan_rules.proofs.Common.{list_any, IsStrictlyIncreasing, both_ways, list_any_at, get_or_read, count_below, TripRow, Graph, no_row, row_at, riders_at, row_vehicle, has_rider, IsRowOf, HasNoRow, choice_at, is_in, times_served, IsGraphRow, HoldsRightly, IsStartOf, nat_tests, false_from_ne_true}
+use Rattle.plan_rules.proofs.lemmas.SumLemmas.{flag, count_below_more, count_below_none, count_below_some, count_below_found}
 
 -- ---- lists of riders
 
@@ -37,6 +37,10 @@ has_at xs i l = list_any_at (λ x. x == get_or xs i 0) xs i 0 l (eq-eqb (get_or 
 -- a rider of a row is one of the graph's
 pub rider_below : (g : Graph) (k r : ℕ) → IsGraphRow g.vehicles g.riders (row_at g k) → has_rider g k r ≡ true → r < g.riders
 rider_below g k r row e = has_below g.riders (riders_at g k) r row.below e
+
+-- a row's vehicle is one of the graph's
+pub vehicle_below : (g : Graph) (v k : ℕ) → ((k : ℕ) → k < length g.rows → IsGraphRow g.vehicles g.riders (row_at g k)) → IsRowOf g v k → v < g.vehicles
+vehicle_below g v k rows row = omega (arith, (rows k row.within).vehicle, row.own)
 
 -- ---- how often a rider is served
 

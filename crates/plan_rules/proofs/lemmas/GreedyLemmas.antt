@@ -37,8 +37,7 @@ in_order g s t good first second e =
     let x : s.1 ≡ cost_at g s.2 = ap (λ (p : ℕ × ℕ × ℕ). p.1) first.1 in
     let b : t.0 ≡ 6 - length (riders_at g t.2) = ap (λ (p : ℕ × ℕ × ℕ). p.0) second.1 in
     let y : t.1 ≡ cost_at g t.2 = ap (λ (p : ℕ × ℕ × ℕ). p.1) second.1 in
-    let low : (s.0 * 1000000001 + s.1) * 2000000 + s.2 ≤ (t.0 * 1000000001 + t.1) * 2000000 + t.2 =
-    ordered s.0 s.1 s.2 t.0 t.1 t.2 (omega arith) (omega (arith, first.0)) (not_above s.0 s.1 s.2 t.0 t.1 t.2 e) in
+    let low = ordered s.0 s.1 s.2 t.0 t.1 t.2 (omega arith) (omega (arith, first.0)) (not_above s.0 s.1 s.2 t.0 t.1 t.2 e) in
     omega arith
   where
     ordered : (a x j b y k : ℕ) → x ≤ 1000000000 → j < 2000000 → ((a < b) ⊎ ((a ≡ b) × ((x < y) ⊎ ((x ≡ y) × (j ≤ k))))) → (a * 1000000001 + x) * 2000000 + j ≤ (b * 1000000001 + y) * 2000000 + k

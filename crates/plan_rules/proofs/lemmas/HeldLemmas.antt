@@ -1,6 +1,6 @@
 -- Marks of the riders whom vehicles hold.
-use Rattle.std.proofs.Common.{◌≡◌, ◌||◌, ℕ, ◌+◌, ◌<◌, ◌≤◌, Bool, true, false, IsTrue, List, get_or, nat_lt, Option, MatchOption, refl, sym, ap, ◌∙◌, subst, ⊎_elim, arith, ltb-true, ltb-false, lt-ltb}
-use Rattle.plan_rules.proofs.Common.{list_any, cases_eq, cases_Bool, both_ways, Graph, row_at, riders_at, has_rider, IsRowOf, HasNoRow, choice_at, times_served, IsGraphRow, HoldsRightly, MarksServed, nat_tests}
+use Rattle.std.proofs.Common.{◌≡◌, ◌||◌, ℕ, ◌+◌, ◌<◌, Bool, true, false, IsTrue, List, get_or, nat_lt, Option, MatchOption, sym, subst, ⊎_elim, arith}
+use Rattle.plan_rules.proofs.Common.{list_any, cases_eq, both_ways, Graph, row_at, riders_at, has_rider, IsRowOf, HasNoRow, choice_at, times_served, IsGraphRow, HoldsRightly, MarksServed, nat_tests}
 use Rattle.plan_rules.proofs.lemmas.SumLemmas.{flag}
 use Rattle.plan_rules.proofs.lemmas.GraphLemmas.{rider_below}
 use Rattle.plan_rules.proofs.lemmas.MarkLemmas.{any_marked, marked_one}
@@ -18,13 +18,7 @@ or_flag n b = grind (arith, nat_tests)
 -- no rider of the row is in an earlier vehicle's, where none is marked
 pub unmarked_apart : (g : Graph) (chosen : List (Option ℕ)) (n k : ℕ) (marks : List Bool) → MarksServed g chosen n marks → IsGraphRow g.vehicles g.riders (row_at g k) → list_any (λ q. get_or marks q false) (riders_at g k) ≡ false → (r : ℕ) → has_rider g k r ≡ true → times_served g chosen n r ≡ 0
 unmarked_apart g chosen n k marks before row none r e =
-    ⊎_elim
-    (λ (yes : get_or marks r false ≡ true). absurd (both_ways _ none (any_marked marks (riders_at g k) r e yes)))
-    (λ (no : get_or marks r false ≡ false).
-    let low : r < g.riders = rider_below g k r row e in
-    let zero : times_served g chosen n r ≤ 0 = ltb-false 0 (times_served g chosen n r) (sym (before.marks r low) ∙ no) in
-    omega arith)
-    (cases_Bool (get_or marks r false))
+    grind (arith, nat_tests, before.marks r (rider_below g k r row e), λ (m : get_or marks r false ≡ true). both_ways _ none (any_marked marks (riders_at g k) r e m))
 
 -- where one is marked, an earlier vehicle's row has a rider of the row
 pub marked_held : (g : Graph) (chosen : List (Option ℕ)) (n k : ℕ) (marks : List Bool) → MarksServed g chosen n marks → IsGraphRow g.vehicles g.riders (row_at g k) → list_any (λ q. get_or marks q false) (riders_at g k) ≡ true → ((r : ℕ) → has_rider g k r ≡ true → times_served g chosen n r ≡ 0) → ⊥

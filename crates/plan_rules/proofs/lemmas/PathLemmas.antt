@@ -1,6 +1,6 @@
 -- Decisions along a tree.
-use Rattle.std.proofs.Common.{◌≡◌, ◌==◌, ◌&&◌, ◌||◌, not, ℕ, zero, suc, ◌+◌, ◌-◌, ◌<◌, ◌≤◌, Bool, true, false, List, [], ◌∷◌, ◌++◌, length, get_or, take, set, refl, sym, ap, ◌∙◌, subst, ⊎_elim, eq-eqb, ne_eqb, arith}
-use Rattle.plan_rules.proofs.Common.{cases_eq, and_right, cond-true, cond-false, take_more, set_at, get_or_default, fold_more, fold_push, Graph, row_vehicle, IsRowOf, every_row, only_row, without_row, coming_after, Standing, root, decided, standing_of, Decision, Branch}
+use Rattle.std.proofs.Common.{◌≡◌, ◌==◌, ◌&&◌, ◌||◌, not, ℕ, zero, suc, ◌+◌, ◌-◌, ◌<◌, ◌≤◌, Bool, true, false, List, [], ◌∷◌, ◌++◌, length, get_or, take, set, refl, sym, ap, ◌∙◌, subst, arith}
+use Rattle.plan_rules.proofs.Common.{nat_tests, cond-true, take_more, set_at, get_or_default, fold_more, fold_push, Graph, row_vehicle, IsRowOf, every_row, only_row, without_row, coming_after, Standing, root, decided, standing_of, Decision, Branch}
 use Rattle.plan_rules.specs.Path.{IsPathOf}
 use Rattle.std.proofs.lemmas.List.Elements.{All-push}
 use Rattle.std.proofs.lemmas.List.{take_all, length-take-le, get_or-take, get_or-set_same, get_or-set_other}
@@ -91,20 +91,7 @@ along_without g path i n d old l e inside before k low =
   where
     written : get_or (set old (get_or path i d).row false) k false ≡ ((standing_of g (take i path)).usable k && not (k == (get_or path i d).row))
     written =
-        ⊎_elim
-        (λ (here : k ≡ (get_or path i d).row).
-        ap (λ (q : ℕ). get_or (set old (get_or path i d).row false) q false) here
-        ∙ get_or-set_same old (get_or path i d).row false false inside
-        ∙ sym (and_right ((standing_of g (take i path)).usable k) (not (k == (get_or path i d).row)) (ap not (eq-eqb k (get_or path i d).row here))))
-        (λ (other : k ≡ (get_or path i d).row → ⊥).
-        get_or-set_other old (get_or path i d).row k false false other
-        ∙ before k low
-        ∙ whole ((standing_of g (take i path)).usable k) (k == (get_or path i d).row) (ne_eqb k (get_or path i d).row other))
-        (cases_eq k (get_or path i d).row)
-      where
-        whole : (a b : Bool) → b ≡ false → a ≡ (a && not b)
-        whole true b q = sym (ap not q)
-        whole false b q = refl
+        grind (arith, nat_tests, before k low, get_or-set_other old (get_or path i d).row k false false, λ (here : k ≡ (get_or path i d).row). ap (λ (q : ℕ). get_or (set old (get_or path i d).row false) q false) here ∙ get_or-set_same old (get_or path i d).row false false inside)
 
 -- the next subtree after an end, where the last decision is one for a row alone
 pub leave_next : (g : Graph) (path : List Decision) (depth : ℕ) (x last : Decision) → 1 ≤ depth → depth ≤ length path → x ≡ get_or path (depth - 1) x → x.alone ≡ true

@@ -1,7 +1,7 @@
 -- The riders whom chosen rows serve: their marks, and how many they are.
-use Rattle.std.proofs.Common.{◌≡◌, ◌==◌, ◌||◌, ℕ, zero, suc, ◌+◌, ◌<◌, ◌≤◌, Bool, true, false, List, [], ◌∷◌, length, get_or, replicate, nat_lt, Option, Some, None, refl, sym, ap, ◌∙◌, ⊎_elim, arith, ltb-true, le-ltb}
-use Rattle.plan_rules.proofs.Common.{list_any, IsStrictlyIncreasing, cases_Bool, both_ways, get_or-replicate, length-replicate, sum_below, count_below, Graph, row_at, riders_at, choice_at, is_in, times_served, IsGraphRow, IsGoodGraph, IsLawful, times_chosen, left_out, choice_size, IsServedOnce, MarksServed, nat_tests}
-use Rattle.plan_rules.proofs.lemmas.SumLemmas.{flag, flag-true, flag-false, flag-or, sum_below_same, sum_below_plus, sum_below_zero, sum_below_swap, count_below_single, count_below_two}
+use Rattle.std.proofs.Common.{◌≡◌, ◌==◌, ◌||◌, ℕ, zero, suc, ◌+◌, ◌<◌, ◌≤◌, Bool, true, false, List, [], ◌∷◌, length, get_or, replicate, nat_lt, Option, Some, None, refl, sym, ap, ◌∙◌, arith, ltb-true, le-ltb}
+use Rattle.plan_rules.proofs.Common.{list_any, IsStrictlyIncreasing, both_ways, get_or-replicate, length-replicate, sum_below, count_below, Graph, row_at, riders_at, choice_at, is_in, times_served, IsGraphRow, IsGoodGraph, IsLawful, times_chosen, left_out, choice_size, IsServedOnce, MarksServed, nat_tests}
+use Rattle.plan_rules.proofs.lemmas.SumLemmas.{flag, flag-or, sum_below_same, sum_below_plus, sum_below_zero, sum_below_swap, count_below_single, count_below_two}
 use Rattle.plan_rules.proofs.lemmas.GraphLemmas.{has, tail_rises, head_apart, rider_below, times_served_more, times_served_none, times_served_found, times_served_as_count}
 use Rattle.plan_rules.proofs.lemmas.MarkLemmas.{marked_one}
 use Rattle.plan_rules.proofs.lemmas.HeldLemmas.{or_flag, unmarked_apart}
@@ -79,10 +79,8 @@ rising_counted n [] rises low = sym (sum_below_zero n)
 rising_counted n (x ∷ xs) rises low =
     let rest : length xs ≡ count_below n (has xs) = rising_counted n xs (tail_rises x xs rises) (λ i l. low (suc i) (omega arith)) in
     let first : count_below n (λ r. x == r) ≡ 1 = count_below_single n x (low 0 (omega arith)) in
-    let split : count_below n (has (x ∷ xs)) ≡ sum_below n (λ r. flag (x == r) + flag (has xs r)) =
-    sum_below_same n (λ r. flag (x == r || has xs r)) (λ r. flag (x == r) + flag (has xs r)) (λ r l. flag-or (x == r) (has xs r) (head_apart x xs r rises)) in
-    let both : sum_below n (λ r. flag (x == r) + flag (has xs r)) ≡ count_below n (λ r. x == r) + count_below n (has xs) =
-    sum_below_plus n (λ r. flag (x == r)) (λ r. flag (has xs r)) in
+    let split = sum_below_same n (λ r. flag (x == r || has xs r)) (λ r. flag (x == r) + flag (has xs r)) (λ r l. flag-or (x == r) (has xs r) (head_apart x xs r rises)) in
+    let both = sum_below_plus n (λ r. flag (x == r)) (λ r. flag (has xs r)) in
     omega arith
 
 -- a choice has as many riders as are in it
@@ -99,17 +97,12 @@ once_or_left n l = grind (arith, nat_tests)
 -- the riders of a lawful plan's rows and those who are left out are all riders
 pub served_or_left : (g : Graph) (chosen : List (Option ℕ)) → IsGoodGraph g → IsLawful g chosen → sum_below g.vehicles (λ v. choice_size g (choice_at chosen v)) + left_out g chosen ≡ g.riders
 served_or_left g chosen good lawful =
-    let sizes : sum_below g.vehicles (λ v. choice_size g (choice_at chosen v)) ≡ sum_below g.vehicles (λ v. count_below g.riders (is_in g (choice_at chosen v))) =
-    sum_below_same g.vehicles (λ v. choice_size g (choice_at chosen v)) (λ v. count_below g.riders (is_in g (choice_at chosen v)))
+    let sizes = sum_below_same g.vehicles (λ v. choice_size g (choice_at chosen v)) (λ v. count_below g.riders (is_in g (choice_at chosen v)))
     (λ v l. choice_counted g (choice_at chosen v) good (λ k e. plan_rows g chosen lawful.plan v k e)) in
-    let swapped : sum_below g.vehicles (λ v. count_below g.riders (is_in g (choice_at chosen v))) ≡ sum_below g.riders (λ r. count_below g.vehicles (λ v. is_in g (choice_at chosen v) r)) =
-    sum_below_swap g.vehicles g.riders (λ v r. flag (is_in g (choice_at chosen v) r)) in
-    let times : sum_below g.riders (λ r. count_below g.vehicles (λ v. is_in g (choice_at chosen v) r)) ≡ sum_below g.riders (times_chosen g chosen) =
-    sum_below_same g.riders (λ r. count_below g.vehicles (λ v. is_in g (choice_at chosen v) r)) (times_chosen g chosen) (λ r l. sym (times_served_as_count g chosen g.vehicles r)) in
-    let both : sum_below g.riders (λ r. times_chosen g chosen r + flag (times_chosen g chosen r == 0)) ≡ sum_below g.riders (times_chosen g chosen) + left_out g chosen =
-    sum_below_plus g.riders (times_chosen g chosen) (λ r. flag (times_chosen g chosen r == 0)) in
-    let each : sum_below g.riders (λ r. times_chosen g chosen r + flag (times_chosen g chosen r == 0)) ≡ sum_below g.riders (λ _. 1) =
-    sum_below_same g.riders (λ r. times_chosen g chosen r + flag (times_chosen g chosen r == 0)) (λ _. 1) (λ r l. once_or_left (times_chosen g chosen r) (lawful.once r)) in
+    let swapped = sum_below_swap g.vehicles g.riders (λ v r. flag (is_in g (choice_at chosen v) r)) in
+    let times = sum_below_same g.riders (λ r. count_below g.vehicles (λ v. is_in g (choice_at chosen v) r)) (times_chosen g chosen) (λ r l. sym (times_served_as_count g chosen g.vehicles r)) in
+    let both = sum_below_plus g.riders (times_chosen g chosen) (λ r. flag (times_chosen g chosen r == 0)) in
+    let each = sum_below_same g.riders (λ r. times_chosen g chosen r + flag (times_chosen g chosen r == 0)) (λ _. 1) (λ r l. once_or_left (times_chosen g chosen r) (lawful.once r)) in
     let all : sum_below g.riders (λ _. 1) ≡ g.riders = ones g.riders in
     omega arith
   where

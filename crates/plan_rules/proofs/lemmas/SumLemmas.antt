@@ -1,6 +1,6 @@
 -- Sums, counts and least values over the numbers below n.
-use Rattle.std.proofs.Common.{◌≡◌, ◌==◌, ◌⊎◌, ℕ, zero, suc, ◌+◌, ◌*◌, ◌<◌, ◌≤◌, Bool, true, false, cond, ◌||◌, ◌&&◌, if◌then◌else◌, ltb, ℤ, pos, ◌+ℤ◌, ◌-ℤ◌, ◌≤ℤ◌, Option, Some, None, refl, sym, ap, ◌∙◌, subst, inl, inr, ⊎_elim, arith, add-one, eq-eqb, ne_eqb, lt-ltb, le-ltb, int_lt}
-use Rattle.plan_rules.proofs.Common.{same_Some, none-some, int_min, ints, int_min_is, nat_tests, both_ways, cases_eq, cases_Bool, cond_both, cond-true, cond-false, and_parts, and_from, and_left, and_right, sum_below, count_below, all_below, int_sum_below, lesser, least_below}
+use Rattle.std.proofs.Common.{◌≡◌, ◌==◌, ◌⊎◌, ℕ, zero, suc, ◌+◌, ◌*◌, ◌<◌, ◌≤◌, Bool, true, false, cond, ◌||◌, ◌&&◌, if◌then◌else◌, ltb, ℤ, pos, ◌+ℤ◌, ◌-ℤ◌, ◌≤ℤ◌, Option, Some, None, refl, sym, ap, ◌∙◌, subst, inl, inr, arith, add-one, ne_eqb, int_lt}
+use Rattle.plan_rules.proofs.Common.{same_Some, none-some, int_min, ints, int_min_is, nat_tests, cases_eq, cases_Bool, cond_both, cond-true, cond-false, and_from, sum_below, count_below, all_below, int_sum_below, lesser, least_below}
 
 -- ---- sums of naturals
 
@@ -76,14 +76,10 @@ count_below_two (suc n) p j k a b d e f = grind (arith, count_below_two n p j k,
 -- where something is counted, something passes
 pub count_below_found : (n : ℕ) (p : ℕ → Bool) → 1 ≤ count_below n p → (k : ℕ) × (k < n) × (p k ≡ true)
 count_below_found zero p h = absurd (omega arith)
-count_below_found (suc n) p h =
-    ⊎_elim
-    (λ (yes : p n ≡ true). (n, omega arith, yes))
-    (λ (no : p n ≡ false).
-    let last : flag (p n) ≡ 0 = flag-false (p n) no in
-    let w = count_below_found n p (omega arith) in
-    (w.0, omega arith, w.2))
-    (cases_Bool (p n))
+count_below_found (suc n) p h = elim (cases_Bool (p n)) [
+  | inl passes ↦ (n, omega arith, passes)
+  | inr fails ↦ let w = count_below_found n p (omega (arith, h, flag-false (p n) fails)) in (w.0, omega (arith, w.1), w.2)
+]
 
 -- ---- all
 
@@ -148,22 +144,14 @@ part-or true false z h = omega (arith, ints)
 part-or false b z h = omega (arith, ints)
 
 -- a sum in which one number counts
+int_sum_past : (n x : ℕ) (f : ℕ → ℤ) → n ≤ x → int_sum_below n (λ r. part (x == r) (f r)) ≡ pos 0
+int_sum_past zero x f l = refl
+int_sum_past (suc n) x f l = grind (arith, ints, nat_tests, int_sum_past n x f)
+
 pub int_sum_single : (n x : ℕ) (f : ℕ → ℤ) → x < n → int_sum_below n (λ r. part (x == r) (f r)) ≡ f x
 int_sum_single zero x f l = absurd (omega arith)
 int_sum_single (suc n) x f l =
-    ⊎_elim
-    (λ (here : x ≡ n).
-    let none : int_sum_below n (λ r. part (x == r) (f r)) ≡ int_sum_below n (λ _. pos 0) =
-    int_sum_same n (λ r. part (x == r) (f r)) (λ _. pos 0) (λ k low. cond-false (x == k) (f k) (pos 0) (ne_eqb x k (λ (e : x ≡ k). omega arith))) in
-    let zeros : int_sum_below n (λ _. pos 0) ≡ pos 0 = int_sum_zero n in
-    let last : part (x == n) (f n) ≡ f n = cond-true (x == n) (f n) (pos 0) (eq-eqb x n here) in
-    let same : f n ≡ f x = ap f (sym here) in
-    omega (arith, ints))
-    (λ (other : x ≡ n → ⊥).
-    let rest : int_sum_below n (λ r. part (x == r) (f r)) ≡ f x = int_sum_single n x f (omega arith) in
-    let last : part (x == n) (f n) ≡ pos 0 = cond-false (x == n) (f n) (pos 0) (ne_eqb x n other) in
-    omega (arith, ints))
-    (cases_eq x n)
+    grind (arith, ints, nat_tests, int_sum_single n x f, λ (here : x ≡ n). int_sum_past n x f, λ (here : x ≡ n). ap f here)
 
 -- what is counted at most once counts once where it is counted
 pub int_sum_once : (n : ℕ) (p : ℕ → Bool) (z : ℤ) → count_below n p ≤ 1 → int_sum_below n (λ v. part (p v) z) ≡ part (ltb 0 (count_below n p)) z
@@ -185,32 +173,16 @@ least_below_more n p f = rw add-one refl
 -- what the least value is, where one passes
 pub least_below_some : (n : ℕ) (p : ℕ → Bool) (f : ℕ → ℤ) (k : ℕ) → k < n → p k ≡ true → (z : ℤ) × (least_below n p f ≡ Some z) × (z ≤ℤ f k)
 least_below_some zero p f k l e = absurd (omega arith)
-least_below_some (suc n) p f k l e =
-    ⊎_elim
-    (λ (yes : p n ≡ true).
-    let now : least_below (suc n) p f ≡ Some (lesser (least_below n p f) (f n)) =
-    cond-true (p n) (Some (lesser (least_below n p f) (f n))) (least_below n p f) yes in
-    ⊎_elim
-    (λ (here : k ≡ n).
-    (lesser (least_below n p f) (f n), now, subst (λ (j : ℕ). lesser (least_below n p f) (f n) ≤ℤ f j) (sym here) (lesser-le_right (least_below n p f) (f n))))
-    (λ (other : k ≡ n → ⊥).
-    let w = least_below_some n p f k (omega arith) e in
-    let same : lesser (least_below n p f) (f n) ≡ lesser (Some (w.0)) (f n) = ap (λ (o : Option ℤ). lesser o (f n)) (w.1) in
-    let below : lesser (Some (w.0)) (f n) ≤ℤ w.0 = lesser-le_left (w.0) (f n) in
-    let least : w.0 ≤ℤ f k = w.2 in
-    let all : lesser (least_below n p f) (f n) ≤ℤ f k = omega (arith, ints) in
-    (lesser (least_below n p f) (f n), now, all))
-    (cases_eq k n))
-    (λ (no : p n ≡ false).
-    let now : least_below (suc n) p f ≡ least_below n p f =
-    cond-false (p n) (Some (lesser (least_below n p f) (f n))) (least_below n p f) no in
-    ⊎_elim
-    (λ (here : k ≡ n). absurd (both_ways (p n) no (subst (λ (j : ℕ). p j ≡ true) here e)))
-    (λ (other : k ≡ n → ⊥).
-    let w = least_below_some n p f k (omega arith) e in
-    (w.0, now ∙ w.1, w.2))
-    (cases_eq k n))
-    (cases_Bool (p n))
+least_below_some (suc n) p f k l e = elim (cases_eq k n) [
+  | inl here ↦
+      let passes : p n ≡ true = subst (λ j. p j ≡ true) here e in
+      (lesser (least_below n p f) (f n), rw passes refl, subst (λ j. lesser (least_below n p f) (f n) ≤ℤ f j) (sym here) (lesser-le_right (least_below n p f) (f n)))
+  | inr other ↦
+      let w = least_below_some n p f k (omega arith) e in elim (cases_Bool (p n)) [
+        | inl passes ↦ (lesser (Some w.0) (f n), rw (passes, w.1) refl, omega (arith, ints, lesser-le_left w.0 (f n), w.2))
+        | inr fails ↦ (w.0, rw fails w.1, w.2)
+      ]
+]
 
 -- none passes, none is least
 pub least_below_none : (n : ℕ) (p : ℕ → Bool) (f : ℕ → ℤ) → ((k : ℕ) → k < n → p k ≡ false) → least_below n p f ≡ None
@@ -228,13 +200,10 @@ Reaches n p f z = (k : ℕ) × (k < n) × (p k ≡ true) × (z ≡ f k)
 
 from_lesser : (n : ℕ) (p : ℕ → Bool) (f : ℕ → ℤ) (z : ℤ) → p n ≡ true → (o : Option ℤ) → ((y : ℤ) → o ≡ Some y → Reaches n p f y) → lesser o (f n) ≡ z → Reaches (suc n) p f z
 from_lesser n p f z passed None before value = (n, omega arith, passed, sym value)
-from_lesser n p f z passed (Some y) before value =
-    ⊎_elim
-    (λ (left : int_min y (f n) ≡ y).
-    let w = before y refl in
-    (w.0, omega arith, w.2, sym value ∙ left ∙ w.3))
-    (λ (right : int_min y (f n) ≡ f n). (n, omega arith, passed, sym value ∙ right))
-    (int_min_cases y (f n))
+from_lesser n p f z passed (Some y) before value = elim (int_min_cases y (f n)) [
+  | inl left ↦ let w = before y refl in (w.0, omega (arith, w.1), w.2, sym value ∙ left ∙ w.3)
+  | inr right ↦ (n, omega arith, passed, sym value ∙ right)
+]
 
 -- the least value is reached
 pub least_below_found : (n : ℕ) (p : ℕ → Bool) (f : ℕ → ℤ) (z : ℤ) → least_below n p f ≡ Some z → Reaches n p f z

@@ -1,8 +1,8 @@
 -- The leaves and dead ends of a sound tree part the plans, and its value is a bound.
-use Rattle.std.proofs.Common.{◌≡◌, ◌==◌, ◌&&◌, ◌||◌, not, ℕ, suc, ◌+◌, ◌*◌, ◌/◌, ◌<◌, ◌≤◌, Bool, true, false, cond, List, [], ◌∷◌, length, Option, Some, None, count_by, ℤ, pos, negsuc, ◌≤ℤ◌, refl, sym, ap, ◌∙◌, inl, inr, ⊎_elim, arith, eq-eqb, ne_eqb, unwrap_or}
-use Rattle.plan_rules.proofs.Common.{same_Some, ints, sum_by-cons, cases_eq, cases_Bool, or_right, or_left, both_ways, false_from_ne_true, all_below, lesser, count_below, Graph, row_at, row_vehicle, has_rider, IsRowOf, choice_at, is_in, IsGraphRow, IsGoodGraph, IsPlan, IsLawful, cost_of, IsBound, Usable, leaf_value, every_row, only_row, without_row, CanBranch, IsSoleRow, IsDeadEnd, Clash, Stranded, Place, rounded_up, least_leaf, is_choice_usable, is_within, belongs_to_end, belongs_to_dead_end, ReadsTo, places_from, IsWholeTree, places_read, value_read, Node, Branch, Leaf, Dead, nat_tests, coming_after}
+use Rattle.std.proofs.Common.{◌≡◌, ℕ, ◌+◌, ◌*◌, ◌<◌, ◌≤◌, Bool, true, false, cond, List, [], ◌∷◌, length, Option, Some, None, count_by, ℤ, pos, negsuc, ◌≤ℤ◌, refl, sym, ap, ◌∙◌, inl, inr, ⊎_elim, arith, unwrap_or}
+use Rattle.plan_rules.proofs.Common.{same_Some, ints, sum_by-cons, cases_eq, cases_Bool, both_ways, false_from_ne_true, all_below, lesser, Graph, row_at, row_vehicle, has_rider, IsRowOf, choice_at, is_in, IsGraphRow, IsGoodGraph, IsPlan, IsLawful, cost_of, IsBound, Usable, leaf_value, every_row, only_row, without_row, CanBranch, IsSoleRow, IsDeadEnd, Clash, Stranded, Place, rounded_up, least_leaf, is_choice_usable, is_within, belongs_to_end, belongs_to_dead_end, ReadsTo, places_from, IsWholeTree, places_read, value_read, Node, Branch, Leaf, Dead, nat_tests, coming_after}
 use Rattle.plan_rules.proofs.lemmas.SumLemmas.{flag, flag-true, flag-false, all_below_at, all_below_from, all_below_fails, all_below_same, count_below_two, lesser-le_left, lesser-le_right}
-use Rattle.plan_rules.proofs.lemmas.GraphLemmas.{times_served_as_count, times_served_found, in_choice}
+use Rattle.plan_rules.proofs.lemmas.GraphLemmas.{vehicle_below, times_served_as_count, times_served_found, in_choice}
 use Rattle.plan_rules.proofs.lemmas.PlanLemmas.{has_choice, plan_choice}
 use Rattle.plan_rules.proofs.lemmas.DualityLemmas.{leaf_value_le}
 
@@ -58,35 +58,23 @@ parts g usable v k chosen plan low can =
     ⊎_elim
     (λ (same : w.0 ≡ k).
     let e : choice_at chosen v ≡ Some k = w.1 ∙ ap Some same in
-    let yes : all_below g.vehicles (λ v'. is_choice_usable (only_row g usable v k) (choice_at chosen v')) ≡ all_below g.vehicles (λ v'. is_choice_usable usable (choice_at chosen v')) =
-    all_below_same g.vehicles (λ v'. is_choice_usable (only_row g usable v k) (choice_at chosen v')) (λ v'. is_choice_usable usable (choice_at chosen v'))
+    let yes = all_below_same g.vehicles (λ v'. is_choice_usable (only_row g usable v k) (choice_at chosen v')) (λ v'. is_choice_usable usable (choice_at chosen v'))
     (λ u l. only_same g usable chosen plan v k low row e u l (choice_at chosen u) refl) in
-    let no : all_below g.vehicles (λ v'. is_choice_usable (without_row usable k) (choice_at chosen v')) ≡ false =
-    all_below_fails g.vehicles (λ v'. is_choice_usable (without_row usable k) (choice_at chosen v')) v low
+    let no = all_below_fails g.vehicles (λ v'. is_choice_usable (without_row usable k) (choice_at chosen v')) v low
     (ap (is_choice_usable (without_row usable k)) e ∙ without_fails g usable chosen plan v k low row) in
     let a = ap flag yes in
     let b : flag (all_below g.vehicles (λ v'. is_choice_usable (without_row usable k) (choice_at chosen v'))) ≡ 0 = flag-false _ no in
     record { together = omega (arith, a, b) })
     (λ (differs : w.0 ≡ k → ⊥).
     let e : choice_at chosen v ≡ Some (w.0) = w.1 in
-    let yes : all_below g.vehicles (λ v'. is_choice_usable (without_row usable k) (choice_at chosen v')) ≡ all_below g.vehicles (λ v'. is_choice_usable usable (choice_at chosen v')) =
-    all_below_same g.vehicles (λ v'. is_choice_usable (without_row usable k) (choice_at chosen v')) (λ v'. is_choice_usable usable (choice_at chosen v'))
+    let yes = all_below_same g.vehicles (λ v'. is_choice_usable (without_row usable k) (choice_at chosen v')) (λ v'. is_choice_usable usable (choice_at chosen v'))
     (λ u l. without_same g usable chosen plan v k low row (w.0) e differs u l (choice_at chosen u) refl) in
-    let no : all_below g.vehicles (λ v'. is_choice_usable (only_row g usable v k) (choice_at chosen v')) ≡ false =
-    all_below_fails g.vehicles (λ v'. is_choice_usable (only_row g usable v k) (choice_at chosen v')) v low
+    let no = all_below_fails g.vehicles (λ v'. is_choice_usable (only_row g usable v k) (choice_at chosen v')) v low
     (ap (is_choice_usable (only_row g usable v k)) e ∙ only_fails g usable chosen plan v k low row (w.0) (w.2) differs) in
     let a = ap flag yes in
     let b : flag (all_below g.vehicles (λ v'. is_choice_usable (only_row g usable v k) (choice_at chosen v'))) ≡ 0 = flag-false _ no in
     record { together = omega (arith, a, b) })
     (cases_eq (w.0) k)
-
--- the vehicle of a branch is one of the graph's
-branch_vehicle : (g : Graph) (usable : Usable) (v k : ℕ) → ((k : ℕ) → k < length g.rows → IsGraphRow g.vehicles g.riders (row_at g k)) → CanBranch g usable v k → v < g.vehicles
-branch_vehicle g usable v k rows can =
-    let row = can.row.row in
-    let low : row_vehicle g k < g.vehicles = (rows k row.within).vehicle in
-    let own : row_vehicle g k ≡ v = row.own in
-    omega arith
 
 -- ---- each plan belongs to one end
 
@@ -106,7 +94,7 @@ ends_count g chosen rows plan (Branch v k ∷ nodes) (u ∷ us) rest e =
     let second = count-cons (λ w. is_within g w chosen) u us in
     let third = count-cons (λ w. is_within g w chosen) (only_row g u v k) (without_row u k ∷ us) in
     let fourth = count-cons (λ w. is_within g w chosen) (without_row u k) us in
-    let parted = (parts g u v k chosen plan (branch_vehicle g u v k rows (e.0)) (e.0)).together in
+    let parted = (parts g u v k chosen plan (vehicle_below g v k rows e.0.row.row) (e.0)).together in
     let later = ends_count g chosen rows plan nodes after rest (e.1) in
     omega (arith, first, second, third, fourth, parted, later)
 ends_count g chosen rows plan (n ∷ nodes) (u ∷ us) rest e =
@@ -126,23 +114,17 @@ each_plan_at_one_end g nodes chosen good sound plan =
 pub dead_end_holds_none : (g : Graph) (usable : Usable) (chosen : List (Option ℕ)) → IsGoodGraph g → IsLawful g chosen → IsDeadEnd g usable → is_within g usable chosen ≡ false
 dead_end_holds_none g usable chosen good lawful dead = false_from_ne_true (is_within g usable chosen) (holds_none dead)
   where
-    low : (v k : ℕ) → IsRowOf g v k → v < g.vehicles
-    low v k row =
-        let below : row_vehicle g k < g.vehicles = (good.rows k row.within).vehicle in
-        let own : row_vehicle g k ≡ v = row.own in
-        omega arith
-
     -- the vehicle's choice is its sole row
     sole_has : (v k r : ℕ) → IsSoleRow g usable v k → has_rider g k r ≡ true → is_within g usable chosen ≡ true → is_in g (choice_at chosen v) r ≡ true
     sole_has v k r sole has within =
-        let below = low v k sole.row.row in
+        let below = vehicle_below g v k good.rows sole.row.row in
         let c = has_choice g v k (choice_at chosen v) (lawful.plan.own v below) sole.row.row in
         let is : c.0 ≡ k = sole.sole (c.0) (record { row = c.2; usable_row = within_at g usable chosen v (c.0) within below (c.1) }) in
         ap (λ (o : Option ℕ). is_in g o r) (c.1 ∙ ap Some is) ∙ has
 
     holds_none : IsDeadEnd g usable → is_within g usable chosen ≡ true → ⊥
     holds_none (Clash v w j k r differ a b in_a in_b) within =
-        let two = count_below_two g.vehicles (λ v. is_in g (choice_at chosen v) r) v w (low v j a.row.row) (low w k b.row.row) differ (sole_has v j r a in_a within) (sole_has w k r b in_b within) in
+        let two = count_below_two g.vehicles (λ v. is_in g (choice_at chosen v) r) v w (vehicle_below g v j good.rows a.row.row) (vehicle_below g w k good.rows b.row.row) differ (sole_has v j r a in_a within) (sole_has w k r b in_b within) in
         let count = times_served_as_count g chosen g.vehicles r in
         omega (arith, two, count, lawful.once r)
     holds_none (Stranded r must nowhere) within =
@@ -170,21 +152,12 @@ no_plan_at_dead_ends g nodes chosen good sound lawful = dead_count g chosen good
 -- ---- the value is a bound
 
 pub rounded_up_mono : (a b : ℤ) → a ≤ℤ b → rounded_up a ≤ℤ rounded_up b
-rounded_up_mono (pos n) (pos m) h =
-    let le : n ≤ m = omega (arith, ints, h) in
-    let q : (n + 1023) / 1024 ≤ (m + 1023) / 1024 = omega arith in
-    omega (arith, ints)
-rounded_up_mono (pos n) (negsuc m) h = absurd (omega (arith, ints, h))
-rounded_up_mono (negsuc n) (pos m) h = omega (arith, ints)
-rounded_up_mono (negsuc n) (negsuc m) h =
-    let le : m ≤ n = omega (arith, ints, h) in
-    let q : suc m / 1024 ≤ suc n / 1024 = omega arith in
-    omega (arith, ints)
+rounded_up_mono (pos n) (pos m) h = omega (arith, ints, h)
+rounded_up_mono (negsuc n) (negsuc m) h = omega (arith, ints, h)
+rounded_up_mono _ _ h = omega (arith, ints, h)
 
 rounded_up_le : (z : ℤ) (c : ℕ) → z ≤ℤ pos (1024 * c) → rounded_up z ≤ℤ pos c
-rounded_up_le z c h =
-    let whole : (1024 * c + 1023) / 1024 ≡ c = omega arith in
-    omega (arith, ints, rounded_up_mono z (pos (1024 * c)) h)
+rounded_up_le z c h = omega (arith, ints, rounded_up_mono z (pos (1024 * c)) h)
 
 -- some leaf shows at most what the plan costs
 abbrev HasLeafBelow : Graph → List (Option ℕ) → List Place → Type 0
@@ -197,22 +170,16 @@ least_leaf_step : (g : Graph) (chosen : List (Option ℕ)) → IsGoodGraph g →
 least_leaf_step g chosen good lawful (Leaf ms) u ps later some none =
     let ends = count-cons (belongs_to_end g chosen) (record { node = Leaf ms; usable = u }) ps in
     let dead = count-cons (belongs_to_dead_end g chosen) (record { node = Leaf ms; usable = u }) ps in
-    let value = rounded_up (leaf_value g u ms) in
-    let right : lesser (least_leaf g ps) value ≤ℤ value = lesser-le_right (least_leaf g ps) value in
-    let all : lesser (least_leaf g ps) value ≤ℤ pos (cost_of g chosen) =
-    ⊎_elim
-    (λ (yes : is_within g u chosen ≡ true).
-    let below : value ≤ℤ pos (cost_of g chosen) = rounded_up_le (leaf_value g u ms) (cost_of g chosen) (leaf_value_le g u ms chosen good lawful yes) in
-    omega (arith, ints))
-    (λ (no : is_within g u chosen ≡ false).
-    let zero : flag (is_within g u chosen) ≡ 0 = flag-false _ no in
-    let w = later (omega (arith, ends, some, zero)) (omega (arith, dead, none)) in
-    let same : lesser (least_leaf g ps) value ≡ lesser (Some (w.0)) value = ap (λ (o : Option ℤ). lesser o value) (w.1) in
-    let left : lesser (Some (w.0)) value ≤ℤ w.0 = lesser-le_left (w.0) value in
-    let below : w.0 ≤ℤ pos (cost_of g chosen) = w.2 in
-    omega (arith, ints))
-    (cases_Bool (is_within g u chosen)) in
-    (lesser (least_leaf g ps) value, refl, all)
+    let value = rounded_up (leaf_value g u ms) in (
+      lesser (least_leaf g ps) value,
+      refl,
+      elim (cases_Bool (is_within g u chosen)) [
+        | inl inside ↦ omega (arith, ints, lesser-le_right (least_leaf g ps) value, rounded_up_le (leaf_value g u ms) (cost_of g chosen) (leaf_value_le g u ms chosen good lawful inside))
+        | inr outside ↦
+            let w = later (omega (arith, ends, some, flag-false _ outside)) (omega (arith, dead, none)) in
+            omega (arith, ints, ap (λ (o : Option ℤ). lesser o value) w.1, lesser-le_left w.0 value, w.2)
+      ],
+    )
 least_leaf_step g chosen good lawful n u ps later some none =
     let ends = count-cons (belongs_to_end g chosen) (record { node = n; usable = u }) ps in
     let dead = count-cons (belongs_to_dead_end g chosen) (record { node = n; usable = u }) ps in
@@ -227,6 +194,4 @@ tree_value_bounds g nodes good sound chosen lawful =
     let one = each_plan_at_one_end g nodes chosen good sound lawful.plan in
     let none = no_plan_at_dead_ends g nodes chosen good sound lawful in
     let w = least_leaf_le g chosen good lawful (places_read g nodes) (omega (arith, one)) none in
-    let value : value_read g nodes ≡ w.0 = ap (λ (o : Option ℤ). unwrap_or o (pos 0)) (w.1) in
-    let below : w.0 ≤ℤ pos (cost_of g chosen) = w.2 in
-    omega (arith, ints)
+    omega (arith, ints, ap (λ (o : Option ℤ). unwrap_or o (pos 0)) w.1, w.2)

@@ -10,9 +10,8 @@ Agree g u w = (k : ℕ) → k < length g.rows → u k ≡ w k
 pub least_below_agrees : (n : ℕ) (p q : ℕ → Bool) (f : ℕ → ℤ) → ((k : ℕ) → k < n → p k ≡ q k) → least_below n p f ≡ least_below n q f
 least_below_agrees zero p q f e = refl
 least_below_agrees (suc n) p q f e =
-    let rest : least_below n p f ≡ least_below n q f = least_below_agrees n p q f (λ k l. e k (omega arith)) in
-    let last : p n ≡ q n = e n (omega arith) in
-    λ i. cond (last i) (Some (lesser (rest i) (f n))) (rest i)
+    let rest = least_below_agrees n p q f (λ k l. e k (omega arith)) in
+    λ i. cond (e n (omega arith) i) (Some (lesser (rest i) (f n))) (rest i)
 
 pub vehicle_term_agrees : (g : Graph) (u w : Usable) (ms : List ℤ) (v : ℕ) → Agree g u w → vehicle_term g u ms v ≡ vehicle_term g w ms v
 vehicle_term_agrees g u w ms v e =
@@ -67,9 +66,8 @@ pub first_fit_agrees : (g : Graph) (u w : Usable) (n : ℕ) → Agree g u w → 
 unfolding first_fit_below
 first_fit_agrees g u w zero e = refl
 first_fit_agrees g u w (suc n) e =
-    let before : first_fit_below g u n ≡ first_fit_below g w n = first_fit_agrees g u w n e in
-    let same : first_fit_of g u (first_fit_below g u n) n ≡ first_fit_of g w (first_fit_below g w n) n =
-    ap (λ (ms : List ℤ). first_fit_of g u ms n) before ∙ first_fit_of_agrees g u w (first_fit_below g w n) n e in
+    let before = first_fit_agrees g u w n e in
+    let same = ap (λ (ms : List ℤ). first_fit_of g u ms n) before ∙ first_fit_of_agrees g u w (first_fit_below g w n) n e in
     λ i. before i ++ same i ∷ []
 
 pub first_fit_value_agrees : (g : Graph) (u w : Usable) → Agree g u w → first_fit_value g u ≡ first_fit_value g w

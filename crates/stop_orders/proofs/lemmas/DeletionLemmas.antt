@@ -1,6 +1,7 @@
 use Rattle.std.proofs.Common.{◌≡◌, ℕ, suc, ◌+◌, ◌-◌, ◌<◌, ◌≤◌, Bool, true, false, cond, not, eqb, ltb, List, [], ◌∷◌, length, map, filter, take, drop, refl, sym, ap, ◌∙◌, subst, arith, inl, inr, All, remove}
-use Rattle.stop_orders.proofs.Common.{AllByRecursion, cases_Bool, cases_lt, cases_eq, cond-true, cond-false, not_from_true, not_from_false, false≢true, length-remove, get_or-remove_below, get_or-remove_above, All-append, All-take, All-drop, never, IsTravelTime, Task, Stop, Pick, Drop, Alight, Visit, Pickup, Dropoff, is_of_rider, is_of_passenger, IsKnown, place_of, latest_of, boarding_of, room_after, lateness, ServesFrom, delay_from, no_leg, leg_at, persons, IsLeg, IsTask, visit_at, free_seats, IsOrderOf, Serves, order_delay, number_without, stop_without_rider, stop_without_passenger, stops_without_rider, stops_without_passenger, without_rider, without_passenger, StillServes}
-use Rattle.std.proofs.lemmas.Bool.{eq-eqb, ne_eqb, eqb-true, lt-ltb, le-ltb}
+use Rattle.std.proofs.lemmas.Bool.Decides.{nat_tests}
+use Rattle.stop_orders.proofs.Common.{AllByRecursion, cases_Bool, cases_lt, cond-true, cond-false, not_from_true, not_from_false, false≢true, length-remove, get_or-remove_below, get_or-remove_above, All-append, All-take, All-drop, never, IsTravelTime, Task, Stop, Pick, Drop, Alight, Visit, Pickup, Dropoff, is_of_rider, is_of_passenger, IsKnown, place_of, latest_of, boarding_of, room_after, lateness, ServesFrom, delay_from, no_leg, leg_at, persons, IsLeg, IsTask, visit_at, free_seats, IsOrderOf, Serves, order_delay, number_without, stop_without_rider, stop_without_passenger, stops_without_rider, stops_without_passenger, without_rider, without_passenger, StillServes}
+use Rattle.std.proofs.lemmas.Bool.{eq-eqb, eqb-true, lt-ltb, le-ltb}
 use Rattle.std.proofs.lemmas.List.Sums.{sum_by-remove}
 use Rattle.stop_orders.specs.declared.leg.Leg.{Leg}
 use Rattle.stop_orders.proofs.lemmas.ClockLemmas.{room_after-le, lateness-le, two_hops, AtLeastAsSoon, soon_there}
@@ -76,10 +77,10 @@ filter_renumbered : (p q : Stop → Bool) (g : Stop → Stop) (mine : Stop → B
     → (stops : List Stop) → filter p (map g (filter (others mine) stops)) ≡ map g (filter q stops)
 filter_renumbered p q g mine same apart [] = refl
 filter_renumbered p q g mine same apart (s ∷ stops) = elim (cases_Bool (mine s)) [
-  | inl e ↦ ap (λ ss. filter p (map g ss)) (skips (others mine) s stops (not_from_true (mine s) e)) ∙ filter_renumbered p q g mine same apart stops ∙ ap (λ ss. map g ss) (sym (skips q s stops (apart s e)))
-  | inr e ↦ ap (λ ss. filter p (map g ss)) (takes (others mine) s stops (not_from_false (mine s) e)) ∙ elim (cases_Bool (q s)) [
-    | inl k ↦ takes p (g s) (map g (filter (others mine) stops)) (same s e ∙ k) ∙ ap (λ ss. g s ∷ ss) (filter_renumbered p q g mine same apart stops) ∙ ap (λ ss. map g ss) (sym (takes q s stops k))
-    | inr k ↦ skips p (g s) (map g (filter (others mine) stops)) (same s e ∙ k) ∙ filter_renumbered p q g mine same apart stops ∙ ap (λ ss. map g ss) (sym (skips q s stops k))
+  | inl e ↦ rw (e, apart s e) (filter_renumbered p q g mine same apart stops)
+  | inr e ↦ elim (cases_Bool (q s)) [
+    | inl k ↦ rw (e, same s e, k) (ap (λ ss. g s ∷ ss) (filter_renumbered p q g mine same apart stops))
+    | inr k ↦ rw (e, same s e, k) (filter_renumbered p q g mine same apart stops)
   ]
 ]
 
@@ -87,16 +88,15 @@ filter_renumbered p q g mine same apart (s ∷ stops) = elim (cases_Bool (mine s
 pub visits_renumbered : (vis old : Stop → Visit) (g : Stop → Stop) (mine : Stop → Bool) → ((s : Stop) → mine s ≡ false → vis (g s) ≡ old s) → (stops : List Stop) → map vis (map g (filter (others mine) stops)) ≡ map old (filter (others mine) stops)
 visits_renumbered vis old g mine same [] = refl
 visits_renumbered vis old g mine same (s ∷ stops) = elim (cases_Bool (mine s)) [
-  | inl e ↦ subst (λ ss. map vis (map g ss) ≡ map old ss) (sym (skips (others mine) s stops (not_from_true (mine s) e))) (visits_renumbered vis old g mine same stops)
-  | inr e ↦ subst (λ ss. map vis (map g ss) ≡ map old ss) (sym (takes (others mine) s stops (not_from_false (mine s) e)))
-      (ap (λ v. v ∷ map vis (map g (filter (others mine) stops))) (same s e) ∙ ap (λ vs. old s ∷ vs) (visits_renumbered vis old g mine same stops))
+  | inl e ↦ rw e (visits_renumbered vis old g mine same stops)
+  | inr e ↦ rw (e, same s e) (ap (λ vs. old s ∷ vs) (visits_renumbered vis old g mine same stops))
 ]
 
 known_renumbered : (P Q : Stop → Type 0) (g : Stop → Stop) (mine : Stop → Bool) → ((s : Stop) → mine s ≡ false → P s → Q (g s)) → (stops : List Stop) → AllByRecursion P stops → AllByRecursion Q (map g (filter (others mine) stops))
 known_renumbered P Q g mine move [] known = tt
 known_renumbered P Q g mine move (s ∷ stops) known = elim (cases_Bool (mine s)) [
-  | inl e ↦ subst (λ ss. AllByRecursion Q (map g ss)) (sym (skips (others mine) s stops (not_from_true (mine s) e))) (known_renumbered P Q g mine move stops known.1)
-  | inr e ↦ subst (λ ss. AllByRecursion Q (map g ss)) (sym (takes (others mine) s stops (not_from_false (mine s) e))) (move s e known.0, known_renumbered P Q g mine move stops known.1)
+  | inl e ↦ rw e (known_renumbered P Q g mine move stops known.1)
+  | inr e ↦ rw e (move s e known.0, known_renumbered P Q g mine move stops known.1)
 ]
 
 -- the number that has a new number
@@ -115,46 +115,22 @@ number_below i k h = rw (le-ltb i k h) refl
 -- a number other than the one left out has the new number j exactly where it is j's old one
 pub renumbered : (i j k : ℕ) → (k ≡ i → ⊥) → eqb (number_without i k) j ≡ eqb k (old_number i j)
 unfolding old_number
-renumbered i j k ne = elim (cases_lt i k) [
-  | inl above ↦ ap (λ n. eqb n j) (number_above i k above) ∙ elim (cases_lt j i) [
-    | inl low ↦ ne_eqb (k - 1) j (λ q. omega arith) ∙ sym (rw (lt-ltb j i low) (ne_eqb k j (λ q. omega arith)))
-    | inr high ↦ elim (cases_eq k (j + 1)) [
-      | inl e ↦ eq-eqb (k - 1) j (omega arith) ∙ sym (rw (le-ltb j i high) (eq-eqb k (j + 1) e))
-      | inr n ↦ ne_eqb (k - 1) j (λ q. n (omega arith)) ∙ sym (rw (le-ltb j i high) (ne_eqb k (j + 1) n))
-    ]
-  ]
-  | inr below ↦ ap (λ n. eqb n j) (number_below i k below) ∙ elim (cases_lt j i) [
-    | inl low ↦ sym (rw (lt-ltb j i low) refl)
-    | inr high ↦ ne_eqb k j (λ q. ne (omega arith)) ∙ sym (rw (le-ltb j i high) (ne_eqb k (j + 1) (λ q. omega arith)))
-  ]
-]
+renumbered i j k ne = grind (arith, nat_tests, ne)
 
 pub renumbered_back : (i j : ℕ) → number_without i (old_number i j) ≡ j
 unfolding old_number
-renumbered_back i j = elim (cases_lt j i) [
-  | inl low ↦ rw (lt-ltb j i low) (number_below i j (omega arith))
-  | inr high ↦ rw (le-ltb j i high) (number_above i (j + 1) (omega arith) ∙ omega arith)
-]
+renumbered_back i j = grind (arith, nat_tests)
 
 pub old_number-ne : (i j : ℕ) → eqb i (old_number i j) ≡ false
 unfolding old_number
-old_number-ne i j = elim (cases_lt j i) [
-  | inl low ↦ rw (lt-ltb j i low) (ne_eqb i j (λ q. omega arith))
-  | inr high ↦ rw (le-ltb j i high) (ne_eqb i (j + 1) (λ q. omega arith))
-]
+old_number-ne i j = grind (arith, nat_tests)
 
 pub old_number-lt : (i j n m : ℕ) → i < n → m + 1 ≡ n → j < m → old_number i j < n
 unfolding old_number
-old_number-lt i j n m h e l = elim (cases_lt j i) [
-  | inl low ↦ rw (lt-ltb j i low) (omega arith)
-  | inr high ↦ rw (le-ltb j i high) (omega arith)
-]
+old_number-lt i j n m h e l = grind (arith, nat_tests)
 
 pub number_without-lt : (i k n m : ℕ) → i < n → m + 1 ≡ n → (k ≡ i → ⊥) → k < n → number_without i k < m
-number_without-lt i k n m h e ne l = elim (cases_lt i k) [
-  | inl above ↦ rw (lt-ltb i k above) (omega arith)
-  | inr below ↦ rw (le-ltb i k below) (omega arith)
-]
+number_without-lt i k n m h e ne l = grind (arith, nat_tests, ne)
 
 -- the leg of a new number is that of the old one
 pub leg_without : (legs : List Leg) (i k : ℕ) → i < length legs → (k ≡ i → ⊥) → leg_at (remove legs i) (number_without i k) ≡ leg_at legs k

@@ -1,6 +1,7 @@
 use Rattle.std.proofs.Common.{◌≡◌, ℕ, zero, suc, ◌+◌, ◌*◌, ◌^◌, ◌<◌, ◌≤◌, max, Bool, true, false, eqb, List, [], ◌∷◌, length, filter, refl, sym, ap, ◌∙◌, subst, arith, inl, inr, bit_or}
-use Rattle.stop_orders.proofs.Common.{cases_eq, cond-true, cond-false, bit_at-zero, bit_at_or, bit_at-pow_same, bit_at-pow_other, bit_at-lt, Stop, Pick, Drop, Alight, is_of_rider, is_of_passenger, IsOrder, has, with_bit, with_stop, IsNextStop, IsAllDone, left_of_rider, left_of_passenger, Completes, sum_below, left_count}
+use Rattle.stop_orders.proofs.Common.{cases_eq, bit_at-zero, bit_at_or, bit_at-pow_same, bit_at-pow_other, bit_at-lt, Stop, Pick, Drop, Alight, is_of_rider, is_of_passenger, IsOrder, has, with_bit, with_stop, IsNextStop, IsAllDone, left_of_rider, left_of_passenger, Completes, sum_below, left_count}
 use Rattle.std.proofs.lemmas.Bool.{eq-eqb, ne_eqb}
+use Rattle.stop_orders.proofs.lemmas.DeletionLemmas.{skips, takes}
 use Rattle.std.specs.Int.{bit_at}
 
 -- nothing is in the empty set
@@ -29,13 +30,6 @@ has-with_other done k l ne =
 same : (i : ℕ) → eqb i i ≡ true
 same i = eq-eqb i i refl
 
--- what a filter does at the front of a list
-filter_takes : {X : Type 0} (p : X → Bool) (x : X) (xs : List X) → p x ≡ true → filter p (x ∷ xs) ≡ x ∷ filter p xs
-filter_takes p x xs e = cond-true (p x) (x ∷ filter p xs) (filter p xs) e
-
-filter_skips : {X : Type 0} (p : X → Bool) (x : X) (xs : List X) → p x ≡ false → filter p (x ∷ xs) ≡ filter p xs
-filter_skips p x xs e = cond-false (p x) (x ∷ filter p xs) (filter p xs) e
-
 -- who has a pickup in front was not picked up yet
 pick_left : (picked dropped : Bool) (i : ℕ) (rest : List Stop) → Pick i ∷ rest ≡ left_of_rider picked dropped i → (picked ≡ false) × (dropped ≡ false) × (rest ≡ Drop i ∷ [])
 pick_left picked true i rest e = absurd cc
@@ -56,14 +50,14 @@ module _ (riders passengers done : ℕ) (few : riders ≤ 6) where
   -- what may stand in front of a rest, and what the rest then completes
   pub Completes-front : (s : Stop) (rest : List Stop) → Completes riders passengers done (s ∷ rest) → IsNextStop riders passengers done s × Completes riders passengers (with_stop done s) rest
   Completes-front (Pick i) rest c =
-      let own = pick_left (has done i) (has done (6 + i)) i (filter (is_of_rider i) rest) (sym (filter_takes (is_of_rider i) (Pick i) rest (same i)) ∙ c.rides i c.known.0) in
+      let own = pick_left (has done i) (has done (6 + i)) i (filter (is_of_rider i) rest) (sym (takes (is_of_rider i) (Pick i) rest (same i)) ∙ c.rides i c.known.0) in
       let below : i < riders = c.known.0 in (
         (below, own.0, own.1),
         record {
           rides = λ k h. elim (cases_eq i k) [
             | inl e ↦ subst (λ n. filter (is_of_rider n) rest ≡ left_of_rider (has (with_bit done i) n) (has (with_bit done i) (6 + n)) n) e
                 (own.2 ∙ sym (rw (has-with_same done i, has-with_other done i (6 + i) (λ q. omega arith), own.1) refl))
-            | inr ne ↦ sym (filter_skips (is_of_rider k) (Pick i) rest (ne_eqb i k ne)) ∙ c.rides k h
+            | inr ne ↦ sym (skips (is_of_rider k) (Pick i) rest (ne_eqb i k ne)) ∙ c.rides k h
                 ∙ sym (rw (has-with_other done i k (λ q. ne (sym q)), has-with_other done i (6 + k) (λ q. omega arith)) refl)
           ];
           alights = λ j h. c.alights j h ∙ sym (rw (has-with_other done i (12 + j) (λ q. omega arith)) refl);
@@ -71,14 +65,14 @@ module _ (riders passengers done : ℕ) (few : riders ≤ 6) where
         },
       )
   Completes-front (Drop i) rest c =
-      let own = drop_left (has done i) (has done (6 + i)) i (filter (is_of_rider i) rest) (sym (filter_takes (is_of_rider i) (Drop i) rest (same i)) ∙ c.rides i c.known.0) in
+      let own = drop_left (has done i) (has done (6 + i)) i (filter (is_of_rider i) rest) (sym (takes (is_of_rider i) (Drop i) rest (same i)) ∙ c.rides i c.known.0) in
       let below : i < riders = c.known.0 in (
         (below, own.0, own.1),
         record {
           rides = λ k h. elim (cases_eq i k) [
             | inl e ↦ subst (λ n. filter (is_of_rider n) rest ≡ left_of_rider (has (with_bit done (6 + i)) n) (has (with_bit done (6 + i)) (6 + n)) n) e
                 (own.2 ∙ sym (rw (has-with_same done (6 + i)) refl))
-            | inr ne ↦ sym (filter_skips (is_of_rider k) (Drop i) rest (ne_eqb i k ne)) ∙ c.rides k h
+            | inr ne ↦ sym (skips (is_of_rider k) (Drop i) rest (ne_eqb i k ne)) ∙ c.rides k h
                 ∙ sym (rw (has-with_other done (6 + i) k (λ q. omega arith), has-with_other done (6 + i) (6 + k) (λ q. ne (omega arith))) refl)
           ];
           alights = λ j h. c.alights j h ∙ sym (rw (has-with_other done (6 + i) (12 + j) (λ q. omega arith)) refl);
@@ -86,7 +80,7 @@ module _ (riders passengers done : ℕ) (few : riders ≤ 6) where
         },
       )
   Completes-front (Alight j) rest c =
-      let own = alight_left (has done (12 + j)) j (filter (is_of_passenger j) rest) (sym (filter_takes (is_of_passenger j) (Alight j) rest (same j)) ∙ c.alights j c.known.0) in
+      let own = alight_left (has done (12 + j)) j (filter (is_of_passenger j) rest) (sym (takes (is_of_passenger j) (Alight j) rest (same j)) ∙ c.alights j c.known.0) in
       let below : j < passengers = c.known.0 in (
         (below, own.0),
         record {
@@ -94,7 +88,7 @@ module _ (riders passengers done : ℕ) (few : riders ≤ 6) where
           alights = λ k h. elim (cases_eq j k) [
             | inl e ↦ subst (λ n. filter (is_of_passenger n) rest ≡ left_of_passenger (has (with_bit done (12 + j)) (12 + n)) n) e
                 (own.1 ∙ sym (rw (has-with_same done (12 + j)) refl))
-            | inr ne ↦ sym (filter_skips (is_of_passenger k) (Alight j) rest (ne_eqb j k ne)) ∙ c.alights k h
+            | inr ne ↦ sym (skips (is_of_passenger k) (Alight j) rest (ne_eqb j k ne)) ∙ c.alights k h
                 ∙ sym (rw (has-with_other done (12 + j) (12 + k) (λ q. ne (omega arith))) refl)
           ];
           known = c.known.1;
@@ -106,9 +100,9 @@ module _ (riders passengers done : ℕ) (few : riders ≤ 6) where
   Completes-back (Pick i) rest next c = record {
     rides = λ k h. elim (cases_eq i k) [
       | inl e ↦ subst (λ n. filter (is_of_rider n) (Pick i ∷ rest) ≡ left_of_rider (has done n) (has done (6 + n)) n) e
-          (filter_takes (is_of_rider i) (Pick i) rest (same i) ∙ ap (λ xs. Pick i ∷ xs) (c.rides i next.0)
+          (takes (is_of_rider i) (Pick i) rest (same i) ∙ ap (λ xs. Pick i ∷ xs) (c.rides i next.0)
           ∙ rw (has-with_same done i, has-with_other done i (6 + i) (λ q. omega arith), next.1, next.2) refl)
-      | inr ne ↦ filter_skips (is_of_rider k) (Pick i) rest (ne_eqb i k ne) ∙ c.rides k h
+      | inr ne ↦ skips (is_of_rider k) (Pick i) rest (ne_eqb i k ne) ∙ c.rides k h
           ∙ rw (has-with_other done i k (λ q. ne (sym q)), has-with_other done i (6 + k) (λ q. omega arith)) refl
     ];
     alights = λ j h. c.alights j h ∙ rw (has-with_other done i (12 + j) (λ q. omega arith)) refl;
@@ -117,9 +111,9 @@ module _ (riders passengers done : ℕ) (few : riders ≤ 6) where
   Completes-back (Drop i) rest next c = record {
     rides = λ k h. elim (cases_eq i k) [
       | inl e ↦ subst (λ n. filter (is_of_rider n) (Drop i ∷ rest) ≡ left_of_rider (has done n) (has done (6 + n)) n) e
-          (filter_takes (is_of_rider i) (Drop i) rest (same i) ∙ ap (λ xs. Drop i ∷ xs) (c.rides i next.0)
+          (takes (is_of_rider i) (Drop i) rest (same i) ∙ ap (λ xs. Drop i ∷ xs) (c.rides i next.0)
           ∙ rw (has-with_same done (6 + i), next.1, next.2) refl)
-      | inr ne ↦ filter_skips (is_of_rider k) (Drop i) rest (ne_eqb i k ne) ∙ c.rides k h
+      | inr ne ↦ skips (is_of_rider k) (Drop i) rest (ne_eqb i k ne) ∙ c.rides k h
           ∙ rw (has-with_other done (6 + i) k (λ q. omega arith), has-with_other done (6 + i) (6 + k) (λ q. ne (omega arith))) refl
     ];
     alights = λ j h. c.alights j h ∙ rw (has-with_other done (6 + i) (12 + j) (λ q. omega arith)) refl;
@@ -129,9 +123,9 @@ module _ (riders passengers done : ℕ) (few : riders ≤ 6) where
     rides = λ k h. c.rides k h ∙ rw (has-with_other done (12 + j) k (λ q. omega arith), has-with_other done (12 + j) (6 + k) (λ q. omega arith)) refl;
     alights = λ k h. elim (cases_eq j k) [
       | inl e ↦ subst (λ n. filter (is_of_passenger n) (Alight j ∷ rest) ≡ left_of_passenger (has done (12 + n)) n) e
-          (filter_takes (is_of_passenger j) (Alight j) rest (same j) ∙ ap (λ xs. Alight j ∷ xs) (c.alights j next.0)
+          (takes (is_of_passenger j) (Alight j) rest (same j) ∙ ap (λ xs. Alight j ∷ xs) (c.alights j next.0)
           ∙ rw (has-with_same done (12 + j), next.1) refl)
-      | inr ne ↦ filter_skips (is_of_passenger k) (Alight j) rest (ne_eqb j k ne) ∙ c.alights k h
+      | inr ne ↦ skips (is_of_passenger k) (Alight j) rest (ne_eqb j k ne) ∙ c.alights k h
           ∙ rw (has-with_other done (12 + j) (12 + k) (λ q. ne (omega arith))) refl
     ];
     known = (next.0, c.known);
@@ -179,30 +173,20 @@ IsOrder-from_none riders passengers stops c = record {
 pub sum_below-le : (f g : ℕ → ℕ) (n : ℕ) → ((k : ℕ) → k < n → g k ≤ f k) → sum_below g n ≤ sum_below f n
 sum_below-le f g zero h = omega arith
 sum_below-le f g (suc n) h =
-    let rest = sum_below-le f g n (λ k b. h k (omega arith)) in
-    let last : g n ≤ f n = h n (omega arith) in
-    omega (arith, rest, last)
+    omega (arith, sum_below-le f g n (λ k b. h k (omega arith)), h n (omega arith))
 
 -- where one term falls by one and no other rises, the sum falls
-sum_below-falls : (f g : ℕ → ℕ) (n i : ℕ) → i < n → ((k : ℕ) → k < n → g k ≤ f k) → g i + 1 ≤ f i → sum_below g n + 1 ≤ sum_below f n
+sum_below-falls : (f g : ℕ → ℕ) (n i : ℕ) → i < n → ((k : ℕ) → k < n → (k ≡ i → ⊥) → g k ≤ f k) → g i + 1 ≤ f i → sum_below g n + 1 ≤ sum_below f n
 sum_below-falls f g zero i b h fall = absurd (omega arith)
 sum_below-falls f g (suc n) i b h fall = elim (cases_eq i n) [
-  | inl e ↦
-      let rest : sum_below g n ≤ sum_below f n = sum_below-le f g n (λ k q. h k (omega arith)) in
-      let last : g n + 1 ≤ f n = subst (λ k. g k + 1 ≤ f k) e fall in
-      omega arith
-  | inr ne ↦
-      let rest : sum_below g n + 1 ≤ sum_below f n = sum_below-falls f g n i (omega arith) (λ k q. h k (omega arith)) fall in
-      let last : g n ≤ f n = h n (omega arith) in
-      omega arith
+  | inl e ↦ omega (arith, sum_below-le f g n (λ k q. h k (omega arith) (λ s. omega arith)), subst (λ k. g k + 1 ≤ f k) e fall)
+  | inr ne ↦ omega (arith, sum_below-falls f g n i (omega arith) (λ k q. h k (omega arith)) fall, h n (omega arith) (λ s. ne (sym s)))
 ]
 
 sum_below-most : (f : ℕ → ℕ) (most n : ℕ) → ((k : ℕ) → f k ≤ most) → sum_below f n ≤ n * most
 sum_below-most f most zero h = omega arith
 sum_below-most f most (suc n) h =
-    let rest = sum_below-most f most n h in
-    let last : f n ≤ most = h n in
-    omega (arith, rest, last)
+    omega (arith, sum_below-most f most n h, h n)
 
 -- a stop that is done is one less to do
 pub left_count-falls : (riders passengers done : ℕ) → riders ≤ 6 → (s : Stop) → IsNextStop riders passengers done s → left_count riders passengers (with_stop done s) + 1 ≤ left_count riders passengers done
@@ -211,10 +195,7 @@ left_count-falls riders passengers done few (Pick i) next =
     let here : length (left_of_rider (has (with_bit done i) i) (has (with_bit done i) (6 + i)) i) + 1 ≤ length (left_of_rider (has done i) (has done (6 + i)) i) =
     rw (has-with_same done i, has-with_other done i (6 + i) (λ q. omega arith), next.1, next.2) (omega arith) in
     let fall = sum_below-falls (λ k. length (left_of_rider (has done k) (has done (6 + k)) k)) (λ k. length (left_of_rider (has (with_bit done i) k) (has (with_bit done i) (6 + k)) k)) riders i next.0
-    (λ k h. elim (cases_eq k i) [
-      | inl e ↦ subst (λ n. length (left_of_rider (has (with_bit done i) n) (has (with_bit done i) (6 + n)) n) ≤ length (left_of_rider (has done n) (has done (6 + n)) n)) (sym e) (omega (arith, here))
-      | inr ne ↦ rw (has-with_other done i k ne, has-with_other done i (6 + k) (λ q. omega arith)) (omega arith)
-    ]) here in
+    (λ k l ne. rw (has-with_other done i k ne, has-with_other done i (6 + k) (λ q. omega arith)) (omega arith)) here in
     let keep = sum_below-le (λ j. length (left_of_passenger (has done (12 + j)) j)) (λ j. length (left_of_passenger (has (with_bit done i) (12 + j)) j)) passengers
     (λ j h. rw (has-with_other done i (12 + j) (λ q. omega arith)) (omega arith)) in
     omega (arith, fall, keep)
@@ -222,10 +203,7 @@ left_count-falls riders passengers done few (Drop i) next =
     let here : length (left_of_rider (has (with_bit done (6 + i)) i) (has (with_bit done (6 + i)) (6 + i)) i) + 1 ≤ length (left_of_rider (has done i) (has done (6 + i)) i) =
     rw (has-with_same done (6 + i), next.1, next.2) (omega arith) in
     let fall = sum_below-falls (λ k. length (left_of_rider (has done k) (has done (6 + k)) k)) (λ k. length (left_of_rider (has (with_bit done (6 + i)) k) (has (with_bit done (6 + i)) (6 + k)) k)) riders i next.0
-    (λ k h. elim (cases_eq k i) [
-      | inl e ↦ subst (λ n. length (left_of_rider (has (with_bit done (6 + i)) n) (has (with_bit done (6 + i)) (6 + n)) n) ≤ length (left_of_rider (has done n) (has done (6 + n)) n)) (sym e) (omega (arith, here))
-      | inr ne ↦ rw (has-with_other done (6 + i) k (λ q. omega arith), has-with_other done (6 + i) (6 + k) (λ q. ne (omega arith))) (omega arith)
-    ]) here in
+    (λ k l ne. rw (has-with_other done (6 + i) k (λ q. omega arith), has-with_other done (6 + i) (6 + k) (λ q. ne (omega arith))) (omega arith)) here in
     let keep = sum_below-le (λ j. length (left_of_passenger (has done (12 + j)) j)) (λ j. length (left_of_passenger (has (with_bit done (6 + i)) (12 + j)) j)) passengers
     (λ j h. rw (has-with_other done (6 + i) (12 + j) (λ q. omega arith)) (omega arith)) in
     omega (arith, fall, keep)
@@ -233,10 +211,7 @@ left_count-falls riders passengers done few (Alight j) next =
     let here : length (left_of_passenger (has (with_bit done (12 + j)) (12 + j)) j) + 1 ≤ length (left_of_passenger (has done (12 + j)) j) =
     rw (has-with_same done (12 + j), next.1) (omega arith) in
     let fall = sum_below-falls (λ k. length (left_of_passenger (has done (12 + k)) k)) (λ k. length (left_of_passenger (has (with_bit done (12 + j)) (12 + k)) k)) passengers j next.0
-    (λ k h. elim (cases_eq k j) [
-      | inl e ↦ subst (λ n. length (left_of_passenger (has (with_bit done (12 + j)) (12 + n)) n) ≤ length (left_of_passenger (has done (12 + n)) n)) (sym e) (omega (arith, here))
-      | inr ne ↦ rw (has-with_other done (12 + j) (12 + k) (λ q. ne (omega arith))) (omega arith)
-    ]) here in
+    (λ k l ne. rw (has-with_other done (12 + j) (12 + k) (λ q. ne (omega arith))) (omega arith)) here in
     let keep = sum_below-le (λ k. length (left_of_rider (has done k) (has done (6 + k)) k)) (λ k. length (left_of_rider (has (with_bit done (12 + j)) k) (has (with_bit done (12 + j)) (6 + k)) k)) riders
     (λ k h. rw (has-with_other done (12 + j) k (λ q. omega arith), has-with_other done (12 + j) (6 + k) (λ q. omega arith)) (omega arith)) in
     omega (arith, fall, keep)
@@ -246,9 +221,7 @@ pub length-Completes : (riders passengers done : ℕ) → riders ≤ 6 → (rest
 length-Completes riders passengers done few [] c = omega arith
 length-Completes riders passengers done few (s ∷ rest) c =
     let front = Completes-front riders passengers done few s rest c in
-    let less : length rest ≤ left_count riders passengers (with_stop done s) = length-Completes riders passengers (with_stop done s) few rest front.1 in
-    let fall : left_count riders passengers (with_stop done s) + 1 ≤ left_count riders passengers done = left_count-falls riders passengers done few s front.0 in
-    omega arith
+    omega (arith, length-Completes riders passengers (with_stop done s) few rest front.1, left_count-falls riders passengers done few s front.0)
 
 rider_stops-most : (picked dropped : Bool) (i : ℕ) → length (left_of_rider picked dropped i) ≤ 2
 rider_stops-most picked true i = omega arith

@@ -1,7 +1,7 @@
-use Rattle.std.proofs.Common.{◌≡◌, ℕ, ◌<◌, length, set, ℤ, sym, ap, ◌∙◌, subst, arith, w64, to_z, of_z}
+use Rattle.std.proofs.Common.{◌≡◌, ℕ, ◌<◌, length, set, ℤ, pos, sym, ap, ◌∙◌, subst, arith, w64, to_z, of_z}
 use Rattle.dual_bound.proofs.Common.{usable_of, multiplier_at, first_fit_below, IsModest}
 use Rattle.std.proofs.lemmas.Int.{to_z-of_z}
-use Rattle.dual_bound.proofs.lemmas.FirstFitLemmas.{first_fit_none, first_fit_more, first_fit_done, modest_zero, modest_set}
+use Rattle.dual_bound.proofs.lemmas.FirstFitLemmas.{first_fit_none, first_fit_more, first_fit_done, modest_zero, set_all}
 use Rattle.dual_bound.proofs.first_fit_pass.fit.Goals as goal
 
 pub loop-rider-init : goal.loop-rider-init
@@ -21,7 +21,7 @@ loop-rider-preserved c =
     let low : n < length ms = omega arith in
     record {
       value = λ r. ap (λ (z : ℤ). multiplier_at (set ms n z) r) back ∙ first_fit_more g u n ms m low c.loop-rider.invariant.value c.next_multiplier-next.ensures.value r;
-      modest = λ r. subst (λ (z : ℤ). IsModest (multiplier_at (set ms n z) r)) (sym back) (modest_set ms n m c.next_multiplier-next.ensures.modest c.loop-rider.invariant.modest low r);
+      modest = λ r. subst (λ (z : ℤ). IsModest (multiplier_at (set ms n z) r)) (sym back) (set_all (λ _ w. IsModest w) ms n m (pos 0) low c.next_multiplier-next.ensures.modest c.loop-rider.invariant.modest r);
     }
 
 pub returns-clause-value : goal.returns-clause-value
