@@ -24,6 +24,14 @@ held_riders rows held w k riders true none e = absurd (none-some k (sym none ∙
 held_riders rows held w k riders false found e =
     subst (λ (j : ℕ). (get_or rows j no_row).riders.items ≡ riders) (same_Some found.0 k (sym found.1 ∙ e)) found.2.trip
 
+-- what may be wrong where rows are good, in order, and held rightly
+only_memory : (g : Graph) (fault : GraphFault) → HasGoodRows g → HasRowsInOrder g → HasHeldRows g → IsGraphFault g fault → fault ≡ OutOfMemory
+only_memory g (Range row) rows order held h = absurd (h.wrong (rows row h.within))
+only_memory g (Order row) rows order held h = absurd (h.first.wrong (order h.first.previous (let n = h.first.next in let w = h.first.within in omega arith)))
+only_memory g (Held vehicle) rows order held (inl h) = absurd (h.wrong (held.holds vehicle (let w = h.within in omega arith)))
+only_memory g (Held vehicle) rows order held (inr h) = absurd (h.differs held.sized)
+only_memory g OutOfMemory rows order held h = refl
+
 module _ (most points : ℕ) (tau : ℕ → ℕ → ℕ) (settled : Settled) (subs : SubTripsAreServable) (delays : DelaysAreSmall) (few : most ≤ 6) (travel : IsTravelTime points tau) (sound : IsSound most points tau settled) where
   -- where a vehicle serves a trip, it serves its passengers alone
   alone_served : (v : ℕ) (trip : List ℕ) → v < length settled.vehicles → IsTrip (length settled.riders) trip → length trip ≤ 6
@@ -75,9 +83,8 @@ module _ (most points : ℕ) (tau : ℕ → ℕ → ℕ) (settled : Settled) (su
     holds_by v less true unserved none =
         holds_at g v None none (λ k own.
         let row = exact.right k own.within in
-        let size = row.served.size in
         let served = subst (λ (w : ℕ). IsServable tau (trip_task settled w (riders_at g k))) own.own row.served.servable in
-        unserved (alone_served v (riders_at g k) less row.served.riders (omega arith) served))
+        unserved (alone_served v (riders_at g k) less row.served.riders (omega (arith, row.served.size)) served))
     holds_by v less false served found =
         holds_at g v (Some found.0) found.1 (record { within = found.2.within; own = found.2.own }, none_earlier v found.0 less found.2)
 
@@ -87,19 +94,6 @@ module _ (most points : ℕ) (tau : ℕ → ℕ → ℕ) (settled : Settled) (su
       holds = λ v lt. let less : v < length settled.vehicles = omega arith in holds_by v less (vehicle_at settled v).late (sound.each v less).late (hold.each v less);
     }
 
--- what may be wrong where rows are good, in order, and held rightly
-only_memory : (g : Graph) (fault : GraphFault) → HasGoodRows g → HasRowsInOrder g → HasHeldRows g → IsGraphFault g fault → fault ≡ OutOfMemory
-only_memory g (Range row) rows order held h = absurd (h.wrong (rows row h.within))
-only_memory g (Order row) rows order held h = absurd (h.first.wrong (order h.first.previous (let n = h.first.next in let w = h.first.within in omega arith)))
-only_memory g (Held vehicle) rows order held (inl h) = absurd (h.wrong (held.holds vehicle (let w = h.within in omega arith)))
-only_memory g (Held vehicle) rows order held (inr h) = absurd (h.differs held.sized)
-only_memory g OutOfMemory rows order held h = refl
-
--- want of memory alone keeps such a graph from being made
-pub memory_only : (most points : ℕ) (tau : ℕ → ℕ → ℕ) (settled : Settled) → SubTripsAreServable → DelaysAreSmall → most ≤ 6 → IsTravelTime points tau → IsSound most points tau settled
-    → (g : Graph) → g.vehicles ≡ length settled.vehicles → g.riders ≡ length settled.riders → AreRowsUpTo most tau settled (length settled.vehicles) g.rows
-    → HoldRows settled (length settled.vehicles) g.rows g.held → AreInOrder g.rows → (fault : GraphFault) → IsGraphFault g fault → fault ≡ OutOfMemory
-memory_only most points tau settled subs delays few travel sound g vehicles riders exact hold order fault h =
-    only_memory g fault (good_rows most points tau settled subs delays few travel sound g vehicles riders exact hold)
-    (rows_in_order most points tau settled subs delays few travel sound g vehicles riders exact hold order)
-    (held_rows most points tau settled subs delays few travel sound g vehicles riders exact hold) h
+    -- want of memory alone keeps such a graph from being made
+    pub memory_only : AreInOrder g.rows → (fault : GraphFault) → IsGraphFault g fault → fault ≡ OutOfMemory
+    memory_only order fault h = only_memory g fault good_rows (rows_in_order order) held_rows h

@@ -21,17 +21,14 @@ total_none [] = refl
 total_none (lists ∷ levels) =
     let a = sum_by-cons (λ (ls : List (List TripOf)). row_total (take 0 ls)) lists levels in
     let z : row_total (take 0 lists) ≡ 0 = refl in
-    let b = total_none levels in
-    omega arith
+    omega (arith, total_none levels)
 
 pub total_few : (levels : List (List (List TripOf))) (n : ℕ) → total_upto levels n ≤ level_total levels
 total_few [] n = omega arith
 total_few (lists ∷ levels) n =
     let a = sum_by-cons (λ (ls : List (List TripOf)). row_total (take n ls)) lists levels in
-    let b = sum_by-cons row_total lists levels in
     let one = sum_by-take-le (λ (rows : List TripOf). length rows) lists n in
-    let rest = total_few levels n in
-    omega arith
+    omega (arith, total_few levels n, sum_by-cons row_total lists levels)
 
 -- of one vehicle more, which may have no list
 one_more_list : (lists : List (List TripOf)) (v : ℕ) → row_total (take (v + 1) lists) ≡ row_total (take v lists) + length (get_or lists v [])
@@ -40,10 +37,7 @@ one_more_list lists v = elim (cases_lt v (length lists)) as (λ _. row_total (ta
   | inr ge ↦
       let long = take_all (v + 1) lists (omega arith) in
       let same = take_all v lists ge in
-      let none : length (get_or lists v []) ≡ 0 = ap length (get_or_past lists v [] ge) in
-      let a = ap row_total long in
-      let b = ap row_total same in
-      omega arith
+      omega (arith, ap row_total same, ap row_total long, ap length (get_or_past lists v [] ge))
 ]
 
 pub total_step : (levels : List (List (List TripOf))) (v : ℕ) → total_upto levels (v + 1) ≡ total_upto levels v + length (vehicle_rows levels v)
@@ -52,12 +46,9 @@ total_step (lists ∷ levels) v =
     let f : List (List TripOf) → List TripRow = λ ls. map (trip_row v) (get_or ls v []) in
     let a = sum_by-cons (λ (ls : List (List TripOf)). row_total (take (v + 1) ls)) lists levels in
     let b = sum_by-cons (λ (ls : List (List TripOf)). row_total (take v ls)) lists levels in
-    let rest = total_step levels v in
-    let more = one_more_list lists v in
     let long : length (vehicle_rows (lists ∷ levels) v) ≡ length (f lists) + length (vehicle_rows levels v) =
     ap length (flat_map-cons f lists levels) ∙ length-append (f lists) (vehicle_rows levels v) in
-    let same = length-map (get_or lists v []) (trip_row v) in
-    omega arith
+    omega (arith, length-map (get_or lists v []) (trip_row v), one_more_list lists v, total_step levels v)
 
 -- all vehicles together have all rows
 pub total_all : (levels : List (List (List TripOf))) (n : ℕ) → ((k : ℕ) → k < length levels → length (get_or levels k []) ≤ n) → total_upto levels n ≡ level_total levels
@@ -78,10 +69,9 @@ module _ (most : ℕ) (tau : ℕ → ℕ → ℕ) (settled : Settled) where
   own_level v size rows below level k d lt =
       let within : k < length rows = (let e = length-map rows (trip_row v) in omega arith) in
       let right = level.right k no_trip within in
-      let sized = level.sized k no_trip within in
       let served = right.served in
       rw (get_or-map (trip_row v) rows k no_trip d within)
-      (record { own = refl; right = record { served = record { vehicle = served.vehicle; riders = served.riders; size = omega arith; servable = served.servable }; least = right.least } })
+      (record { own = refl; right = record { served = record { vehicle = served.vehicle; riders = served.riders; size = omega (arith, level.sized k no_trip within); servable = served.servable }; least = right.least } })
 
   pub own_rows : (v : ℕ) (levels : List (List (List TripOf))) → length levels ≤ most + 1
       → ((k : ℕ) → k < length levels → AreSomeRows tau settled v (λ n. n ≡ k) (get_or (get_or levels k []) v [])) → All (IsOwn v) (vehicle_rows levels v)
@@ -108,11 +98,10 @@ module _ (most : ℕ) (tau : ℕ → ℕ → ℕ) (settled : Settled) where
       let found = level.whole trip refl (record { vehicle = less; riders = is_trip; size = omega arith; servable = servable }) in
       let within : found.0 < length rows = (let e = length-map rows g in let h = found.1 in omega arith) in
       let inside : found.0 < length (f (get_or levels n [])) = (let e = length-map rows (trip_row v) in omega arith) in
-      let bound = length-flat_map-take f levels n [] lt in
       let at = get_or-flat_map f levels n found.0 [] no_row lt inside in
       let item : (get_or (map (trip_row v) rows) found.0 no_row).riders.items ≡ trip =
       ap (λ (r : TripRow). r.riders.items) (get_or-map (trip_row v) rows found.0 no_trip no_row within) ∙ sym (get_or-map g rows found.0 no_trip trip within) ∙ found.2 in
-      (length (flat_map f (take n levels)) + found.0, omega arith, ap (λ (r : TripRow). r.riders.items) at ∙ item)
+      (length (flat_map f (take n levels)) + found.0, omega (arith, length-flat_map-take f levels n [] lt), ap (λ (r : TripRow). r.riders.items) at ∙ item)
 
   pub rows_none : AreRowsUpTo most tau settled 0 []
   rows_none = record { right = λ k lt. absurd (omega arith); below = λ k lt. absurd (omega arith); whole = λ v trip lt. absurd (omega arith) }
@@ -213,10 +202,9 @@ module _ (most : ℕ) (tau : ℕ → ℕ → ℕ) (settled : Settled) where
       (λ e. after.whole v vehicle.held.items (omega arith) sound.held sound.held_size (can_hold vehicle.late v vehicle.held.items sound.late sound.held_servable e))
       (λ k lt is. elim (cases_lt k (length rows)) as (λ _. length rows ≤ k) [
         | inl lower ↦
-            let b = before.below k lower in
             let e : get_or (rows ++ new) k no_row ≡ get_or rows k no_row = get_or_append_left rows new no_row k lower in
             let f : (get_or rows k no_row).vehicle ≡ v = ap (λ (r : TripRow). r.vehicle) (sym e) ∙ is in
-            absurd (omega arith)
+            absurd (omega (arith, before.below k lower))
         | inr ge ↦ ge
       ])
       (λ k ge lt. rw (get_or-append_right rows new (length rows) k no_row refl ge) ((own (k - length rows) no_row (omega arith)).own)) in
@@ -252,9 +240,7 @@ module _ (most : ℕ) (tau : ℕ → ℕ → ℕ) (settled : Settled) where
   pub total_more : (v : ℕ) (levels : List (List (List TripOf))) (rows : List TripRow) → AreLevels tau settled (most + 1) levels → v < length settled.vehicles → length rows ≡ total_upto levels v
       → length (rows ++ vehicle_rows levels v) ≡ total_upto levels (v + 1)
   total_more v levels rows all less so_far =
-      let a = length-append rows (vehicle_rows levels v) in
-      let b = total_step levels v in
-      omega arith
+      omega (arith, total_step levels v, length-append rows (vehicle_rows levels v))
 
 -- the rows of all vehicles
 rows_of_all : (most : ℕ) (tau : ℕ → ℕ → ℕ) (settled : Settled) (rows : List TripRow) → AreRowsUpTo most tau settled (length settled.vehicles) rows → AreRowsOf most tau settled rows

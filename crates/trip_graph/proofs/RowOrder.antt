@@ -104,8 +104,7 @@ module _ (tau : ℕ → ℕ → ℕ) (settled : Settled) (v : ℕ) where
             let sized = own.sized i no_trip (omega arith) in
             let at = get_or-map (trip_row v) (get_or lists v []) i no_trip no_row (omega arith) in
             let o = rest.1 j no_row less in
-            let large = o.large in
-            rw at (by_size (trip_row v (get_or (get_or lists v []) i no_trip)) (get_or (vehicle_rows levels v) j no_row) (sym o.own) (omega arith))),
+            rw at (by_size (trip_row v (get_or (get_or lists v []) i no_trip)) (get_or (vehicle_rows levels v) j no_row) (sym o.own) (omega (arith, o.large)))),
         All-append (IsFrom v least) (f lists) (vehicle_rows levels v) low (λ k d lt. let o = rest.1 k d lt in record { own = o.own; large = (let l = o.large in omega arith) }),
       )
 

@@ -35,9 +35,8 @@ module _ (tau : ℕ → ℕ → ℕ) (settled : Settled) where
     is_edge : (k : ℕ) → k < length rows → IsRvEdge tau settled v (rider_at k)
     is_edge k lt =
         let served = (own.some.right k no_trip lt).served in
-        let sized = own.some.sized k no_trip lt in
         subst (λ (t : List ℕ). CanServe 1 tau settled v t) (trip_is k lt)
-        (record { vehicle = served.vehicle; riders = served.riders; size = omega arith; servable = served.servable })
+        (record { vehicle = served.vehicle; riders = served.riders; size = omega (arith, own.some.sized k no_trip lt); servable = served.servable })
 
     rises : (i j : ℕ) → i < j → j < length rows → rider_at i < rider_at j
     rises i j less lt =
@@ -49,8 +48,7 @@ module _ (tau : ℕ → ℕ → ℕ) (settled : Settled) where
 
     is_row : (r : ℕ) → IsRvEdge tau settled v r → (k : ℕ) × (k < length rows) × (rider_at k ≡ r)
     is_row r e =
-        let size = e.size in
-        let found = own.whole (r ∷ []) refl (record { vehicle = e.vehicle; riders = e.riders; size = omega arith; servable = e.servable }) in
+        let found = own.whole (r ∷ []) refl (record { vehicle = e.vehicle; riders = e.riders; size = omega (arith, e.size); servable = e.servable }) in
         let k = found.0 in
         let lt : k < length rows = (let w = found.1 in let n = length-map rows (λ (row : TripOf). row.riders.items) in omega arith) in
         (k, lt, ap (λ (t : List ℕ). get_or t 0 0) (sym (get_or-map (λ (row : TripOf). row.riders.items) rows k no_trip (r ∷ []) lt) ∙ found.2))
@@ -88,8 +86,7 @@ module _ (tau : ℕ → ℕ → ℕ) (settled : Settled) where
     none_behind r low e =
         let found = is_row r e in
         let b = row_before (length rows) found.0 found.1 (omega arith) in
-        let is = found.2 in
-        absurd (omega arith)
+        absurd (omega (arith, found.2))
 
     lists_rows : (xs : List RvEdge) → Lists v 0 xs → (k : ℕ) → k ≤ length rows → Lists v (from k) (xs ++ map (single_edge v) (take k rows))
     lists_rows xs l zero le = rw (append-nil xs) l

@@ -12,20 +12,18 @@ read_level tau settled sizes k at levels lists all lt same is =
 pub returns-then-first-room : goal.returns-then-first-room
 returns-then-first-room g c =
     let tau = travel_time c.args.growth.now.times.now in
-    let settled = c.args.growth.now.settled.now in
     let first = c.in_ok-first.ensures in
-    step.more_of_first tau settled c.args.most c.args.room c.in_ok-first.first.lists.items c.requires.most first.level (let a = c.if-first-room.true in let b = first.total in omega arith)
+    step.more_of_first tau c.args.growth.now.settled.now c.args.most c.args.room c.in_ok-first.first.lists.items c.requires.most first.level (let a = c.if-first-room.true in let b = first.total in omega arith)
 
 pub loop-size-init : goal.loop-size-init
 loop-size-init g c =
     let tau = travel_time c.args.growth.now.times.now in
-    let settled = c.args.growth.now.settled.now in
     let lists = c.in_ok-first.first.lists.items in
     let first = c.in_ok-first.ensures in
     let fits = c.if-first-room.false in
     let items : c.push.new.self.items ≡ lists ∷ [] = rw (c.in_ok-push.ensures.items, c.in_ok-levels.ensures.items, c.of.ensures) refl in
     record {
-      levels = rw items (step.levels_one tau settled lists first.level);
+      levels = rw items (step.levels_one tau c.args.growth.now.settled.now lists first.level);
       counted = rw items (let t = first.total in omega arith);
       fits = omega arith;
     }
@@ -38,16 +36,14 @@ next_level-requires-clause-below g c κs within =
 pub returns-in_default : goal.returns-in_default
 returns-in_default g c =
     let tau = travel_time c.args.growth.now.times.now in
-    let settled = c.args.growth.now.settled.now in
     let inv = c.loop-size.invariant in
     let more = rw c.in_default.is at c.in_ok-next.ensures in
-    step.more_of_next tau settled c.args.most c.args.room (c.args.room - c.loop-size.total) (c.loop-size.size + 1) c.loop-size.levels.items c.requires.most inv.levels more
+    step.more_of_next tau c.args.growth.now.settled.now c.args.most c.args.room (c.args.room - c.loop-size.total) (c.loop-size.size + 1) c.loop-size.levels.items c.requires.most inv.levels more
     (let t = c.loop-size-test.true in omega arith) (let h = inv.counted in let f = inv.fits in omega arith)
 
 pub loop-size-preserved : goal.loop-size-preserved
 loop-size-preserved g c =
     let tau = travel_time c.args.growth.now.times.now in
-    let settled = c.args.growth.now.settled.now in
     let inv = c.loop-size.invariant in
     let levels = c.loop-size.levels.items in
     let lists = c.in-Some.next.lists.items in
@@ -56,7 +52,7 @@ loop-size-preserved g c =
     let fits = inv.fits in
     let more = went.2 in
     record {
-      levels = rw items (step.levels_more tau settled (c.loop-size.size + 1) levels lists inv.levels went.0);
+      levels = rw items (step.levels_more tau c.args.growth.now.settled.now (c.loop-size.size + 1) levels lists inv.levels went.0);
       counted = rw items (let t = step.total_level levels lists in let h = inv.counted in let g = went.1 in omega arith);
       fits = omega arith;
     }

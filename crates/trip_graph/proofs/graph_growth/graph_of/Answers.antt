@@ -24,7 +24,6 @@ loop-vehicle-preserved c =
     let levels = c.args.levels.now in
     let v = c.loop-vehicle.vehicle in
     let rows = c.loop-vehicle.rows.items in
-    let held = c.loop-vehicle.held.items in
     let inv = c.loop-vehicle.invariant in
     let few : most ≤ 6 = (let r = c.args.settings.now.in_range.trip_range.1 in omega arith) in
     let count = ap length c.as_slice-vehicles.ensures in
@@ -40,24 +39,20 @@ loop-vehicle-preserved c =
       exact = rw items (step.rows_more most tau settled v levels rows c.requires.levels few less inv.exact);
       order = rw items (more_in_order tau settled v levels rows (step.some_of_levels most tau settled v levels c.requires.levels less) inv.exact.below inv.order);
       hold = rw (c.in_ok-push.ensures.items, items)
-          (step.hold_more most tau settled (point_count c.args.times.now) v levels rows held c.held_row.result c.requires.levels few less (c.requires.sound.each v less) inv.exact inv.hold found);
+          (step.hold_more most tau settled (point_count c.args.times.now) v levels rows c.loop-vehicle.held.items c.held_row.result c.requires.levels few less (c.requires.sound.each v less) inv.exact inv.hold found);
       total = rw items (step.total_more most tau settled v levels rows c.requires.levels less inv.total);
     }
 
 pub held_row-requires-clause-few : goal.held_row-requires-clause-few
 held_row-requires-clause-few c =
-    let most = c.args.settings.now.trip in
     let tau = travel_time c.args.times.now in
     let levels = c.args.levels.now in
     let v = c.loop-vehicle.vehicle in
     let count = ap length c.as_slice-vehicles.ensures in
     let items = c.in_ok-add_vehicle.ensures in
-    let total = step.total_more most tau c.args.settled.now v levels c.loop-vehicle.rows.items c.requires.levels (let t = c.loop-vehicle-test.true in omega arith) c.loop-vehicle.invariant.total in
-    let few = step.total_few levels (v + 1) in
-    let bound = c.requires.few in
-    let range = c.args.settings.now.in_range.pairs_range.1 in
+    let total = step.total_more c.args.settings.now.trip tau c.args.settled.now v levels c.loop-vehicle.rows.items c.requires.levels (let t = c.loop-vehicle-test.true in omega arith) c.loop-vehicle.invariant.total in
     let long = ap length (c.deref.ensures.value ∙ items) in
-    omega arith
+    omega (arith, c.args.settings.now.in_range.pairs_range.1, c.requires.few, step.total_few levels (v + 1))
 
 pub memory_of-requires : goal.memory_of-requires
 memory_of-requires c =
@@ -103,11 +98,8 @@ returns-in-Ok c =
     let end = c.loop-vehicle.auto.vehicle-end in
     let stop = c.loop-vehicle-test.false in
     let e : c.loop-vehicle.vehicle ≡ length settled.vehicles = omega arith in
-    let few = step.total_few c.args.levels.now c.loop-vehicle.vehicle in
-    let total = inv.total in
-    let bound = c.requires.few in
     step.graph_right settings tau settled c.in-Ok.graph (length c.as_slice-vehicles.result.now) (length c.as_slice-riders.result.now) rows c.loop-vehicle.held.items
     c.in-Ok.ensures.value c.in-Ok.ensures.good count (ap length c.as_slice-riders.ensures)
     (subst (λ (n : ℕ). AreRowsUpTo settings.trip tau settled n rows) e inv.exact)
     (subst (λ (n : ℕ). HoldRows settled n rows c.loop-vehicle.held.items) e inv.hold)
-    (omega arith)
+    (omega (arith, c.requires.few, inv.total, step.total_few c.args.levels.now c.loop-vehicle.vehicle))

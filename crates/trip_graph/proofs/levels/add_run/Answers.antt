@@ -12,11 +12,7 @@ skip_to-requires-clause-on c =
     let inv = c.loop-level.invariant in
     let gives = c.into_iter-level-iterator.ensures.into_iter_gives in
     let t = YieldsList-turn (YieldsList-from_vec {s = c.into_iter-level-iterator.result} c.args.levels.items gives.0 (gives.1 ∙ c.args.levels.ok.0)) c.loop-level.yielded c.loop-level.level-iterator c.loop-level.yielded_by c.next.result c.next.new.self c.in-Some.level c.in-Some.is c.next.ensures.steps in
-    let number = inv.number in
-    let count = c.requires.levels.count in
-    let here = t.0 in
-    let lt : c.loop-level.number < length run.vehicles.now = omega arith in
-    (next_first run.below.now (length c.loop-level.lists.items) c.loop-level.number run.vehicles.now c.args.end inv.next lt).on
+    (next_first run.below.now (length c.loop-level.lists.items) c.loop-level.number run.vehicles.now c.args.end inv.next (omega (arith, t.0, c.requires.levels.count, inv.number))).on
 
 pub skip_to-requires-clause-empty : goal.skip_to-requires-clause-empty
 skip_to-requires-clause-empty c =
@@ -24,11 +20,7 @@ skip_to-requires-clause-empty c =
     let inv = c.loop-level.invariant in
     let gives = c.into_iter-level-iterator.ensures.into_iter_gives in
     let t = YieldsList-turn (YieldsList-from_vec {s = c.into_iter-level-iterator.result} c.args.levels.items gives.0 (gives.1 ∙ c.args.levels.ok.0)) c.loop-level.yielded c.loop-level.level-iterator c.loop-level.yielded_by c.next.result c.next.new.self c.in-Some.level c.in-Some.is c.next.ensures.steps in
-    let number = inv.number in
-    let count = c.requires.levels.count in
-    let here = t.0 in
-    let lt : c.loop-level.number < length run.vehicles.now = omega arith in
-    (next_first run.below.now (length c.loop-level.lists.items) c.loop-level.number run.vehicles.now c.args.end inv.next lt).empty
+    (next_first run.below.now (length c.loop-level.lists.items) c.loop-level.number run.vehicles.now c.args.end inv.next (omega (arith, t.0, c.requires.levels.count, inv.number))).empty
 
 pub returns-in_default : goal.returns-in_default
 returns-in_default c =
@@ -47,11 +39,7 @@ returns-in_default c =
     let known = c.requires.vehicles k (omega arith) in
     let total = c.requires.can.rows.total in
     let lt : v < length settled.vehicles = omega arith in
-    let same = c.in_ok-skip_to.ensures.total in
-    let counted = inv.counted in
-    let grows = inv.grows in
-    let fits = c.requires.fits in
-    step.more_than_left tau settled (run.size + 1) run.room (run.room - run.found) v c.skip_to.new.lists.items c.in_ok-skip_to.ensures.level (rw c.in_default.is at own) lt (omega arith)
+    step.more_than_left tau settled (run.size + 1) run.room (run.room - run.found) v c.skip_to.new.lists.items c.in_ok-skip_to.ensures.level (rw c.in_default.is at own) lt (omega (arith, c.requires.fits, inv.grows, inv.counted, c.in_ok-skip_to.ensures.total))
 
 pub returns-then-more-run : goal.returns-then-more-run
 returns-then-more-run c =
@@ -70,14 +58,9 @@ returns-then-more-run c =
     let known = c.requires.vehicles k (omega arith) in
     let total = c.requires.can.rows.total in
     let lt : v < length settled.vehicles = omega arith in
-    let same = c.in_ok-skip_to.ensures.total in
-    let counted = inv.counted in
     let trips = c.in-All.trips in
     let all = (rw c.in-All.is at own).0 in
-    let long : length c.rows.result.now ≡ length trips = ap length c.rows.ensures in
-    let more = c.if-more-run.true in
-    let fits = inv.fits in
-    step.more_than_room tau settled (run.size + 1) run.room v c.skip_to.new.lists.items trips c.in_ok-skip_to.ensures.level all.some lt (omega arith)
+    step.more_than_room tau settled (run.size + 1) run.room v c.skip_to.new.lists.items trips c.in_ok-skip_to.ensures.level all.some lt (omega (arith, inv.fits, c.if-more-run.true, inv.counted, c.in_ok-skip_to.ensures.total, ap length c.rows.ensures))
 
 pub loop-level-preserved : goal.loop-level-preserved
 loop-level-preserved c =
@@ -132,7 +115,4 @@ skip_to-requires-2-clause-empty c =
     let inv = c.loop-level.invariant in
     let gives = c.into_iter-level-iterator.ensures.into_iter_gives in
     let e = YieldsList-end (YieldsList-from_vec {s = c.into_iter-level-iterator.result} c.args.levels.items gives.0 (gives.1 ∙ c.args.levels.ok.0)) c.loop-level.yielded c.loop-level.level-iterator c.loop-level.yielded_by c.next.result c.next.new.self c.in-None.is c.next.ensures.steps in
-    let number = inv.number in
-    let count = c.requires.levels.count in
-    let all = e.1 in
-    next_last run.below.now (length c.loop-level.lists.items) c.loop-level.number run.vehicles.now c.args.end inv.next (omega arith)
+    next_last run.below.now (length c.loop-level.lists.items) c.loop-level.number run.vehicles.now c.args.end inv.next (omega (arith, e.1, c.requires.levels.count, inv.number))

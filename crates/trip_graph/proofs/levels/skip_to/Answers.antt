@@ -30,7 +30,5 @@ pub returns-clause-level : goal.returns-clause-level
 returns-clause-level c =
     let run = c.args.run.now in
     let inv = c.loop-vehicle.invariant in
-    let stop = c.loop-vehicle-test.false in
-    let last = inv.end in
-    let e : c.loop-vehicle._vehicle ≡ c.args.end = omega arith in
+    let e : c.loop-vehicle._vehicle ≡ c.args.end = omega (arith, inv.end, c.loop-vehicle-test.false) in
     subst (λ (n : ℕ). AreLevelsUpTo (tau_of run.growth.now) (batch_of run.growth.now) (run.size + 1) n c.loop-vehicle.lists.items) e inv.level

@@ -8,9 +8,7 @@ level_piece-requires-clause-below c =
     let run = c.args.self.now in
     let settled = batch_of run.growth.now in
     let can = c.requires.0 in
-    let total = can.rows.total in
     let own = c.requires.3 in
     let v : ℕ = get_or run.vehicles.now c.args.piece 0 in
-    let lt : v < length settled.vehicles = omega arith in
     let rows : List TripOf = get_or run.below.now v c.index-self-vehicle.result in
-    step.read_below (tau_of run.growth.now) settled run.size (length settled.vehicles) v run.below.now rows can.rows lt (get_or_default run.below.now v c.index-self-vehicle.result rows own)
+    step.read_below (tau_of run.growth.now) settled run.size (length settled.vehicles) v run.below.now rows can.rows (omega (arith, can.rows.total)) (get_or_default run.below.now v c.index-self-vehicle.result rows own)
