@@ -1,17 +1,8 @@
 -- Lines of a block, one more at a time.
 use Rattle.std.proofs.Common.{◌≡◌, ℕ, true, List, [], ◌∷◌, ◌++◌, map, refl, sym, ap, ◌∙◌, subst, append_assoc, append-nil, arith}
-use Rattle.report_lines.proofs.Common.{and_from, and_parts, flat_map-append, map-append, All-append, All-cons, lines_text, BeginsBlock, block_line_text, IsBlockLine, kind_place, may_follow_at, follow_on, last_place, BlockLine}
+use Rattle.report_lines.proofs.Common.{and_from, flat_map-append, map-append, All-append, All-cons, lines_text, BeginsBlock, block_line_text, IsBlockLine, kind_place, may_follow_at, last_place, BlockLine}
 use Rattle.std.specs.List.{flat_map}
-
-follow_more : (place : ℕ) (lines : List BlockLine) (line : BlockLine) → follow_on place lines ≡ true → may_follow_at (last_place place lines) line ≡ true → follow_on place (lines ++ line ∷ []) ≡ true
-follow_more place [] line all next = and_from (may_follow_at place line) true next refl
-follow_more place (l ∷ ls) line all next =
-    let parts = and_parts (may_follow_at place l) (follow_on (kind_place l) ls) all in
-    and_from (may_follow_at place l) (follow_on (kind_place l) (ls ++ line ∷ [])) parts.0 (follow_more (kind_place l) ls line parts.1 next)
-
-last_more : (place : ℕ) (lines : List BlockLine) (line : BlockLine) → last_place place (lines ++ line ∷ []) ≡ kind_place line
-last_more place [] line = refl
-last_more place (l ∷ ls) line = last_more (kind_place l) ls line
+use Rattle.report_lines.proofs.lemmas.OutcomeLemmas.{follow_join, last_join}
 
 text_more : (lines : List BlockLine) (line : BlockLine) → lines_text (map block_line_text (lines ++ line ∷ [])) ≡ lines_text (map block_line_text lines) ++ (block_line_text line ++ 10 ∷ [])
 unfolding lines_text
@@ -32,8 +23,8 @@ block_begins text lines e = subst (λ (ls : List BlockLine). BlockSoFar text ls 
     start : BlockSoFar text [] text 0
     start = record { begins = record { whole = refl; lawful = λ k d within. absurd (omega arith); order = refl }; at = refl }
 
-pub block_more : (text : List ℕ) (lines : List BlockLine) (rest : List ℕ) (place : ℕ) (line : List ℕ) (after : List ℕ) (x : BlockLine) (new : List BlockLine) (next : ℕ) → BlockSoFar text lines rest place → rest ≡ line ++ 10 ∷ after → IsBlockLine x → line ≡ block_line_text x → may_follow_at place x ≡ true → next ≡ kind_place x → new ≡ lines ++ x ∷ [] → BlockSoFar text new after next
-block_more text lines rest place line after x new next so cut lawful is follows there e =
+pub block_more : {text : List ℕ} {lines : List BlockLine} {rest : List ℕ} {place : ℕ} {line : List ℕ} {after : List ℕ} (x : BlockLine) {new : List BlockLine} {next : ℕ} → BlockSoFar text lines rest place → rest ≡ line ++ 10 ∷ after → IsBlockLine x → line ≡ block_line_text x → may_follow_at place x ≡ true → next ≡ kind_place x → new ≡ lines ++ x ∷ [] → BlockSoFar text new after next
+block_more {text} {lines} {rest} {place} {line} {after} x {new} {next} so cut lawful is follows there e =
     subst (λ (ls : List BlockLine). BlockSoFar text ls after next) (sym e)
     (record {
       begins = record {
@@ -42,7 +33,7 @@ block_more text lines rest place line after x new next so cut lawful is follows 
             ∙ sym (append_assoc (lines_text (map block_line_text lines)) (block_line_text x ++ 10 ∷ []) after)
             ∙ ap (λ r. r ++ after) (sym (text_more lines x));
         lawful = All-append IsBlockLine lines (x ∷ []) so.begins.lawful (All-cons IsBlockLine x [] lawful (λ k d within. absurd (omega arith)));
-        order = follow_more 0 lines x so.begins.order (subst (λ p. may_follow_at p x ≡ true) so.at follows);
+        order = follow_join 0 lines (x ∷ []) so.begins.order (and_from _ true (subst (λ p. may_follow_at p x ≡ true) so.at follows) refl);
       };
-      at = there ∙ sym (last_more 0 lines x);
+      at = there ∙ sym (last_join 0 lines (x ∷ []));
     })

@@ -1,9 +1,8 @@
 -- An entry's line.
-use Rattle.std.proofs.Common.{◌≡◌, ◌≢◌, ℕ, ◌≤◌, ◌<◌, ◌^◌, true, codes, List, ◌++◌, decimal, refl, sym, ap, ◌∙◌, append_assoc, arith}
+use Rattle.std.proofs.Common.{◌≡◌, ◌≢◌, ℕ, ◌≤◌, ◌<◌, ◌^◌, true, codes, List, ◌++◌, decimal, refl, sym, ap, ◌∙◌, append_assoc, arith, rules}
 use Rattle.report_lines.proofs.Common.{append_cancel_left, entry_line, command_text, reply_text, numbered, spaced, IsNextLine, told_text, IsTold, Told, BeginsWith, BeginsWithNone, ends_number, both_texts, BothAre, Reply}
 use Rattle.report_lines.specs.declared.next.NextLine.TheVariants.{Entry as EntryOf}
-use Rattle.report_lines.proofs.ToldLemmas.{no_head, tail_told}
-use Rattle.report_lines.proofs.lemmas.ReadingLemmas.{EndsOnce, decimal_once, numbered_once}
+use Rattle.report_lines.proofs.lemmas.ReadingLemmas.{EndsOnce, decimal_once, no_head, numbered_once, same_begin, tail_told}
 use Rattle.request_book.specs.declared.command.Command.{Command}
 use Rattle.request_book.specs.declared.journal.Entry.{Entry}
 
@@ -33,11 +32,7 @@ abbrev IsLine : ℕ × (ℕ × (Command × Reply)) → Type 0
 IsLine = BothAre (λ n. n ≤ 18446744073709551615) IsLaned
 
 parts : (p l s c r : List ℕ) → p ++ l ++ s ++ c ++ s ++ r ≡ p ++ (l ++ (s ++ (c ++ (s ++ r))))
-parts p l s c r =
-    append_assoc (p ++ l ++ s ++ c) s r
-    ∙ append_assoc (p ++ l ++ s) c (s ++ r)
-    ∙ append_assoc (p ++ l) s (c ++ (s ++ r))
-    ∙ append_assoc p l (s ++ (c ++ (s ++ r)))
+parts p l s c r = search (rules, append_assoc)
 
 entry_parts : (position : ℕ) (e : Entry) → entry_line position e ≡ line_text (position, (e.lane, (e.command, e.reply)))
 entry_parts position e = parts (decimal position) (spaced e.lane) (codes " ") (command_text e.command) (reply_text e.reply)
@@ -49,34 +44,34 @@ lane_once : EndsOnce spaced (λ n. n ≤ 255)
 lane_once = numbered_once (codes " ") 255 (omega arith)
 
 -- an entry's line, as one that is cut from the front, and back
-module _ (line : List ℕ) where
-  entry_told : (lane : ℕ) → IsNextLine (EntryOf lane) line → (x : ℕ × (ℕ × (Command × Reply))) × IsLine x × (line ≡ line_text x) × (x.1.0 ≡ lane)
-  entry_told lane (position, e, is, same, whole) =
+module _ {line : List ℕ} where
+  entry_told : {lane : ℕ} → IsNextLine (EntryOf lane) line → (x : ℕ × (ℕ × (Command × Reply))) × IsLine x × (line ≡ line_text x) × (x.1.0 ≡ lane)
+  entry_told {lane} (position, e, is, same, whole) =
       let low : position ≤ 18446744073709551615 = omega (arith, is.placed) in
       let byte : e.lane ≤ 255 = omega (arith, is.lane) in
       ((position, (e.lane, (e.command, e.reply))), (low, (byte, (is.command, is.reply))), whole ∙ entry_parts position e, same)
 
   whole_told : (lane : ℕ) → IsNextLine (EntryOf lane) line → Told line_text IsLine line
-  whole_told lane is = let x = entry_told lane is in (x.0, x.1, x.2)
+  whole_told lane is = let x = entry_told is in (x.0, x.1, x.2)
 
   pub entry_no_position : BeginsWithNone decimal (λ n. n ≤ 18446744073709551615) line → (lane : ℕ) → IsNextLine (EntryOf lane) line → ⊥
-  entry_no_position none lane is = no_head decimal (λ n. n ≤ 18446744073709551615) laned IsLaned line laned_ends none (whole_told lane is)
+  entry_no_position none lane is = no_head laned IsLaned laned_ends none (whole_told lane is)
 
-  module _ (position : ℕ) (after : List ℕ) (b : BeginsWith decimal (λ n. n ≤ 18446744073709551615) line position after) where
+  module _ {position : ℕ} {after : List ℕ} (b : BeginsWith decimal (λ n. n ≤ 18446744073709551615) line position after) where
     behind_position : (lane : ℕ) → IsNextLine (EntryOf lane) line → Told laned IsLaned after
-    behind_position lane is = tail_told decimal (λ n. n ≤ 18446744073709551615) laned IsLaned line laned_ends position_once position after b (whole_told lane is)
+    behind_position lane is = tail_told laned IsLaned laned_ends position_once b (whole_told lane is)
 
     pub entry_no_lane : BeginsWithNone spaced (λ n. n ≤ 255) after → (lane : ℕ) → IsNextLine (EntryOf lane) line → ⊥
-    entry_no_lane none lane is = no_head spaced (λ n. n ≤ 255) spaced_told IsTold after spaced_told_ends none (behind_position lane is)
+    entry_no_lane none lane is = no_head spaced_told IsTold spaced_told_ends none (behind_position lane is)
 
-    module _ (of : ℕ) (rest : List ℕ) (has_lane : BeginsWith spaced (λ n. n ≤ 255) after of rest) where
+    module _ {of : ℕ} {rest : List ℕ} (has_lane : BeginsWith spaced (λ n. n ≤ 255) after of rest) where
       behind_lane : (lane : ℕ) → IsNextLine (EntryOf lane) line → Told spaced_told IsTold rest
-      behind_lane lane is = tail_told spaced (λ n. n ≤ 255) spaced_told IsTold after spaced_told_ends lane_once of rest has_lane (behind_position lane is)
+      behind_lane lane is = tail_told spaced_told IsTold spaced_told_ends lane_once has_lane (behind_position lane is)
 
       pub entry_no_space : ((told : List ℕ) → rest ≢ codes " " ++ told) → (lane : ℕ) → IsNextLine (EntryOf lane) line → ⊥
       entry_no_space none lane is = let x = behind_lane lane is in none (told_text x.0) x.2
 
-      module _ (told : List ℕ) (space : rest ≡ codes " " ++ told) where
+      module _ {told : List ℕ} (space : rest ≡ codes " " ++ told) where
         pub entry_none : (Told told_text IsTold told → ⊥) → (lane : ℕ) → IsNextLine (EntryOf lane) line → ⊥
         entry_none none lane is =
             let x = behind_lane lane is in
@@ -101,11 +96,9 @@ entry_begins line lane (position, e, is, same, whole) = (position, laned (e.lane
 -- and tells one lane
 pub same_lane : (line : List ℕ) (lane other : ℕ) → IsNextLine (EntryOf lane) line → IsNextLine (EntryOf other) line → lane ≡ other
 same_lane line lane other is_one is_other =
-    let x = entry_told line lane is_one in
-    let y = entry_told line other is_other in
+    let x = entry_told is_one in
+    let y = entry_told is_other in
     let here : BeginsWith decimal (λ n. n ≤ 18446744073709551615) line x.0.0 (laned x.0.1) = record { whole = x.2; lawful = x.1.0; ends = laned_ends x.0.1 } in
-    let there : BeginsWith decimal (λ n. n ≤ 18446744073709551615) line y.0.0 (laned y.0.1) = record { whole = y.2; lawful = y.1.0; ends = laned_ends y.0.1 } in
-    let rest = (position_once line x.0.0 y.0.0 (laned x.0.1) (laned y.0.1) here there).1 in
-    let lane_here : BeginsWith spaced (λ n. n ≤ 255) (laned x.0.1) x.0.1.0 (spaced_told x.0.1.1) = record { whole = refl; lawful = x.1.1.0; ends = spaced_told_ends x.0.1.1 } in
-    let lane_there : BeginsWith spaced (λ n. n ≤ 255) (laned x.0.1) y.0.1.0 (spaced_told y.0.1.1) = record { whole = rest; lawful = y.1.1.0; ends = spaced_told_ends y.0.1.1 } in
-    sym x.3 ∙ (lane_once (laned x.0.1) x.0.1.0 y.0.1.0 (spaced_told x.0.1.1) (spaced_told y.0.1.1) lane_here lane_there).0 ∙ y.3
+    let rest = (same_begin position_once here y.0.0 (laned y.0.1) y.1.0 (laned_ends y.0.1) y.2).1 in
+    let behind : BeginsWith spaced (λ n. n ≤ 255) (laned x.0.1) x.0.1.0 (spaced_told x.0.1.1) = record { whole = refl; lawful = x.1.1.0; ends = spaced_told_ends x.0.1.1 } in
+    sym x.3 ∙ (same_begin lane_once behind y.0.1.0 (spaced_told y.0.1.1) y.1.1.0 (spaced_told_ends y.0.1.1) rest).0 ∙ y.3

@@ -11,9 +11,7 @@ NoNumber text words most = (n : ℕ) → n ≤ most → text ≢ numbered words 
 pub no_number_refusal : (text : List ℕ) → NoNumber text (codes "is-aboard ") 1000000000 → NoNumber text (codes "time-back ") 1000000000 → NoNumber text (codes "batch-open ") 18446744073709551615 → NoNumber text (codes "clock-back ") 1000000000 → (x : BookRefusal) → IsNumberRefusal x → text ≢ refusal_text x
 no_number_refusal text aboard time batch clock (IsAboard n) is e = aboard n is e
 no_number_refusal text aboard time batch clock (TimeBack n) is e = time n is e
-no_number_refusal text aboard time batch clock (BatchOpen n) is e =
-    let most : n ≤ 18446744073709551615 = omega (arith, is) in
-    batch n most e
+no_number_refusal text aboard time batch clock (BatchOpen n) is e = batch n (omega (arith, is)) e
 no_number_refusal text aboard time batch clock (ClockBack n) is e = clock n is e
 no_number_refusal text aboard time batch clock _ is e = is
 

@@ -79,10 +79,8 @@ fn read_plain_line(line: &[u8]) -> Option<BlockLine>
     if let Some(lapsed) = read_rider(line, b"lapsed ") {
         return Some(BlockLine::Lapsed(lapsed));
     }
-    match read_rider(line, b"out ") {
-        Some(out) => Some(BlockLine::Out(out)),
-        None => None,
-    }
+    let out = read_rider(line, b"out ")?;
+    Some(BlockLine::Out(out))
 }
 
 /// A line of two numbers or three.
@@ -98,8 +96,6 @@ fn read_pair_line(line: &[u8]) -> Option<BlockLine>
     if let Some(move_line) = read_move(line) {
         return Some(BlockLine::Move(move_line));
     }
-    match read_branch(line) {
-        Some(branch) => Some(BlockLine::Branch(branch)),
-        None => None,
-    }
+    let branch = read_branch(line)?;
+    Some(BlockLine::Branch(branch))
 }

@@ -87,12 +87,8 @@ const PARTY_MOST: u64 = 6;
 fn four_first(text: &[u8]) -> Option<((((u64, u64), u64), u64), &[u8])>
     ensures { MatchOption result (BeginsWithNone four_text AreFour text.now) (λ r. BeginsWith four_text AreFour text.now r.0 r.1.now) }
 {
-    let Some((ids, after)) = three_first(text, b"submit ") else {
-        return None;
-    };
-    let Some((time, rest)) = numbered_first(after, b" ", ID_MOST) else {
-        return None;
-    };
+    let (ids, after) = three_first(text, b"submit ")?;
+    let (time, rest) = numbered_first(after, b" ", ID_MOST)?;
     Some(((ids, time), rest))
 }
 
@@ -100,11 +96,7 @@ fn four_first(text: &[u8]) -> Option<((((u64, u64), u64), u64), &[u8])>
 fn three_first<'a>(text: &'a [u8], words: &[u8]) -> Option<(((u64, u64), u64), &'a [u8])>
     ensures { MatchOption result (BeginsWithNone (three_text words.now) AreThree text.now) (λ r. BeginsWith (three_text words.now) AreThree text.now r.0 r.1.now) }
 {
-    let Some((pair, after)) = pair_first(text, words, ID_MOST, ID_MOST) else {
-        return None;
-    };
-    let Some((third, rest)) = numbered_first(after, b" ", ID_MOST) else {
-        return None;
-    };
+    let (pair, after) = pair_first(text, words, ID_MOST, ID_MOST)?;
+    let (third, rest) = numbered_first(after, b" ", ID_MOST)?;
     Some(((pair, third), rest))
 }

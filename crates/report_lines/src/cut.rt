@@ -5,9 +5,7 @@ ghost use Rattle.report_lines.specs.Cut.{is_one_line};
 pub fn line_first(text: &[u8]) -> Option<(&[u8], &[u8])>
     ensures { MatchOption result (is_one_line text.now ≡ true) (λ r. (text.now ≡ r.0.now ++ 10 ∷ r.1.now) × (is_one_line r.0.now ≡ true)) }
 {
-    let Some(place) = feed_at(text) else {
-        return None;
-    };
+    let place = feed_at(text)?;
     let (line, after) = text.split_at(place);
     Some((line, &after[1..]))
 }

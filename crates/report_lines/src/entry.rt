@@ -10,15 +10,9 @@ use crate::words::{numbered_first, words_first};
 pub(crate) fn read_entry(line: &[u8]) -> Option<u8>
     ensures { MatchOption result ((lane : ℕ) → IsNextLine (EntryOf lane) line.now → ⊥) (λ lane. IsNextLine (EntryOf lane) line.now) }
 {
-    let Some((_, after_position)) = number_first(line, u64::MAX) else {
-        return None;
-    };
-    let Some((lane, after_lane)) = numbered_first(after_position, b" ", u8::MAX as u64) else {
-        return None;
-    };
-    let Some(told) = words_first(after_lane, b" ") else {
-        return None;
-    };
+    let (_, after_position) = number_first(line, u64::MAX)?;
+    let (lane, after_lane) = numbered_first(after_position, b" ", u8::MAX as u64)?;
+    let told = words_first(after_lane, b" ")?;
     if is_told(told) {
         Some(lane as u8)
     } else {

@@ -23,30 +23,14 @@ pub struct SettingsText {
 pub fn read_settings(line: &[u8]) -> Option<SettingsText>
     ensures { IsReadAs settings_text AreSettings line.now result }
 {
-    let Some((wait, after_wait)) = numbered_first(line, b"settings wait=", MOST) else {
-        return None;
-    };
-    let Some((delay, after_delay)) = numbered_first(after_wait, b" delay=", MOST) else {
-        return None;
-    };
-    let Some((trip, after_trip)) = numbered_first(after_delay, b" trip=", MOST) else {
-        return None;
-    };
-    let Some((penalty, after_penalty)) = numbered_first(after_trip, b" penalty=", MOST) else {
-        return None;
-    };
-    let Some((budget, after_budget)) = numbered_first(after_penalty, b" budget=", MOST) else {
-        return None;
-    };
-    let Some((pairs, after_pairs)) = numbered_first(after_budget, b" pairs=", MOST) else {
-        return None;
-    };
-    let Some((proof, rest)) = numbered_first(after_pairs, b" proof=", MOST) else {
-        return None;
-    };
-    let Some(dwell) = read_dwell(rest) else {
-        return None;
-    };
+    let (wait, after_wait) = numbered_first(line, b"settings wait=", MOST)?;
+    let (delay, after_delay) = numbered_first(after_wait, b" delay=", MOST)?;
+    let (trip, after_trip) = numbered_first(after_delay, b" trip=", MOST)?;
+    let (penalty, after_penalty) = numbered_first(after_trip, b" penalty=", MOST)?;
+    let (budget, after_budget) = numbered_first(after_penalty, b" budget=", MOST)?;
+    let (pairs, after_pairs) = numbered_first(after_budget, b" pairs=", MOST)?;
+    let (proof, rest) = numbered_first(after_pairs, b" proof=", MOST)?;
+    let dwell = read_dwell(rest)?;
     Some(SettingsText {
         wait,
         delay,
@@ -63,13 +47,9 @@ pub fn read_settings(line: &[u8]) -> Option<SettingsText>
 pub fn read_sizes(line: &[u8]) -> Option<(u64, u64)>
     ensures { IsReadAs sizes_text AreSizes line.now result }
 {
-    let Some((nodes, after)) = numbered_first(line, b"network nodes=", u64::MAX) else {
-        return None;
-    };
-    match read_numbered(after, b" arcs=", u64::MAX) {
-        Some(arcs) => Some((nodes, arcs)),
-        None => None,
-    }
+    let (nodes, after) = numbered_first(line, b"network nodes=", u64::MAX)?;
+    let arcs = read_numbered(after, b" arcs=", u64::MAX)?;
+    Some((nodes, arcs))
 }
 
 /// The greatest number of a line of settings.

@@ -42,12 +42,8 @@ fn multipliers_to_end(alloc: Global, text: &[u8]) -> Result<Option<Multipliers>,
 fn multiplier_first(text: &[u8]) -> Option<(i64, &[u8])>
     ensures { MatchOption result (BeginsWithNone (signed (codes " ")) IsLong text.now) (λ r. BeginsWith (signed (codes " ")) IsLong text.now r.0 r.1.now) }
 {
-    let Some((n, rest)) = signed_words_first(text, b" ") else {
-        return None;
-    };
-    let Some(long) = long_of(&n) else {
-        return None;
-    };
+    let (n, rest) = signed_words_first(text, b" ")?;
+    let long = long_of(&n)?;
     Some((long, rest))
 }
 

@@ -6,6 +6,7 @@ ghost use Rattle.report_lines.specs.BlockLine.{IsBlockLine};
 ghost use Rattle.report_lines.specs.Reading.{IsReadAs};
 
 use crate::ids::{ID_MOST, rider, vehicle};
+use crate::pairs::read_pair;
 use crate::words::{pair_first, read_numbered};
 use pool_base::VehicleId;
 use request_book::MoveLine;
@@ -14,12 +15,8 @@ use request_book::MoveLine;
 pub fn read_move(line: &[u8]) -> Option<MoveLine>
     ensures { IsReadAs (λ x. block_line_text (Move x)) (λ x. IsBlockLine (Move x)) line.now result }
 {
-    let Some((ids, after)) = pair_first(line, b"move ", ID_MOST, ID_MOST) else {
-        return None;
-    };
-    let Some(seconds) = read_small(after) else {
-        return None;
-    };
+    let (ids, after) = pair_first(line, b"move ", ID_MOST, ID_MOST)?;
+    let seconds = read_small(after)?;
     Some(MoveLine {
         vehicle: vehicle(ids.0),
         rider: rider(ids.1),
@@ -31,22 +28,14 @@ pub fn read_move(line: &[u8]) -> Option<MoveLine>
 pub fn read_branch(line: &[u8]) -> Option<(VehicleId, u32)>
     ensures { IsReadAs (λ x. block_line_text (Branch x)) (λ x. IsBlockLine (Branch x)) line.now result }
 {
-    let Some((branch, rest)) = pair_first(line, b"branch ", ID_MOST, u32::MAX as u64) else {
-        return None;
-    };
-    if rest.is_empty() {
-        Some((vehicle(branch.0), branch.1 as u32))
-    } else {
-        None
-    }
+    let (id, row) = read_pair(line, b"branch ", ID_MOST, u32::MAX as u64)?;
+    Some((vehicle(id), row as u32))
 }
 
 /// A space and a number below 2^32, and nothing more.
 fn read_small(text: &[u8]) -> Option<u32>
     ensures { IsReadAs spaced (λ n. n < 2 ^ 32) text.now result }
 {
-    match read_numbered(text, b" ", u32::MAX as u64) {
-        Some(n) => Some(n as u32),
-        None => None,
-    }
+    let n = read_numbered(text, b" ", u32::MAX as u64)?;
+    Some(n as u32)
 }

@@ -27,8 +27,6 @@ pub fn read_next(line: &[u8]) -> Option<NextLine>
     if let Some(entries) = read_numbered(line, b"done ", u64::MAX) {
         return Some(NextLine::Done { entries });
     }
-    match read_entry(line) {
-        Some(lane) => Some(NextLine::Entry { lane }),
-        None => None,
-    }
+    let lane = read_entry(line)?;
+    Some(NextLine::Entry { lane })
 }

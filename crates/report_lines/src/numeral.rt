@@ -11,10 +11,8 @@ use itoa::Buffer;
 pub fn number_first(text: &[u8], most: u64) -> Option<(u64, &[u8])>
     ensures { MatchOption result (BeginsWithNone decimal (λ n. n ≤ most) text.now) (λ r. BeginsWith decimal (λ n. n ≤ most) text.now r.0 r.1.now) }
 {
-    match wide_first(text, most as u128) {
-        Some((n, rest)) => Some((n as u64, rest)),
-        None => None,
-    }
+    let (n, rest) = wide_first(text, most as u128)?;
+    Some((n as u64, rest))
 }
 
 /// The same of a number that may be as large as a `u128` holds.
@@ -22,9 +20,7 @@ pub(crate) fn wide_first(text: &[u8], most: u128) -> Option<(u128, &[u8])>
     ensures { MatchOption result (BeginsWithNone decimal (λ n. n ≤ most) text.now) (λ r. BeginsWith decimal (λ n. n ≤ most) text.now r.0 r.1.now) }
 {
     let (digits, rest) = text.split_at(digits_end(text));
-    let Some(n) = value_of_digits(digits) else {
-        return None;
-    };
+    let n = value_of_digits(digits)?;
     if n > most {
         return None;
     }
@@ -51,9 +47,7 @@ fn value_of_digits(digits: &[u8]) -> Option<u128>
 {
     let mut value: u128 = 0;
     for digit in digits {
-        let Some(next) = with_digit(value, *digit) else {
-            return None;
-        };
+        let next = with_digit(value, *digit)?;
         value = next;
     }
     Some(value)

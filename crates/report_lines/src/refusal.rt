@@ -76,23 +76,17 @@ fn read_number_refusal(text: &[u8]) -> Option<BookRefusal>
     if let Some(batch) = read_numbered(text, b"batch-open ", u64::MAX) {
         return Some(BookRefusal::BatchOpen { batch });
     }
-    match read_numbered(text, b"clock-back ", ID_MOST) {
-        Some(n) => Some(BookRefusal::ClockBack { last: second(n) }),
-        None => None,
-    }
+    let n = read_numbered(text, b"clock-back ", ID_MOST)?;
+    Some(BookRefusal::ClockBack { last: second(n) })
 }
 
 /// A refusal that tells a status.
 fn read_ended(text: &[u8]) -> Option<BookRefusal>
     ensures { IsReadAs refusal_text IsEndedRefusal text.now result }
 {
-    let Some(word) = words_first(text, b"ended ") else {
-        return None;
-    };
-    match read_status(word) {
-        Some(status) => Some(BookRefusal::Ended { status }),
-        None => None,
-    }
+    let word = words_first(text, b"ended ")?;
+    let status = read_status(word)?;
+    Some(BookRefusal::Ended { status })
 }
 
 /// A status in which a rider has ended, by its word.
@@ -115,34 +109,26 @@ fn read_status(word: &[u8]) -> Option<Status>
 fn read_not_promised(text: &[u8]) -> Option<BookRefusal>
     ensures { IsReadAs refusal_text IsNotPromised text.now result }
 {
-    let Some(after) = words_first(text, b"not-promised") else {
-        return None;
-    };
+    let after = words_first(text, b"not-promised")?;
     if is_words(after, b" none") {
         return Some(BookRefusal::NotPromised { holder: None });
     }
-    match read_numbered(after, b" ", ID_MOST) {
-        Some(n) => Some(BookRefusal::NotPromised {
-            holder: Some(vehicle(n)),
-        }),
-        None => None,
-    }
+    let n = read_numbered(after, b" ", ID_MOST)?;
+    Some(BookRefusal::NotPromised {
+        holder: Some(vehicle(n)),
+    })
 }
 
 /// A refusal that tells which batch is sealed, or `none`.
 fn read_not_this_batch(text: &[u8]) -> Option<BookRefusal>
     ensures { IsReadAs refusal_text IsNotThisBatch text.now result }
 {
-    let Some(after) = words_first(text, b"not-this-batch") else {
-        return None;
-    };
+    let after = words_first(text, b"not-this-batch")?;
     if is_words(after, b" none") {
         return Some(BookRefusal::NotThisBatch { current: None });
     }
-    match read_numbered(after, b" ", u64::MAX) {
-        Some(batch) => Some(BookRefusal::NotThisBatch {
-            current: Some(batch),
-        }),
-        None => None,
-    }
+    let batch = read_numbered(after, b" ", u64::MAX)?;
+    Some(BookRefusal::NotThisBatch {
+        current: Some(batch),
+    })
 }

@@ -30,13 +30,9 @@ fn read_reply(text: &[u8]) -> Option<Reply>
     if let Some(batch) = read_numbered(text, b"sealed ", u64::MAX) {
         return Some(Reply::Sealed { batch });
     }
-    let Some(after) = words_first(text, b"refused ") else {
-        return None;
-    };
-    match read_refusal(after) {
-        Some(refusal) => Some(Reply::Refused(refusal)),
-        None => None,
-    }
+    let after = words_first(text, b"refused ")?;
+    let refusal = read_refusal(after)?;
+    Some(Reply::Refused(refusal))
 }
 
 /// A reply that is a word.

@@ -11,9 +11,7 @@ use crate::words::words_first;
 pub fn read_signed(line: &[u8], words: &[u8]) -> Option<i128>
     ensures { IsReadAs (signed words.now) IsWide line.now result }
 {
-    let Some((n, rest)) = signed_words_first(line, words) else {
-        return None;
-    };
+    let (n, rest) = signed_words_first(line, words)?;
     if rest.is_empty() { Some(n) } else { None }
 }
 
@@ -21,9 +19,7 @@ pub fn read_signed(line: &[u8], words: &[u8]) -> Option<i128>
 pub(crate) fn signed_words_first<'a>(text: &'a [u8], words: &[u8]) -> Option<(i128, &'a [u8])>
     ensures { MatchOption result (BeginsWithNone (signed words.now) IsWide text.now) (λ r. BeginsWith (signed words.now) IsWide text.now r.0 r.1.now) }
 {
-    let Some(after) = words_first(text, words) else {
-        return None;
-    };
+    let after = words_first(text, words)?;
     signed_first(after)
 }
 
@@ -41,9 +37,7 @@ pub(crate) fn signed_first(text: &[u8]) -> Option<(i128, &[u8])>
 fn below_zero(text: &[u8]) -> Option<(i128, &[u8])>
     ensures { MatchOption result (BeginsWithNone signed_decimal IsWide (45 ∷ text.now)) (λ r. BeginsWith signed_decimal IsWide (45 ∷ text.now) r.0 r.1.now) }
 {
-    let Some((n, rest)) = wide_first(text, LEAST) else {
-        return None;
-    };
+    let (n, rest) = wide_first(text, LEAST)?;
     if n == 0 {
         return None;
     }
@@ -55,10 +49,8 @@ fn from_zero(text: &[u8]) -> Option<(i128, &[u8])>
     requires { (rest : List ℕ) → text.now ≢ 45 ∷ rest }
     ensures { MatchOption result (BeginsWithNone signed_decimal IsWide text.now) (λ r. BeginsWith signed_decimal IsWide text.now r.0 r.1.now) }
 {
-    match wide_first(text, LEAST - 1) {
-        Some((n, rest)) => Some((n as i128, rest)),
-        None => None,
-    }
+    let (n, rest) = wide_first(text, LEAST - 1)?;
+    Some((n as i128, rest))
 }
 
 /// How far below 0 an `i128` reaches.

@@ -36,15 +36,9 @@ pub(crate) fn stops_to_end(
 fn stop_first(text: &[u8]) -> Option<(PlannedStop, &[u8])>
     ensures { MatchOption result (BeginsWithNone stop_text FitsStop text.now) (λ r. BeginsWith stop_text FitsStop text.now r.0 r.1.now) }
 {
-    let Some(((pick, at), after)) = visit_first(text) else {
-        return None;
-    };
-    let Some((place, after_place)) = numbered_first(after, b"@", ID_MOST) else {
-        return None;
-    };
-    let Some((second, rest)) = numbered_first(after_place, b":", u64::MAX) else {
-        return None;
-    };
+    let ((pick, at), after) = visit_first(text)?;
+    let (place, after_place) = numbered_first(after, b"@", ID_MOST)?;
+    let (second, rest) = numbered_first(after_place, b":", u64::MAX)?;
     let stop = PlannedStop {
         pick,
         rider: rider(at),
@@ -61,8 +55,6 @@ fn visit_first(text: &[u8]) -> Option<((bool, u64), &[u8])>
     if let Some((at, rest)) = numbered_first(text, b" pick:", ID_MOST) {
         return Some(((true, at), rest));
     }
-    match numbered_first(text, b" drop:", ID_MOST) {
-        Some((at, rest)) => Some(((false, at), rest)),
-        None => None,
-    }
+    let (at, rest) = numbered_first(text, b" drop:", ID_MOST)?;
+    Some(((false, at), rest))
 }

@@ -24,9 +24,7 @@ pub fn is_words(text: &[u8], words: &[u8]) -> bool
 pub fn numbered_first<'a>(text: &'a [u8], words: &[u8], most: u64) -> Option<(u64, &'a [u8])>
     ensures { MatchOption result (BeginsWithNone (numbered words.now) (λ n. n ≤ most) text.now) (λ r. BeginsWith (numbered words.now) (λ n. n ≤ most) text.now r.0 r.1.now) }
 {
-    let Some(after) = words_first(text, words) else {
-        return None;
-    };
+    let after = words_first(text, words)?;
     number_first(after, most)
 }
 
@@ -41,12 +39,8 @@ pub fn pair_first<'a>(
         (BeginsWithNone (both_texts (numbered words.now) spaced) (BothAre (λ n. n ≤ most) (λ n. n ≤ other)) text.now)
         (λ r. BeginsWith (both_texts (numbered words.now) spaced) (BothAre (λ n. n ≤ most) (λ n. n ≤ other)) text.now r.0 r.1.now) }
 {
-    let Some((first, after)) = numbered_first(text, words, most) else {
-        return None;
-    };
-    let Some((second, rest)) = numbered_first(after, b" ", other) else {
-        return None;
-    };
+    let (first, after) = numbered_first(text, words, most)?;
+    let (second, rest) = numbered_first(after, b" ", other)?;
     Some(((first, second), rest))
 }
 
@@ -54,8 +48,6 @@ pub fn pair_first<'a>(
 pub fn read_numbered(line: &[u8], words: &[u8], most: u64) -> Option<u64>
     ensures { IsReadAs (numbered words.now) (λ n. n ≤ most) line.now result }
 {
-    let Some((n, rest)) = numbered_first(line, words, most) else {
-        return None;
-    };
+    let (n, rest) = numbered_first(line, words, most)?;
     if rest.is_empty() { Some(n) } else { None }
 }

@@ -1,7 +1,8 @@
 -- The line of the settings.
-use Rattle.std.proofs.Common.{◌≡◌, ◌≢◌, ℕ, zero, suc, ◌≤◌, ◌==◌, Bool, true, false, not, if◌then◌else◌, nat_eq, get_or, length, codes, List, [], ◌∷◌, ◌++◌, refl, sym, ap, ◌∙◌, append-nil, append_assoc, ne_eqb, arith}
-use Rattle.report_lines.proofs.Common.{is_ascii_digit, and_parts, numbered, IsShortNumber, settings_text, AreSettings, BeginsWith, BeginsWithNone, ends_number, SettingsText, dwell_text}
-use Rattle.report_lines.proofs.lemmas.ReadingLemmas.{EndsOnce, TextIsOfOne, numbered_once, of_one}
+use Rattle.std.proofs.Common.{◌≡◌, ◌≢◌, ℕ, zero, suc, ◌≤◌, Bool, true, false, if◌then◌else◌, nat_eq, length, codes, List, [], ◌∷◌, ◌++◌, refl, sym, ap, ◌∙◌, append_assoc, arith, rules}
+use Rattle.std.proofs.lemmas.Bool.Decides.{nat_tests}
+use Rattle.report_lines.proofs.Common.{is_ascii_digit, numbered, IsShortNumber, settings_text, AreSettings, BeginsWith, BeginsWithNone, ends_number, SettingsText, dwell_text}
+use Rattle.report_lines.proofs.lemmas.ReadingLemmas.{EndsOnce, TextIsOfOne, numbered_once, of_one, pair_is}
 
 short_once : (words : List ℕ) → EndsOnce (numbered words) IsShortNumber
 short_once words = numbered_once words 4294967295 (omega arith)
@@ -10,24 +11,15 @@ pub arcs_end : (n : ℕ) → ends_number (numbered (codes " arcs=") n) ≡ true
 unfolding numbered
 arcs_end n = refl
 
-dwell_first : (dwell : ℕ) → ends_number (numbered (codes " dwell=") dwell) ≡ true
-unfolding numbered
-dwell_first dwell = refl
-
 dwell_ends : (dwell : ℕ) → ends_number (dwell_text dwell) ≡ true
-dwell_ends dwell = by (dwell == 0)
-  where
-    by : (none : Bool) → ends_number (if none then [] else numbered (codes " dwell=") dwell) ≡ true
-    by true = refl
-    by false = dwell_first dwell
+unfolding numbered
+dwell_ends dwell = grind (arith, nat_tests)
 
 dwell_told : (dwell : ℕ) → dwell ≢ 0 → dwell_text dwell ≡ numbered (codes " dwell=") dwell
-dwell_told dwell some =
-    let text : Bool → List ℕ = λ none. if none then [] else numbered (codes " dwell=") dwell in
-    ap text (ne_eqb dwell 0 some)
+dwell_told dwell some = grind (arith, nat_tests)
 
 dwell_number : TextIsOfOne (numbered (codes " dwell=")) IsShortNumber
-dwell_number = of_one (numbered (codes " dwell=")) IsShortNumber (short_once (codes " dwell="))
+dwell_number = of_one (short_once (codes " dwell="))
 
 -- no dwell is told as 0
 pub dwell_not_zero : (text : List ℕ) (told : ℕ) → nat_eq (length text) 0 ≡ false → told ≡ 0 → text ≡ numbered (codes " dwell=") told → (dwell : ℕ) → IsShortNumber dwell → text ≢ dwell_text dwell
@@ -44,17 +36,10 @@ dwell_not_zero text told some zero_told is (suc dwell) within e =
 -- no dwell is told by nothing
 no_dwell_told : (dwell : ℕ) → [] ≡ numbered (codes " dwell=") dwell → ⊥
 unfolding numbered
-no_dwell_told dwell e =
-    let first : List ℕ → ℕ = λ xs. get_or xs 0 0 in
-    let head : ◌≡◌ {A = ℕ} 0 32 = ap first e in
-    omega arith
+no_dwell_told dwell e = grind arith
 
 dwell_of_one : (a b : ℕ) → IsShortNumber a → IsShortNumber b → dwell_text a ≡ dwell_text b → a ≡ b
-dwell_of_one zero zero ia ib e = refl
-dwell_of_one zero (suc b) ia ib e = absurd (no_dwell_told (suc b) (e ∙ dwell_told (suc b) (λ z. omega arith)))
-dwell_of_one (suc a) zero ia ib e = absurd (no_dwell_told (suc a) (sym e ∙ dwell_told (suc a) (λ z. omega arith)))
-dwell_of_one (suc a) (suc b) ia ib e =
-    dwell_number (suc a) (suc b) ia ib (sym (dwell_told (suc a) (λ z. omega arith)) ∙ e ∙ dwell_told (suc b) (λ z. omega arith))
+dwell_of_one a b ia ib e = grind (arith, nat_tests, dwell_number a b ia ib, no_dwell_told a, no_dwell_told b)
 
 -- a number for each of the words
 abbrev pub Numbers : List (List ℕ) → Type 0
@@ -78,21 +63,13 @@ are_apart ((c ∷ cs) ∷ ws) = if is_ascii_digit c then false else are_apart ws
 
 apart_behind : (w : List ℕ) (ws : List (List ℕ)) → are_apart (w ∷ ws) ≡ true → are_apart ws ≡ true
 apart_behind [] ws apart = cc
-apart_behind (c ∷ cs) ws apart = by (is_ascii_digit c) apart
-  where
-    by : (digit : Bool) → (if digit then false else are_apart ws) ≡ true → are_apart ws ≡ true
-    by true e = cc
-    by false e = e
+apart_behind (c ∷ cs) ws apart = grind (arith, nat_tests)
 
 fields_end : (ws : List (List ℕ)) (ns : Numbers ws) (dwell : ℕ) → are_apart ws ≡ true → ends_number (fields_text ws ns dwell) ≡ true
 unfolding numbered
 fields_end [] ns dwell apart = dwell_ends dwell
 fields_end ([] ∷ ws) ns dwell apart = cc
-fields_end ((c ∷ cs) ∷ ws) ns dwell apart = by (is_ascii_digit c) apart
-  where
-    by : (digit : Bool) → (if digit then false else are_apart ws) ≡ true → not digit ≡ true
-    by true e = cc
-    by false e = refl
+fields_end ((c ∷ cs) ∷ ws) ns dwell apart = grind (arith, nat_tests)
 
 begins_field : (w : List ℕ) (ws : List (List ℕ)) (text : List ℕ) (ns : Numbers (w ∷ ws)) (dwell : ℕ) → are_apart (w ∷ ws) ≡ true → AreShort (w ∷ ws) ns → text ≡ fields_text (w ∷ ws) ns dwell → BeginsWith (numbered w) IsShortNumber text ns.0 (fields_text ws ns.1 dwell)
 begins_field w ws text ns dwell apart short e = record { whole = e; lawful = short.0; ends = fields_end ws ns.1 dwell (apart_behind w ws apart) }
@@ -109,26 +86,23 @@ pub none_behind : {w : List ℕ} {ws : List (List ℕ)} {text : List ℕ} {n : �
 none_behind {w} {ws} {text} {n} {after} b none =
     record {
       never = λ apart ns dwell short is e.
-          none.never (apart_behind w ws apart) ns.1 dwell short.1 is (short_once w text n ns.0 after (fields_text ws ns.1 dwell) b (begins_field w ws text ns dwell apart short e)).1;
+          none.never (apart_behind w ws apart) ns.1 dwell short.1 is ((short_once w).once text n ns.0 after (fields_text ws ns.1 dwell) b (begins_field w ws text ns dwell apart short e)).1;
     }
 
 pub none_dwell : {text : List ℕ} → ((dwell : ℕ) → IsShortNumber dwell → text ≢ dwell_text dwell) → IsNoFields [] text
 none_dwell none = record { never = λ apart ns dwell short is. none dwell is }
 
-pub field_behind : (w : List ℕ) {text after rest : List ℕ} {n : ℕ} → BeginsWith (numbered w) IsShortNumber text n after → after ≡ rest → text ≡ numbered w n ++ rest
-field_behind w {text} {after} {rest} {n} b e = b.whole ∙ ap (λ r. numbered w n ++ r) e
+pub field_behind : (w : List ℕ) {Is : ℕ → Type 0} {text after rest : List ℕ} {n : ℕ} → BeginsWith (numbered w) Is text n after → after ≡ rest → text ≡ numbered w n ++ rest
+field_behind w {Is} {text} {after} {rest} {n} b e = b.whole ∙ ap (λ r. numbered w n ++ r) e
 
 -- the same text is that of the same numbers
 same_fields : (ws : List (List ℕ)) (ns ms : Numbers ws) (d e : ℕ) → are_apart ws ≡ true → AreShort ws ns → AreShort ws ms → IsShortNumber d → IsShortNumber e → fields_text ws ns d ≡ fields_text ws ms e → (ns ≡ ms) × (d ≡ e)
 same_fields [] ns ms d e apart sn sm sd se same = (refl, dwell_of_one d e sd se same)
 same_fields (w ∷ ws) ns ms d e apart sn sm sd se same =
     let text = fields_text (w ∷ ws) ns d in
-    let p = short_once w text ns.0 ms.0 (fields_text ws ns.1 d) (fields_text ws ms.1 e) (begins_field w ws text ns d apart sn refl) (begins_field w ws text ms e apart sm same) in
+    let p = (short_once w).once text ns.0 ms.0 (fields_text ws ns.1 d) (fields_text ws ms.1 e) (begins_field w ws text ns d apart sn refl) (begins_field w ws text ms e apart sm same) in
     let q = same_fields ws ns.1 ms.1 d e (apart_behind w ws apart) sn.1 sm.1 sd se p.1 in
     (pair_is ns ms p.0 q.0, q.1)
-  where
-    pair_is : (a b : ℕ × Numbers ws) → a.0 ≡ b.0 → a.1 ≡ b.1 → a ≡ b
-    pair_is (a, b) (c, d) e f = cc
 
 -- the words of a line of settings
 abbrev pub settings_words : List (List ℕ)
@@ -142,17 +116,7 @@ short_numbers : (s : SettingsText) → AreSettings s → AreShort settings_words
 short_numbers s is = (is.wait, (is.delay, (is.trip, (is.penalty, (is.budget, (is.pairs, (is.proof, tt)))))))
 
 pub settings_fields : (s : SettingsText) → settings_text s ≡ fields_text settings_words (numbers_of s) s.dwell
-settings_fields s =
-    nest (numbered (codes "settings wait=") s.wait) (numbered (codes " delay=") s.delay) (numbered (codes " trip=") s.trip) (numbered (codes " penalty=") s.penalty)
-    (numbered (codes " budget=") s.budget) (numbered (codes " pairs=") s.pairs) (numbered (codes " proof=") s.proof) (dwell_text s.dwell)
-  where
-    nest : (w d t p b q r x : List ℕ) → (w ++ d ++ t) ++ (p ++ b ++ q) ++ r ++ x ≡ w ++ (d ++ (t ++ (p ++ (b ++ (q ++ (r ++ x))))))
-    nest w d t p b q r x =
-        append_assoc ((w ++ d ++ t) ++ (p ++ b ++ q)) r x
-        ∙ append_assoc (w ++ d ++ t) (p ++ b ++ q) (r ++ x)
-        ∙ ap (λ l. (w ++ d ++ t) ++ l) (append_assoc (p ++ b) q (r ++ x) ∙ append_assoc p b (q ++ (r ++ x)))
-        ∙ append_assoc (w ++ d) t (p ++ (b ++ (q ++ (r ++ x))))
-        ∙ append_assoc w d (t ++ (p ++ (b ++ (q ++ (r ++ x)))))
+settings_fields s = search (rules, append_assoc)
 
 pub no_settings_line : {line : List ℕ} → IsNoFields settings_words line → (s : SettingsText) → AreSettings s → line ≢ settings_text s
 no_settings_line none s is e = none.never refl (numbers_of s) s.dwell (short_numbers s is) is.dwell (e ∙ settings_fields s)

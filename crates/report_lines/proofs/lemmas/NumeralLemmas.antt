@@ -1,7 +1,7 @@
 -- Numerals at the beginning of a text.
-use Rattle.std.proofs.Common.{◌≡◌, ℕ, zero, suc, ◌+◌, ◌-◌, ◌*◌, ◌<◌, ◌≤◌, ◌^◌, get_or, drop, true, false, not, nat_le, List, [], ◌∷◌, ◌++◌, length, decimal, refl, sym, ap, ◌∙◌, arith}
-use Rattle.report_lines.proofs.Common.{list_all, is_ascii_digit, and_parts, and_from, at_drop_more, decimal_is_IsNumeral_wide, IsDigit, AllDigits, value_of, value_after, BeginsWith, BeginsWithNone, ends_number}
-use Rattle.std.proofs.lemmas.Bool.{leb-true, le-leb}
+use Rattle.std.proofs.Common.{◌≡◌, ℕ, zero, suc, ◌+◌, ◌-◌, ◌*◌, ◌<◌, ◌≤◌, ◌^◌, get_or, drop, true, List, [], ◌∷◌, ◌++◌, length, decimal, refl, sym, ap, ◌∙◌, arith}
+use Rattle.report_lines.proofs.Common.{list_all, is_ascii_digit, and_parts, at_drop_more, decimal_is_IsNumeral_wide, AllDigits, value_of, value_after, BeginsWith, BeginsWithNone, ends_number}
+use Rattle.std.proofs.lemmas.Bool.Decides.{nat_tests}
 use Rattle.std.proofs.lemmas.Str.Parse.{IsNumeralModel, numerals_by_fold, tells_by_index}
 
 -- numerals are read as std reads them
@@ -11,18 +11,12 @@ own = numerals_by_fold AllDigits tells_by_index value_after (record { empty = λ
 -- digits, told one by one or all at once
 pub all_digits : (text : List ℕ) → list_all is_ascii_digit text ≡ true → AllDigits text
 all_digits [] all k within = absurd (omega arith)
-all_digits (c ∷ cs) all zero within =
-    let passes = (and_parts (is_ascii_digit c) (list_all is_ascii_digit cs) all).0 in
-    let parts = and_parts (nat_le 48 c) (nat_le c 57) passes in
-    (leb-true 48 c parts.0, leb-true c 57 parts.1)
+all_digits (c ∷ cs) all zero within = grind (arith, nat_tests)
 all_digits (c ∷ cs) all (suc k) within = all_digits cs (and_parts (is_ascii_digit c) (list_all is_ascii_digit cs) all).1 k (omega arith)
 
 digits_all : (text : List ℕ) → AllDigits text → list_all is_ascii_digit text ≡ true
 digits_all [] digits = refl
-digits_all (c ∷ cs) digits =
-    let first : IsDigit c = digits 0 (omega arith) in
-    and_from (is_ascii_digit c) (list_all is_ascii_digit cs) (and_from (nat_le 48 c) (nat_le c 57) (le-leb 48 c first.0) (le-leb c 57 first.1))
-    (digits_all cs (λ k within. digits (suc k) (omega arith)))
+digits_all (c ∷ cs) digits = grind (arith, nat_tests, digits 0, digits_all cs (λ k within. digits (suc k) (omega arith)))
 
 -- further digits make no value smaller
 value_after-ge : (n : ℕ) (cs : List ℕ) → n ≤ value_after n cs
@@ -48,28 +42,12 @@ decimal_value n small =
 pub decimal_same : (m n : ℕ) → m < 2 ^ 128 → n < 2 ^ 128 → decimal m ≡ decimal n → m ≡ n
 decimal_same m n small small_too e = sym (decimal_value m small) ∙ ap value_of e ∙ decimal_value n small_too
 
--- a digit is no end of a number
-digit_goes_on : (b : ℕ) (ys r s : List ℕ) → list_all is_ascii_digit (b ∷ ys) ≡ true → ends_number r ≡ true → r ≡ b ∷ s → ⊥
-digit_goes_on b ys r s db er e =
-    let digit = (and_parts (is_ascii_digit b) (list_all is_ascii_digit ys) db).0 in
-    let here : ends_number r ≡ not (is_ascii_digit b) = ap ends_number e in
-    let off : not (is_ascii_digit b) ≡ false = ap not digit in
-    cc
-
 -- digits end where they end
 pub digits_unique : (a b r s : List ℕ) → list_all is_ascii_digit a ≡ true → list_all is_ascii_digit b ≡ true → ends_number r ≡ true → ends_number s ≡ true → a ++ r ≡ b ++ s → (a ≡ b) × (r ≡ s)
 digits_unique [] [] r s da db er es e = (refl, e)
-digits_unique [] (b ∷ ys) r s da db er es e = absurd (digit_goes_on b ys r (ys ++ s) db er e)
-digits_unique (a ∷ xs) [] r s da db er es e = absurd (digit_goes_on a xs s (xs ++ r) da es (sym e))
-digits_unique (a ∷ xs) (b ∷ ys) r s da db er es e =
-    let pa = and_parts (is_ascii_digit a) (list_all is_ascii_digit xs) da in
-    let pb = and_parts (is_ascii_digit b) (list_all is_ascii_digit ys) db in
-    let same : a ∷ (xs ++ r) ≡ b ∷ (ys ++ s) = e in
-    let tails : xs ++ r ≡ ys ++ s = cc in
-    let rest = digits_unique xs ys r s pa.1 pb.1 er es tails in
-    let first : xs ≡ ys = rest.0 in
-    let heads : a ≡ b = cc in
-    (cc, rest.1)
+digits_unique [] (b ∷ ys) r s da db er es e = grind (arith, nat_tests)
+digits_unique (a ∷ xs) [] r s da db er es e = grind (arith, nat_tests)
+digits_unique (a ∷ xs) (b ∷ ys) r s da db er es e = grind (arith, nat_tests, digits_unique xs ys r s)
 
 -- a text that begins with a number begins with that number's digits, up to where they end
 module _ (text digits rest : List ℕ) (most : ℕ) (small : most < 2 ^ 128) (parts : text ≡ digits ++ rest) (all : list_all is_ascii_digit digits ≡ true) (ends : ends_number rest ≡ true) where

@@ -1,8 +1,9 @@
 -- A text begins with one block at most.
-use Rattle.std.proofs.Common.{◌≡◌, ◌≢◌, ℕ, zero, suc, ◌+◌, ◌/◌, ◌%◌, nat_lt, Bool, true, false, not, ◌==◌, ℤ, pos, negsuc, Option, None, Some, List, [], ◌∷◌, ◌++◌, length, map, codes, decimal, refl, sym, ap, ◌∙◌, subst, append_assoc, ne_eqb, arith}
-use Rattle.report_lines.proofs.Common.{list_all, and_parts, and_from, All-head, All-tail, stop_text, lines_text, numbered, signed, spaced, IsBlock, BeginsBlock, IsCutBlock, IsBadBlock, BlockFails, block_line_text, IsBlockLine, is_one_line, kind_place, may_follow_at, follow_on, last_place, order_text, visit_text, PlannedStop, BlockLine, Batch, Expired, Lapsed, Late, Alone, Shared, Row, Trip, Out, Move, Cost, Bound, Nodes, Branch, Leaf}
+use Rattle.std.proofs.Common.{◌≡◌, ◌≢◌, ℕ, zero, suc, ◌+◌, ◌/◌, ◌%◌, nat_lt, Bool, true, false, not, ◌==◌, ℤ, pos, negsuc, Option, None, Some, List, [], ◌∷◌, ◌++◌, length, map, codes, decimal, refl, sym, ap, ◌∙◌, subst, append_assoc, ne_eqb, arith, rules}
+use Rattle.report_lines.proofs.Common.{and_parts, and_from, All-head, All-tail, stop_text, lines_text, numbered, signed, spaced, IsBlock, BeginsBlock, IsCutBlock, IsBadBlock, BlockFails, block_line_text, IsBlockLine, is_one_line, kind_place, may_follow_at, follow_on, last_place, order_text, visit_text, PlannedStop, BlockLine, Batch}
 use Rattle.std.specs.List.{All, flat_map}
 use Rattle.std.proofs.lemmas.Bool.{cond_both}
+use Rattle.std.proofs.lemmas.Bool.Decides.{nat_tests}
 use Rattle.std.proofs.lemmas.List.Folds.{list_all-append}
 use Rattle.std.specs.Fmt.{digit_glyph, digits_onto}
 unfoldable use Rattle.std.specs.Fmt.{digits}
@@ -10,29 +11,12 @@ use Rattle.report_lines.specs.declared.block.BlockFault.{BlockFault}
 use Rattle.report_lines.specs.declared.block.BlockFault.TheVariants.{OutOfMemory as NoMemory, Cut, Form}
 use Rattle.report_lines.proofs.OneLine.{block_line_of_one}
 
-feed_apart : (b : ℕ) (bs : List ℕ) → is_one_line (b ∷ bs) ≡ true → 10 ≡ b → ⊥
-feed_apart b bs one is =
-    let f : ℕ → Bool = λ c. not (c == 10) in
-    let here : false ≡ not (b == 10) = ap f is in
-    let other : not (b == 10) ≡ true = (and_parts (not (b == 10)) (list_all f bs) one).0 in
-    cc
-
 -- lines end at line feeds, and there alone
 pub cut_once : (a b r s : List ℕ) → is_one_line a ≡ true → is_one_line b ≡ true → a ++ 10 ∷ r ≡ b ++ 10 ∷ s → (a ≡ b) × (r ≡ s)
-cut_once [] [] r s ia ib e =
-    let same : 10 ∷ r ≡ 10 ∷ s = e in
-    let rest : r ≡ s = cc in
-    (refl, rest)
-cut_once [] (b ∷ bs) r s ia ib e = let same : 10 ∷ r ≡ b ∷ (bs ++ 10 ∷ s) = e in absurd (feed_apart b bs ib (cc))
-cut_once (a ∷ xs) [] r s ia ib e = let same : a ∷ (xs ++ 10 ∷ r) ≡ 10 ∷ s = e in absurd (feed_apart a xs ia (cc))
-cut_once (a ∷ xs) (b ∷ ys) r s ia ib e =
-    let same : a ∷ (xs ++ 10 ∷ r) ≡ b ∷ (ys ++ 10 ∷ s) = e in
-    let heads : a ≡ b = cc in
-    let tails : xs ++ 10 ∷ r ≡ ys ++ 10 ∷ s = cc in
-    let pa = and_parts (not (a == 10)) (list_all (λ c. not (c == 10)) xs) ia in
-    let pb = and_parts (not (b == 10)) (list_all (λ c. not (c == 10)) ys) ib in
-    let rest = cut_once xs ys r s pa.1 pb.1 tails in
-    (ap (λ z. z ∷ xs) heads ∙ ap (λ zs. b ∷ zs) rest.0, rest.1)
+cut_once [] [] r s ia ib e = grind arith
+cut_once [] (b ∷ ys) r s ia ib e = grind (arith, nat_tests)
+cut_once (a ∷ xs) [] r s ia ib e = grind (arith, nat_tests)
+cut_once (a ∷ xs) (b ∷ ys) r s ia ib e = grind (arith, nat_tests, cut_once xs ys r s)
 
 -- no digit is a line feed
 glyph_line : (d : ℕ) → not (digit_glyph false d == 10) ≡ true
@@ -69,45 +53,25 @@ many_one_line t one [] = refl
 many_one_line t one (x ∷ xs) = append_one_line (t x) (flat_map t xs) (one x) (many_one_line t one xs)
 
 stop_one_line : (stop : PlannedStop) → is_one_line (stop_text stop) ≡ true
-stop_one_line stop =
-    append_one_line (visit_text (stop.pick, stop.rider) ++ numbered (codes "@") stop.node) (numbered (codes ":") stop.second)
-    (append_one_line (visit_text (stop.pick, stop.rider)) (numbered (codes "@") stop.node) (visit_line stop.pick) (numbered_one_line (codes "@") stop.node refl))
-    (numbered_one_line (codes ":") stop.second refl)
+stop_one_line stop = by stop.pick
   where
-    visit_line : (pick : Bool) → is_one_line (visit_text (pick, stop.rider)) ≡ true
-    visit_line true = numbered_one_line (codes " pick:") stop.rider refl
-    visit_line false = numbered_one_line (codes " drop:") stop.rider refl
+    by : (pick : Bool) → is_one_line (visit_text (pick, stop.rider) ++ numbered (codes "@") stop.node ++ numbered (codes ":") stop.second) ≡ true
+    by true = search (rules, append_one_line, numbered_one_line)
+    by false = search (rules, append_one_line, numbered_one_line)
 
 order_one_line : (delay : ℕ) (stops : Option (List PlannedStop)) → is_one_line (order_text (delay, stops)) ≡ true
 order_one_line delay None = refl
-order_one_line delay (Some stops) = append_one_line (spaced delay) (flat_map stop_text stops) (spaced_one_line delay) (many_one_line stop_text stop_one_line stops)
+order_one_line delay (Some stops) = search (rules, append_one_line, spaced_one_line, many_one_line, stop_one_line)
 
 pub two_line : (words : List ℕ) (a b : ℕ) → is_one_line words ≡ true → is_one_line (numbered words a ++ spaced b) ≡ true
 two_line words a b one = append_one_line (numbered words a) (spaced b) (numbered_one_line words a one) (spaced_one_line b)
 
+ruleset one_lines = (append_one_line, numbered_one_line, signed_one_line, spaced_one_line, many_one_line, stop_one_line, order_one_line)
+
 -- no line of a block has a line feed before its end
 block_line_one_line : (x : BlockLine) → is_one_line (block_line_text x) ≡ true
-block_line_one_line (Batch n) = numbered_one_line (codes "batch ") n refl
-block_line_one_line (Expired rider) = numbered_one_line (codes "expired ") rider refl
-block_line_one_line (Lapsed rider) = numbered_one_line (codes "lapsed ") rider refl
-block_line_one_line (Late late) =
-    append_one_line (numbered (codes "late ") late.vehicle) (order_text (late.delay, late.stops)) (numbered_one_line (codes "late ") late.vehicle refl) (order_one_line late.delay late.stops)
-block_line_one_line (Alone pair) = two_line (codes "rv ") pair.0 pair.1 refl
-block_line_one_line (Shared pair) = two_line (codes "rr ") pair.0 pair.1 refl
-block_line_one_line (Row row) =
-    append_one_line (numbered (codes "row ") row.vehicle ++ spaced row.cost) (flat_map spaced row.riders) (two_line (codes "row ") row.vehicle row.cost refl) (many_one_line spaced spaced_one_line row.riders)
-block_line_one_line (Trip trip) =
-    append_one_line (numbered (codes "trip ") trip.vehicle ++ spaced trip.cost) (flat_map stop_text trip.stops) (two_line (codes "trip ") trip.vehicle trip.cost refl)
-    (many_one_line stop_text stop_one_line trip.stops)
-block_line_one_line (Out rider) = numbered_one_line (codes "out ") rider refl
-block_line_one_line (Move m) = append_one_line (numbered (codes "move ") m.vehicle ++ spaced m.rider) (spaced m.seconds) (two_line (codes "move ") m.vehicle m.rider refl) (spaced_one_line m.seconds)
-block_line_one_line (Cost n) = numbered_one_line (codes "cost ") n refl
-block_line_one_line (Bound z) = signed_one_line (codes "bound ") z refl
-block_line_one_line (Nodes n) = numbered_one_line (codes "nodes ") n refl
-block_line_one_line (Branch branch) = two_line (codes "branch ") branch.0 branch.1 refl
-block_line_one_line (Leaf multipliers) =
-    append_one_line (codes "leaf") (flat_map (signed (codes " ")) multipliers) refl (many_one_line (signed (codes " ")) (λ z. signed_one_line (codes " ") z refl) multipliers)
-block_line_one_line _ = refl
+block_line_one_line (Batch n) = search (rules, one_lines)
+block_line_one_line _ = search (rules, one_lines)
 
 -- the first line of a text of lines, and the others
 first_line : (x : BlockLine) (xs : List BlockLine) (rest : List ℕ) → lines_text (map block_line_text (x ∷ xs)) ++ rest ≡ block_line_text x ++ 10 ∷ (lines_text (map block_line_text xs) ++ rest)

@@ -1,9 +1,10 @@
 -- An outcome's lines are a block.
-use Rattle.std.proofs.Common.{◌≡◌, ℕ, ◌≤◌, true, ℤ, List, [], ◌∷◌, ◌++◌, length, map, nat_le, refl, sym, subst, arith}
-use Rattle.report_lines.proofs.Common.{and_from, and_parts, lines_text, Outcome, IsBlock, IsBlockLine, kind_place, is_between, may_follow_at, follow_on, last_place, BlockLine, Batch, Expired, Lapsed, Alone, Shared, Out, Move, Cost, Bound, Nodes, End}
+use Rattle.std.proofs.Common.{◌≡◌, ℕ, ◌≤◌, true, ℤ, List, [], ◌∷◌, ◌++◌, length, map, nat_le, refl, arith}
+use Rattle.report_lines.proofs.Common.{and_from, lines_text, Outcome, IsBlock, IsBlockLine, kind_place, is_between, may_follow_at, follow_on, last_place, BlockLine, Batch, Expired, Lapsed, Alone, Shared, Out, Move, Cost, Bound, Nodes, End}
 use Rattle.dispatch_report.specs.Block.{row_as_line, trip_as_line, late_as_line, tree_line, lines_of_answer, lines_of, block_lines}
 use Rattle.std.specs.List.{All}
 use Rattle.std.proofs.lemmas.Bool.{le-leb}
+use Rattle.std.proofs.lemmas.Bool.Decides.{nat_tests}
 use Rattle.plan_rules.specs.declared.node.Node.{Node}
 use Rattle.plan_rules.specs.declared.node.Node.TheVariants.{Branch as Branches, Leaf as Ends, Dead as Closed}
 use Rattle.request_book.specs.declared.outcome.Answer.{Answer}
@@ -12,15 +13,13 @@ use Rattle.request_book.specs.declared.outcome.Planned.{Planned}
 use Rattle.request_book.specs.declared.outcome.RowLine.{RowLine}
 
 -- lines behind lines
-last_join : (p : ℕ) (xs ys : List BlockLine) → last_place p (xs ++ ys) ≡ last_place (last_place p xs) ys
+pub last_join : (p : ℕ) (xs ys : List BlockLine) → last_place p (xs ++ ys) ≡ last_place (last_place p xs) ys
 last_join p [] ys = refl
 last_join p (x ∷ xs) ys = last_join (kind_place x) xs ys
 
-follow_join : (p : ℕ) (xs ys : List BlockLine) → follow_on p xs ≡ true → follow_on (last_place p xs) ys ≡ true → follow_on p (xs ++ ys) ≡ true
+pub follow_join : (p : ℕ) (xs ys : List BlockLine) → follow_on p xs ≡ true → follow_on (last_place p xs) ys ≡ true → follow_on p (xs ++ ys) ≡ true
 follow_join p [] ys fx fy = fy
-follow_join p (x ∷ xs) ys fx fy =
-    let parts = and_parts (may_follow_at p x) (follow_on (kind_place x) xs) fx in
-    and_from (may_follow_at p x) (follow_on (kind_place x) (xs ++ ys)) parts.0 (follow_join (kind_place x) xs ys parts.1 fy)
+follow_join p (x ∷ xs) ys fx fy = grind (arith, follow_join (kind_place x) xs ys)
 
 -- lines in their order from a place on, the last of them between two places
 record Run (p : ℕ) (lines : List BlockLine) (low high : ℕ) : Type 0 where
@@ -29,13 +28,7 @@ record Run (p : ℕ) (lines : List BlockLine) (low high : ℕ) : Type 0 where
   high_end : last_place p lines ≤ high
 
 run_join : (p : ℕ) (xs ys : List BlockLine) (low high bottom top : ℕ) → Run p xs low high → ((q : ℕ) → low ≤ q → q ≤ high → Run q ys bottom top) → Run p (xs ++ ys) bottom top
-run_join p xs ys low high bottom top rx ry =
-    let r = ry (last_place p xs) rx.low_end rx.high_end in
-    record {
-      order = follow_join p xs ys rx.order r.order;
-      low_end = subst (λ q. bottom ≤ q) (sym (last_join p xs ys)) r.low_end;
-      high_end = subst (λ q. q ≤ top) (sym (last_join p xs ys)) r.high_end;
-    }
+run_join p xs ys low high bottom top rx ry = let r = ry (last_place p xs) rx.low_end rx.high_end in grind (arith, follow_join p xs ys, last_join p xs ys)
 
 between : (low high n : ℕ) → low ≤ n → n ≤ high → is_between low high n ≡ true
 between low high n l h = and_from (nat_le low n) (nat_le n high) (le-leb low n l) (le-leb n high h)
@@ -43,24 +36,10 @@ between low high n l h = and_from (nat_le low n) (nat_le n high) (le-leb low n l
 -- a list of one kind
 kind_run : {X : Type 0} (K : X → BlockLine) (base place : ℕ) → base ≤ place → ((x : X) → kind_place (K x) ≡ place) → ((q : ℕ) (x : X) → base ≤ q → q ≤ place → may_follow_at q (K x) ≡ true) → (xs : List X) (p : ℕ) → base ≤ p → p ≤ place → Run p (map K xs) base place
 kind_run K base place fits at may [] p l h = record { order = refl; low_end = l; high_end = h }
-kind_run {X} K base place fits at may (x ∷ xs) p l h =
-    let there : kind_place (K x) ≡ place = at x in
-    let above : base ≤ kind_place (K x) = omega arith in
-    let below : kind_place (K x) ≤ place = omega arith in
-    let r = kind_run K base place fits at may xs (kind_place (K x)) above below in
-    record {
-      order = and_from (may_follow_at p (K x)) (follow_on (kind_place (K x)) (map K xs)) (may p x l h) r.order;
-      low_end = r.low_end;
-      high_end = r.high_end;
-    }
+kind_run {X} K base place fits at may (x ∷ xs) p l h = grind (arith, nat_tests, at x, may p x, kind_run K base place fits at may xs (kind_place (K x)))
 
 wider : (p : ℕ) (xs : List BlockLine) (low high bottom top : ℕ) → Run p xs low high → bottom ≤ low → high ≤ top → Run p xs bottom top
-wider p xs low high bottom top r l h =
-    record {
-      order = r.order;
-      low_end = let a : low ≤ last_place p xs = r.low_end in omega arith;
-      high_end = let a : last_place p xs ≤ high = r.high_end in omega arith;
-    }
+wider p xs low high bottom top r l h = grind arith
 
 -- a list of one kind, behind a list before it
 then_kind : {X : Type 0} (K : X → BlockLine) (place : ℕ) (p : ℕ) (before : List BlockLine) (high : ℕ) → 1 ≤ place → high ≤ place → ((x : X) → kind_place (K x) ≡ place) → ((q : ℕ) (x : X) → 1 ≤ q → q ≤ place → may_follow_at q (K x) ≡ true) → Run p before 1 high → (xs : List X) → Run p (before ++ map K xs) 1 place

@@ -1,5 +1,5 @@
 -- The head of a report, line by line.
-use Rattle.std.proofs.Common.{◌≡◌, ℕ, ◌+◌, ◌<◌, ◌^◌, true, get_or, length, inl, inr, List, [], ◌∷◌, ◌++◌, codes, refl, sym, ap, ◌∙◌, subst, arith}
+use Rattle.std.proofs.Common.{◌≡◌, ℕ, ◌+◌, ◌<◌, ◌^◌, true, get_or, length, inl, inr, List, [], ◌∷◌, ◌++◌, codes, refl, sym, ap, ◌∙◌, subst, arith, rules}
 use Rattle.report_lines.proofs.Common.{list_all, and_parts, and_from, head_text, settings_line, lines_text, numbered, is_one_line, HeadLine, HasForm, FitsLine, HeadFails, LinesFail, head_lines, sizes_of, settings_text, AreSettings, sizes_text, AreSizes, IsFirstLine, Passes, AreOf, AreLawful, HeadFault, SettingsText, LinesThen, told_lines, HasHead, told_of, Settings}
 use Rattle.report_lines.specs.Head.{BeginsWithHead}
 use Rattle.report_lines.proofs.SettingsLemmas.{lawful_short, told_lawful, settings_one_line, settings_line_is, same_settings}
@@ -23,12 +23,8 @@ lines_whole (l ∷ ls) text rest (after, is, more) = is.whole ∙ ap (λ r. l ++
 
 lines_once : (ls ms : List (List ℕ)) (text r s : List ℕ) → length ls ≡ length ms → LinesThen ls text r → LinesThen ms text s → (ls ≡ ms) × (r ≡ s)
 lines_once [] [] text r s long is has = (refl, sym is ∙ has)
-lines_once [] (m ∷ ms) text r s long is has = absurd (omega (arith, long))
-lines_once (l ∷ ls) [] text r s long is has = absurd (omega (arith, long))
-lines_once (l ∷ ls) (m ∷ ms) text r s long (after, is, more) (behind, has, others) =
-    let first = first_once text l m after behind is has in
-    let rest = lines_once ls ms after r s (omega (arith, long)) more (subst (λ t. LinesThen ms t s) (sym first.1) others) in
-    (ap (λ x. x ∷ ls) first.0 ∙ ap (λ xs. m ∷ xs) rest.0, rest.1)
+lines_once (l ∷ ls) (m ∷ ms) text r s long (after, is, more) (behind, has, others) = grind (arith, first_once text l m after behind is has, lines_once ls ms after r s)
+lines_once _ _ text r s long is has = absurd (omega (arith, long))
 
 -- a line that was passed
 pub passed : {l text rest : List ℕ} → Passes (λ line. line ≡ l) text rest → IsFirstLine text l rest
@@ -52,12 +48,7 @@ no_fault (form ∷ forms) (l ∷ ls) number text rest fault (has_form, fits, mor
 
 module _ (workers : ℕ) (roads : Roads) (vehicles : ℕ) (text : List ℕ) (few : AreSizes (sizes_of roads)) (few_vehicles : vehicles < 2 ^ 64) where
   one_lines : (told : SettingsText) → list_all (λ l. is_one_line l) (told_lines told (sizes_of roads) vehicles) ≡ true
-  one_lines told =
-      let nodes : List ℕ = numbered (codes "network nodes=") (length roads.nodes) in
-      let arcs : List ℕ = numbered (codes " arcs=") (length roads.arcs) in
-      let sizes = append_one_line nodes arcs (numbered_one_line (codes "network nodes=") (length roads.nodes) refl) (numbered_one_line (codes " arcs=") (length roads.arcs) refl) in
-      let fleet = numbered_one_line (codes "fleet vehicles=") vehicles refl in
-      and_from _ _ refl (and_from _ _ (settings_one_line told) (and_from _ _ sizes (and_from _ _ fleet refl)))
+  one_lines told = search (rules, and_from, settings_one_line, append_one_line, numbered_one_line)
 
   -- the lines of a text that begins with the head
   head_then : (s : Settings) (rest : List ℕ) → BeginsWithHead workers roads vehicles text s rest → LinesThen (told_lines (told_of s) (sizes_of roads) vehicles) text rest

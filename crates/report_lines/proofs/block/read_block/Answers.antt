@@ -18,6 +18,4 @@ returns-in_err-push c =
 pub loop-place-preserved : goal.loop-place-preserved
 loop-place-preserved c =
     let found = rw c.in-Some-2.is at c.in_ok-found.ensures in
-    block_more c.args.text.now c.loop-place.lines.items c.loop-place.rest.now c.loop-place.place c.in-Some.line.now c.in-Some.after.now c.in-Some-2.found
-    c.push.new.self.items c.place_of_line-place.result
-    c.loop-place.invariant c.in-Some.ensures.0 found.0 found.1 found.2 c.place_of_line-place.ensures c.in_ok-push.ensures.items
+    block_more c.in-Some-2.found c.loop-place.invariant c.in-Some.ensures.0 found.0 found.1 found.2 c.place_of_line-place.ensures c.in_ok-push.ensures.items

@@ -1,9 +1,11 @@
-use Rattle.report_lines.proofs.CommandLemmas.{four_no_ids, four_no_time}
+use Rattle.std.proofs.Common.{codes}
+use Rattle.report_lines.proofs.Common.{IsId}
+use Rattle.report_lines.proofs.CommandLemmas.{three_once}
+use Rattle.report_lines.proofs.lemmas.ReadingLemmas.{both_none_first, both_none_second, spaced_apart}
 use Rattle.report_lines.proofs.command.four_first.Goals as goal
 
-pub returns-in_default : goal.returns-in_default
-returns-in_default c = four_no_ids c.args.text.now c.in_default.ensures
+pub returns-in_err-ids : goal.returns-in_err-ids
+returns-in_err-ids c = rw c.from_residual.ensures (both_none_first IsId spaced_apart c.in_err-ids.ensures)
 
-pub returns-in_default-numbered_first : goal.returns-in_default-numbered_first
-returns-in_default-numbered_first c =
-    four_no_time c.args.text.now c.in-Some.ids c.in-Some.after.now c.in-Some.ensures c.in_default-numbered_first.ensures
+pub returns-in_err-time : goal.returns-in_err-time
+returns-in_err-time c = rw c.from_residual-in_err-time.ensures (both_none_second IsId spaced_apart (three_once (codes "submit ")) c.in_ok-ids.ensures c.in_err-time.ensures)

@@ -1,19 +1,14 @@
-use Rattle.report_lines.proofs.Common.{IsReply, three_text, AreThree, spaced_reply}
+use Rattle.report_lines.proofs.Common.{IsReply, spaced_reply}
 use Rattle.report_lines.proofs.CommandLemmas.{reply_ends, three_once}
-use Rattle.report_lines.proofs.ToldLemmas.{no_head, tail_told, both_told}
+use Rattle.report_lines.proofs.lemmas.ReadingLemmas.{no_head, tail_told, both_told}
 use Rattle.report_lines.proofs.command.is_ride.Goals as goal
 
 pub returns-in_default-clause-whole : goal.returns-in_default-clause-whole
-returns-in_default-clause-whole c told =
-    absurd (no_head (three_text c.args.words.now) AreThree spaced_reply IsReply c.args.text.now reply_ends c.in_default.ensures told)
+returns-in_default-clause-whole c told = absurd (no_head spaced_reply IsReply reply_ends c.in_default.ensures told)
 
 pub returns-clause-right : goal.returns-clause-right
-returns-clause-right c found =
-    both_told (three_text c.args.words.now) AreThree spaced_reply IsReply c.args.text.now c.in-Some.field-0-0 c.in-Some.after.now c.in-Some.ensures
-    (c.is_spaced_reply.ensures.right found)
+returns-clause-right c found = both_told spaced_reply IsReply reply_ends c.in-Some.ensures (c.is_spaced_reply.ensures.right found)
 
 pub returns-clause-whole : goal.returns-clause-whole
 returns-clause-whole c told =
-    c.is_spaced_reply.ensures.whole
-    (tail_told (three_text c.args.words.now) AreThree spaced_reply IsReply c.args.text.now reply_ends (three_once c.args.words.now)
-    c.in-Some.field-0-0 c.in-Some.after.now c.in-Some.ensures told)
+    c.is_spaced_reply.ensures.whole (tail_told spaced_reply IsReply reply_ends (three_once c.args.words.now) c.in-Some.ensures told)

@@ -1,9 +1,12 @@
-use Rattle.report_lines.proofs.CommandLemmas.{three_no_pair, three_no_third}
+use Rattle.std.proofs.Common.{arith}
+use Rattle.report_lines.proofs.Common.{IsId}
+use Rattle.report_lines.proofs.lemmas.ReadingLemmas.{both_none_first, both_none_second, pair_once, spaced_apart}
 use Rattle.report_lines.proofs.command.three_first.Goals as goal
 
-pub returns-in_default : goal.returns-in_default
-returns-in_default c = three_no_pair c.args.words.now c.args.text.now c.in_default.ensures
+pub returns-in_err-pair : goal.returns-in_err-pair
+returns-in_err-pair c = rw c.from_residual.ensures (both_none_first IsId spaced_apart c.in_err-pair.ensures)
 
-pub returns-in_default-numbered_first : goal.returns-in_default-numbered_first
-returns-in_default-numbered_first c =
-    three_no_third c.args.words.now c.args.text.now c.in-Some.pair c.in-Some.after.now c.in-Some.ensures c.in_default-numbered_first.ensures
+pub returns-in_err-third : goal.returns-in_err-third
+returns-in_err-third c =
+    let form = pair_once c.args.words.now 1000000000 1000000000 (omega arith) (omega arith) in
+    rw c.from_residual-in_err-third.ensures (both_none_second IsId spaced_apart form c.in_ok-pair.ensures c.in_err-third.ensures)

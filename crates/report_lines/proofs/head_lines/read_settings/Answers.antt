@@ -2,41 +2,41 @@ use Rattle.std.proofs.Common.{sym, ◌∙◌}
 use Rattle.report_lines.proofs.lemmas.HeadLemmas.{no_settings_line, none_here, none_behind, none_dwell, field_behind, settings_fields}
 use Rattle.report_lines.proofs.head_lines.read_settings.Goals as goal
 
-pub returns-in_default : goal.returns-in_default
-returns-in_default c = no_settings_line (none_here c.in_default.ensures)
+pub returns-in_err-wait : goal.returns-in_err-wait
+returns-in_err-wait c = rw c.from_residual.ensures (no_settings_line (none_here c.in_err-wait.ensures))
 
-pub returns-in_default-numbered_first : goal.returns-in_default-numbered_first
-returns-in_default-numbered_first c = no_settings_line (none_behind c.in-Some.ensures (none_here c.in_default-numbered_first.ensures))
+pub returns-in_err-delay : goal.returns-in_err-delay
+returns-in_err-delay c = rw c.from_residual-in_err-delay.ensures (no_settings_line (none_behind c.in_ok-wait.ensures (none_here c.in_err-delay.ensures)))
 
-pub returns-in_default-numbered_first-2 : goal.returns-in_default-numbered_first-2
-returns-in_default-numbered_first-2 c = no_settings_line (none_behind c.in-Some.ensures (none_behind c.in-Some-numbered_first.ensures (none_here c.in_default-numbered_first-2.ensures)))
+pub returns-in_err-trip : goal.returns-in_err-trip
+returns-in_err-trip c = rw c.from_residual-in_err-trip.ensures (no_settings_line (none_behind c.in_ok-wait.ensures (none_behind c.in_ok-delay.ensures (none_here c.in_err-trip.ensures))))
 
-pub returns-in_default-numbered_first-3 : goal.returns-in_default-numbered_first-3
-returns-in_default-numbered_first-3 c = no_settings_line (none_behind c.in-Some.ensures (none_behind c.in-Some-numbered_first.ensures (none_behind c.in-Some-numbered_first-2.ensures (none_here c.in_default-numbered_first-3.ensures))))
+pub returns-in_err-penalty : goal.returns-in_err-penalty
+returns-in_err-penalty c = rw c.from_residual-in_err-penalty.ensures (no_settings_line (none_behind c.in_ok-wait.ensures (none_behind c.in_ok-delay.ensures (none_behind c.in_ok-trip.ensures (none_here c.in_err-penalty.ensures)))))
 
-pub returns-in_default-numbered_first-4 : goal.returns-in_default-numbered_first-4
-returns-in_default-numbered_first-4 c = no_settings_line (none_behind c.in-Some.ensures (none_behind c.in-Some-numbered_first.ensures (none_behind c.in-Some-numbered_first-2.ensures (none_behind c.in-Some-numbered_first-3.ensures (none_here c.in_default-numbered_first-4.ensures)))))
+pub returns-in_err-budget : goal.returns-in_err-budget
+returns-in_err-budget c = rw c.from_residual-in_err-budget.ensures (no_settings_line (none_behind c.in_ok-wait.ensures (none_behind c.in_ok-delay.ensures (none_behind c.in_ok-trip.ensures (none_behind c.in_ok-penalty.ensures (none_here c.in_err-budget.ensures))))))
 
-pub returns-in_default-numbered_first-5 : goal.returns-in_default-numbered_first-5
-returns-in_default-numbered_first-5 c = no_settings_line (none_behind c.in-Some.ensures (none_behind c.in-Some-numbered_first.ensures (none_behind c.in-Some-numbered_first-2.ensures (none_behind c.in-Some-numbered_first-3.ensures (none_behind c.in-Some-numbered_first-4.ensures (none_here c.in_default-numbered_first-5.ensures))))))
+pub returns-in_err-pairs : goal.returns-in_err-pairs
+returns-in_err-pairs c = rw c.from_residual-in_err-pairs.ensures (no_settings_line (none_behind c.in_ok-wait.ensures (none_behind c.in_ok-delay.ensures (none_behind c.in_ok-trip.ensures (none_behind c.in_ok-penalty.ensures (none_behind c.in_ok-budget.ensures (none_here c.in_err-pairs.ensures)))))))
 
-pub returns-in_default-numbered_first-6 : goal.returns-in_default-numbered_first-6
-returns-in_default-numbered_first-6 c = no_settings_line (none_behind c.in-Some.ensures (none_behind c.in-Some-numbered_first.ensures (none_behind c.in-Some-numbered_first-2.ensures (none_behind c.in-Some-numbered_first-3.ensures (none_behind c.in-Some-numbered_first-4.ensures (none_behind c.in-Some-numbered_first-5.ensures (none_here c.in_default-numbered_first-6.ensures)))))))
+pub returns-in_err-proof : goal.returns-in_err-proof
+returns-in_err-proof c = rw c.from_residual-in_err-proof.ensures (no_settings_line (none_behind c.in_ok-wait.ensures (none_behind c.in_ok-delay.ensures (none_behind c.in_ok-trip.ensures (none_behind c.in_ok-penalty.ensures (none_behind c.in_ok-budget.ensures (none_behind c.in_ok-pairs.ensures (none_here c.in_err-proof.ensures))))))))
 
-pub returns-in_default-read_dwell : goal.returns-in_default-read_dwell
-returns-in_default-read_dwell c = no_settings_line (none_behind c.in-Some.ensures (none_behind c.in-Some-numbered_first.ensures (none_behind c.in-Some-numbered_first-2.ensures (none_behind c.in-Some-numbered_first-3.ensures (none_behind c.in-Some-numbered_first-4.ensures (none_behind c.in-Some-numbered_first-5.ensures (none_behind c.in-Some-numbered_first-6.ensures (none_dwell c.in_default-read_dwell.ensures))))))))
+pub returns-in_err-dwell : goal.returns-in_err-dwell
+returns-in_err-dwell c = rw c.from_residual-in_err-dwell.ensures (no_settings_line (none_behind c.in_ok-wait.ensures (none_behind c.in_ok-delay.ensures (none_behind c.in_ok-trip.ensures (none_behind c.in_ok-penalty.ensures (none_behind c.in_ok-budget.ensures (none_behind c.in_ok-pairs.ensures (none_behind c.in_ok-proof.ensures (none_dwell c.in_err-dwell.ensures)))))))))
 
 pub returns : goal.returns
 returns c = (
   record {
-    wait = c.in-Some.ensures.lawful;
-    delay = c.in-Some-numbered_first.ensures.lawful;
-    trip = c.in-Some-numbered_first-2.ensures.lawful;
-    penalty = c.in-Some-numbered_first-3.ensures.lawful;
-    budget = c.in-Some-numbered_first-4.ensures.lawful;
-    pairs = c.in-Some-numbered_first-5.ensures.lawful;
-    proof = c.in-Some-numbered_first-6.ensures.lawful;
-    dwell = c.in-Some-read_dwell.ensures.0;
+    wait = c.in_ok-wait.ensures.lawful;
+    delay = c.in_ok-delay.ensures.lawful;
+    trip = c.in_ok-trip.ensures.lawful;
+    penalty = c.in_ok-penalty.ensures.lawful;
+    budget = c.in_ok-budget.ensures.lawful;
+    pairs = c.in_ok-pairs.ensures.lawful;
+    proof = c.in_ok-proof.ensures.lawful;
+    dwell = c.in_ok-dwell.ensures.0;
   },
-  field_behind _ c.in-Some.ensures (field_behind _ c.in-Some-numbered_first.ensures (field_behind _ c.in-Some-numbered_first-2.ensures (field_behind _ c.in-Some-numbered_first-3.ensures (field_behind _ c.in-Some-numbered_first-4.ensures (field_behind _ c.in-Some-numbered_first-5.ensures (field_behind _ c.in-Some-numbered_first-6.ensures c.in-Some-read_dwell.ensures.1)))))) ∙ sym (settings_fields _),
+  field_behind _ c.in_ok-wait.ensures (field_behind _ c.in_ok-delay.ensures (field_behind _ c.in_ok-trip.ensures (field_behind _ c.in_ok-penalty.ensures (field_behind _ c.in_ok-budget.ensures (field_behind _ c.in_ok-pairs.ensures (field_behind _ c.in_ok-proof.ensures c.in_ok-dwell.ensures.1)))))) ∙ sym (settings_fields _),
 )

@@ -1,15 +1,11 @@
 use Rattle.std.proofs.Common.{◌≤◌, ◌<◌, ◌^◌, arith}
-use Rattle.report_lines.proofs.Common.{numbered, spaced}
 use Rattle.report_lines.proofs.lemmas.ReadingLemmas.{both_none_first, both_none_second, numbered_once, spaced_apart}
 use Rattle.report_lines.proofs.words.pair_first.Goals as goal
 
-pub returns-in_default : goal.returns-in_default
-returns-in_default c =
-    both_none_first (numbered c.args.words.now) (λ n. n ≤ c.args.most) spaced (λ n. n ≤ c.args.other) spaced_apart c.args.text.now
-    c.in_default.ensures
+pub returns-in_err-first : goal.returns-in_err-first
+returns-in_err-first c = rw c.from_residual.ensures (both_none_first (λ n. n ≤ c.args.other) spaced_apart c.in_err-first.ensures)
 
-pub returns-in_default-numbered_first : goal.returns-in_default-numbered_first
-returns-in_default-numbered_first c =
+pub returns-in_err-second : goal.returns-in_err-second
+returns-in_err-second c =
     let small : c.args.most < 2 ^ 128 = omega arith in
-    both_none_second (numbered c.args.words.now) (λ n. n ≤ c.args.most) spaced (λ n. n ≤ c.args.other) spaced_apart c.args.text.now
-    c.in-Some.first c.in-Some.after.now (numbered_once c.args.words.now c.args.most small) c.in-Some.ensures c.in_default-numbered_first.ensures
+    rw c.from_residual-in_err-second.ensures (both_none_second (λ n. n ≤ c.args.other) spaced_apart (numbered_once c.args.words.now c.args.most small) c.in_ok-first.ensures c.in_err-second.ensures)
