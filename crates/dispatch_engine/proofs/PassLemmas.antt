@@ -1,6 +1,7 @@
 -- How a pass runs its lane's commands, piece by piece.
 use Rattle.std.proofs.Common.{◌≡◌, ℕ, ◌≤◌, true, List, [], ◌∷◌, ◌++◌, map, Option, Some, None, refl, sym, ap, subst, ◌∙◌, append_assoc, append-nil, true≢false, arith}
 use Rattle.dispatch_engine.proofs.Common.{map-append, All-nil, All-cons, All-append, All-weaker, Batch, IsGoodOutcome, Command, Seal, Close, Entry, Reply, Accepted, Settings, Roads, entry, LoggedCall, LockedReply, entry_of, is_light, sealed_by, BookPass, with_snapshot, HasCalled, HasCalledSome, IsSamePass, IsLaneRunFrom, IsLaneRun, IsLaneBeginning, last_sealed, IsGoodFor, LaneClosesAreGood, HasGained, HasRun, IsPlain, calls_of_pass}
+use Rattle.std.proofs.lemmas.Simd.{map-map}
 use Rattle.request_book.specs.declared.outcome.Answer.TheVariants.{Overflow}
 use Rattle.request_book.specs.declared.outcome.Outcome.{Outcome}
 use Rattle.shared_book.specs.declared.shared.Receipt.{Receipt}
@@ -17,10 +18,6 @@ begun-more : (cs ds : List Command) (es : List Entry) → IsLaneBeginning cs es 
 begun-more cs ds es p =
     let rest = some-run ds in
     (p.0 ++ rest.0, subst (IsLaneRun (cs ++ ds)) (append_assoc es p.0 rest.0) (run-append None cs ds (es ++ p.0) rest.0 p.1 rest.1))
-
--- a plain command isn't heavy
-plain-light : (command : Command) → IsPlain command → is_light command ≡ true
-plain-light command plain = grind arith
 
 -- a command that is no seal is answered without a batch
 light-unsealed : (nodes : List ℕ) (command : Command) (reply : Reply) (snapshot : Option Batch) → is_light command ≡ true → Fits nodes command (with_snapshot reply snapshot) → sealed_by reply ≡ None
@@ -45,18 +42,16 @@ gained-call nodes old new command position reply called =
     record {
       calls = called.calls;
       behind = All-cons P (position, entry old.lane command reply) [] called.after (All-nil P);
-      seen = (let after = called.after in let seen = called.seen in omega (arith, after, seen));
+      seen = omega (arith, called.after, called.seen);
     }
 
 gained-more : (a b c : BookPass) (xs ys : List (ℕ × LoggedCall Command LockedReply)) → HasGained xs a b → HasGained ys b c → HasGained (xs ++ ys) a c
 gained-more a b c xs ys p q =
-    let first = p.seen in
-    let second = q.seen in
     let P : ℕ × LoggedCall Command LockedReply → Type 0 = λ e. a.seen ≤ e.0 in
     record {
       calls = q.calls ∙ ap (λ l. l ++ ys) p.calls ∙ append_assoc a.calls xs ys;
-      behind = All-append P xs ys p.behind (All-weaker (λ (e : ℕ × LoggedCall Command LockedReply). b.seen ≤ e.0) P (λ e after. omega (arith, first, after)) ys q.behind);
-      seen = omega (arith, first, second);
+      behind = All-append P xs ys p.behind (All-weaker (λ (e : ℕ × LoggedCall Command LockedReply). b.seen ≤ e.0) P (λ e after. omega (arith, p.seen, after)) ys q.behind);
+      seen = omega (arith, p.seen, q.seen);
     }
 
 module _ (settings : Settings) (roads : Roads) where
@@ -98,7 +93,7 @@ module _ (settings : Settings) (roads : Roads) where
   runs-plain nodes old new command receipt plain called = record {
     more = (receipt.position, entry old.lane command (with_snapshot receipt.reply called.snapshot)) ∷ [];
     gained = gained-call nodes old new command receipt.position (with_snapshot receipt.reply called.snapshot) called.called;
-    run = (refl, nothing-left (sealed_by receipt.reply) (light-unsealed nodes command receipt.reply called.snapshot (plain-light command plain) called.called.fits));
+    run = (refl, nothing-left (sealed_by receipt.reply) (light-unsealed nodes command receipt.reply called.snapshot (let light : is_light command ≡ true = grind arith in light) called.called.fits));
     closes = (here command plain, tt);
   }
     where
@@ -157,11 +152,5 @@ module _ (settings : Settings) (roads : Roads) where
   -- a pass that had made no call
   pub ran-fresh : (old new : BookPass) (commands : List Command) → HasRun settings roads (IsLaneRun commands) old new → old.calls ≡ [] → IsLaneRun commands (map entry_of (calls_of_pass new)) × LaneClosesAreGood settings roads None (calls_of_pass new)
   ran-fresh old new commands p fresh =
-      let calls : new.calls ≡ p.more = p.gained.calls ∙ ap (λ l. l ++ p.more) fresh in (
-        subst (IsLaneRun commands) (twice p.more ∙ ap (λ l. map entry_of (map (λ c. c.1) l)) (sym calls)) p.run,
-        subst (LaneClosesAreGood settings roads None) (ap (map (λ c. c.1)) (sym calls)) p.closes,
-      )
-    where
-      twice : (l : List (ℕ × LoggedCall Command LockedReply)) → map (λ c. entry_of c.1) l ≡ map entry_of (map (λ c. c.1) l)
-      twice [] = refl
-      twice (c ∷ cs) = ap (λ t. entry_of c.1 ∷ t) (twice cs)
+      let calls : new.calls ≡ p.more = p.gained.calls ∙ ap (λ l. l ++ p.more) fresh in
+      (rw (calls, map-map) p.run, rw calls p.closes)

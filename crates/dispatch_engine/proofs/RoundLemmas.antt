@@ -1,6 +1,7 @@
 -- From the lanes of a round to its journal.
-use Rattle.std.proofs.Common.{◌≡◌, ◌≢◌, ℕ, suc, ◌+◌, ◌<◌, ◌≤◌, List, [], ◌∷◌, ◌++◌, length, sym, ap, subst, ◌∙◌, arith, Result, Ok, Err, OnErr}
+use Rattle.std.proofs.Common.{◌≡◌, ◌≢◌, ℕ, ◌+◌, ◌<◌, ◌≤◌, List, [], ◌++◌, length, sym, ap, subst, ◌∙◌, Result, Ok, Err, OnErr}
 use Rattle.dispatch_engine.proofs.Common.{AllByRecursion, BookView, IsBook, IsSameBook, state_after, RepliesAreSteps, Command, Entry, State, Settings, Roads, IsRound, MayStand, NumberedLanes, lane_at, BookPass, IsFinished, of_lane, ClosesAreGood, IsLaneRun, IsReady, IsRoundRun, IsSameRun, journal_of, HaveRunLanes, IsPlain, IsJointRun}
+use Rattle.std.proofs.lemmas.List.Elements.{recursion_from_All}
 use Rattle.std.specs.List.{All}
 use Rattle.dispatch_engine.proofs.lemmas.LaneLemmas.{joined}
 use Rattle.dispatch_engine.proofs.lemmas.StandLemmas.{stands-plain}
@@ -12,11 +13,7 @@ on-err (Err e) P p = p
 
 -- all commands of a lane other than the first are plain
 all-plain : (lane : ℕ) (commands : List Command) → lane ≢ 0 → All (MayStand lane) commands → AllByRecursion IsPlain commands
-all-plain lane [] other stand = tt
-all-plain lane (c ∷ cs) other stand = (
-  stands-plain lane c other (stand 0 c (omega arith)),
-  all-plain lane cs other (λ k d lt. stand (suc k) d (omega (arith, lt))),
-)
+all-plain lane commands other stand = recursion_from_All IsPlain commands (λ k d lt. stands-plain lane _ other (stand k d lt))
 
 -- a round whose lanes have run
 module _ (settings : Settings) (roads : Roads) (round : NumberedLanes) (start book : BookView) (passes : List BookPass) (done : IsFinished start passes book) (ready : IsReady settings roads start)

@@ -1,5 +1,5 @@
 -- Of two runs of the same commands in one lane: which seals are answered with which batch doesn't depend on what batches gave.
-use Rattle.std.proofs.Common.{rules, ◌≡◌, ◌≢◌, ℕ, suc, Bool, true, false, cond, eqb, List, [], ◌∷◌, Option, Some, None, refl, sym, ap, subst, ◌∙◌, inl, inr, arith, All, ◌⊎◌, option_map}
+use Rattle.std.proofs.Common.{rules, ◌≡◌, ◌≢◌, ℕ, suc, Bool, true, false, cond, eqb, List, [], ◌∷◌, Option, Some, None, refl, sym, ap, subst, ◌∙◌, inl, inr, arith, All, option_map}
 use Rattle.dispatch_engine.proofs.Common.{AllZip, cases_eq, nat_tests, Batch, next_position, state_after, RepliesAreSteps, batch_of, sealed_state, step, seal, close, Command, Seal, Close, Entry, Journal, State, Settings, Roads, NumberedLanes, lane_at, sealed_by, of_lane, IsCloseOf, IsLaneRunFrom, IsLaneRun, IsRoundRun, IsRun}
 use Rattle.std.proofs.lemmas.Bool.{eq-eqb}
 use Rattle.request_book.specs.declared.outcome.Outcome.{Outcome}
@@ -86,11 +86,10 @@ nil-of false e rest none = (refl, none)
 
 all-zero : (es : List Entry) → ((k : ℕ) → k ≢ 0 → of_lane k es ≡ []) → of_lane 0 es ≡ es
 all-zero [] none = refl
-all-zero (e ∷ es) none = by (all-zero es (λ k ne. (nil-of (eqb e.lane k) e (of_lane k es) (none k ne)).1)) (cases_eq e.lane 0)
-  where
-    by : of_lane 0 es ≡ es → (e.lane ≡ 0) ⊎ (e.lane ≢ 0) → of_lane 0 (e ∷ es) ≡ e ∷ es
-    by rest (inl is) = ap (λ b. cond b (e ∷ of_lane 0 es) (of_lane 0 es)) (eq-eqb e.lane 0 is) ∙ ap (λ l. e ∷ l) rest
-    by rest (inr ne) = let no = (nil-of (eqb e.lane e.lane) e (of_lane e.lane es) (none e.lane ne)).0 in absurd (let yes = eq-eqb e.lane e.lane refl in cc)
+all-zero (e ∷ es) none = elim (cases_eq e.lane 0) [
+  | inl is ↦ rw (eq-eqb e.lane 0 is) (ap (λ l. e ∷ l) (all-zero es (λ k ne. (nil-of (eqb e.lane k) e (of_lane k es) (none k ne)).1)))
+  | inr ne ↦ let no = (nil-of (eqb e.lane e.lane) e (of_lane e.lane es) (none e.lane ne)).0 in absurd (let yes = eq-eqb e.lane e.lane refl in cc)
+]
 
 run-nil : (es : List Entry) → IsLaneRun [] es → es ≡ []
 run-nil [] run = refl

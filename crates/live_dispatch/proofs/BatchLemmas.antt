@@ -1,7 +1,8 @@
 -- The entries that a row gave, or a batch from its seal to its close.
-use Rattle.std.proofs.Common.{◌≡◌, ◌≢◌, ℕ, Bool, true, false, cond, eqb, List, [], ◌∷◌, ◌++◌, map, Option, None, Some, refl, sym, ap, subst, ◌∙◌, append-nil, All, arith, filter, option_map}
-use Rattle.live_dispatch.proofs.Common.{IsInZero, filter-mapped, eqb-false, nat_tests, All-head, All-tail, All-weaker, Batch, of_lane, IsCloseOf, IsLaneRunFrom, IsLaneRun, IsLaneBeginning, IsGoodClose, IsGoodFor, LaneClosesAreGood, ClosesAreGood, each-told, closes-join, ends-closed, stands-plain, GoesOn, commands_of_pass, entry_command, row_command, pass_of, LaneCommand, state_after, RepliesAreSteps, step, Command, Close, Entry, Reply, State, Settings, entry_notices, Roads, MayStand, Line, calls_from, sealed_by, in_lane}
-use Rattle.std.proofs.lemmas.Bool.{eq-eqb, ne_eqb, eqb-true}
+use Rattle.std.proofs.Common.{◌≡◌, ◌≢◌, ℕ, Bool, true, false, cond, eqb, List, [], ◌∷◌, ◌++◌, map, Option, None, Some, refl, sym, ap, subst, inl, inr, ◌∙◌, append-nil, All, arith, filter, option_map}
+use Rattle.live_dispatch.proofs.Common.{IsInZero, filter-mapped, nat_tests, All-head, All-tail, All-weaker, Batch, of_lane, IsCloseOf, IsLaneRunFrom, IsLaneRun, IsLaneBeginning, IsGoodClose, IsGoodFor, LaneClosesAreGood, ClosesAreGood, each-told, closes-join, ends-closed, stands-plain, GoesOn, commands_of_pass, entry_command, row_command, pass_of, LaneCommand, state_after, RepliesAreSteps, step, Command, Close, Entry, Reply, State, Settings, entry_notices, Roads, MayStand, Line, calls_from, sealed_by, in_lane}
+use Rattle.std.proofs.lemmas.Bool.{cases_eq, eq-eqb, ne_eqb}
+use Rattle.std.proofs.lemmas.Simd.{map-map}
 use Rattle.std.proofs.lemmas.List.Elements.{All-filter, All-from_recursion, All-map, filter_agree, recursion_from_All}
 use Rattle.std.specs.List.{AllByRecursion}
 use Rattle.batch_solver.specs.Outcome.{IsGoodOutcome}
@@ -27,20 +28,12 @@ stands-silent lane s _ reply stands = refl
 abbrev pub told : LaneCommand → Command
 told c = c.command
 
-entries-told : (es : List Entry) → map told (map entry_command es) ≡ map (λ e. e.command) es
-entries-told [] = refl
-entries-told (e ∷ es) = ap (λ l. e.command ∷ l) (entries-told es)
-
-rows-told : (rows : List Line) → map told (map row_command rows) ≡ map (λ l. l.command) rows
-rows-told [] = refl
-rows-told (r ∷ rs) = ap (λ l. r.command ∷ l) (rows-told rs)
-
 -- the first pass plays lane 0
 zero-pass : (es : List Entry) → filter (λ e. eqb (pass_of e.lane) 0) es ≡ of_lane 0 es
 zero-pass es = filter_agree (λ (e : Entry). eqb (pass_of e.lane) 0) (λ (e : Entry). eqb e.lane 0) (λ e. grind (arith, nat_tests)) es
 
 pub zero-commands : (es : List Entry) → map (λ e. e.command) (of_lane 0 es) ≡ map told (commands_of_pass 0 es)
-zero-commands es = sym (entries-told (of_lane 0 es)) ∙ ap (λ l. map told (map entry_command l)) (sym (zero-pass es))
+zero-commands es = sym (map-map told entry_command (of_lane 0 es)) ∙ ap (λ l. map told (map entry_command l)) (sym (zero-pass es))
 
 -- the second pass plays each other lane
 other-pass : (lane : ℕ) (es : List Entry) → lane ≢ 0 → filter (λ c. eqb c.lane lane) (commands_of_pass 1 es) ≡ map entry_command (of_lane lane es)
@@ -53,9 +46,9 @@ rows-lane lane rows = filter-mapped row_command (λ (c : LaneCommand). eqb c.lan
 -- the entries of another lane have the commands of its rows
 other-commands : (lane : ℕ) (es : List Entry) (rows : List Line) → lane ≢ 0 → commands_of_pass 1 es ≡ map row_command rows → map (λ e. e.command) (of_lane lane es) ≡ in_lane rows lane
 other-commands lane es rows other are =
-    sym (entries-told (of_lane lane es))
+    sym (map-map told entry_command (of_lane lane es))
     ∙ ap (map told) (sym (other-pass lane es other) ∙ ap (filter (λ (c : LaneCommand). eqb c.lane lane)) are ∙ rows-lane lane rows)
-    ∙ rows-told (filter (λ (l : Line). eqb l.lane lane) rows)
+    ∙ map-map told row_command (filter (λ (l : Line). eqb l.lane lane) rows)
 
 -- rows that went on are plain, and outside lane 0
 rows-plain : (round : ℕ) (rows : List Line) → All (GoesOn round) rows → All (λ l. IsPlain l.command) rows
@@ -80,12 +73,10 @@ zero-rows round (r ∷ rs) going =
 -- so each entry outside lane 0 is plain
 in-zero : (es : List Entry) → AllByRecursion IsPlain (map told (commands_of_pass 1 es)) → AllByRecursion IsInZero es
 in-zero [] plain = tt
-in-zero (e ∷ es) plain = by (eqb e.lane 0) refl (in-zero es) plain
-  where
-    by : (b : Bool) → eqb e.lane 0 ≡ b → (AllByRecursion IsPlain (map told (commands_of_pass 1 es)) → AllByRecursion IsInZero es)
-        → AllByRecursion IsPlain (map told (map entry_command (cond (eqb (cond b 0 1) 1) (e ∷ filter (λ e. eqb (pass_of e.lane) 1) es) (filter (λ e. eqb (pass_of e.lane) 1) es)))) → IsInZero e × AllByRecursion IsInZero es
-    by true h more plain = (λ other. absurd (other (eqb-true e.lane 0 h)), more plain)
-    by false h more plain = (λ other. plain.0, more plain.1)
+in-zero (e ∷ es) plain = elim (cases_eq e.lane 0) [
+  | inl own ↦ ((λ other. absurd (other own)), in-zero es (rw (eq-eqb e.lane 0 own) at plain))
+  | inr other ↦ let both = rw (ne_eqb e.lane 0 other) at plain in ((λ _. both.0), in-zero es both.1)
+]
 
 -- the close of lane 0, or nothing
 pub close-run : (batch : ℕ) (outcome : Outcome) (es : List Entry) → map (λ e. e.command) es ≡ Close batch outcome ∷ [] → IsLaneRunFrom (Some batch) [] es
@@ -130,7 +121,7 @@ module _ (settings : Settings) (roads : Roads) where
   module _ (b : Batch) (s : State) (es : List Entry) (round : ℕ) (run : List Line) (sealed : s.sealed ≡ Some b) (replies : RepliesAreSteps roads.nodes settings.wait s es)
       (going : All (GoesOn round) run) (called : commands_of_pass 1 es ≡ map row_command run) where
     zeroth : AllByRecursion IsInZero es
-    zeroth = in-zero es (subst (AllByRecursion IsPlain) (sym (rows-told run) ∙ ap (map told) (sym called)) (recursion_from_All IsPlain _ (All-map IsPlain (λ (l : Line). l.command) run (rows-plain round run going))))
+    zeroth = in-zero es (subst (AllByRecursion IsPlain) (sym (map-map told row_command run) ∙ ap (map told) (sym called)) (recursion_from_All IsPlain _ (All-map IsPlain (λ (l : Line). l.command) run (rows-plain round run going))))
 
     last : (c : Batch) → s.sealed ≡ Some c → Some b ≡ Some c
     last c is = sym sealed ∙ is
@@ -167,31 +158,17 @@ row-lanes row reply none lane = row-kept (eqb row.lane lane) row.command row (re
 -- a seal that opened a batch, and then lanes of which lane 0 closes it, or may yet
 module _ (row : Line) (e : Entry) (batch round : ℕ) (run : List Line) (es : List Entry) (zero : row.lane ≡ 0) (first : e.lane ≡ 0) (is : e.command ≡ row.command) (opened : sealed_by e.reply ≡ Some batch)
     (going : All (GoesOn round) run) (others : (lane : ℕ) → lane ≢ 0 → IsLaneRun (in_lane run lane) (of_lane lane es)) where
-  -- lane 0's commands and entries, or another lane's
-  abbrev commands_at : Bool → ℕ → List Command
-  commands_at b lane = map (λ (l : Line). l.command) (cond b (row ∷ filter (λ l. eqb l.lane lane) run) (filter (λ l. eqb l.lane lane) run))
-
-  abbrev entries_at : Bool → ℕ → List Entry
-  entries_at b lane = cond b (e ∷ of_lane lane es) (of_lane lane es)
-
   zero-run : (rest : List Entry) → IsLaneRunFrom (Some batch) [] (of_lane 0 es ++ rest) → IsLaneRun (row.command ∷ in_lane run 0) ((e ∷ of_lane 0 es) ++ rest)
   zero-run rest close = subst (λ cs. IsLaneRun (row.command ∷ cs) (e ∷ (of_lane 0 es ++ rest))) (sym (zero-rows round run going))
       (is, subst (λ (p : Option ℕ). IsLaneRunFrom p [] (of_lane 0 es ++ rest)) (sym opened) close)
 
   by-lane : (P : List Command → List Entry → Type 0) → P (row.command ∷ in_lane run 0) (e ∷ of_lane 0 es) → ((lane : ℕ) → lane ≢ 0 → P (in_lane run lane) (of_lane lane es))
       → (lane : ℕ) → P (in_lane (row ∷ run) lane) (of_lane lane (e ∷ es))
-  by-lane P here there lane = by (eqb lane 0) refl
-    where
-      by : (b : Bool) → eqb lane 0 ≡ b → P (in_lane (row ∷ run) lane) (of_lane lane (e ∷ es))
-      by true h =
-          let at : lane ≡ 0 = eqb-true lane 0 h in
-          subst (λ k. P (commands_at (eqb row.lane k) k) (entries_at (eqb e.lane k) k)) (sym at)
-          (subst (λ b. P (commands_at b 0) (entries_at (eqb e.lane 0) 0)) (sym (eq-eqb row.lane 0 zero))
-          (subst (λ b. P (commands_at true 0) (entries_at b 0)) (sym (eq-eqb e.lane 0 first)) here))
-      by false h =
-          let other : lane ≢ 0 = eqb-false lane 0 h in
-          subst (λ b. P (commands_at b lane) (entries_at (eqb e.lane lane) lane)) (sym (ne_eqb row.lane lane (λ same. other (sym same ∙ zero))))
-          (subst (λ b. P (commands_at false lane) (entries_at b lane)) (sym (ne_eqb e.lane lane (λ same. other (sym same ∙ first)))) (there lane other))
+  by-lane P here there lane = elim (cases_eq lane 0) [
+    | inl at ↦ subst (λ k. P (in_lane (row ∷ run) k) (of_lane k (e ∷ es))) (sym at) (rw (eq-eqb row.lane 0 zero, eq-eqb e.lane 0 first) here)
+    | inr other ↦
+        rw (ne_eqb row.lane lane (λ same. other (sym same ∙ zero)), ne_eqb e.lane lane (λ same. other (sym same ∙ first))) (there lane other)
+  ]
 
   pub batch-lanes : IsLaneRunFrom (Some batch) [] (of_lane 0 es) → (lane : ℕ) → IsLaneRun (in_lane (row ∷ run) lane) (of_lane lane (e ∷ es))
   batch-lanes close = by-lane IsLaneRun (subst (IsLaneRun (row.command ∷ in_lane run 0)) (append-nil (e ∷ of_lane 0 es)) (zero-run [] (subst (IsLaneRunFrom (Some batch) []) (sym (append-nil (of_lane 0 es))) close))) others

@@ -10,9 +10,6 @@ use Rattle.live_dispatch.proofs.WriteLemmas.{some-part, some-whole}
 row-begun : (row : Line) (reply : Reply) (lane : ℕ) → IsLaneBeginning (in_lane (row ∷ []) lane) (of_lane lane ((record { lane = row.lane; command = row.command; reply = reply }) ∷ []))
 row-begun row reply lane = by (eqb row.lane lane) (sealed_by reply) refl
   where
-    e : Entry
-    e = record { lane = row.lane; command = row.command; reply = reply }
-
     by : (b : Bool) (o : Option ℕ) → sealed_by reply ≡ o → IsLaneBeginning (map (λ (l : Line). l.command) (cond b (row ∷ []) [])) (cond b ((record { lane = row.lane; command = row.command; reply = reply }) ∷ []) [])
     by true None is = ([], (refl, subst (λ (p : Option ℕ). IsLaneRunFrom p [] []) (sym is) tt))
     by true (Some batch) is = (some_close batch ∷ [], (refl, subst (λ (p : Option ℕ). IsLaneRunFrom p [] (some_close batch ∷ [])) (sym is) (refl, tt)))

@@ -1,7 +1,8 @@
 -- Lines that are judged one by one.
+use Rattle.std.proofs.lemmas.Bool.Decides.{nat_tests}
 use Rattle.std.proofs.lemmas.Result.{IfOk-weaker}
-use Rattle.std.proofs.Common.{arith, ◌≡◌, ℕ, false, List, length, sym, ap, ◌∙◌}
-use Rattle.std.specs.Prelude.{Result, Ok, Err, IfOk, nat_lt, ◌==◌}
+use Rattle.std.proofs.Common.{arith, ◌≡◌, ◌≤◌, ℕ, false, List, length, sym, ap, ◌∙◌}
+use Rattle.std.specs.Prelude.{Result, Ok, Err, IfOk, ◌==◌}
 use Rattle.pool_io.specs.Table.{table_of}
 use Rattle.pool_io.specs.declared.records.RowFault.{RowFault}
 use Rattle.script_rows.specs.Word.{header_of}
@@ -16,7 +17,7 @@ use Rattle.live_rows.specs.declared.judge.Judged.TheVariants as judged_as
 use Rattle.live_rows.specs.declared.start.Start.{Start}
 
 -- a line that isn't the first version's header
-pub start-second : {E : Type 0} (line header : List ℕ) (fault : RowFault) (r : Result Start E) → (length line == 0) ≡ false → nat_lt 65536 (length line) ≡ false → header ≡ header_of One
+pub start-second : {E : Type 0} (line header : List ℕ) (fault : RowFault) (r : Result Start E) → (length line == 0) ≡ false → length line ≤ 65536 → header ≡ header_of One
     → table_of header line ≡ Err fault → IfOk r (λ s. s ≡ other_start (table_of (header_of Two) line)) → IfOk r (λ s. s ≡ start_of line)
 start-second line header fault r some short named refused other =
     IfOk-weaker r (λ s. s ≡ other_start (table_of (header_of Two) line)) (λ s. s ≡ start_of line) (λ s e. e ∙ sym is) other
@@ -25,7 +26,7 @@ start-second line header fault r some short named refused other =
     first = ap (λ h. table_of h line) (sym named) ∙ refused
 
     is : start_of line ≡ other_start (table_of (header_of Two) line)
-    is = grind (arith, first)
+    is = grind (arith, nat_tests, first)
 
 line-behind : (version : ScriptVersion) (last : ℕ) (fields : List (List ℕ)) (row : Line) → line_in version 1 last fields ≡ Ok row → IsBehind last row
 line-behind version last fields row is = (IsRead-line_in version 1 last fields row is).behind

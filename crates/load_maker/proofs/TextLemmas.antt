@@ -1,14 +1,8 @@
 use Rattle.std.proofs.Common.{◌≡◌, ℕ, List, [], ◌∷◌, ◌++◌, ap, ◌∙◌}
-use Rattle.load_maker.proofs.Common.{Stream, Field, text_under, csv_lines, draws_of, network_part, fleet_part, script_part, arcs_right, arcs_down, arcs_of_row, Writes, Texts, texts_of}
+use Rattle.load_maker.proofs.Common.{Stream, text_under, draws_of, network_part, fleet_part, script_part, arcs_right, arcs_down, arcs_of_row, Writes, texts_of}
 use Rattle.std.proofs.lemmas.List.{append_assoc}
 use Rattle.rider_limits.specs.declared.load_shape.LoadShape.{LoadShape}
 use Rattle.pool_base.specs.Header.{script_header, fleet_header, network_header}
-
-made_of : List (List Field) → List (List Field) → List (List Field) → Texts
-made_of n f t = record { network = text_under network_header n; fleet = text_under fleet_header f; script = text_under script_header t }
-
-plain_of : List ℕ → List ℕ → List ℕ → Texts
-plain_of n f t = record { network = n; fleet = f; script = t }
 
 -- rows that were written one after another, from the seed's draws on, make the shape's texts
 pub texts_of-written : (shape : LoadShape) (seed : ℕ) (n f t : List ℕ) (u v w : Stream) → seed ≡ shape.seed
@@ -16,14 +10,12 @@ pub texts_of-written : (shape : LoadShape) (seed : ℕ) (n f t : List ℕ) (u v 
     → Writes (fleet_part shape) (fleet_header ++ 10 ∷ []) f u v
     → Writes (script_part shape) (script_header ++ 10 ∷ []) t v w
     → record { network = n; fleet = f; script = t } ≡ texts_of shape
-unfolding texts_of network_part arcs_of_row arcs_right arcs_down fleet_part script_part made_of plain_of
+unfolding texts_of network_part arcs_of_row arcs_right arcs_down fleet_part script_part
 texts_of-written shape seed n f t u v w is network fleet script =
     let s = ap draws_of is in
     let left : u ≡ (network_part shape (draws_of shape.seed)).1 = network.left ∙ ap (λ d. (network_part shape d).1) s in
     let last : v ≡ (fleet_part shape (network_part shape (draws_of shape.seed)).1).1 = fleet.left ∙ ap (λ d. (fleet_part shape d).1) left in
-    ap (λ x. plain_of x f t) (network.text ∙ append_assoc network_header (10 ∷ []) (csv_lines (network_part shape (draws_of seed)).0))
-    ∙ ap (λ x. plain_of (text_under network_header (network_part shape (draws_of seed)).0) x t) (fleet.text ∙ append_assoc fleet_header (10 ∷ []) (csv_lines (fleet_part shape u).0))
-    ∙ ap (λ x. plain_of (text_under network_header (network_part shape (draws_of seed)).0) (text_under fleet_header (fleet_part shape u).0) x) (script.text ∙ append_assoc script_header (10 ∷ []) (csv_lines (script_part shape v).0))
-    ∙ ap (λ x. made_of x (fleet_part shape u).0 (script_part shape v).0) (ap (λ d. (network_part shape d).0) s)
-    ∙ ap (λ x. made_of (network_part shape (draws_of shape.seed)).0 x (script_part shape v).0) (ap (λ d. (fleet_part shape d).0) left)
-    ∙ ap (λ x. made_of (network_part shape (draws_of shape.seed)).0 (fleet_part shape (network_part shape (draws_of shape.seed)).1).0 x) (ap (λ d. (script_part shape d).0) last)
+    let network_is = network.text ∙ append_assoc network_header (10 ∷ []) _ ∙ ap (λ d. text_under network_header (network_part shape d).0) s in
+    let fleet_is = fleet.text ∙ append_assoc fleet_header (10 ∷ []) _ ∙ ap (λ d. text_under fleet_header (fleet_part shape d).0) left in
+    let script_is = script.text ∙ append_assoc script_header (10 ∷ []) _ ∙ ap (λ d. text_under script_header (script_part shape d).0) last in
+    λ k. record { network = network_is k; fleet = fleet_is k; script = script_is k }

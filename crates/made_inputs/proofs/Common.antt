@@ -1,5 +1,5 @@
 -- The names that the proofs of this crate cite from elsewhere, passed on from one place. Declares nothing.
-pub use Rattle.std.proofs.lemmas.Bool.{cases_eq, false≢true, or_cases, or_from, or_left, or_right}
+pub use Rattle.std.proofs.lemmas.Bool.{cases_eq, false≢true, or_from}
 pub use Rattle.std.proofs.lemmas.List.{get_or-map, get_or_default, length-map}
 pub use Rattle.std.proofs.lemmas.List.Folds.{list_any-append, list_any_none}
 pub use Rattle.std.proofs.lemmas.Nat.{mod_below}

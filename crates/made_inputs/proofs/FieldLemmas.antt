@@ -1,4 +1,4 @@
-use Rattle.std.proofs.Common.{◌≡◌, ℕ, suc, ◌<◌, ◌≤◌, ◌^◌, false, cond, List, [], ◌∷◌, ◌++◌, Some, map, length, decimal, refl, sym, ap, ◌∙◌, arith}
+use Rattle.std.proofs.Common.{◌≡◌, ℕ, suc, ◌<◌, ◌≤◌, ◌^◌, false, cond, List, [], ◌∷◌, ◌++◌, Some, map, length, decimal, refl, ap, ◌∙◌, arith}
 use Rattle.made_inputs.proofs.Common.{list_any, or_from, next_record, default_config, number_up_to, Field, field_text, csv_line}
 use Rattle.std.proofs.lemmas.Bool.{ne_eqb}
 use Rattle.std.proofs.lemmas.List.{append-nil, append_assoc}
@@ -9,7 +9,7 @@ use Rattle.csv.proofs.RoundTrip.{read-write-many}
 use Rattle.pool_base.specs.Number.{IsDigit, AllDigits, IsNumeralOf}
 use Rattle.pool_base.specs.lemmas.Number.{value_after}
 use Rattle.pool_base.proofs.lemmas.NumeralLemmas.{is_numeral-digits, number_up_to-given}
-use Rattle.load_maker.specs.declared.row.Field.TheVariants.{Number, Report, Submit, Seal, Empty}
+use Rattle.load_maker.specs.declared.row.Field.TheVariants.{Number}
 use Rattle.csv.specs.declared.parser.State.TheVariants as st
 
 -- numerals are read as std reads them
@@ -40,10 +40,7 @@ small_number n small = number_up_to-decimal 1000000000 n small (omega arith)
 -- the number of a field is a number of the files
 abbrev pub Fits : Field → Type 0
 Fits (Number n) = n ≤ 1000000000
-Fits Report = Unit {0}
-Fits Submit = Unit {0}
-Fits Seal = Unit {0}
-Fits Empty = Unit {0}
+Fits _ = Unit {0}
 
 abbrev pub AllFit : List Field → Type 0
 AllFit [] = Unit {0}
@@ -62,29 +59,21 @@ digits_are_plain (c ∷ cs) digits =
 
 field_is_plain : (field : Field) → Fits field → list_any (needs_byte default_writer) (field_text field) ≡ false
 field_is_plain (Number n) fits = digits_are_plain (decimal n) (numeral n (omega arith)).digits
-field_is_plain Report fits = refl
-field_is_plain Submit fits = refl
-field_is_plain Seal fits = refl
-field_is_plain Empty fits = refl
+field_is_plain _ fits = refl
 
 written_as : (field : Field) → Fits field → written default_writer (field_text field) ≡ field_text field
 written_as field fits = ap (λ b. cond b (quoted default_writer (field_text field)) (field_text field)) (field_is_plain field fits)
 
 rest_written : (field : Field) (fields : List Field) → AllFit (field ∷ fields) → 44 ∷ csv_line (field ∷ fields) ≡ fields_text default_writer (map field_text (field ∷ fields)) ++ 10 ∷ []
 unfolding fields_text
-rest_written field [] fit =
-    ap (λ (t : List ℕ). 44 ∷ (t ++ 10 ∷ [])) (sym (written_as field fit.0) ∙ sym (append-nil (written default_writer (field_text field))))
+rest_written field [] fit = rw (written_as field fit.0, append-nil (field_text field)) refl
 rest_written field (next ∷ fields) fit =
-    ap (λ (t : List ℕ). 44 ∷ (field_text field ++ t)) (rest_written next fields fit.1)
-    ∙ ap (λ (t : List ℕ). 44 ∷ (t ++ (fields_text default_writer (map field_text (next ∷ fields)) ++ 10 ∷ []))) (sym (written_as field fit.0))
-    ∙ ap (λ (t : List ℕ). 44 ∷ t) (sym (append_assoc (written default_writer (field_text field)) (fields_text default_writer (map field_text (next ∷ fields))) (10 ∷ [])))
+    rw (rest_written next fields fit.1, written_as field fit.0, append_assoc (field_text field) (fields_text default_writer (map field_text (next ∷ fields))) (10 ∷ [])) refl
 
 row_written : (first second : Field) (fields : List Field) → AllFit (first ∷ second ∷ fields) → csv_line (first ∷ second ∷ fields) ≡ written_row default_writer (map field_text (first ∷ second ∷ fields))
 unfolding is_blank
 row_written first second fields fit =
-    ap (λ (t : List ℕ). field_text first ++ t) (rest_written second fields fit.1)
-    ∙ ap (λ (t : List ℕ). t ++ (fields_text default_writer (map field_text (second ∷ fields)) ++ 10 ∷ [])) (sym (written_as first fit.0))
-    ∙ sym (append_assoc (written default_writer (field_text first)) (fields_text default_writer (map field_text (second ∷ fields))) (10 ∷ []))
+    rw (rest_written second fields fit.1, written_as first fit.0, append_assoc (field_text first) (fields_text default_writer (map field_text (second ∷ fields))) (10 ∷ [])) refl
 
 -- a row of two fields or more is read as its fields
 pub row_read : (first second : Field) (fields : List Field) (tail : List ℕ) → AllFit (first ∷ second ∷ fields) → next_record default_config st.StartRecord [] [] (csv_line (first ∷ second ∷ fields) ++ tail) ≡ Some (map field_text (first ∷ second ∷ fields), st.StartRecord, tail)

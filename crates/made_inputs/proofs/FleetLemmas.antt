@@ -1,4 +1,4 @@
-use Rattle.std.proofs.Common.{◌≡◌, ℕ, zero, suc, ◌+◌, ◌*◌, ◌%◌, ◌<◌, ◌≤◌, ◌==◌, true, false, cond, List, [], ◌∷◌, Result, Ok, Err, map, length, take, get_or, unwrap_or, refl, sym, ap, subst, ◌∙◌, arith}
+use Rattle.std.proofs.Common.{◌≡◌, ℕ, zero, suc, ◌+◌, ◌*◌, ◌%◌, ◌<◌, ◌≤◌, ◌==◌, true, false, cond, List, [], ◌∷◌, Result, Ok, Err, map, length, take, get_or, refl, sym, ap, subst, ◌∙◌, arith}
 use Rattle.made_inputs.proofs.Common.{get_or_default, length-map, get_or-map, list_any, list_any_none, mod_below, Stream, next_u64, all_or_first, all_or_first-ok, number_at, nodes_of, has_node, LoadShape, Field, draw, draws_of, fleet_part, network_part, drawn_node, vehicle_row}
 use Rattle.std.specs.List.Sorted.{IsStrictlyIncreasing}
 use Rattle.std.proofs.lemmas.Bool.{le-ltb, ne_eqb}
@@ -68,15 +68,11 @@ vehicle_fits nodes first next row step =
     (ap length vehicle.is, subst AllFit (sym vehicle.is) (vehicle.id_small, (omega arith, (vehicle.node_small, (omega arith, tt)))))
 
 -- the row of a vehicle is accepted
-row_given : (nodes : List ℕ) (earlier : List (List (List ℕ))) (row id node : ℕ) → has_node nodes node ≡ true → list_any (λ before. number_at before 0 == id) earlier ≡ false → node ≤ 1000000000 → id ≤ 1000000000 → vehicle_in nodes earlier row (fields_of (field.Number id ∷ field.Number 4 ∷ field.Number node ∷ field.Number 0 ∷ [])) ≡ Ok (empty_vehicle id 4 node 0)
+row_given : (nodes : List ℕ) (earlier : List (List (List ℕ))) (number id : ℕ) (row : List Field) → IsVehicle nodes id row → list_any (λ before. number_at before 0 == id) earlier ≡ false
+    → vehicle_in nodes earlier number (fields_of row) ≡ Ok (empty_vehicle id 4 (number_at (fields_of row) 2) 0)
 unfolding vehicle_in
-row_given nodes earlier row id node known new node_small id_small =
-    rw (small_number id id_small, small_number 4 (omega arith), small_number node node_small, small_number 0 (omega arith), known, new) refl
-
-row_given_of : (nodes : List ℕ) (earlier : List (List (List ℕ))) (number id : ℕ) (row : List Field) (is : IsVehicle nodes id row) → list_any (λ before. number_at before 0 == id) earlier ≡ false → vehicle_in nodes earlier number (fields_of row) ≡ Ok (empty_vehicle id 4 is.node 0)
-row_given_of nodes earlier number id row vehicle new =
-    ap (λ (fields : List Field). vehicle_in nodes earlier number (fields_of fields)) vehicle.is
-    ∙ row_given nodes earlier number id vehicle.node vehicle.known new vehicle.node_small vehicle.id_small
+row_given nodes earlier number id row vehicle new =
+    rw (vehicle.is, small_number id vehicle.id_small, small_number 4 (omega arith), small_number vehicle.node vehicle.node_small, small_number 0 (omega arith), vehicle.known, new) refl
 
 -- rows of vehicles, place by place
 vehicle_at : (nodes : List ℕ) (first high : ℕ) (rows : List (List Field)) (k : ℕ) → Lead (VehicleStep nodes) first high rows → k < length rows → IsVehicle nodes (first + k) (get_or rows k [])
@@ -86,14 +82,10 @@ vehicle_at nodes first high (row ∷ rows) (suc k) all below =
     subst (λ n. IsVehicle nodes n (get_or rows k [])) (omega (arith, all.1.1)) (vehicle_at nodes all.0 high rows k all.2 (omega (arith, below)))
 
 -- the id in a row
-id_named : (nodes : List ℕ) (id : ℕ) (row : List Field) → IsVehicle nodes id row → number_at (fields_of row) 0 ≡ id
-id_named nodes id row vehicle =
-    ap (λ (fields : List Field). number_at (fields_of fields) 0) vehicle.is
-    ∙ ap (λ o. unwrap_or o 0) (small_number id vehicle.id_small)
-
 id_at : (nodes : List ℕ) (high : ℕ) (rows : List (List Field)) (k : ℕ) → Lead (VehicleStep nodes) 1 high rows → k < length rows → number_at (get_or (map fields_of rows) k []) 0 ≡ 1 + k
 id_at nodes high rows k all below =
-    ap (λ fields. number_at fields 0) (get_or-map fields_of rows k [] [] below) ∙ id_named nodes (1 + k) (get_or rows k []) (vehicle_at nodes 1 high rows k all below)
+    let vehicle = vehicle_at nodes 1 high rows k all below in
+    rw (get_or-map fields_of rows k [] [] below, vehicle.is, small_number (1 + k) vehicle.id_small) refl
 
 -- no row has an earlier row's vehicle
 none_repeated : (nodes : List ℕ) (high : ℕ) (rows : List (List Field)) (k : ℕ) → Lead (VehicleStep nodes) 1 high rows → k < length rows → list_any (λ before. number_at before 0 == 1 + k) (take k (map fields_of rows)) ≡ false
@@ -113,16 +105,8 @@ made_vehicle records k = empty_vehicle (1 + k) 4 (number_at (get_or records k []
 
 row_made : (nodes : List ℕ) (high : ℕ) (rows : List (List Field)) (k : ℕ) → Lead (VehicleStep nodes) 1 high rows → k < length rows → vehicle_of_row nodes (map fields_of rows) k ≡ Ok (made_vehicle (map fields_of rows) k)
 row_made nodes high rows k all below =
-    let records : List (List (List ℕ)) = map fields_of rows in
-    let row : List Field = get_or rows k [] in
-    let vehicle : IsVehicle nodes (1 + k) row = vehicle_at nodes 1 high rows k all below in
-    let fields : get_or records k [] ≡ fields_of row = get_or-map fields_of rows k [] [] below in
-    let node : number_at (get_or records k []) 2 ≡ vehicle.node =
-    ap (λ (fs : List (List ℕ)). number_at fs 2) fields
-    ∙ ap (λ (fs : List Field). number_at (fields_of fs) 2) vehicle.is
-    ∙ ap (λ o. unwrap_or o 0) (small_number vehicle.node vehicle.node_small) in
-    ap (vehicle_in nodes (take k records) (k + 1)) fields ∙ row_given_of nodes (take k records) (k + 1) (1 + k) row vehicle (none_repeated nodes high rows k all below)
-    ∙ ap (λ n. Ok (empty_vehicle (1 + k) 4 n 0)) (sym node)
+    rw (get_or-map fields_of rows k [] [] below)
+    (row_given nodes (take k (map fields_of rows)) (k + 1) (1 + k) (get_or rows k []) (vehicle_at nodes 1 high rows k all below) (none_repeated nodes high rows k all below))
 
 all_given : {A F : Type 0} (at : ℕ → Result A F) (give : ℕ → A) (n : ℕ) → ((k : ℕ) → k < n → at k ≡ Ok (give k)) → all_or_first at n ≡ Ok (map give (range_with_len 0 n))
 all_given at give zero gives = refl
@@ -147,34 +131,29 @@ rising records n i within =
 abbrev pub fleet_rows : LoadShape → List (List Field)
 fleet_rows shape = (fleet_part shape (network_part shape (draws_of shape.seed)).1).0
 
--- the fleet that rows give
-pub record GiveFleet (nodes : List ℕ) (records : List (List (List ℕ))) : Type 0 where
-  pub fleet : List Vehicle
-  pub is : IsFleetOf nodes records fleet
-
-fleet_given : (nodes : List ℕ) (high : ℕ) (rows : List (List Field)) → Lead (VehicleStep nodes) 1 high rows → length rows ≤ 500 → GiveFleet nodes (map fields_of rows)
+fleet_given : (nodes : List ℕ) (high : ℕ) (rows : List (List Field)) → Lead (VehicleStep nodes) 1 high rows → length rows ≤ 500 → (fleet : List Vehicle) × IsFleetOf nodes (map fields_of rows) fleet
 fleet_given nodes high rows all few =
     let records : List (List (List ℕ)) = map fields_of rows in
     let size : length records ≡ length rows = length-map rows fields_of in
-    let given : List Vehicle = map (made_vehicle records) (range_with_len 0 (length records)) in
-    record {
-      fleet = given;
-      is = record {
+    let given : List Vehicle = map (made_vehicle records) (range_with_len 0 (length records)) in (
+      given,
+      record {
         vehicles = given;
         read =
             ap (λ b. cond b (Err TooManyVehicles) (all_or_first (vehicle_of_row nodes records) (length records))) (le-ltb 500 (length records) (omega (arith, size, few)))
             ∙ all_given (vehicle_of_row nodes records) (made_vehicle records) (length records) (λ k below. row_made nodes high rows k all (omega (arith, below, size)));
         rising = rising records (length records);
         members = λ v. ((λ has. has), (λ has. has));
-      };
-    }
+      },
+    )
 
 -- the rows of a shape's fleet give a fleet, on the nodes of its network
-pub fleet_accepted : (shape : LoadShape) → 2 ≤ shape.side → shape.side ≤ 100 → shape.vehicles ≤ 500 → RowsFit 4 (fleet_rows shape) × GiveFleet (nodes_of (map fields_of (network_rows shape))) (map fields_of (fleet_rows shape))
+pub fleet_accepted : (shape : LoadShape) → 2 ≤ shape.side → shape.side ≤ 100 → shape.vehicles ≤ 500 → RowsFit 4 (fleet_rows shape) × (fleet : List Vehicle) × IsFleetOf (nodes_of (map fields_of (network_rows shape))) (map fields_of (fleet_rows shape)) fleet
 unfolding fleet_part
 fleet_accepted shape two small few =
     let nodes : List ℕ = nodes_of (map fields_of (network_rows shape)) in
     let is = IsVehicles shape two small few in
     let draws : Stream = (network_part shape (draws_of shape.seed)).1 in
     let lead : Lead (VehicleStep nodes) 1 (shape.vehicles + 1) (fleet_rows shape) = is.lead draws in
-    (Lead-fit (VehicleStep nodes) 4 (vehicle_fits nodes) 1 (shape.vehicles + 1) (fleet_rows shape) lead, fleet_given nodes (shape.vehicles + 1) (fleet_rows shape) lead (omega (arith, is.few draws, few)))
+    let given = fleet_given nodes (shape.vehicles + 1) (fleet_rows shape) lead (omega (arith, is.few draws, few)) in
+    (Lead-fit (VehicleStep nodes) 4 (vehicle_fits nodes) 1 (shape.vehicles + 1) (fleet_rows shape) lead, given.0, given.1)

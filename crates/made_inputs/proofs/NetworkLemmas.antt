@@ -1,5 +1,5 @@
-use Rattle.std.proofs.Common.{◌≡◌, ℕ, zero, suc, ◌+◌, ◌*◌, ◌<◌, ◌≤◌, ◌%◌, ◌^◌, Bool, cond, ltb, List, [], ◌∷◌, Some, None, Ok, Err, map, length, take, get_or, decimal, ◌-◌, refl, sym, ap, subst, ◌∙◌, arith}
-use Rattle.made_inputs.proofs.Common.{option_or, length-map, get_or-map, mod_below, next_u64, number_up_to, length-distinct, first_fault-all, most_nodes, most_arcs, longest_arc, greatest_name, nodes_of, field_refusal, refusal_at, network_of, unless_refused, names_in, roads_of, first_refusal, LoadShape, Field, draw, both, draws_of, nothing, arcs_right, arcs_down, arcs_of_row, network_part, node_id, arcs_between}
+use Rattle.std.proofs.Common.{◌≡◌, ℕ, zero, suc, ◌+◌, ◌*◌, ◌<◌, ◌≤◌, ◌%◌, ◌^◌, Bool, cond, ltb, List, [], ◌∷◌, Some, None, Ok, Err, map, length, take, get_or, ◌-◌, refl, sym, ap, subst, ◌∙◌, arith}
+use Rattle.made_inputs.proofs.Common.{option_or, length-map, get_or-map, mod_below, next_u64, length-distinct, first_fault-all, most_nodes, most_arcs, longest_arc, greatest_name, nodes_of, field_refusal, refusal_at, network_of, unless_refused, names_in, roads_of, first_refusal, LoadShape, Field, draw, both, draws_of, nothing, arcs_right, arcs_down, arcs_of_row, network_part, node_id, arcs_between}
 use Rattle.std.specs.List.{flat_map}
 use Rattle.std.proofs.lemmas.Bool.{le-ltb}
 use Rattle.std.proofs.lemmas.List.{length-append, length-take-le}
@@ -73,18 +73,12 @@ arc_fits low next row arc =
     (ap length arc.is, subst AllFit (sym arc.is) (arc.from_small, (arc.to_small, (omega arith, tt))))
 
 -- no field of an arc is refused
-no_field : (number a b t : ℕ) → a ≤ greatest_name → b ≤ greatest_name → t ≤ longest_arc → field_refusal number (fields_of (field.Number a ∷ field.Number b ∷ field.Number t ∷ [])) ≡ None
+no_field : (number : ℕ) (row : List Field) → IsArc row → field_refusal number (fields_of row) ≡ None
 unfolding field_refusal
-no_field number a b t a_small b_small short =
-    let one : number_up_to greatest_name (decimal a) ≡ Some a = number_up_to-decimal greatest_name a a_small (omega arith) in
-    let two : number_up_to greatest_name (decimal b) ≡ Some b = number_up_to-decimal greatest_name b b_small (omega arith) in
-    let three : number_up_to (2 ^ 64 - 1) (decimal t) ≡ Some t = number_up_to-decimal (2 ^ 64 - 1) t (omega arith) (omega arith) in
-    rw (one, two, three, le-ltb longest_arc t short) refl
-
-no_field_of : (number : ℕ) (row : List Field) → IsArc row → field_refusal number (fields_of row) ≡ None
-no_field_of number row arc =
-    ap (λ (fields : List Field). field_refusal number (fields_of fields)) arc.is
-    ∙ no_field number arc.from arc.to arc.seconds arc.from_small arc.to_small arc.short
+no_field number row arc =
+    let one = number_up_to-decimal greatest_name arc.from arc.from_small (omega arith) in
+    let two = number_up_to-decimal greatest_name arc.to arc.to_small (omega arith) in
+    rw (arc.is, one, two, number_up_to-decimal (2 ^ 64 - 1) arc.seconds (omega arith) (omega arith), le-ltb longest_arc arc.seconds arc.short) refl
 
 -- a row names two nodes
 two_names : (rows : List (List (List ℕ))) → length (flat_map names_in rows) ≡ 2 * length rows
@@ -108,14 +102,11 @@ no_refusal : (rows : List (List Field)) (k : ℕ) → Lead ArcStep 0 0 rows → 
 no_refusal rows k all few below =
     let records : List (List (List ℕ)) = map fields_of rows in
     let fine : field_refusal (k + 1) (get_or records k []) ≡ None =
-    ap (field_refusal (k + 1)) (get_or-map fields_of rows k [] [] below) ∙ no_field_of (k + 1) (get_or rows k []) (arc_at 0 0 rows k all below) in
-    let named : length (nodes_of (take (k + 1) records)) ≤ length (flat_map names_in (take (k + 1) records)) = length-distinct (flat_map names_in (take (k + 1) records)) in
-    let twice : length (flat_map names_in (take (k + 1) records)) ≡ 2 * length (take (k + 1) records) = two_names (take (k + 1) records) in
+    ap (field_refusal (k + 1)) (get_or-map fields_of rows k [] [] below) ∙ no_field (k + 1) (get_or rows k []) (arc_at 0 0 rows k all below) in
     let size : length records ≡ length rows = length-map rows fields_of in
-    let part : length (take (k + 1) records) ≡ k + 1 = length-take-le (k + 1) records (omega (arith, below, size)) in
     refusal_parts records k
     ∙ ap (λ o. option_or o (cond (ltb most_nodes (length (nodes_of (take (k + 1) records)))) (Some (TooManyNodes (k + 1))) None)) fine
-    ∙ ap (λ b. cond b (Some (TooManyNodes (k + 1))) None) (le-ltb most_nodes (length (nodes_of (take (k + 1) records))) (omega (arith, named, twice, part, below, few)))
+    ∙ ap (λ b. cond b (Some (TooManyNodes (k + 1))) None) (le-ltb most_nodes (length (nodes_of (take (k + 1) records))) (omega (arith, length-distinct (flat_map names_in (take (k + 1) records)), two_names (take (k + 1) records), length-take-le (k + 1) records (omega (arith, below, size)), below, few)))
 
 network_given : (rows : List (List Field)) → Lead ArcStep 0 0 rows → length rows ≤ 40000 → network_of (map fields_of rows) ≡ Ok (roads_of (map fields_of rows))
 unfolding network_of

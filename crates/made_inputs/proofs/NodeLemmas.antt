@@ -1,5 +1,5 @@
-use Rattle.std.proofs.Common.{◌≡◌, ℕ, zero, suc, ◌+◌, ◌*◌, ◌/◌, ◌%◌, ◌<◌, ◌≤◌, ◌==◌, Bool, true, false, ◌||◌, cond, ltb, List, [], ◌∷◌, map, inl, inr, unwrap_or, refl, ap, subst, ◌∙◌, arith}
-use Rattle.made_inputs.proofs.Common.{list_any, cases_eq, false≢true, or_cases, or_left, or_right, list_any-append, mod_below, Stream, number_at, has_node, greatest_name, nodes_of, names_in, any-distinct, LoadShape, Field, draw, Part, both, each, draws_of, nothing, arcs_right, arcs_down, arcs_of_row, network_part, node_id, arcs_between}
+use Rattle.std.proofs.Common.{◌≡◌, ℕ, zero, suc, ◌+◌, ◌*◌, ◌/◌, ◌%◌, ◌<◌, ◌≤◌, ◌==◌, Bool, true, false, ◌||◌, List, [], ◌∷◌, map, inl, inr, unwrap_or, refl, ap, subst, ◌∙◌, arith}
+use Rattle.made_inputs.proofs.Common.{list_any, cases_eq, false≢true, list_any-append, mod_below, Stream, number_at, has_node, greatest_name, nodes_of, names_in, any-distinct, LoadShape, Field, draw, Part, both, each, draws_of, arcs_right, arcs_down, arcs_of_row, network_part, node_id, arcs_between}
 use Rattle.std.specs.List.{flat_map}
 use Rattle.std.proofs.lemmas.Bool.{lt-ltb, eq-eqb}
 use Rattle.std.proofs.lemmas.Nat.{div-add-mod'}
@@ -37,34 +37,24 @@ Naming-each n parts k (suc m) inside is =
       | inr other ↦ Naming-left n (each parts m) (parts m) (Naming-each n parts k m (omega (arith, inside, other)) is)
     ]
 
-Naming-where : (n : ℕ) (c : Bool) (part other : Part) → c ≡ true → Naming n part → Naming n (cond c part other)
-Naming-where n true part other e is = is
-Naming-where n false part other e is = absurd (false≢true e)
-
 starts : (a b t : ℕ) → a ≤ greatest_name → starts_at a (field.Number a ∷ field.Number b ∷ field.Number t ∷ []) ≡ true
 starts a b t small = ap (λ o. unwrap_or o 0 == a) (number_up_to-decimal greatest_name a small (omega arith)) ∙ eq-eqb a a refl
 
 -- two arcs between two nodes start at either
 Naming-first : (a b : ℕ) → a ≤ greatest_name → Naming a (arcs_between a b)
 unfolding arcs_between
-Naming-first a b small s =
-    let t : ℕ = 20 + (draw 41 s).0 in
-    ap (λ c. c || (starts_at a (field.Number b ∷ field.Number a ∷ field.Number t ∷ []) || false)) (starts a b t small)
+Naming-first a b small s = rw (starts a b (20 + (draw 41 s).0) small) refl
 
 Naming-second : (a b : ℕ) → b ≤ greatest_name → Naming b (arcs_between a b)
 unfolding arcs_between
-Naming-second a b small s =
-    let t : ℕ = 20 + (draw 41 s).0 in
-    ap (λ c. starts_at b (field.Number a ∷ field.Number b ∷ field.Number t ∷ []) || (c || false)) (starts b a t small)
-    ∙ or-true (starts_at b (field.Number a ∷ field.Number b ∷ field.Number t ∷ []))
+Naming-second a b small s = rw (starts b a (20 + (draw 41 s).0) small, or-true) refl
 
 -- what the arcs between a node and the next name, their row of the square names
 Naming-right_of : (n side i k : ℕ) → k + 1 < side → Naming n (arcs_between (node_id side i k) (node_id side i (k + 1))) → Naming n (arcs_of_row side i)
 unfolding arcs_of_row arcs_right
 Naming-right_of n side i k inside here =
     Naming-each n (λ j. both (arcs_right side i j) (arcs_down side i j)) k side (omega (arith, inside))
-    (Naming-left n (arcs_right side i k) (arcs_down side i k)
-    (Naming-where n (ltb (k + 1) side) (arcs_between (node_id side i k) (node_id side i (k + 1))) nothing (lt-ltb (k + 1) side inside) here))
+    (Naming-left n (arcs_right side i k) (arcs_down side i k) (rw (lt-ltb (k + 1) side inside) here))
 
 -- a row of the square names each of its nodes: the first with the arcs to the next, the others with those from the one before
 Naming-row : (side i j : ℕ) → 2 ≤ side → side ≤ 100 → i < side → j < side → Naming (node_id side i j) (arcs_of_row side i)
@@ -91,13 +81,7 @@ Naming-number shape m two small inside =
 -- a node at which a row's arc starts is named
 named : (rows : List (List Field)) (n : ℕ) → list_any (starts_at n) rows ≡ true → list_any (λ node. node == n) (flat_map names_in (map fields_of rows)) ≡ true
 named [] n is = absurd (false≢true is)
-named (row ∷ rows) n is =
-    elim (or_cases (starts_at n row) (list_any (starts_at n) rows) is) [
-      | inl here ↦ or_left (starts_at n row) (list_any (λ node. node == n) (number_at (fields_of row) 1 ∷ flat_map names_in (map fields_of rows))) here
-      | inr later ↦
-          or_right (starts_at n row) (list_any (λ node. node == n) (number_at (fields_of row) 1 ∷ flat_map names_in (map fields_of rows)))
-          (or_right (number_at (fields_of row) 1 == n) (list_any (λ node. node == n) (flat_map names_in (map fields_of rows))) (named rows n later))
-    ]
+named (row ∷ rows) n is = grind (arith, named rows n)
 
 -- each number of the square is a node of the network
 pub node_known : (shape : LoadShape) (m : ℕ) → 2 ≤ shape.side → shape.side ≤ 100 → m < shape.side * shape.side → has_node (nodes_of (map fields_of (network_rows shape))) (1 + m) ≡ true

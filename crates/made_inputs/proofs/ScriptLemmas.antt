@@ -39,33 +39,9 @@ one_line low round high row below above line = (high, (round, below, above, line
 named_first : (n : ℕ) (fields : List Field) → n ≤ 1000000000 → number_at (fields_of (field.Number n ∷ fields)) 0 ≡ n
 named_first n fields small = ap (λ o. unwrap_or o 0) (small_number n small)
 
--- a vehicle's report is accepted
-report_given : (round vehicle node time number last : ℕ) → round ≤ 1000000000 → vehicle ≤ 1000000000 → node ≤ 1000000000 → time ≤ 1000000000 → last ≤ round
-    → line_in One number last (fields_of (field.Number round ∷ field.Number 0 ∷ field.Report ∷ field.Number vehicle ∷ field.Number node ∷ field.Number time ∷ field.Empty ∷ []))
-    ≡ Ok (record { round = round; lane = 0; command = command.Report vehicle node time })
-unfolding line_in command_in three_in leaves_empty word_of
-report_given round vehicle node time number last round_small vehicle_small node_small time_small behind =
-    rw (small_number round round_small, small_number 0 (omega arith), small_number vehicle vehicle_small, small_number node node_small, small_number time time_small, le-ltb round last behind) refl
-
--- a request is accepted
-submit_given : (round lane rider origin destination time number last : ℕ) → round ≤ 1000000000 → lane ≤ 15 → rider ≤ 1000000000 → origin ≤ 1000000000 → destination ≤ 1000000000 → time ≤ 1000000000 → last ≤ round
-    → line_in One number last (fields_of (field.Number round ∷ field.Number lane ∷ field.Submit ∷ field.Number rider ∷ field.Number origin ∷ field.Number destination ∷ field.Number time ∷ []))
-    ≡ Ok (record { round = round; lane = lane; command = command.Submit rider origin destination time 1 })
-unfolding line_in command_in party_in leaves_empty word_of
-submit_given round lane rider origin destination time number last round_small lane_small rider_small origin_small destination_small time_small behind =
-    rw (small_number round round_small, small_number lane (omega arith), small_number rider rider_small, small_number origin origin_small, small_number destination destination_small, small_number time time_small, le-ltb 15 lane lane_small, le-ltb round last behind) refl
-
--- a seal is accepted
-seal_given : (round now number last : ℕ) → round ≤ 1000000000 → now ≤ 1000000000 → last ≤ round
-    → line_in One number last (fields_of (field.Number round ∷ field.Number 0 ∷ field.Seal ∷ field.Number now ∷ field.Empty ∷ field.Empty ∷ field.Empty ∷ []))
-    ≡ Ok (record { round = round; lane = 0; command = command.Seal now })
-unfolding line_in command_in leaves_empty word_of
-seal_given round now number last round_small now_small behind =
-    rw (small_number round round_small, small_number 0 (omega arith), small_number now now_small, le-ltb round last behind) refl
-
 -- the reports of a batch
 IsLines-report : (shape : LoadShape) (k v : ℕ) → 2 ≤ shape.side → shape.side ≤ 100 → k < 100 → v ≤ 500 → IsPart LineStep (2 * k) (2 * k) 1 (report_row shape k v)
-unfolding report_row
+unfolding report_row line_in command_in three_in leaves_empty word_of
 IsLines-report shape k v two small early few = record {
   lead = λ s.
       let node : ℕ = (drawn_node shape.side s).0 in
@@ -77,7 +53,8 @@ IsLines-report shape k v two small early few = record {
         fits = (omega arith, (omega arith, (tt, (omega arith, (node_small, (omega arith, (tt, tt)))))));
         lane = 0;
         command = command.Report v node (60 * k);
-        given = λ number last behind. report_given (2 * k) v node (60 * k) number last (omega arith) (omega arith) node_small (omega arith) behind;
+        given = λ number last behind.
+            rw (small_number (2 * k) (omega arith), small_number 0 (omega arith), small_number v (omega arith), small_number node node_small, small_number (60 * k) (omega arith), le-ltb (2 * k) last behind) refl;
       });
   few = λ s. omega arith;
 }
@@ -95,7 +72,7 @@ other_small_by origin n false = omega arith
 
 -- the requests of a batch
 IsLines-submit : (shape : LoadShape) (k m : ℕ) → 2 ≤ shape.side → shape.side ≤ 100 → shape.riders ≤ 1000 → k < 100 → m ≤ 1000 → IsPart LineStep (2 * k) (2 * k) 1 (submit_row shape k m)
-unfolding submit_row draw
+unfolding submit_row draw line_in command_in party_in leaves_empty word_of
 IsLines-submit shape k m two small few early within = record {
   lead = λ s.
       let least : 2 * 2 ≤ shape.side * shape.side = mul-le-mul two two in
@@ -122,8 +99,17 @@ IsLines-submit shape k m two small few early within = record {
         lane = 1 + m % 3;
         command = command.Submit (k * shape.riders + m) origin destination (60 * k + second) 1;
         given = λ number last behind.
-            submit_given (2 * k) (1 + m % 3) (k * shape.riders + m) origin destination (60 * k + second) number last (omega arith) (omega (arith, third)) (omega (arith, ids)) origin_small destination_small
-            (omega (arith, second_below)) behind;
+            let rider = small_number (k * shape.riders + m) (omega (arith, ids)) in
+            rw (
+              small_number (2 * k) (omega arith),
+              small_number (1 + m % 3) (omega (arith, third)),
+              rider,
+              small_number origin origin_small,
+              small_number destination destination_small,
+              small_number (60 * k + second) (omega (arith, second_below)),
+              le-ltb 15 (1 + m % 3) (omega (arith, third)),
+              le-ltb (2 * k) last behind,
+            ) refl;
       });
   few = λ s. omega arith;
 }
@@ -135,6 +121,7 @@ IsLines-submits shape k two small few early =
 
 -- the seal of a batch, before the round of the next
 IsLines-seal : (k : ℕ) → k < 100 → IsPart LineStep (2 * k) (2 * suc k) 1 (plain (seal_row k ∷ []))
+unfolding line_in command_in leaves_empty word_of
 IsLines-seal k early = record {
   lead = λ s.
       one_line (2 * k) (2 * k + 1) (2 * suc k) (seal_row k) (omega arith) (omega arith)
@@ -144,7 +131,8 @@ IsLines-seal k early = record {
         fits = (omega arith, (omega arith, (tt, (omega arith, (tt, (tt, (tt, tt)))))));
         lane = 0;
         command = command.Seal (60 * (k + 1));
-        given = λ number last behind. seal_given (2 * k + 1) (60 * (k + 1)) number last (omega arith) (omega arith) behind;
+        given = λ number last behind.
+            rw (small_number (2 * k + 1) (omega arith), small_number 0 (omega arith), small_number (60 * (k + 1)) (omega arith), le-ltb (2 * k + 1) last behind) refl;
       });
   few = λ s. omega arith;
 }
@@ -192,11 +180,7 @@ lines_given last low high (row ∷ rows) number (suc k) behind lead below =
     (rest.0, ap (λ before. line_in One number before (get_or (map fields_of rows) k [])) (sym (behind_first last lead.1.0 row rows k line.named)) ∙ rest.1)
 
 -- the rounds that rows give
-pub record GiveScript (records : List (List (List ℕ))) : Type 0 where
-  pub rounds : List NumberedLanes
-  pub is : script_of One records ≡ Ok rounds
-
-script_given : (high : ℕ) (rows : List (List Field)) → Lead LineStep 0 high rows → length rows ≤ 200000 → GiveScript (map fields_of rows)
+script_given : (high : ℕ) (rows : List (List Field)) → Lead LineStep 0 high rows → length rows ≤ 200000 → (rounds : List NumberedLanes) × (script_of One (map fields_of rows) ≡ Ok rounds)
 script_given high rows lines few =
     let records : List (List (List ℕ)) = map fields_of rows in
     let size : length records ≡ length rows = length-map rows fields_of in
@@ -204,19 +188,16 @@ script_given high rows lines few =
     (λ k below.
     let line = lines_given 0 0 high rows (k + 1) k (omega arith) lines (omega (arith, below, size)) in
     (line.0, ap (λ last. line_in One (k + 1) last (get_or records k [])) (same_before records k) ∙ line.1)) in
-    record {
-      rounds = rounds_of given.0;
-      is =
-          ap (λ b. cond b (Err TooManyRows) (all_or_first (line_at One records) (length records) >>= λ ls. Ok (rounds_of ls))) (le-ltb 200000 (length records) (omega (arith, size, few)))
-          ∙ ap (λ r. r >>= λ ls. Ok (rounds_of ls)) given.1;
-    }
+    let is = ap (λ b. cond b (Err TooManyRows) (all_or_first (line_at One records) (length records) >>= λ ls. Ok (rounds_of ls))) (le-ltb 200000 (length records) (omega (arith, size, few)))
+    ∙ ap (λ r. r >>= λ ls. Ok (rounds_of ls)) given.1 in
+    (rounds_of given.0, is)
 
 -- the rows of the script of a shape
 abbrev pub script_rows : LoadShape → List (List Field)
 script_rows shape = (script_part shape (fleet_part shape (network_part shape (draws_of shape.seed)).1).1).0
 
 -- the rows of a shape's script give its rounds
-pub script_accepted : (shape : LoadShape) → 2 ≤ shape.side → shape.side ≤ 100 → shape.vehicles ≤ 500 → shape.riders ≤ 1000 → shape.rounds ≤ 100 → RowsFit 7 (script_rows shape) × GiveScript (map fields_of (script_rows shape))
+pub script_accepted : (shape : LoadShape) → 2 ≤ shape.side → shape.side ≤ 100 → shape.vehicles ≤ 500 → shape.riders ≤ 1000 → shape.rounds ≤ 100 → RowsFit 7 (script_rows shape) × (rounds : List NumberedLanes) × (script_of One (map fields_of (script_rows shape)) ≡ Ok rounds)
 script_accepted shape two small vehicles riders rounds =
     let is : IsPart LineStep 0 (2 * shape.rounds) (shape.rounds * (shape.vehicles * 1 + (shape.riders * 1 + 1))) (script_part shape) = IsLines-script shape two small vehicles riders rounds in
     let draws : Stream = (fleet_part shape (network_part shape (draws_of shape.seed)).1).1 in
@@ -224,4 +205,5 @@ script_accepted shape two small vehicles riders rounds =
     let count : length (script_rows shape) ≤ shape.rounds * (shape.vehicles * 1 + (shape.riders * 1 + 1)) = is.few draws in
     let batch : shape.vehicles * 1 + (shape.riders * 1 + 1) ≤ 1501 = omega (arith, vehicles, riders) in
     let most : shape.rounds * (shape.vehicles * 1 + (shape.riders * 1 + 1)) ≤ 100 * 1501 = mul-le-mul rounds batch in
-    (Lead-fit LineStep 7 line_fits 0 (2 * shape.rounds) (script_rows shape) lines, script_given (2 * shape.rounds) (script_rows shape) lines (omega (arith, count, most)))
+    let given = script_given (2 * shape.rounds) (script_rows shape) lines (omega (arith, count, most)) in
+    (Lead-fit LineStep 7 line_fits 0 (2 * shape.rounds) (script_rows shape) lines, given.0, given.1)

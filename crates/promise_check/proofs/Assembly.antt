@@ -8,7 +8,7 @@ use Rattle.stop_orders.specs.declared.settled.Settled.{Settled}
 use Rattle.promise_check.proofs.lemmas.Promises.{rising_once, promised_trip}
 use Rattle.promise_check.proofs.Seats.{kept_leg_valid, legs_valid, task_with_legs, plain_can_be_kept}
 
-some_at : {X : Type 0} (xs : List X) (k : ℕ) → k < length xs → (x : X) × (slice_get xs k ≡ Some x)
+pub some_at : {X : Type 0} (xs : List X) (k : ℕ) → k < length xs → (x : X) × (slice_get xs k ≡ Some x)
 some_at [] k h = absurd (omega arith)
 some_at (x ∷ xs) zero h = (x, refl)
 some_at (x ∷ xs) (suc k) h = some_at xs k (omega arith)

@@ -1,5 +1,5 @@
 -- The names that the proofs of this crate cite from elsewhere, passed on from one place. Declares nothing.
-pub use Rattle.std.proofs.lemmas.Bool.{cases_eq, cases_lt, cases_order}
+pub use Rattle.std.proofs.lemmas.Bool.{cases_eq, cases_lt}
 pub use Rattle.std.proofs.lemmas.List.{get_or-map, get_or_append_left, get_or_default, get_or_push, length-map, length_push, take_more}
 pub use Rattle.std.proofs.lemmas.List.Elements.{All-filter, All-from_get_or, All-push, Contains-append_left, Contains-append_right, Contains-push, Contains-push_cases, filter-append, filter_passes}
 pub use Rattle.std.proofs.lemmas.Option.{slice_get-get_or, slice_get_within}

@@ -23,12 +23,10 @@ module _ (b : Batch) (points : List ℕ) (p : ArePoints b points) where
       let named = λ (y : ℕ) (c : Contains (vehicle_nodes v) y). (p.named y).1 (Contains-append_left (flat_map vehicle_nodes b.vehicles) (flat_map rider_nodes b.riders) y (in_flat_map vehicle_nodes b.vehicles k d y h c)) in
       record {
         node = named v.node (0, omega arith, refl);
-        aboard = λ i e lt. record {
-          origin_named = named (get_or v.aboard.items i e).origin
-              (Contains-append_right (v.node ∷ []) (flat_map (λ (q : Passenger). q.origin ∷ q.destination ∷ []) v.aboard.items) (get_or v.aboard.items i e).origin
-              (in_flat_map (λ (q : Passenger). q.origin ∷ q.destination ∷ []) v.aboard.items i e (get_or v.aboard.items i e).origin lt (0, omega arith, refl)));
-          destination_named = named (get_or v.aboard.items i e).destination
-              (Contains-append_right (v.node ∷ []) (flat_map (λ (q : Passenger). q.origin ∷ q.destination ∷ []) v.aboard.items) (get_or v.aboard.items i e).destination
-              (in_flat_map (λ (q : Passenger). q.origin ∷ q.destination ∷ []) v.aboard.items i e (get_or v.aboard.items i e).destination lt (1, omega arith, refl)));
-        };
+        aboard = λ i e lt.
+            let passenger_nodes = λ (q : Passenger). q.origin ∷ q.destination ∷ [] in
+            let q = get_or v.aboard.items i e in
+            let there = λ (y : ℕ) (c : Contains (passenger_nodes q) y).
+            named y (Contains-append_right (v.node ∷ []) (flat_map passenger_nodes v.aboard.items) y (in_flat_map passenger_nodes v.aboard.items i e y lt c)) in
+            record { origin_named = there q.origin (0, omega arith, refl); destination_named = there q.destination (1, omega arith, refl) };
       }

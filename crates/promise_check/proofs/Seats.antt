@@ -1,18 +1,14 @@
-use Rattle.std.proofs.Common.{◌≡◌, ℕ, ◌+◌, ◌<◌, ◌≤◌, min, List, [], ◌∷◌, ◌++◌, length, map, get_or, Some, None, Option, ap, ◌∙◌, arith, zero-add}
-use Rattle.promise_check.proofs.Common.{option_map_or, length-map, get_or-map, Rider, Promise, Leg, SettledRider, SettledVehicle, IsLeg, IsTask, no_rider, vehicle_task, slice_get-get_or, Settings, request_at, no_request, kept_leg, ArePlain, CanBeKept, promised_limit, kept_legs}
+use Rattle.std.proofs.Common.{◌≡◌, ℕ, ◌+◌, ◌<◌, ◌≤◌, List, [], ◌∷◌, ◌++◌, length, map, get_or, ap, ◌∙◌, arith, zero-add}
+use Rattle.promise_check.proofs.Common.{length-map, get_or-map, Rider, Leg, SettledRider, SettledVehicle, IsLeg, IsTask, no_rider, vehicle_task, slice_get-get_or, Settings, request_at, no_request, kept_leg, ArePlain, CanBeKept, promised_limit, kept_legs}
 use Rattle.std.specs.List.{All, sum_by}
 use Rattle.std.proofs.lemmas.List.Sums.{sum_by-append}
 
 pub sum_by_push : {X : Type 0} (f : X → ℕ) (xs : List X) (y : X) → sum_by f (xs ++ y ∷ []) ≡ sum_by f xs + f y
 sum_by_push f xs y = sum_by-append f xs (y ∷ []) ∙ ap (λ (n : ℕ). sum_by f xs + n) (zero-add (f y))
 
-limit_under : (wait time : ℕ) (promise : Option Promise) → option_map_or (λ p. min p.pickup (time + wait)) promise (time + wait) ≤ time + wait
-limit_under wait time None = omega arith
-limit_under wait time (Some p) = omega arith
-
 -- a promise never comes after the wait
 pub promised_limit_under : (wait : ℕ) (r : Rider) → promised_limit wait r ≤ r.time + wait
-promised_limit_under wait r = limit_under wait r.time r.promise
+promised_limit_under wait r = grind arith
 
 pub kept_leg_valid : (points wait : ℕ) (request : Rider) (leg : Leg) → CanBeKept points wait request leg → IsLeg points (kept_leg wait request leg)
 kept_leg_valid points wait request leg can =

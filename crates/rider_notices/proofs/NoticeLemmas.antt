@@ -1,5 +1,5 @@
 -- The notices of a journal, one after the other.
-use Rattle.std.proofs.Common.{◌≡◌, ℕ, ◌+◌, ◌<◌, ◌≤◌, List, [], ◌++◌, length, get_or, drop, Some, None, sym, ap, ◌∙◌, append_assoc}
+use Rattle.std.proofs.Common.{◌≡◌, ℕ, ◌+◌, ◌<◌, ◌≤◌, List, ◌++◌, length, get_or, drop, Some, None, sym, ap, ◌∙◌, append_assoc}
 use Rattle.std.specs.Prelude.{unwrap_or}
 use Rattle.std.proofs.lemmas.List.{append-nil, drop_all, at_drop_more}
 use Rattle.request_book.specs.Step.{step}
@@ -40,24 +40,15 @@ notices-more nodes wait s es i e within is =
     at_drop_more (notices_from nodes wait s) es i e within
     ∙ ap (λ x. entry_notices s x.command x.reply ++ notices_from nodes wait (step nodes wait s x.command).0 (drop (i + 1) es)) (sym is)
 
-pub notices-none : (nodes : List ℕ) (wait : ℕ) (s : State) (es : List Entry) (i : ℕ) → length es ≤ i → notices_from nodes wait s (drop i es) ≡ []
-unfolding notices_from
-notices-none nodes wait s es i end = ap (notices_from nodes wait s) (drop_all i es end)
-
 -- the notices of the entries so far, with those of one more; a replay of these nodes and this wait runs it
 pub told-next : (nodes : List ℕ) (wait : ℕ) (replayed : List ℕ) (waited : ℕ) (s next : State) (reply : Reply) (es : List Entry) (i : ℕ) (e : Entry) (told more all : List Notice)
     → replayed ≡ nodes → waited ≡ wait → i < length es → e ≡ get_or es i e → more ≡ told ++ entry_notices s e.command e.reply
     → (next, reply) ≡ step replayed waited s e.command → told ++ notices_from nodes wait s (drop i es) ≡ all
     → more ++ notices_from nodes wait next (drop (i + 1) es) ≡ all
 told-next nodes wait replayed waited s next reply es i e told more all ns w within is adds stepped h =
-    let step_is : next ≡ (step nodes wait s e.command).0 =
-    ap (λ p. p.0) stepped ∙ ap (λ k. (step k waited s e.command).0) ns ∙ ap (λ k. (step nodes k s e.command).0) w in
-    let rest = notices_from nodes wait (step nodes wait s e.command).0 (drop (i + 1) es) in
-    ap (λ ys. ys ++ notices_from nodes wait next (drop (i + 1) es)) adds
-    ∙ ap (λ t. (told ++ entry_notices s e.command e.reply) ++ notices_from nodes wait t (drop (i + 1) es)) step_is
-    ∙ append_assoc told (entry_notices s e.command e.reply) rest
-    ∙ ap (λ ys. told ++ ys) (sym (notices-more nodes wait s es i e within is))
-    ∙ h
+    let stepped_to : next ≡ (step nodes wait s e.command).0 = rw (ns, w) at (ap (λ p. p.0) stepped) in
+    rw (adds, append_assoc, stepped_to, ← notices-more nodes wait s es i e within is) h
 
 pub told-end : (nodes : List ℕ) (wait : ℕ) (s : State) (es : List Entry) (i : ℕ) (told all : List Notice) → length es ≤ i → told ++ notices_from nodes wait s (drop i es) ≡ all → told ≡ all
-told-end nodes wait s es i told all end h = sym (ap (λ ys. told ++ ys) (notices-none nodes wait s es i end) ∙ append-nil told) ∙ h
+unfolding notices_from
+told-end nodes wait s es i told all end h = sym (ap (λ xs. told ++ notices_from nodes wait s xs) (drop_all i es end) ∙ append-nil told) ∙ h

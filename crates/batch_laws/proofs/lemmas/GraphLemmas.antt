@@ -1,10 +1,8 @@
 -- A batch has one trip graph, or more rows than are allowed, and never both.
-use Rattle.std.proofs.Common.{◌≡◌, ℕ, suc, ◌<◌, ◌≤◌, inl, inr, Bool, true, false, MatchBool, List, length, get_or, Contains, Option, Some, None, sym, ap, ◌∙◌, subst, arith}
+use Rattle.std.proofs.Common.{◌≡◌, ℕ, suc, ◌<◌, ◌≤◌, inl, inr, Bool, true, false, MatchBool, List, length, get_or, Contains, Option, Some, None, sym, ap, ◌∙◌, subst, add-one, arith}
 use Rattle.std.specs.Cmp.{IsTotalOrder}
-use Rattle.std.specs.Ordering.{nat_cmp, ordering_then}
-use Rattle.std.specs.Cmp.Lexicographic.{slice_cmp}
 use Rattle.std.specs.declared.cmp.Ordering.TheVariants.{Less, Equal}
-use Rattle.std.proofs.lemmas.Bool.{cases_lt}
+use Rattle.std.proofs.lemmas.Bool.{cases_order}
 use Rattle.std.proofs.lemmas.Cmp.{nat_cmp_total, nat_list_cmp_total, on_total, then_total, tied_itself}
 use Rattle.std.proofs.lemmas.List.{get_or_default, ext_get_or}
 use Rattle.std.proofs.lemmas.List.Elements.{All-contains}
@@ -17,7 +15,7 @@ use Rattle.plan_rules.specs.Graph.{Graph, no_row, choice_at, row_cmp}
 use Rattle.rider_limits.specs.declared.settings.Settings.{Settings}
 use Rattle.trip_graph.specs.Answer.{IsRowWith, HoldRows, IsTripGraphOf, HasMoreRows}
 use Rattle.trip_graph.specs.lemmas.Rows.{AreRowsOf}
-use Rattle.batch_laws.proofs.lemmas.SortedLemmas.{IsStrict, AreInOrder, AreNeighbours, in_order, same_members, no_longer}
+use Rattle.batch_laws.proofs.lemmas.SortedLemmas.{IsStrict, AreInOrder, in_order, same_members, no_longer}
 
 abbrev pub RowBefore : TripRow → TripRow → Type 0
 RowBefore a b = row_cmp a b ≡ Less
@@ -33,40 +31,25 @@ rows_strict = record {
   transitive = row_total.trans;
 }
 
-pub rows_neighbours : (rows : List TripRow) → ((k : ℕ) → suc k < length rows → row_cmp (get_or rows k no_row) (get_or rows (suc k) no_row) ≡ Less) → AreNeighbours RowBefore rows
-rows_neighbours rows up k d within =
-    let here : k < length rows = omega arith in
-    subst (λ (x : TripRow). RowBefore x (get_or rows (suc k) d)) (get_or_default rows k no_row d here)
-    (subst (λ (y : TripRow). RowBefore (get_or rows k no_row) y) (get_or_default rows (suc k) no_row d within) (up k within))
-
-pub rows_in_order : (rows : List TripRow) → ((k : ℕ) → suc k < length rows → row_cmp (get_or rows k no_row) (get_or rows (suc k) no_row) ≡ Less) → AreInOrder RowBefore rows
-rows_in_order rows up = in_order RowBefore rows_strict rows (rows_neighbours rows up)
+pub rows_in_order : (rows : List TripRow) → ((k : ℕ) → suc k < length rows → row_cmp (get_or rows k no_row) (get_or rows (suc k) no_row) ≡ Less) → AreInOrder RowBefore rows_strict no_row rows
+rows_in_order rows up = in_order RowBefore rows_strict no_row rows (λ k within. rw add-one (up k (omega arith)))
 
 -- rows that stand for the same vehicle and riders aren't one before the other
 not_before : (a b : TripRow) → a.vehicle ≡ b.vehicle → a.riders.items ≡ b.riders.items → RowBefore a b → ⊥
-not_before a b v r h =
-    let like : row_cmp a b ≡ row_cmp a a = ap (λ (x : ℕ). ordering_then (nat_cmp a.vehicle x) (ordering_then (nat_cmp (length a.riders.items) (length b.riders.items)) (slice_cmp nat_cmp a.riders.items b.riders.items))) (sym v)
-    ∙ ap (λ (x : List ℕ). ordering_then (nat_cmp a.vehicle a.vehicle) (ordering_then (nat_cmp (length a.riders.items) (length x)) (slice_cmp nat_cmp a.riders.items x))) (sym r) in
-    rows_strict.irreflexive a (sym like ∙ h)
+not_before a b v r h = rows_strict.irreflexive a (rw (← v, ← r) at h)
 
 -- a vehicle's row of these riders stands at one place
-pub one_place : (rows : List TripRow) → AreInOrder RowBefore rows → (v : ℕ) (trip : List ℕ) (j k : ℕ) → IsRowWith rows v trip j → IsRowWith rows v trip k → j ≡ k
-one_place rows up v trip j k a b = elim (cases_lt j k) as (λ _. j ≡ k) [
-  | inl less ↦ absurd (not_before (get_or rows j no_row) (get_or rows k no_row) (a.own ∙ sym b.own) (a.trip ∙ sym b.trip) (up j k no_row less b.within))
-  | inr ge ↦ elim (cases_lt k j) as (λ _. j ≡ k) [
-    | inl less ↦ absurd (not_before (get_or rows k no_row) (get_or rows j no_row) (b.own ∙ sym a.own) (b.trip ∙ sym a.trip) (up k j no_row less a.within))
-    | inr le ↦ omega arith
-  ]
+pub one_place : (rows : List TripRow) → AreInOrder RowBefore rows_strict no_row rows → (v : ℕ) (trip : List ℕ) (j k : ℕ) → IsRowWith rows v trip j → IsRowWith rows v trip k → j ≡ k
+one_place rows up v trip j k a b = elim (cases_order j k) as (λ _. j ≡ k) [
+  | inl same ↦ same
+  | inr apart ↦ absurd (elim apart as (λ _. ⊥) [
+    | inl less ↦ not_before (get_or rows j no_row) (get_or rows k no_row) (a.own ∙ sym b.own) (a.trip ∙ sym b.trip) (up j k less b.within)
+    | inr less ↦ not_before (get_or rows k no_row) (get_or rows j no_row) (b.own ∙ sym a.own) (b.trip ∙ sym a.trip) (up k j less a.within)
+  ])
 ]
 
 pub one_least : (tau : ℕ → ℕ → ℕ) (task : Task) (a b : ℕ) → IsLeastDelay tau task a → IsLeastDelay tau task b → a ≡ b
-one_least tau task a b least other =
-    let below = least.least other.stops other.serves in let above = other.least least.stops least.serves in
-    let x = least.has_delay in let y = other.has_delay in
-    omega (arith, below, above, x, y)
-
-same_row : (a b : TripRow) → a.vehicle ≡ b.vehicle → a.riders.items ≡ b.riders.items → a.cost ≡ b.cost → a ≡ b
-same_row a b v r c = λ k. record { vehicle = v k; riders = record { items = r k }; cost = c k }
+one_least tau task a b least other = omega (arith, least.least other.stops other.serves, other.least least.stops least.serves)
 
 module _ (tau : ℕ → ℕ → ℕ) (settled : Settled) (most : ℕ) where
   -- whatever is a row stands among them
@@ -75,27 +58,27 @@ module _ (tau : ℕ → ℕ → ℕ) (settled : Settled) (most : ℕ) where
       let found = are.whole row.vehicle row.riders.items is.served in
       let k = found.0 in let at : IsRowWith rows row.vehicle row.riders.items k = found.1 in
       let there : TripRow = get_or rows k no_row in
-      let right : IsRow most tau settled there.vehicle there.riders.items there.cost = are.right k no_row at.within in
-      let right' : IsLeastDelay tau (trip_task settled row.vehicle row.riders.items) there.cost =
-      subst (λ (v : ℕ). IsLeastDelay tau (trip_task settled v row.riders.items) there.cost) at.own
-      (subst (λ (t : List ℕ). IsLeastDelay tau (trip_task settled there.vehicle t) there.cost) at.trip right.least) in
-      let same : there ≡ row = same_row there row at.own at.trip (one_least tau (trip_task settled row.vehicle row.riders.items) there.cost row.cost right' is.least) in
+      let least : IsLeastDelay tau (trip_task settled row.vehicle row.riders.items) there.cost = rw (at.own, at.trip) at (are.right k no_row at.within).least in
+      let cost : there.cost ≡ row.cost = one_least tau (trip_task settled row.vehicle row.riders.items) there.cost row.cost least is.least in
+      let same : there ≡ row = λ i. record { vehicle = at.own i; riders = record { items = at.trip i }; cost = cost i } in
       (k, at.within, get_or_default rows k row no_row at.within ∙ same)
 
   row_also : (rows others : List TripRow) → AreRowsOf most tau settled rows → AreRowsOf most tau settled others → (row : TripRow) → Contains rows row → Contains others row
   row_also rows others are also row found = row_in others also row (All-contains (λ (r : TripRow). IsRow most tau settled r.vehicle r.riders.items r.cost) rows row are.right found)
 
-  pub one_list_of_rows : (rows others : List TripRow) → AreInOrder RowBefore rows → AreInOrder RowBefore others → AreRowsOf most tau settled rows → AreRowsOf most tau settled others → rows ≡ others
-  one_list_of_rows rows others up vp are also = same_members RowBefore rows_strict rows others up vp (row_also rows others are also) (row_also others rows also are)
+  pub one_list_of_rows : (rows others : List TripRow) → AreInOrder RowBefore rows_strict no_row rows → AreInOrder RowBefore rows_strict no_row others → AreRowsOf most tau settled rows → AreRowsOf most tau settled others → rows ≡ others
+  one_list_of_rows rows others up vp are also = same_members RowBefore rows_strict no_row rows others up vp (row_also rows others are also) (row_also others rows also are)
 
-  pub no_more_rows : (rows : List TripRow) (allowed : ℕ) → AreInOrder RowBefore rows → AreRowsOf most tau settled rows → length rows ≤ allowed → HasMoreRows tau settled most allowed → ⊥
+  pub no_more_rows : (rows : List TripRow) (allowed : ℕ) → AreInOrder RowBefore rows_strict no_row rows → AreRowsOf most tau settled rows → length rows ≤ allowed → HasMoreRows tau settled most allowed → ⊥
   no_more_rows rows allowed up are few more =
-      let long = no_longer RowBefore rows_strict rows more.rows (rows_in_order more.rows more.order) up
-      (λ row found. row_in rows are row (All-contains (λ (r : TripRow). IsRow most tau settled r.vehicle r.riders.items r.cost) more.rows row more.right found)) in
-      let above = more.more in
-      omega (arith, long, above, few)
+      omega (
+        arith,
+        more.more,
+        no_longer RowBefore rows_strict no_row more.rows rows (rows_in_order more.rows more.order) up
+            (λ row found. row_in rows are row (All-contains (λ (r : TripRow). IsRow most tau settled r.vehicle r.riders.items r.cost) more.rows row more.right found)),
+      )
 
-one_choice : (settled : Settled) (rows : List TripRow) → AreInOrder RowBefore rows → (held other : List (Option ℕ)) (v : ℕ) (late : Bool)
+one_choice : (settled : Settled) (rows : List TripRow) → AreInOrder RowBefore rows_strict no_row rows → (held other : List (Option ℕ)) (v : ℕ) (late : Bool)
     → MatchBool late (choice_at held v ≡ None) ((k : ℕ) × (choice_at held v ≡ Some k) × IsRowWith rows v (vehicle_at settled v).held.items k)
     → MatchBool late (choice_at other v ≡ None) ((k : ℕ) × (choice_at other v ≡ Some k) × IsRowWith rows v (vehicle_at settled v).held.items k)
     → choice_at held v ≡ choice_at other v
@@ -104,16 +87,13 @@ one_choice settled rows up held other v false a b =
     let same : a.0 ≡ b.0 = one_place rows up v (vehicle_at settled v).held.items a.0 b.0 a.2 b.2 in
     a.1 ∙ ap (λ (k : ℕ). Some k) same ∙ sym b.1
 
-pub one_held : (settled : Settled) (vehicles : ℕ) (rows : List TripRow) → AreInOrder RowBefore rows → (held other : List (Option ℕ)) → HoldRows settled vehicles rows held → HoldRows settled vehicles rows other → held ≡ other
+pub one_held : (settled : Settled) (vehicles : ℕ) (rows : List TripRow) → AreInOrder RowBefore rows_strict no_row rows → (held other : List (Option ℕ)) → HoldRows settled vehicles rows held → HoldRows settled vehicles rows other → held ≡ other
 one_held settled vehicles rows up held other a b =
     ext_get_or None held other (a.count ∙ sym b.count)
-    (λ v within. let inside : v < vehicles = (let n = a.count in omega (arith, n)) in one_choice settled rows up held other v (vehicle_at settled v).late (a.each v inside) (b.each v inside))
-
-same_graph : (a b : Graph) → a.vehicles ≡ b.vehicles → a.riders ≡ b.riders → a.penalty ≡ b.penalty → a.rows ≡ b.rows → a.held ≡ b.held → a ≡ b
-same_graph a b v r p rows held = λ k. record { vehicles = v k; riders = r k; penalty = p k; rows = rows k; held = held k }
+    (λ v within. one_choice settled rows up held other v (vehicle_at settled v).late (a.each v (omega arith)) (b.each v (omega arith)))
 
 module _ (settings : Settings) (tau : ℕ → ℕ → ℕ) (settled : Settled) where
-  pub graph_in_order : (g : Graph) → IsTripGraphOf settings tau settled g → AreInOrder RowBefore g.rows
+  pub graph_in_order : (g : Graph) → IsTripGraphOf settings tau settled g → AreInOrder RowBefore rows_strict no_row g.rows
   graph_in_order g are = rows_in_order g.rows are.good.order
 
   rows_of : (g : Graph) → IsTripGraphOf settings tau settled g → AreRowsOf settings.trip tau settled g.rows
@@ -124,8 +104,14 @@ module _ (settings : Settings) (tau : ℕ → ℕ → ℕ) (settled : Settled) w
       let up = graph_in_order a are in let vp = graph_in_order b also in
       let rows : a.rows ≡ b.rows = one_list_of_rows tau settled settings.trip a.rows b.rows up vp (rows_of a are) (rows_of b also) in
       let hold : HoldRows settled (length settled.vehicles) b.rows a.held = subst (λ (r : List TripRow). HoldRows settled (length settled.vehicles) r a.held) rows are.hold in
-      same_graph a b (are.vehicle_total ∙ sym also.vehicle_total) (are.rider_total ∙ sym also.rider_total) (are.left_out ∙ sym also.left_out) rows
-      (one_held settled (length settled.vehicles) b.rows vp a.held b.held hold also.hold)
+      let held : a.held ≡ b.held = one_held settled (length settled.vehicles) b.rows vp a.held b.held hold also.hold in
+      λ k. record {
+        vehicles = (are.vehicle_total ∙ sym also.vehicle_total) k;
+        riders = (are.rider_total ∙ sym also.rider_total) k;
+        penalty = (are.left_out ∙ sym also.left_out) k;
+        rows = rows k;
+        held = held k;
+      }
 
   pub graph_or_overflow : (g : Graph) → IsTripGraphOf settings tau settled g → HasMoreRows tau settled settings.trip settings.pairs → ⊥
   graph_or_overflow g are more = no_more_rows tau settled settings.trip g.rows settings.pairs (graph_in_order g are) (rows_of g are) are.few more

@@ -1,15 +1,13 @@
 -- A batch settles in one way.
-use Rattle.std.proofs.Common.{◌≡◌, ℕ, ◌+◌, ◌<◌, ◌≤◌, ◌⊎◌, Bool, true, false, MatchBool, List, [], length, get_or, map, Some, slice_get, refl, sym, ap, ◌∙◌, subst, inl, inr, ⊎_elim, arith}
+use Rattle.std.proofs.Common.{◌≡◌, ℕ, ◌+◌, ◌<◌, ◌≤◌, Bool, true, false, MatchBool, List, [], length, get_or, map, Some, slice_get, refl, sym, ap, ◌∙◌, subst, inl, inr, arith}
 use Rattle.std.specs.List.Sorted.{IsStrictlyIncreasing}
 use Rattle.std.proofs.Math.Path.{fun_ext}
 use Rattle.std.proofs.lemmas.Bool.{cases_lt}
 use Rattle.std.proofs.lemmas.List.{ext_get_or, get_or_past}
-use Rattle.std.proofs.lemmas.Option.{slice_get_cases, slice_get_within, slice_get-get_or, get_or_from_slice_get}
-use Rattle.batch_snapshot.specs.declared.passenger.Passenger.{Passenger}
+use Rattle.std.proofs.lemmas.Option.{slice_get_within, slice_get-get_or, get_or_from_slice_get}
 use Rattle.batch_snapshot.specs.declared.vehicle.Vehicle.{Vehicle}
 use Rattle.batch_snapshot.specs.Batch.{Batch}
 use Rattle.stop_orders.specs.declared.leg.Leg.{Leg}
-use Rattle.stop_orders.specs.declared.settled_rider.SettledRider.{SettledRider}
 use Rattle.stop_orders.specs.declared.settled_vehicle.SettledVehicle.{SettledVehicle}
 use Rattle.stop_orders.specs.declared.settled.Settled.{Settled}
 use Rattle.stop_orders.specs.declared.task.Task.{Task}
@@ -20,15 +18,13 @@ use Rattle.promise_check.specs.Requests.{IsLegOf, request_at}
 use Rattle.promise_check.specs.Promised.{promised_limit, promised_to, IsLive}
 use Rattle.promise_check.specs.lemmas.Named.{ideal_second, kept_leg, kept_legs, HoldsPromised, IsHeld, no_request}
 use Rattle.promise_check.specs.Settling.{IsPlaced, HasRightLimit, IsSettled}
+use Rattle.promise_check.proofs.Assembly.{some_at}
 use Rattle.promise_check.proofs.lemmas.Promises.{rising_once}
 
 -- a node stands at one place
 pub one_place_of : (points : List ℕ) → IsStrictlyIncreasing points → (i j node : ℕ) → slice_get points i ≡ Some node → slice_get points j ≡ Some node → i ≡ j
 one_place_of points up i j node a b =
     rising_once points up i j (slice_get_within points i node a) (slice_get_within points j node b) (get_or_from_slice_get points i node 0 a ∙ sym (get_or_from_slice_get points j node 0 b))
-
-same_leg : (a b : Leg) → a.origin ≡ b.origin → a.destination ≡ b.destination → a.latest_pickup ≡ b.latest_pickup → a.ideal ≡ b.ideal → a.latest_dropoff ≡ b.latest_dropoff → a.party ≡ b.party → a ≡ b
-same_leg a b o d l i f p = λ k. record { origin = o k; destination = d k; latest_pickup = l k; ideal = i k; latest_dropoff = f k; party = p k }
 
 -- a vehicle but for what rests on orders of stops
 pub record IsSamePlace (a b : SettledVehicle) : Type 0 where
@@ -39,29 +35,15 @@ pub record IsSamePlace (a b : SettledVehicle) : Type 0 where
   pub aboard : a.aboard.items ≡ b.aboard.items
   pub aboard_ids : a.aboard_ids.items ≡ b.aboard_ids.items
 
-same_vehicle : (a b : SettledVehicle) → IsSamePlace a b → a.late ≡ b.late → a.held.items ≡ b.held.items → a ≡ b
-same_vehicle a b is late held =
-    λ k. record { id = is.id k; start = is.start k; ready = is.ready k; seats = is.seats k; aboard = record { items = is.aboard k }; aboard_ids = record { items = is.aboard_ids k }; late = late k; held = record { items = held k } }
-
-same_rider : (a b : SettledRider) → a.id ≡ b.id → a.leg ≡ b.leg → a.lapsed ≡ b.lapsed → a ≡ b
-same_rider a b i l p = λ k. record { id = i k; leg = l k; lapsed = p k }
-
-same_settled : (a b : Settled) → a.now ≡ b.now → a.dwell ≡ b.dwell → a.most_seats ≡ b.most_seats → a.vehicles ≡ b.vehicles → a.riders ≡ b.riders → a ≡ b
-same_settled a b n d s v r = λ k. record { now = n k; dwell = d k; most_seats = s k; vehicles = v k; riders = r k }
-
 -- the tasks of vehicles that are at the same place are the same
 same_task : (dwell : ℕ) (a b : SettledVehicle) (legs : List Leg) → IsSamePlace a b → vehicle_task dwell a legs ≡ vehicle_task dwell b legs
 same_task dwell a b legs is =
     λ k. record { start = is.start k; ready = is.ready k; dwell = dwell; seats = is.seats k; aboard = record { items = is.aboard k }; riders = record { items = legs } }
 
 same_test : (a b : Bool) (P : Type 0) → MatchBool a (P → ⊥) P → MatchBool b (P → ⊥) P → a ≡ b
-same_test true true P h k = refl
 same_test true false P h k = absurd (h k)
 same_test false true P h k = absurd (k h)
-same_test false false P h k = refl
-
-abbrev nobody : Passenger
-nobody = record { rider = 0; origin = 0; destination = 0; time = 0; party = 0 }
+same_test _ _ P h k = refl
 
 module _ (settings : Settings) (points : List ℕ) (up : IsStrictlyIncreasing points) (tau : ℕ → ℕ → ℕ) where
   one_leg : (o d t p : ℕ) (a b : Leg) → IsLegOf settings points tau o d t p a → IsLegOf settings points tau o d t p b → a ≡ b
@@ -69,8 +51,14 @@ module _ (settings : Settings) (points : List ℕ) (up : IsStrictlyIncreasing po
       let from : a.origin ≡ b.origin = one_place_of points up a.origin b.origin o is.origin_place also.origin_place in
       let to : a.destination ≡ b.destination = one_place_of points up a.destination b.destination d is.destination_place also.destination_place in
       let ideal : a.ideal ≡ b.ideal = is.ideal ∙ ap (λ (x : ℕ). ideal_second tau t x a.destination) from ∙ ap (λ (x : ℕ). ideal_second tau t b.origin x) to ∙ sym also.ideal in
-      same_leg a b from to (is.latest_pickup ∙ sym also.latest_pickup) ideal
-      (is.latest_dropoff ∙ ap (λ (x : ℕ). x + settings.delay) ideal ∙ sym also.latest_dropoff) (is.size ∙ sym also.size)
+      λ k. record {
+        origin = from k;
+        destination = to k;
+        latest_pickup = (is.latest_pickup ∙ sym also.latest_pickup) k;
+        ideal = ideal k;
+        latest_dropoff = (is.latest_dropoff ∙ ap (λ (x : ℕ). x + settings.delay) ideal ∙ sym also.latest_dropoff) k;
+        party = (is.size ∙ sym also.size) k;
+      }
 
   one_placing : (now : ℕ) (x : Vehicle) (a b : SettledVehicle) → IsPlaced settings points tau now x a → IsPlaced settings points tau now x b → IsSamePlace a b
   one_placing now x a b is also = record {
@@ -79,20 +67,16 @@ module _ (settings : Settings) (points : List ℕ) (up : IsStrictlyIncreasing po
     ready = is.ready ∙ sym also.ready;
     seats = is.seats ∙ sym also.seats;
     aboard = ext_get_or no_leg a.aboard.items b.aboard.items (is.aboard_count ∙ sym also.aboard_count) (λ k within.
-        let p = get_or x.aboard.items k nobody in
-        let at = slice_get-get_or x.aboard.items k nobody (let n = is.aboard_count in omega (arith, n, within)) in
-        one_leg p.origin p.destination p.time p.party (leg_at a.aboard.items k) (leg_at b.aboard.items k) (is.aboard_legs k p at) (also.aboard_legs k p at));
+        let found = some_at x.aboard.items k (let n = is.aboard_count in omega (arith, n, within)) in let p = found.0 in
+        one_leg p.origin p.destination p.time p.party (leg_at a.aboard.items k) (leg_at b.aboard.items k) (is.aboard_legs k p found.1) (also.aboard_legs k p found.1));
     aboard_ids = is.aboard_ids ∙ sym also.aboard_ids;
   }
 
   module _ (batch : Batch) (s t : Settled) (is : IsSettled settings points tau batch s) (also : IsSettled settings points tau batch t) where
     vehicle_placed : (v : ℕ) → v < length s.vehicles → IsSamePlace (vehicle_at s v) (vehicle_at t v)
     vehicle_placed v within =
-        let inside : v < length batch.vehicles = (let n = is.vehicle_count in omega (arith, n)) in
-        ⊎_elim
-        (λ found. one_placing batch.sealed_at found.0 (vehicle_at s v) (vehicle_at t v) (is.placed v found.0 found.2) (also.placed v found.0 found.2))
-        (λ past. absurd (let far = past.0 in omega (arith, far)))
-        (slice_get_cases batch.vehicles v).1
+        let found = some_at batch.vehicles v (let n = is.vehicle_count in omega (arith, n)) in
+        one_placing batch.sealed_at found.0 (vehicle_at s v) (vehicle_at t v) (is.placed v found.0 found.1) (also.placed v found.0 found.1)
 
     -- a rider's legs are the same but for the latest pickup
     leg_same : (r : ℕ) → r < length s.riders → (limit : ℕ) → record (rider_at s r).leg { latest_pickup = limit } ≡ record (rider_at t r).leg { latest_pickup = limit }
@@ -102,15 +86,10 @@ module _ (settings : Settings) (points : List ℕ) (up : IsStrictlyIncreasing po
         ap (λ (l : Leg). record l { latest_pickup = limit }) (one_leg x.origin x.destination x.time x.party (record (rider_at s r).leg { latest_pickup = x.time + settings.wait }) (record (rider_at t r).leg { latest_pickup = x.time + settings.wait })
         (is.legs r x at) (also.legs r x at))
 
-    same_counts : length s.riders ≡ length t.riders
-    same_counts = is.rider_count ∙ sym also.rider_count
-
     kept_same : (k : ℕ) → kept_leg settings.wait (request_at batch.riders k) (get_or s.riders k no_rider).leg ≡ kept_leg settings.wait (request_at batch.riders k) (get_or t.riders k no_rider).leg
-    kept_same k = elim (cases_lt k (length s.riders)) as (λ _. kept_leg settings.wait (request_at batch.riders k) (get_or s.riders k no_rider).leg ≡ kept_leg settings.wait (request_at batch.riders k) (get_or t.riders k no_rider).leg) [
+    kept_same k = elim (cases_lt k (length s.riders)) [
       | inl less ↦ leg_same k less (promised_limit settings.wait (request_at batch.riders k))
-      | inr past ↦
-          let past' : length t.riders ≤ k = (let n = same_counts in omega (arith, n)) in
-          ap (λ (r : SettledRider). kept_leg settings.wait (request_at batch.riders k) r.leg) (get_or_past s.riders k no_rider past ∙ sym (get_or_past t.riders k no_rider past'))
+      | inr past ↦ rw (get_or_past s.riders k no_rider past, get_or_past t.riders k no_rider (let n = is.rider_count in let m = also.rider_count in omega (arith, n, m, past))) refl
     ]
 
     kept_all_same : (trip : List ℕ) → kept_legs settings.wait batch.riders s.riders trip ≡ kept_legs settings.wait batch.riders t.riders trip
@@ -145,8 +124,9 @@ module _ (settings : Settings) (points : List ℕ) (up : IsStrictlyIncreasing po
         let within' : v < length t.vehicles = (let n = is.vehicle_count in let m = also.vehicle_count in omega (arith, n, m)) in
         let at = vehicle_placed settings points up tau batch s t is also v within in
         let right = subst (λ (task : Task). MatchBool b.late (IsServable tau task → ⊥) (IsServable tau task)) (sym (same_task settings.dwell a b [] at)) (also.late v within') in
-        same_vehicle a b at (same_test a.late b.late (IsServable tau (vehicle_task settings.dwell a [])) (is.late v within) right)
-        (held_same s t is also a b at (back_at a b at) (is.held v within) (also.held v within'))
+        let late = same_test a.late b.late (IsServable tau (vehicle_task settings.dwell a [])) (is.late v within) right in
+        let held = held_same s t is also a b at (back_at a b at) (is.held v within) (also.held v within') in
+        λ k. record { id = at.id k; start = at.start k; ready = at.ready k; seats = at.seats k; aboard = record { items = at.aboard k }; aboard_ids = record { items = at.aboard_ids k }; late = late k; held = record { items = held k } }
 
     same_vehicles : s.vehicles ≡ t.vehicles
     same_vehicles = ext_get_or no_vehicle s.vehicles t.vehicles (is.vehicle_count ∙ sym also.vehicle_count) same_vehicle_at
@@ -164,11 +144,11 @@ module _ (settings : Settings) (points : List ℕ) (up : IsStrictlyIncreasing po
         let x = request_at batch.riders r in
         let at = slice_get-get_or batch.riders r no_request (let n = is.rider_count in omega (arith, n, within)) in
         let limits = limits_same r (is.limits r within) (also.limits r within') in
-        same_rider (rider_at s r) (rider_at t r) (is.ids r x at ∙ sym (also.ids r x at))
-        (leg_same settings points up tau batch s t is also r within (rider_at s r).leg.latest_pickup ∙ ap (λ (x : ℕ). record (rider_at t r).leg { latest_pickup = x }) limits.0) limits.1
+        let leg = leg_same settings points up tau batch s t is also r within (rider_at s r).leg.latest_pickup ∙ ap (λ (x : ℕ). record (rider_at t r).leg { latest_pickup = x }) limits.0 in
+        λ k. record { id = (is.ids r x at ∙ sym (also.ids r x at)) k; leg = leg k; lapsed = limits.1 k }
 
     -- a batch settles in one way
     pub one_settling : s ≡ t
     one_settling =
-        same_settled s t (is.now ∙ sym also.now) (is.dwell ∙ sym also.dwell) (is.most_seats ∙ sym also.most_seats) same_vehicles
-        (ext_get_or no_rider s.riders t.riders (is.rider_count ∙ sym also.rider_count) same_rider_at)
+        let riders = ext_get_or no_rider s.riders t.riders (is.rider_count ∙ sym also.rider_count) same_rider_at in
+        λ k. record { now = (is.now ∙ sym also.now) k; dwell = (is.dwell ∙ sym also.dwell) k; most_seats = (is.most_seats ∙ sym also.most_seats) k; vehicles = same_vehicles k; riders = riders k }

@@ -1,7 +1,7 @@
 -- From what each lane did to the one history in which all of them stand.
 use Rattle.std.proofs.Common.{◌≡◌, ◌≢◌, ℕ, suc, ◌+◌, ◌<◌, ◌≤◌, ◌==◌, Bool, true, false, cond, eqb, is_some, List, [], ◌∷◌, length, map, filter, Option, Some, None, refl, sym, ap, subst, ◌∙◌, inl, inr, arith, All, option_map, slice_index_or}
 use Rattle.dispatch_engine.proofs.Common.{AllByRecursion, enumerate_from, cases_lt, eqb-false, false≢true, nat_tests, Batch, BookView, state_after, RepliesAreSteps, batch_of, sealed_state, step, submit, cancel, report, pickup, dropoff, seal, close, Command, Close, Entry, Reply, Closed, State, Settings, Roads, calls_of, LoggedCall, LockedReply, calls_from, call_of, entry_of, sealed_by, snapshot_after, BookPass, IsFinished, of_lane, IsCloseOf, IsLaneRunFrom, IsLaneRun, last_sealed, IsGoodFor, LaneClosesAreGood, IsGoodClose, ClosesAreGood, IsReady, IsPlain, calls_of_lane, calls_of_pass, HaveRun, IsJointRun}
-use Rattle.std.proofs.lemmas.Bool.{eq-eqb}
+use Rattle.std.proofs.lemmas.Bool.{cases_eq, eq-eqb, ne_eqb}
 use Rattle.std.proofs.lemmas.List.Elements.{All-filter, All-from_recursion, recursion_from_All}
 use Rattle.dispatch_engine.proofs.lemmas.RunLemmas.{filter-mapped}
 use Rattle.request_book.specs.declared.outcome.Outcome.{Outcome}
@@ -53,30 +53,20 @@ module _ (settings : Settings) (roads : Roads) where
   good-close s (Close batch outcome) Closed last is good e = (good.0, stands-last s.sealed last good.0 (closed-some roads.nodes settings.wait s batch outcome e) is good.1, good.2)
   good-close s _ _ last is good e = tt
 
-  -- one entry more
-  close-first : (s : State) (last : Option Batch) (e : Entry) (rest : List (LoggedCall Command LockedReply)) (More : Type 0)
-      → IsLast s last → e.reply ≡ (step roads.nodes settings.wait s e.command).1 → IsInZero e
-      → ((l : Option Batch) → IsLast (step roads.nodes settings.wait s e.command).0 l → LaneClosesAreGood settings roads l rest → More)
-      → (here : Bool) → eqb e.lane 0 ≡ here
-      → LaneClosesAreGood settings roads last (cond here (call_of (step roads.nodes settings.wait s e.command).0 e ∷ rest) rest)
-      → IsGoodClose settings roads s e.command e.reply × More
-  close-first s last e rest More is reply zeroth more true h good =
-      let next = (step roads.nodes settings.wait s e.command).0 in (
-        good-close s e.command e.reply last is good.0 reply,
-        more (last_sealed last (snapshot_after e.reply next)) (subst (λ (r : Reply). IsLast next (last_sealed last (snapshot_after r next))) (sym reply) (step-last roads.nodes settings.wait s e.command last is)) good.1,
-      )
-  close-first s last e rest More is reply zeroth more false h good =
-      let plain = zeroth (eqb-false e.lane 0 h) in
-      let quiet = plain-quiet roads.nodes settings.wait s e.command plain in
-      (plain-close s e.command e.reply plain, more last (λ b f. is b (sym quiet.sealed ∙ f)) good)
-
   pub closes-join : (s : State) (last : Option Batch) (es : List Entry) → IsLast s last → RepliesAreSteps roads.nodes settings.wait s es → AllByRecursion IsInZero es → LaneClosesAreGood settings roads last (calls_of_lane 0 (calls_from roads.nodes settings.wait s es)) → ClosesAreGood settings roads s es
   unfolding RepliesAreSteps calls_from ClosesAreGood
   closes-join s last [] is replies zeroth good = tt
   closes-join s last (e ∷ es) is replies zeroth good =
       let next = (step roads.nodes settings.wait s e.command).0 in
-      close-first s last e (calls_of_lane 0 (calls_from roads.nodes settings.wait next es)) (ClosesAreGood settings roads next es) is replies.0 zeroth.0
-      (λ l here rest. closes-join next l es here replies.1 zeroth.1 rest) (eqb e.lane 0) refl good
+      elim (cases_eq e.lane 0) [
+        | inl own ↦
+            let here : LaneClosesAreGood settings roads last (call_of next e ∷ calls_of_lane 0 (calls_from roads.nodes settings.wait next es)) = rw (eq-eqb e.lane 0 own) at good in
+            let sealed : IsLast next (last_sealed last (snapshot_after e.reply next)) = rw replies.0 (step-last roads.nodes settings.wait s e.command last is) in
+            (good-close s e.command e.reply last is here.0 replies.0, closes-join next (last_sealed last (snapshot_after e.reply next)) es sealed replies.1 zeroth.1 here.1)
+        | inr other ↦
+            let quiet = plain-quiet roads.nodes settings.wait s e.command (zeroth.0 other) in
+            (plain-close s e.command e.reply (zeroth.0 other), closes-join next last es (λ b f. is b (sym quiet.sealed ∙ f)) replies.1 zeroth.1 (rw (ne_eqb e.lane 0 other) at good))
+      ]
 
 -- the batch of this number, if any, stands sealed
 abbrev Stands : State → Option ℕ → Type 0
@@ -159,9 +149,6 @@ calls-cut : (lane n : ℕ) (calls : List (LoggedCall Command LockedReply)) → m
 calls-cut lane n [] = refl
 calls-cut lane n (c ∷ cs) = grind (arith, nat_tests, calls-cut lane (n + 1) cs)
 
-entries-cut : (lane : ℕ) (calls : List (LoggedCall Command LockedReply)) → map entry_of (calls_of_lane lane calls) ≡ of_lane lane (map entry_of calls)
-entries-cut lane calls = sym (filter-mapped entry_of (λ (e : Entry). e.lane == lane) calls)
-
 -- the calls of entries give the entries back
 calls-entries : (nodes : List ℕ) (wait : ℕ) (s : State) (es : List Entry) → map entry_of (calls_from nodes wait s es) ≡ es
 unfolding calls_from
@@ -188,17 +175,14 @@ module _ (settings : Settings) (roads : Roads) (lanes : ℕ → List Command) (s
   entries-of : (k : ℕ) (d : BookPass) → k < length passes → map entry_of (calls_of_pass (slice_index_or passes k d)) ≡ of_lane k done.since
   entries-of k d lt =
       ap (map entry_of) (calls-of k d lt)
-      ∙ entries-cut k log
+      ∙ sym (filter-mapped entry_of (λ (e : Entry). e.lane == k) log)
       ∙ ap (of_lane k) (calls-entries roads.nodes settings.wait start.state done.since)
 
   ran : (d : BookPass) (k : ℕ) → IsLaneRun (lanes k) (of_lane k done.since)
   ran d k = elim (cases_lt k (length passes)) [
     | inl lt ↦ subst (IsLaneRun (lanes k)) (entries-of k d lt) (run.runs k d lt)
-    | inr le ↦ beyond (lanes k) (of_lane k done.since) (run.beyond k le) (beyond-none (length passes) k done.since le done.lanes)
+    | inr le ↦ rw (run.beyond k le, beyond-none (length passes) k done.since le done.lanes) tt
   ]
-    where
-      beyond : (cs : List Command) (es : List Entry) → cs ≡ [] → es ≡ [] → IsLaneRun cs es
-      beyond cs es a b = subst (λ (c : List Command). IsLaneRun c es) (sym a) (subst (IsLaneRun []) (sym b) tt)
 
   pub joined : IsJointRun settings roads start.state lanes done.since
   joined =

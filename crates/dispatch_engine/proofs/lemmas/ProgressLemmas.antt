@@ -1,5 +1,5 @@
 -- How lanes come on.
-use Rattle.std.proofs.Common.{◌≡◌, ◌==◌, ◌↔◌, ℕ, zero, suc, ◌+◌, ◌<◌, ◌≤◌, List, [], ◌∷◌, ◌++◌, length, set, drop, replicate, Option, Some, None, refl, sym, ap, ◌∙◌, subst, ⊎_elim, arith, append-nil, append_assoc, eq-eqb}
+use Rattle.std.proofs.Common.{◌≡◌, ◌==◌, ◌↔◌, ℕ, zero, suc, ◌+◌, ◌<◌, ◌≤◌, List, [], ◌∷◌, ◌++◌, length, set, drop, replicate, Option, Some, None, refl, sym, ap, ◌∙◌, subst, inl, inr, ⊎_elim, arith, append-nil, append_assoc, eq-eqb}
 use Rattle.dispatch_engine.proofs.Common.{cases_eq, cases_lt, cond-true, cond-false, drop_all, get_or_past, get_or-replicate, length-replicate, filter-append, of_lane, IsLaneRun, IsLaneRunFrom, LaneStand, at_start, stand_at, IsRest, IsNext, stand_after, HaveCome, AreDone, Command, Entry, NumberedLanes, IsRound, lane_at}
 use Rattle.std.proofs.lemmas.Bool.{ne_eqb}
 use Rattle.std.proofs.lemmas.List.{drop_more, get_or-set_same, get_or-set_other}
@@ -56,15 +56,13 @@ come_more round lanes es e low come next lane rest =
 
 -- at the start every lane has all to do
 pub come_none : (round : NumberedLanes) → HaveCome round (replicate 16 at_start) []
-come_none round lane rest =
-    let start : stand_at (replicate 16 at_start) lane ≡ at_start = begins lane in
-    (λ left. subst (λ (s : LaneStand). IsRest (lane_at round lane) s rest) start left, λ run. subst (λ (s : LaneStand). IsRest (lane_at round lane) s rest) (sym start) run)
+come_none round lane rest = rw (begins lane) ((λ left. left), (λ run. run))
   where
     begins : (k : ℕ) → stand_at (replicate 16 at_start) k ≡ at_start
-    begins k = ⊎_elim
-        (λ (low : k < 16). get_or-replicate 16 k at_start at_start low)
-        (λ (high : 16 ≤ k). get_or_past (replicate 16 at_start) k at_start (let n = length-replicate 16 at_start in omega (arith, n, high)))
-        (cases_lt k 16)
+    begins k = elim (cases_lt k 16) [
+      | inl low ↦ get_or-replicate 16 k at_start at_start low
+      | inr high ↦ get_or_past (replicate 16 at_start) k at_start (omega (arith, length-replicate 16 at_start, high))
+    ]
 
 -- nothing is left exactly where all commands were taken
 pub rest_none : (commands : List Command) (taken : ℕ) → length commands ≤ taken → IsRest commands (record { taken = taken; pending = None }) []
@@ -77,10 +75,7 @@ rest_some (c ∷ cs) (suc k) h rest = rest_some cs k (omega arith) rest
 
 -- all lanes are done where the sixteen are
 pub done_all : (round : NumberedLanes) (lanes : List LaneStand) → IsRound round → length lanes ≡ 16 → ((lane : ℕ) → lane < 16 → IsRest (lane_at round lane) (stand_at lanes lane) []) → AreDone round lanes
-done_all round lanes kept sixteen below lane = ⊎_elim (λ (low : lane < 16). below lane low) (λ (high : 16 ≤ lane). beyond lane high) (cases_lt lane 16)
-  where
-    beyond : (k : ℕ) → 16 ≤ k → IsRest (lane_at round k) (stand_at lanes k) []
-    beyond k high =
-        let none : lane_at round k ≡ [] = get_or_past round.lanes k [] (let n = kept.sixteen in omega (arith, n, high)) in
-        let start : stand_at lanes k ≡ at_start = get_or_past lanes k at_start (omega (arith, sixteen, high)) in
-        subst (λ (s : LaneStand). IsRest (lane_at round k) s []) (sym start) (subst (λ (cs : List Command). IsRest cs at_start []) (sym none) tt)
+done_all round lanes kept sixteen below lane = elim (cases_lt lane 16) [
+  | inl low ↦ below lane low
+  | inr high ↦ rw (get_or_past lanes lane at_start (omega (arith, sixteen, high)), get_or_past round.lanes lane [] (omega (arith, kept.sixteen, high))) tt
+]

@@ -19,10 +19,9 @@ filter-mapped f p (x ∷ xs) = grind (arith, filter-mapped f p xs)
 
 -- what a batch names is on the roads
 pub snapshot-known : (nodes roads : List ℕ) (command : Command) (reply : Reply) (b : Batch) → nodes ≡ roads → Fits nodes command (with_snapshot reply (Some b)) → All (λ node. Contains roads node) (named_nodes b)
-snapshot-known nodes roads command reply b is fits = λ k d within. contained (get_or (named_nodes b) k d) (subst (λ (ns : List ℕ). IsNode ns (get_or (named_nodes b) k d)) is (fits.named b refl k d within))
-  where
-    contained : (node : ℕ) → IsNode roads node → Contains roads node
-    contained node found = Contains-from_any {eq = λ q n. eqb n q} (λ x y same. sym (eqb-true y x same)) node roads found
+snapshot-known nodes roads command reply b is fits = λ k d within.
+    let node = get_or (named_nodes b) k d in
+    Contains-from_any {eq = λ q n. eqb n q} (λ x y same. sym (eqb-true y x same)) node roads (subst (λ (ns : List ℕ). IsNode ns node) is (fits.named b refl k d within))
 
 -- a lane's run, and one more
 pub run-append : (pending : Option ℕ) (cs ds : List Command) (es fs : List Entry) → IsLaneRunFrom pending cs es → IsLaneRun ds fs → IsLaneRunFrom pending (cs ++ ds) (es ++ fs)

@@ -1,49 +1,31 @@
-use Rattle.std.proofs.Common.{◌≡◌, ℕ, zero, suc, ◌+◌, ◌-◌, ◌<◌, ◌≤◌, ◌⊎◌, inl, inr, List, [], ◌∷◌, ◌++◌, length, take, get_or, set, refl, sym, ap, ◌∙◌, subst, arith, Bool, true, false, cond, ⊎_elim}
-use Rattle.promise_check.proofs.Common.{range_with_len, IsStrictlyIncreasing, cases_lt, cases_eq, cases_order, length_push, get_or_append_left, get_or_push, take_more, get_or_default, Contains-append_left, Contains-push, Contains-push_cases, filter-append, All-filter, All-from_get_or, Rider, SettledRider, SettledVehicle, no_rider, no_vehicle, IsTrip, request_at, no_request, is_promised_to, promised_to, kept_rider, AreKept, IsHeld}
+use Rattle.std.proofs.Common.{◌≡◌, ℕ, zero, suc, ◌+◌, ◌<◌, ◌≤◌, ◌⊎◌, inl, inr, List, [], ◌∷◌, ◌++◌, length, take, get_or, set, refl, sym, ap, ◌∙◌, subst, arith, Bool, true, false, cond, ⊎_elim}
+use Rattle.promise_check.proofs.Common.{range_with_len, IsStrictlyIncreasing, cases_lt, cases_eq, length_push, get_or_append_left, get_or_push, take_more, get_or_default, Contains-append_left, Contains-push, Contains-push_cases, filter-append, All-filter, All-from_get_or, Rider, SettledRider, SettledVehicle, no_rider, no_vehicle, IsTrip, request_at, no_request, is_promised_to, promised_to, kept_rider, AreKept, IsHeld}
 use Rattle.std.specs.List.{All, Contains, filter}
-use Rattle.std.proofs.lemmas.List.{length-append, length-set, get_or-set_same, get_or-set_other, map-id, append-nil}
-use Rattle.std.proofs.lemmas.List.FromFn.{map-range_with_len_more, length-range_with_len, get_or-range_with_len}
+use Rattle.std.proofs.lemmas.List.{length-append, length-set, get_or-set_same, get_or-set_other, map-id, append-nil, take-append-drop}
+use Rattle.std.proofs.lemmas.Bool.{cond_both}
+use Rattle.std.proofs.lemmas.List.FromFn.{filter_of_map_range_with_len_more, length-range_with_len, get_or-range_with_len, take-map-range_with_len}
 use Rattle.std.proofs.lemmas.List.Kept.{AllPairs-from_increasing, IsStrictlyIncreasing-filter}
-
-range_more : (n : ℕ) → range_with_len 0 (n + 1) ≡ range_with_len 0 n ++ n ∷ []
-range_more n =
-    sym (map-id (range_with_len 0 (n + 1))) ∙ map-range_with_len_more (λ (x : ℕ). x) 0 n n (omega arith) ∙ ap (λ (v : List ℕ). v ++ n ∷ []) (map-id (range_with_len 0 n))
 
 -- in a rising list no number stands twice
 pub rising_once : (xs : List ℕ) → IsStrictlyIncreasing xs → (i j : ℕ) → i < length xs → j < length xs → get_or xs i 0 ≡ get_or xs j 0 → i ≡ j
 rising_once xs up i j hi hj e =
-    let far = AllPairs-from_increasing xs up in
-    elim (cases_order i j) as (λ _. i ≡ j) [
-      | inl same ↦ same
-      | inr w ↦ absurd (⊎_elim (λ lt. let low = far i j 0 lt hj in omega arith) (λ gt. let low = far j i 0 gt hi in omega arith) w)
-    ]
+    grind (arith, AllPairs-from_increasing xs up i j 0, AllPairs-from_increasing xs up j i 0)
 
 -- one more number that passes, or not
 pub filter_range_more : (p : ℕ → Bool) (n : ℕ) → filter p (range_with_len 0 (n + 1)) ≡ filter p (range_with_len 0 n) ++ cond (p n) (n ∷ []) []
-filter_range_more p n = ap (filter p) (range_more n) ∙ filter-append p (range_with_len 0 n) (n ∷ [])
+filter_range_more p n = simp map-id at (filter_of_map_range_with_len_more p (λ (x : ℕ). x) 0 n n (omega arith))
 
--- the numbers that pass don't become fewer
-pub filter_range_grows : (p : ℕ → Bool) (k m : ℕ) → length (filter p (range_with_len 0 k)) ≤ length (filter p (range_with_len 0 (k + m)))
-filter_range_grows p k zero = let e : k ≡ k + 0 = omega arith in subst (λ (v : ℕ). length (filter p (range_with_len 0 k)) ≤ length (filter p (range_with_len 0 v))) e (omega arith)
-filter_range_grows p k (suc m) =
-    let rest = filter_range_grows p k m in
-    let e : k + m + 1 ≡ k + suc m = omega arith in
-    let last : filter p (range_with_len 0 (k + m + 1)) ≡ filter p (range_with_len 0 (k + m)) ++ cond (p (k + m)) ((k + m) ∷ []) [] = filter_range_more p (k + m) in
-    let n = length-append (filter p (range_with_len 0 (k + m))) (cond (p (k + m)) ((k + m) ∷ []) []) in
-    subst (λ (v : ℕ). length (filter p (range_with_len 0 k)) ≤ length (filter p (range_with_len 0 v))) e (rw last (omega arith))
+filter_has : (p : ℕ → Bool) (xs : List ℕ) (r : ℕ) → Contains xs r → p r ≡ true → Contains (filter p xs) r
+filter_has p [] r (k, within, is) passed = absurd (omega arith)
+filter_has p (x ∷ xs) r (zero, within, is) passed = rw (is, passed) (0, omega arith, refl)
+filter_has p (x ∷ xs) r (suc k, within, is) passed =
+    let rest = filter_has p xs r (k, omega arith, is) passed in
+    cond_both (p x) (x ∷ filter p xs) (filter p xs) (λ ys. Contains ys r) (λ _. (suc rest.0, omega arith, rest.2)) (λ _. rest)
 
 -- a number that passes stands among them
 pub filter_range_has : (p : ℕ → Bool) (n r : ℕ) → r < n → p r ≡ true → Contains (filter p (range_with_len 0 n)) r
-filter_range_has p zero r h passed = absurd (omega arith)
-filter_range_has p (suc n) r h passed =
-    let e : n + 1 ≡ suc n = omega arith in
-    subst (λ (v : ℕ). Contains (filter p (range_with_len 0 v)) r) e (rw (filter_range_more p n) (elim (cases_lt r n) as (λ _. Contains (filter p (range_with_len 0 n) ++ cond (p n) (n ∷ []) []) r) [
-      | inl lt ↦ Contains-append_left (filter p (range_with_len 0 n)) (cond (p n) (n ∷ []) []) r (filter_range_has p n r lt passed)
-      | inr ge ↦
-          let here : r ≡ n = omega arith in
-          let passes : p n ≡ true = ap p (sym here) ∙ passed in
-          rw passes (subst (λ (v : ℕ). Contains (filter p (range_with_len 0 n) ++ n ∷ []) v) (sym here) (Contains-push (filter p (range_with_len 0 n)) n))
-    ]))
+filter_range_has p n r h passed =
+    filter_has p (range_with_len 0 n) r (r, omega (arith, length-range_with_len 0 n), (let at = get_or-range_with_len 0 n r r h in omega arith)) passed
 
 -- the numbers that pass rise, and are those of the range
 pub filter_range_rises : (p : ℕ → Bool) (n : ℕ) → IsStrictlyIncreasing (filter p (range_with_len 0 n))
@@ -67,15 +49,15 @@ filter_range_skips p n e = filter_range_more p n ∙ ap (λ (b : Bool). filter p
 pub filter_range_takes : (p : ℕ → Bool) (n : ℕ) → p n ≡ true → filter p (range_with_len 0 (n + 1)) ≡ filter p (range_with_len 0 n) ++ n ∷ []
 filter_range_takes p n e = filter_range_more p n ∙ ap (λ (b : Bool). filter p (range_with_len 0 n) ++ cond b (n ∷ []) []) e
 
+-- the numbers that pass don't become fewer
 pub filter_range_all : (p : ℕ → Bool) (k n : ℕ) → k ≤ n → length (filter p (range_with_len 0 k)) ≤ length (filter p (range_with_len 0 n))
-filter_range_all p k n h = let e : k + (n - k) ≡ n = omega arith in subst (λ (v : ℕ). length (filter p (range_with_len 0 k)) ≤ length (filter p (range_with_len 0 v))) e (filter_range_grows p k (n - k))
+filter_range_all p k n h =
+    let first : take k (range_with_len 0 n) ≡ range_with_len 0 k = simp map-id at (take-map-range_with_len (λ (x : ℕ). x) 0 n k h) in
+    rw (← take-append-drop k (range_with_len 0 n), filter-append, length-append, first) (omega arith)
 
 -- what is read is what stands at its number
 pub request_read : (requests : List Rider) (k : ℕ) (x : Rider) → k < length requests → x ≡ get_or requests k x → x ≡ request_at requests k
 request_read requests k x h is = is ∙ get_or_default requests k x no_request h
-
-pub rider_read : (riders : List SettledRider) (k : ℕ) (x : SettledRider) → k < length riders → x ≡ get_or riders k x → x ≡ get_or riders k no_rider
-rider_read riders k x h is = is ∙ get_or_default riders k x no_rider h
 
 module _ (wait : ℕ) (requests : List Rider) (plain : List SettledRider) where
   -- one more rider is given the pickup that was promised
@@ -87,19 +69,18 @@ module _ (wait : ℕ) (requests : List Rider) (plain : List SettledRider) where
       let more : take (i + 1) held ≡ take i held ++ h ∷ [] = take_more held i 0 lt ∙ ap (λ (v : ℕ). take i held ++ v ∷ []) is in
       record {
         count = length-set after h new ∙ k.count;
-        each = λ r lr. elim (cases_eq r h) as (λ _. (Contains (take (i + 1) held) r × (get_or (set after h new) r no_rider ≡ kept_rider wait (request_at requests r) (get_or plain r no_rider)))
-            ⊎ ((Contains (take (i + 1) held) r → ⊥) × (get_or (set after h new) r no_rider ≡ get_or before r no_rider))) [
-              | inl same ↦
-                  let room : h < length after = (let e = k.count in omega arith) in
-                  inl (
-                    rw more (subst (λ (v : ℕ). Contains (take i held ++ h ∷ []) v) (sym same) (Contains-push (take i held) h)),
-                    subst (λ (v : ℕ). get_or (set after h new) v no_rider ≡ kept_rider wait (request_at requests v) (get_or plain v no_rider)) (sym same) (get_or-set_same after h new no_rider room),
-                  )
-              | inr other ↦
-                  let stays : get_or (set after h new) r no_rider ≡ get_or after r no_rider = get_or-set_other after h r new no_rider other in
-                  ⊎_elim (λ w. inl (rw more (Contains-append_left (take i held) (h ∷ []) r w.0), stays ∙ w.1))
-                  (λ w. inr (λ c. ⊎_elim w.0 (λ e. other (sym e)) (Contains-push_cases (take i held) h r (rw more at c)), stays ∙ w.1)) (k.each r lr)
-            ];
+        each = λ r lr. elim (cases_eq r h) [
+          | inl same ↦
+              let room : h < length after = (let e = k.count in omega arith) in
+              inl (
+                rw more (subst (λ (v : ℕ). Contains (take i held ++ h ∷ []) v) (sym same) (Contains-push (take i held) h)),
+                subst (λ (v : ℕ). get_or (set after h new) v no_rider ≡ kept_rider wait (request_at requests v) (get_or plain v no_rider)) (sym same) (get_or-set_same after h new no_rider room),
+              )
+          | inr other ↦
+              let stays : get_or (set after h new) r no_rider ≡ get_or after r no_rider = get_or-set_other after h r new no_rider other in
+              ⊎_elim (λ w. inl (rw more (Contains-append_left (take i held) (h ∷ []) r w.0), stays ∙ w.1))
+              (λ w. inr (λ c. ⊎_elim w.0 (λ e. other (sym e)) (Contains-push_cases (take i held) h r (rw more at c)), stays ∙ w.1)) (k.each r lr)
+        ];
       }
 
   -- one more vehicle keeps its promises
