@@ -99,29 +99,6 @@ module _ (settings : Settings) (roads : Roads) where
     };
   }
 
-  -- a round without a seal
-  quiet_round : (s : State) (courses : List Course) (latest : ℕ) (round : NumberedLanes) (es : List Entry) → IsOnDay s courses latest → seal_of round ≡ None → AllByRecursion IsRequest (lane_at round 0)
-      → IsMixed None (lane_at round 0) es → RepliesAreSteps roads.nodes settings.wait s es → IsRoundOver s courses latest round es
-  quiet_round s courses latest round es on none all mixed replies =
-      over_by s courses latest round es s.last_seal on.each
-      (subst (λ o. Ends settings roads s es (λ id. left_stops o (course_of s.vehicles courses id).stops.items) s.last_seal) (sym none)
-      (asked_end settings roads es s (λ id. (course_of s.vehicles courses id).stops.items) s.last_seal on.kept on.closed refl (mixed_asked es (lane_at round 0) all (asked_only roads.nodes settings.wait s es replies) mixed)))
-      (λ l is. subst (λ o. l ≤ unwrap_or o latest) (sym none) (on.last l is))
-
-  -- a round with one, before which these commands are entered
-  entered_round : (s : State) (courses : List Course) (latest : ℕ) (round driven : NumberedLanes) (es : List Entry) (now : ℕ) (entered cs : List Command) → IsNetwork roads → IsOnDay s courses latest
-      → seal_of round ≡ Some now → lane_at round 0 ≡ Seal now ∷ cs → AllByRecursion IsRequest cs → latest ≤ now
-      → AreEntered roads settings.dwell now s.vehicles courses entered → IsPrecededBy entered round driven
-      → IsMixed None (lane_at driven 0) es → RepliesAreSteps roads.nodes settings.wait s es → ClosesAreGood settings roads s es → IsRoundOver s courses latest round es
-  entered_round s courses latest round driven es now entered cs net on is lane all le are preceded mixed replies good =
-      let own : lane_at driven 0 ≡ entered ++ Seal now ∷ cs = preceded.first ∙ ap (λ l. entered ++ l) lane in
-      let ends : Ends settings roads s es (λ id. to_come now (course_of s.vehicles courses id).stops.items) (Some now) =
-      seal_round settings roads s courses now entered cs es net on.kept on.each on.closed (λ last h. let before = on.last last h in omega (arith, before, le)) are all
-      (subst (λ l. IsMixed None l es) own mixed) replies good in
-      over_by s courses latest round es (Some now) on.each
-      (subst (λ o. Ends settings roads s es (λ id. left_stops o (course_of s.vehicles courses id).stops.items) (Some now)) (sym is) ends)
-      (λ l e. subst (λ o. l ≤ unwrap_or o latest) (sym is) (let same : now ≡ l = cc in omega (arith, same)))
-
   -- a round of a day
   round_over : (s : State) (courses : List Course) (latest : ℕ) (round driven : NumberedLanes) (j : Journal) → IsNetwork roads → IsOnDay s courses latest → IsDayRound latest round
       → IsDrivenRound settings roads s courses round driven → j.base ≡ s → IsRoundRun settings roads driven j → IsRoundOver s courses latest round j.entries
@@ -141,10 +118,20 @@ module _ (settings : Settings) (roads : Roads) where
       by : IsDayLane latest round → IsRoundOver s courses latest round j.entries
       by (IsDayLane.asks none all) =
           let preceded : IsPrecededBy [] round driven = subst (WayOf settings roads s courses round driven) none is_driven in
-          quiet_round s courses latest round j.entries on none all (subst (λ l. IsMixed None l j.entries) preceded.first (in_order [] preceded)) replies
+          over_by s courses latest round j.entries s.last_seal on.each
+          (subst (λ o. Ends settings roads s j.entries (λ id. left_stops o (course_of s.vehicles courses id).stops.items) s.last_seal) (sym none)
+          (asked_end settings roads j.entries s (λ id. (course_of s.vehicles courses id).stops.items) s.last_seal on.kept on.closed refl (mixed_asked j.entries (lane_at round 0) all (asked_only roads.nodes settings.wait s j.entries replies)
+          (subst (λ l. IsMixed None l j.entries) preceded.first (in_order [] preceded)))))
+          (λ l is. subst (λ o. l ≤ unwrap_or o latest) (sym none) (on.last l is))
       by (IsDayLane.seals now cs is lane all le) =
           let way : WayOf settings roads s courses round driven (Some now) = subst (WayOf settings roads s courses round driven) is is_driven in
-          entered_round s courses latest round driven j.entries now way.0 cs net on is lane all le way.1 way.3 (in_order way.0 way.3) replies good
+          let own : lane_at driven 0 ≡ way.0 ++ Seal now ∷ cs = way.3.first ∙ ap (λ l. way.0 ++ l) lane in
+          let ends : Ends settings roads s j.entries (λ id. to_come now (course_of s.vehicles courses id).stops.items) (Some now) =
+          seal_round settings roads s courses now way.0 cs j.entries net on.kept on.each on.closed (λ last h. let before = on.last last h in omega (arith, before, le)) way.1 all
+          (subst (λ l. IsMixed None l j.entries) own (in_order way.0 way.3)) replies good in
+          over_by s courses latest round j.entries (Some now) on.each
+          (subst (λ o. Ends settings roads s j.entries (λ id. left_stops o (course_of s.vehicles courses id).stops.items) (Some now)) (sym is) ends)
+          (λ l e. subst (λ o. l ≤ unwrap_or o latest) (sym is) (let same : now ≡ l = cc in omega (arith, same)))
 
   -- rounds of a day that are over, with one more journal after them
   pub record AreOver (s : State) (courses : List Course) (rounds : List NumberedLanes) (js : List Journal) (end : NumberedLanes) (j : Journal) : Type 0 where

@@ -7,9 +7,6 @@ use Rattle.route_drive.proofs.kept.Enter.{picked_up_right}
 use Rattle.route_drive.proofs.kept.Replies.{submit_is}
 use Rattle.route_drive.proofs.kept.States.{stepped}
 
-not_waiting : (w : ℕ) (status : Status) → status ≡ Waiting → IsOfVehicle w status → ⊥
-not_waiting w status e own = subst (IsOfVehicle w) e own
-
 -- one more rider, who waits
 module _ (settings : Settings) (roads : Roads) (riders : List BookRider) (q : BookRider) (new : find_rider q.id riders ≡ None) (waits : q.status ≡ Waiting) where
   pub still_found : (x : ℕ) (r : BookRider) → find_rider x riders ≡ Some r → find_rider x (riders ++ q ∷ []) ≡ Some r
@@ -28,7 +25,7 @@ module _ (settings : Settings) (roads : Roads) (riders : List BookRider) (q : Bo
   pub serve_still : (w : Vehicle) (free : ℕ) (stops : List PlannedStop) → IsServing settings roads riders w free stops → IsServing settings roads (riders ++ q ∷ []) w free stops
   serve_still w free stops serves = serves_elsewhere settings roads riders (riders ++ q ∷ []) w free stops
       (λ x r e own. still_found x r e ∙ sym e)
-      (λ x r e own. found_before x r e (λ h. not_waiting w.id r.status h own))
+      (λ x r e own. found_before x r e (λ h. subst (IsOfVehicle w.id) h own))
       serves
 
 pub submit_done : (settings : Settings) (roads : Roads) (s : State) (rider origin destination time party : ℕ) → IsDayState roads s
@@ -102,9 +99,6 @@ module _ (settings : Settings) (roads : Roads) (s : State) (stops : ℕ → List
   find_was : (x : ℕ) (q : BookRider) → find_rider x after ≡ Some q → (q.status ≡ Expired → ⊥) → find_rider x s.riders ≡ Some q
   find_was x q e not = grind (arith, nat_tests, find_after x)
 
-  not_expired : (w : ℕ) (status : Status) → IsOfVehicle w status → status ≡ Expired → ⊥
-  not_expired w status own e = subst (IsOfVehicle w) e own
-
   asking_id : (r : BookRider) (y : Rider) → asking now r ≡ Some y → y.id ≡ r.id
   asking_id r y e = grind (arith, nat_tests)
 
@@ -129,7 +123,7 @@ module _ (settings : Settings) (roads : Roads) (s : State) (stops : ℕ → List
         record { last = now; sealed = refl; asked = let a = was.asked in omega (arith, a, after_time was.last was.sealed); vehicle = was.vehicle; at = was.at });
     each = λ id v at. serves_elsewhere settings roads s.riders after v v.time (stops id)
         (λ x r e own. find_kept x r id v e at (subst (λ k. IsOfVehicle k r.status) (look_up-key (λ (v : Vehicle). v.id) id s.vehicles v at) own) ∙ sym e)
-        (λ x r e own. find_was x r e (not_expired v.id r.status own))
+        (λ x r e own. find_was x r e (λ h. subst (IsOfVehicle v.id) h own))
         (kept.each id v at);
   }
 

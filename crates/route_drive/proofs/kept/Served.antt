@@ -172,13 +172,15 @@ module _ (settings : Settings) (roads : Roads) (s : State) (stops : ℕ → List
         look_up-at (λ (p : Passenger). p.rider) (index_in passenger_names z) x.aboard.items no_passenger passengers_differ lj in
         (lj, passenger_rider z (get_or x.aboard.items (index_in passenger_names z) no_passenger) (ap (λ z. find_passenger z x.aboard.items) (sym name) ∙ found))
 
-    to_passenger : (z : ℕ) (r : BookRider) → find_rider z s.riders ≡ Some r → r.status ≡ Aboard x.id → has_node passenger_names z ≡ true
-    to_passenger z r found status =
+    pub passenger_at : (z : ℕ) (r : BookRider) → find_rider z s.riders ≡ Some r → r.status ≡ Aboard x.id → (j : ℕ) × (j < length x.aboard.items) × (get_or (map (λ (p : Passenger). p.rider) x.aboard.items) j 0 ≡ z)
+    passenger_at z r found status =
         let at_z : find_passenger z x.aboard.items ≡ Some (passenger_of r) =
         ap (option_and_then (λ (v : Vehicle). find_passenger z v.aboard.items)) (sym vehicle_found) ∙ kept.state.consistent.aboard x.id z ∙ ap (option_and_then (seat_in x.id)) found ∙ rw (status, eq-eqb x.id x.id refl) refl in
         let place = found_at (λ (p : Passenger). p.rider) z x.aboard.items (passenger_of r) at_z in
-        let name : get_or passenger_names place.0 0 ≡ z = get_or-map (λ (p : Passenger). p.rider) x.aboard.items place.0 no_passenger 0 place.1 ∙ ap (λ (p : Passenger). p.rider) (place.2 no_passenger) ∙ found_id z s.riders r found in
-        subst (λ z. has_node passenger_names z ≡ true) name (is_node_at passenger_names place.0 (omega (arith, place.1, passengers_length)))
+        (place.0, place.1, get_or-map (λ (p : Passenger). p.rider) x.aboard.items place.0 no_passenger 0 place.1 ∙ ap (λ (p : Passenger). p.rider) (place.2 no_passenger) ∙ found_id z s.riders r found)
+
+    to_passenger : (z : ℕ) (r : BookRider) → find_rider z s.riders ≡ Some r → r.status ≡ Aboard x.id → has_node passenger_names z ≡ true
+    to_passenger z r found status = let place = passenger_at z r found status in subst (λ z. has_node passenger_names z ≡ true) place.2 (is_node_at passenger_names place.0 (omega (arith, place.1, passengers_length)))
 
     -- nobody is promised and aboard
     names_apart : (z : ℕ) → has_node names z ≡ true → has_node passenger_names z ≡ false
