@@ -28,7 +28,7 @@ got_out points task j stops valid order =
     let within : j < length task.aboard.items = order.known.0 in
     record {
       valid = valid_without_passenger points task valid j within;
-      order = subst (λ ss. IsOrderOf (without_passenger j task) (map (stop_without_passenger j) ss)) first_left (order_without_passenger points task valid j within (Alight j ∷ stops) order);
+      order = subst (λ ss. IsOrderOf (without_passenger j task) (map (stop_without_passenger j) ss)) (skips (λ s. not (is_of_passenger j s)) (Alight j) stops (not_from_true (is_of_passenger j (Alight j)) (eq-eqb j j refl)) ∙ all_left) (order_without_passenger points task valid j within (Alight j ∷ stops) order);
       visits = subst (λ ss. map (visit_at (without_passenger j task)) (map (stop_without_passenger j) ss) ≡ map (visit_at task) ss) all_left
           (visits_renumbered (visit_at (without_passenger j task)) (visit_at task) (stop_without_passenger j) (is_of_passenger j) (visit_without_passenger points task valid j within) stops);
       room = omega (arith, persons_without points task valid j within, valid.seated);
@@ -43,9 +43,6 @@ got_out points task j stops valid order =
     all_left : filter (λ s. not (is_of_passenger j s)) stops ≡ stops
     all_left = filter_all (λ s. not (is_of_passenger j s)) stops (all_of_filter (λ s. not (is_of_passenger j s) ≡ true) (is_of_passenger j) stops
         (subst (AllByRecursion (λ s. not (is_of_passenger j s) ≡ true)) (sym nobody) tt) (λ x e. not_from_false (is_of_passenger j x) e))
-
-    first_left : filter (λ s. not (is_of_passenger j s)) (Alight j ∷ stops) ≡ stops
-    first_left = skips (λ s. not (is_of_passenger j s)) (Alight j) stops (not_from_true (is_of_passenger j (Alight j)) (eq-eqb j j refl)) ∙ all_left
 
 -- whether the rider is picked up, or dropped, at a stop
 picks : ℕ → Stop → Bool
@@ -108,14 +105,11 @@ module _ (points : ℕ) (task : Task) (valid : IsTask points task) (i : ℕ) (st
   renamed_own : (k : ℕ) → eqb k i ≡ true → g (Drop k) ≡ Alight (length task.aboard.items)
   renamed_own k e = cond-true (eqb k i) (Alight (length task.aboard.items)) (Drop (number_without i k)) e
 
-  last_leg : leg_at aboard' (length task.aboard.items) ≡ leg_at task.riders.items i
-  last_leg = get_or-append_seam task.aboard.items (leg_at task.riders.items i) [] no_leg
-
   picked_visit : (s : Stop) → After s → visit_at (task_after (Pick i) task) (g s) ≡ visit_at task s
   unfolding picks
   picked_visit (Pick k) h = ap (λ leg. Pickup leg.origin leg.latest_pickup leg.party) (leg_without task.riders.items i k among (not_same k i h.1))
   picked_visit (Drop k) h = elim (cases_Bool (eqb k i)) [
-    | inl e ↦ ap (visit_at (task_after (Pick i) task)) (renamed_own k e) ∙ ap (λ leg. Dropoff leg.destination leg.latest_dropoff leg.ideal leg.party) (last_leg ∙ ap (λ n. leg_at task.riders.items n) (sym (eqb-true k i e)))
+    | inl e ↦ ap (visit_at (task_after (Pick i) task)) (renamed_own k e) ∙ ap (λ leg. Dropoff leg.destination leg.latest_dropoff leg.ideal leg.party) (get_or-append_seam task.aboard.items (leg_at task.riders.items i) [] no_leg ∙ ap (λ n. leg_at task.riders.items n) (sym (eqb-true k i e)))
     | inr e ↦ ap (visit_at (task_after (Pick i) task)) (renamed_ne k e) ∙ ap (λ leg. Dropoff leg.destination leg.latest_dropoff leg.ideal leg.party) (leg_without task.riders.items i k among (not_same k i e))
   ]
   picked_visit (Alight k) h = ap (λ leg. Dropoff leg.destination leg.latest_dropoff leg.ideal leg.party) (get_or_append_left task.aboard.items (leg_at task.riders.items i ∷ []) no_leg k h.0)
@@ -158,16 +152,13 @@ module _ (points : ℕ) (task : Task) (valid : IsTask points task) (i : ℕ) (st
   ]
   picked_known (Alight k) h = let lt : k < length task.aboard.items = h.0 in let q = more in omega (arith, q)
 
-  ne_back : (k : ℕ) → eqb (old_number i k) i ≡ false
-  ne_back k = ne_eqb (old_number i k) i (λ q. not_same i (old_number i k) (old_number-ne i k) (sym q))
-
   picked_rides : (k : ℕ) → k < length (remove task.riders.items i) → filter (is_of_rider k) (map g stops) ≡ Pick k ∷ Drop k ∷ []
   picked_rides k h =
       let theirs : filter (is_of_rider (old_number i k)) stops ≡ Pick (old_number i k) ∷ Drop (old_number i k) ∷ [] =
       sym (skips (is_of_rider (old_number i k)) (Pick i) stops (old_number-ne i k)) ∙ order.rides (old_number i k) (old_number-lt i k (length task.riders.items) (length (remove task.riders.items i)) among less h) in
       filter_renamed (is_of_rider k) (is_of_rider (old_number i k)) g After (rider_tests k) stops after
       ∙ ap (map g) theirs
-      ∙ ap (λ d. Pick (number_without i (old_number i k)) ∷ d ∷ []) (renamed_ne (old_number i k) (ne_back k))
+      ∙ ap (λ d. Pick (number_without i (old_number i k)) ∷ d ∷ []) (renamed_ne (old_number i k) (ne_eqb (old_number i k) i (λ q. not_same i (old_number i k) (old_number-ne i k) (sym q))))
       ∙ ap (λ n. Pick n ∷ Drop n ∷ []) (renumbered_back i k)
 
   picked_alights : (k : ℕ) → k < length aboard' → filter (is_of_passenger k) (map g stops) ≡ Alight k ∷ []

@@ -1,6 +1,6 @@
 -- What entries keep, gathered one by one.
-use Rattle.std.proofs.Common.{◌≡◌, ℕ, arith, Bool, true, false, cond, List, [], ◌∷◌, ◌++◌, Some, refl, sym, ap, subst, All, inl, inr}
-use Rattle.route_drive.proofs.Common.{All-nil, All-cons, HasSeats, state_after, find_rider, step, Command, Report, Pickup, Dropoff, Entry, PlannedStop, Reply, Placed, Picked, Dropped, BookRider, State, Settings, Roads, stop_command, EntryKeeps, EntriesKeep, IsPickedBy, StateKeeps, IsBound, IsBoundBy, IsDayState, IsDone, IsRightStop, KeepsBounds}
+use Rattle.std.proofs.Common.{◌≡◌, ℕ, arith, cond, List, [], ◌∷◌, ◌++◌, Some, refl, sym, ap, subst, All, inl, inr}
+use Rattle.route_drive.proofs.Common.{All-nil, All-cons, HasSeats, state_after, find_rider, step, Command, Report, Entry, PlannedStop, Reply, Placed, Picked, Dropped, BookRider, State, Settings, Roads, stop_command, EntryKeeps, EntriesKeep, IsPickedBy, StateKeeps, IsBound, IsBoundBy, IsDayState, IsDone, IsRightStop, KeepsBounds}
 use Rattle.route_drive.proofs.kept.Riders.{right_cases}
 
 -- what one entry keeps, and what it leaves to those after it

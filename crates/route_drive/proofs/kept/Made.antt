@@ -1,6 +1,6 @@
 -- A close with a good plan on a driven day: the chosen trips are what the vehicles now serve, and the state after it is kept.
-use Rattle.std.proofs.Common.{◌≡◌, ◌⊎◌, ℕ, ◌+◌, ◌<◌, ◌≤◌, Bool, true, false, cond, List, [], ◌∷◌, length, get_or, map, Option, Some, None, refl, sym, ap, ◌∙◌, subst, arith, inl, inr, slice_get, is_some, option_map, option_and_then, unwrap_or, ◌&&◌, min, ◌-◌, ◌*◌, MatchBool, max, zero, suc, Contains}
-use Rattle.route_drive.proofs.Common.{AllByRecursion, cases_Bool, slice_get_within, get_or_from_slice_get, slice_get-get_or, travel_time, Times, Batch, Promise, Rider, Vehicle, HasGraphsWith, IsGoodPlan, request_at, IsSettled, HasRightLimit, shown, find_rider, find_vehicle, PlannedStop, Planned, State, Settings, Roads, index_in, Settled, vehicle_at, rider_at, AreTravelTimes, IsKept, option_map_or, cases_lt, false≢true, get_or-map, length-map, persons_aboard, Passenger, rider_id, told_stop, IsTripOf, times_served_some, times_served_found, in_choice, choice_at, riders_at, is_in, IsLegOf, no_request, IsPlaced, picks, trip_picks, after_plan, in_batch, planned_status, look_up, KeysDiffer, with_status, passenger_of, is_active, ChosenTrip, BookRider, Status, Waiting, Promised, Aboard, look_up-at, KeysDiffer-from_rise, has_node, Leg, Stop, Pick, Drop, Alight, IsKnown, trip_task, no_leg, leg_at, visit_at, free_seats, calls_of, find_passenger, and_from, and_parts, cond-true, times_chosen, ideal_second, Task, look_up-map, look_up-key, latest_of, Visit, ideal_dropoff, IsDroppedInTime, AreReached, party_at, HasSeatsFor, IsRightPickup, IsRightDropoff, IsRightStop, IsOfVehicle, HasCalls, IsServing, seat_in, persons, ShowsRiders, get_or_default, is_promised_to, IsLive, Delivered, MatchBool-at_false, must_be_served, promised_limit, IsPromiseKept, step, Command, Reply, look_up-here, look_up-there, chosen_stops, IsBoundBy, IsBound, KeepsBounds, eq-eqb, true≢false, lt-ltb, gets, nat_tests}
+use Rattle.std.proofs.Common.{◌≡◌, ◌⊎◌, ℕ, ◌+◌, ◌<◌, ◌≤◌, Bool, true, false, cond, List, [], ◌∷◌, length, get_or, map, Option, Some, None, refl, sym, ap, ◌∙◌, subst, arith, inl, inr, slice_get, is_some, option_map, unwrap_or, ◌&&◌, min, ◌-◌, ◌*◌, MatchBool, max, zero, suc, Contains}
+use Rattle.route_drive.proofs.Common.{AllByRecursion, cases_Bool, slice_get_within, get_or_from_slice_get, slice_get-get_or, travel_time, Times, Batch, Promise, Rider, Vehicle, HasGraphsWith, IsGoodPlan, request_at, IsSettled, HasRightLimit, shown, find_rider, find_vehicle, PlannedStop, Planned, State, Settings, Roads, index_in, Settled, vehicle_at, rider_at, AreTravelTimes, IsKept, option_map_or, cases_lt, false≢true, get_or-map, length-map, persons_aboard, Passenger, rider_id, told_stop, IsTripOf, times_served_some, times_served_found, in_choice, choice_at, riders_at, is_in, IsLegOf, no_request, IsPlaced, picks, trip_picks, after_plan, in_batch, planned_status, look_up, KeysDiffer, with_status, is_active, ChosenTrip, BookRider, Status, Waiting, Promised, Aboard, look_up-at, KeysDiffer-from_rise, has_node, Leg, Stop, Pick, Drop, Alight, IsKnown, trip_task, no_leg, leg_at, visit_at, free_seats, calls_of, and_from, and_parts, cond-true, times_chosen, ideal_second, Task, look_up-map, look_up-key, latest_of, Visit, ideal_dropoff, IsDroppedInTime, AreReached, party_at, HasSeatsFor, IsRightPickup, IsRightDropoff, IsRightStop, IsOfVehicle, HasCalls, IsServing, persons, ShowsRiders, get_or_default, is_promised_to, Delivered, MatchBool-at_false, must_be_served, promised_limit, IsPromiseKept, step, Command, Reply, chosen_stops, IsBoundBy, IsBound, KeepsBounds, eq-eqb, true≢false, lt-ltb, gets, nat_tests}
 use Rattle.route_drive.proofs.kept.Batches.{found_at, same_place, IsAsking, IsRiderAboard, same_persons, other_id}
 use Rattle.route_drive.proofs.kept.Served.{passenger_at, request_rider, vehicle_found}
 use Rattle.route_drive.proofs.kept.Trips.{vehicle_of_number, not_late, number_of_vehicle, promise_is_held, trip_of, trip_back, trip_is, one_trip, told_id, row_of, rider_aboard, known, member_calls, passenger_calls, other_calls}

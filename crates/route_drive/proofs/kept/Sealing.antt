@@ -1,8 +1,8 @@
 -- Requests and seals: what they leave of the riders on a driven day, and whom the batch shows.
-use Rattle.std.proofs.Common.{◌≡◌, ◌⊎◌, ℕ, ◌+◌, ◌<◌, ◌≤◌, Bool, true, false, cond, leb, List, [], ◌∷◌, ◌++◌, map, Option, Some, None, refl, sym, ap, ◌∙◌, subst, arith, inl, inr, option_map, option_and_then}
-use Rattle.route_drive.proofs.Common.{AllByRecursion, cases_eq, Promise, Rider, Vehicle, look_up, by_key, KeysDiffer, with_status, shown, pool_promise, is_over, after_seal, batch_of, sealed_state, asking, find_rider, find_vehicle, step, Command, Submit, Seal, PlannedStop, Reply, BookRider, Status, Waiting, Promised, Aboard, Delivered, Expired, State, after_seal-id, look_up-key, look_up-map, look_up-push_there, look_up-push_here, look_up-push_found, look_up-filter_map, by_key-order, KeysDiffer-map, KeysDiffer-filter_map, Settings, Roads, IsOfVehicle, IsRightStop, IsServing, IsDayState, IsKept, HasCalls, calls_of, IsBoundBy, IsBound, KeepsBounds, LeavesAll, ShowsRiders, le-ltb, le-leb, filter_map, nat_tests}
+use Rattle.std.proofs.Common.{◌≡◌, ◌⊎◌, ℕ, ◌+◌, ◌<◌, ◌≤◌, Bool, true, false, List, [], ◌∷◌, ◌++◌, map, Option, Some, None, refl, sym, ap, ◌∙◌, subst, arith, inl, inr, option_map, option_and_then}
+use Rattle.route_drive.proofs.Common.{AllByRecursion, cases_eq, Rider, Vehicle, look_up, by_key, KeysDiffer, after_seal, batch_of, sealed_state, asking, find_rider, find_vehicle, step, Submit, Seal, PlannedStop, Reply, BookRider, Status, Waiting, Promised, Aboard, Delivered, Expired, State, after_seal-id, look_up-key, look_up-map, look_up-push_there, look_up-push_here, look_up-push_found, look_up-filter_map, by_key-order, KeysDiffer-map, KeysDiffer-filter_map, Settings, Roads, IsOfVehicle, IsRightStop, IsServing, IsDayState, IsKept, HasCalls, calls_of, IsBoundBy, IsBound, KeepsBounds, LeavesAll, ShowsRiders, le-ltb, le-leb, filter_map, nat_tests}
 use Rattle.route_drive.proofs.kept.Lists.{both}
-use Rattle.route_drive.proofs.kept.Riders.{calls_own, calls_other, serves_elsewhere}
+use Rattle.route_drive.proofs.kept.Riders.{serves_elsewhere}
 use Rattle.route_drive.proofs.kept.Enter.{picked_up_right}
 use Rattle.route_drive.proofs.kept.Replies.{submit_is}
 use Rattle.route_drive.proofs.kept.States.{stepped}

@@ -1,7 +1,6 @@
 -- At a seal the stops of a vehicle serve, by the batch's table, its passengers and the riders promised to it.
-use Rattle.std.proofs.Common.{◌≡◌, ◌⊎◌, ℕ, ◌+◌, ◌-◌, ◌*◌, ◌<◌, ◌≤◌, true, false, eqb, nat_eq, List, [], ◌∷◌, length, get_or, map, filter, max, min, Option, Some, None, refl, sym, ap, ◌∙◌, subst, arith, inl, inr, option_and_then, slice_get, Contains}
-use Rattle.route_drive.proofs.Common.{option_map_or, AllByRecursion, IsDistinct, range_with_len, cases_Bool, false≢true, get_or-map, length-map, get_or_default, filter_passes, slice_get_within, get_or_from_slice_get, slice_get-get_or, travel_time, Times, Batch, persons_aboard, Passenger, Promise, Rider, Vehicle, IsLegOf, request_at, ideal_second, no_request, promised_limit, is_promised_to, promised_to, kept_legs, kept_leg, IsPlaced, IsSettled, filter_range_has, promised_trip, seat_in, look_up, KeysDiffer, shown, passenger_of, find_rider, find_vehicle, find_passenger, PlannedStop, BookRider, Status, Promised, Aboard, State, look_up-at, KeysDiffer-from_rise, All-look_up, Settings, Roads, index_in, has_node, Leg, Settled, Stop, Pick, Drop, Alight, Task, Visit, IsOrder, vehicle_at, rider_at, no_rider, vehicle_task, IsTrip, no_leg, leg_at, persons, visit_at, visits_of, free_seats, IsServable, soon_there, ServesFrom, boarding_of, AreTravelTimes, ideal_dropoff, IsDroppedInTime, party_at, IsRightStop, IsRightPickup, IsRightDropoff, IsOfVehicle, IsServing, IsKept, HasCalls, calls_of, ShowsRiders, eq-eqb, eqb-true, map-map}
-use Rattle.stop_orders.specs.declared.settled_vehicle.SettledVehicle.{SettledVehicle}
+use Rattle.std.proofs.Common.{◌≡◌, ◌⊎◌, ℕ, ◌+◌, ◌-◌, ◌*◌, ◌<◌, ◌≤◌, true, false, eqb, List, [], ◌∷◌, length, get_or, map, filter, max, min, Option, Some, None, refl, sym, ap, ◌∙◌, subst, arith, inl, inr, option_and_then, slice_get, Contains}
+use Rattle.route_drive.proofs.Common.{option_map_or, AllByRecursion, range_with_len, cases_Bool, false≢true, get_or-map, length-map, get_or_default, filter_passes, slice_get_within, get_or_from_slice_get, slice_get-get_or, travel_time, Times, Batch, persons_aboard, Passenger, Promise, Rider, Vehicle, IsLegOf, request_at, ideal_second, no_request, promised_limit, is_promised_to, promised_to, kept_legs, kept_leg, IsPlaced, IsSettled, filter_range_has, promised_trip, seat_in, look_up, KeysDiffer, shown, passenger_of, find_rider, find_vehicle, find_passenger, PlannedStop, BookRider, Status, Promised, Aboard, State, look_up-at, KeysDiffer-from_rise, All-look_up, Settings, Roads, index_in, has_node, Leg, Settled, Stop, Pick, Drop, Alight, Task, IsOrder, vehicle_at, rider_at, no_rider, vehicle_task, IsTrip, no_leg, leg_at, persons, visit_at, visits_of, free_seats, IsServable, soon_there, ServesFrom, boarding_of, AreTravelTimes, ideal_dropoff, IsDroppedInTime, party_at, IsRightStop, IsRightPickup, IsRightDropoff, IsOfVehicle, IsServing, IsKept, HasCalls, calls_of, ShowsRiders, eq-eqb, eqb-true, map-map, nat_tests}
 use Rattle.stop_orders.specs.declared.visit.Visit.TheVariants.{Pickup, Dropoff}
 use Rattle.route_drive.proofs.kept.Lists.{all_weaker, both, map_agrees, all_filtered, all_from}
 use Rattle.route_drive.proofs.kept.Walks.{has_index, name_at, is_node_at}
@@ -9,7 +8,7 @@ use Rattle.route_drive.proofs.kept.Riders.{found_id, right_cases}
 use Rattle.route_drive.proofs.kept.Enter.{picked_up_right, dropped_right}
 use Rattle.route_drive.proofs.kept.Numbers.{number_of, IsNumbered, number_picks, number_drops, number_alights, numbers_are_order, alights_only, passengers_order, order_length}
 use Rattle.route_drive.proofs.kept.Tables.{IsSeen, ideal_is, serves_by_table, sub_serves}
-use Rattle.route_drive.proofs.kept.Batches.{found_at, ids_distinct, distinct_from_differ, same_persons, IsAsking, asking_is, promise_status, IsPromisedRider, IsRiderAboard, seat_is}
+use Rattle.route_drive.proofs.kept.Batches.{found_at, ids_distinct, distinct_from_differ, same_persons, IsAsking, IsPromisedRider, IsRiderAboard, seat_is}
 
 -- a leg's drop-off, as the stop that it is
 leg_drop : (settings : Settings) (roads : Roads) (points : List ℕ) (times : Times) → AreTravelTimes roads.arcs (map (index_in roads.nodes) points) times
@@ -54,15 +53,12 @@ leg_pick settings points times riders r leg limit stop is pick node found in_tim
 module _ (settings : Settings) (roads : Roads) (s : State) (stops : ℕ → List PlannedStop) (b : Batch) (settled : Settled) (points : List ℕ) (times : Times)
     (kept : IsKept settings roads s stops) (shows : ShowsRiders s b) (early : (id : ℕ) (v : Vehicle) → find_vehicle id s.vehicles ≡ Some v → b.sealed_at ≤ v.time)
     (limits : IsSettled settings points (travel_time times) b settled) (table : AreTravelTimes roads.arcs (map (index_in roads.nodes) points) times) where
-  batch_differ : KeysDiffer (λ (r : Rider). r.id) b.riders
-  batch_differ = KeysDiffer-from_rise (λ (r : Rider). r.id) b.riders shows.rise
-
   -- a request of the batch, and its rider
   pub request_rider : (n : ℕ) → n < length b.riders → (r : BookRider) × (find_rider (request_at b.riders n).id s.riders ≡ Some r) × IsAsking b.sealed_at r (request_at b.riders n)
   request_rider n h =
-      let at : look_up (λ (r : Rider). r.id) (request_at b.riders n).id b.riders ≡ Some (request_at b.riders n) = look_up-at (λ (r : Rider). r.id) n b.riders no_request batch_differ h in
+      let at : look_up (λ (r : Rider). r.id) (request_at b.riders n).id b.riders ≡ Some (request_at b.riders n) = look_up-at (λ (r : Rider). r.id) n b.riders no_request (KeysDiffer-from_rise (λ (r : Rider). r.id) b.riders shows.rise) h in
       let of = shows.shows (request_at b.riders n).id (request_at b.riders n) at in
-      (of.0, of.1, asking_is b.sealed_at of.0 (request_at b.riders n) of.2)
+      (of.0, of.1, grind (arith, nat_tests, of.2))
 
   pub promised_request : (vehicle n : ℕ) → n < length b.riders → is_promised_to vehicle (request_at b.riders n) ≡ true → IsPromisedRider s vehicle (request_at b.riders n).id (request_at b.riders n)
   promised_request vehicle n h promised =
@@ -76,7 +72,7 @@ module _ (settings : Settings) (roads : Roads) (s : State) (stops : ℕ → List
       by r found asks (Some p) e =
           let is : request_at b.riders n ≡ shown r (Some p) = asks.is ∙ ap (shown r) e in
           let own : eqb p.vehicle vehicle ≡ true = sym (ap (is_promised_to vehicle) is) ∙ promised in
-          record { rider = r; found = found; promise = p; status = promise_status r.status p (asks.pool ∙ ap Some e); own = eqb-true p.vehicle vehicle own; is = is }
+          record { rider = r; found = found; promise = p; status = grind (arith, asks.pool, e); own = eqb-true p.vehicle vehicle own; is = is }
 
   module _ (k : ℕ) (x : Vehicle) (at : slice_get b.vehicles k ≡ Some x) where
     placed : IsPlaced settings points (travel_time times) b.sealed_at x (vehicle_at settled k)
@@ -121,14 +117,8 @@ module _ (settings : Settings) (roads : Roads) (s : State) (stops : ℕ → List
     passengers_length : length passenger_names ≡ length x.aboard.items
     passengers_length = length-map x.aboard.items (λ (p : Passenger). p.rider)
 
-    names_distinct : IsDistinct nat_eq names
-    names_distinct = ids_distinct b.riders shows.rise (promised_to (vehicle_at settled k).id b.riders) trip
-
     pub passengers_differ : KeysDiffer (λ (p : Passenger). p.rider) x.aboard.items
     passengers_differ = All-look_up (λ (v : Vehicle). v.id) (λ (v : Vehicle). KeysDiffer (λ p. p.rider) v.aboard.items) x.id s.vehicles x kept.state.consistent.passengers vehicle_found
-
-    passengers_distinct : IsDistinct nat_eq passenger_names
-    passengers_distinct = distinct_from_differ (λ (p : Passenger). p.rider) x.aboard.items passengers_differ
 
     -- who has a name among the promised is promised, and the other way round
     named : (z : ℕ) → has_node names z ≡ true → (i : ℕ) × (i < length numbers) × ((request_at b.riders (get_or numbers i 0)).id ≡ z) × (index_in names z ≡ i)
@@ -234,7 +224,7 @@ module _ (settings : Settings) (roads : Roads) (s : State) (stops : ℕ → List
         let a : length names ≡ length (kept_legs settings.wait b.riders settled.riders numbers) = names_length ∙ sym legs_length in
         let c : length passenger_names ≡ length (vehicle_at settled k).aboard.items = passengers_length ∙ sym placed.aboard_count in
         subst (λ n. IsOrder n (length (vehicle_at settled k).aboard.items) order) a
-        (subst (λ m. IsOrder (length names) m order) c (numbers_are_order names passenger_names names_distinct passengers_distinct names_apart (stops x.id) stops_numbered rides leaves))
+        (subst (λ m. IsOrder (length names) m order) c (numbers_are_order names passenger_names (ids_distinct b.riders shows.rise (promised_to (vehicle_at settled k).id b.riders) trip) (distinct_from_differ (λ (p : Passenger). p.rider) x.aboard.items passengers_differ) names_apart (stops x.id) stops_numbered rides leaves))
 
     -- each stop is seen by the task as what it is
     seen_pick : (stop : PlannedStop) → stop.pick ≡ true → has_node names stop.rider ≡ true → IsRightPickup settings.wait s.riders x.id stop → IsSeen points s.riders stop (visit_at task (number_of names passenger_names stop))

@@ -1,6 +1,6 @@
 -- Shortest walks: their seconds are one number, and what is left of one is one.
-use Rattle.std.proofs.Common.{◌≡◌, ℕ, zero, suc, ◌+◌, ◌<◌, ◌≤◌, Bool, true, false, eqb, List, [], ◌∷◌, ◌++◌, length, get_or, Contains, nat_eq, refl, sym, ◌∙◌, subst, arith, inl, inr}
-use Rattle.route_drive.proofs.Common.{IsDistinct, false≢true, All-from_recursion, Contains-get_or, passes_at_first, never, Arc, IsWalk, walk_seconds, IsLeastTime, IsTimeBetween, index_in, has_node, eqb-true, eq-eqb, ne_eqb, IsWalk-append, walk_seconds-append, nat_tests}
+use Rattle.std.proofs.Common.{◌≡◌, ℕ, zero, suc, ◌+◌, ◌<◌, ◌≤◌, true, false, eqb, List, [], ◌∷◌, ◌++◌, length, get_or, Contains, nat_eq, refl, sym, ◌∙◌, subst, arith, inl, inr}
+use Rattle.route_drive.proofs.Common.{IsDistinct, false≢true, All-from_recursion, Contains-get_or, passes_at_first, never, Arc, IsWalk, walk_seconds, IsLeastTime, IsTimeBetween, index_in, has_node, eqb-true, eq-eqb, IsWalk-append, walk_seconds-append, nat_tests}
 
 pub least_unique : (arcs : List Arc) (a b s t : ℕ) → IsLeastTime arcs a b s → IsLeastTime arcs a b t → s ≡ t
 least_unique arcs a b s t one other = omega (arith, one.least other.walk other.walks, other.least one.walk one.walks, one.takes, other.takes)
