@@ -1,5 +1,5 @@
 -- What a change of one rider's status, or of one vehicle, leaves.
-use Rattle.std.proofs.Common.{◌≡◌, ◌⊎◌, ℕ, ◌-◌, ◌≤◌, Bool, true, false, List, [], ◌∷◌, Option, Some, None, refl, sym, ap, ◌∙◌, subst, arith, inl, inr, option_map}
+use Rattle.std.proofs.Common.{◌≡◌, ◌⊎◌, ℕ, ◌-◌, ◌≤◌, Bool, true, false, List, [], ◌∷◌, Some, refl, sym, ap, ◌∙◌, subst, arith, inl, inr, option_map}
 use Rattle.route_drive.proofs.Common.{AllByRecursion, option_map_or, cases_Bool, cases_eq, MatchBool-at_true, MatchBool-at_false, persons_aboard, Vehicle, changed_at, with_status, find_rider, PlannedStop, BookRider, Status, Promised, Aboard, look_up-key, look_up-changed_here, look_up-changed_there, Settings, Roads, party_at, seats_after, HasSeatsFor, IsRightPickup, IsRightDropoff, IsRightStop, IsOfVehicle, calls_of, HasCalls, IsServing, nat_tests}
 use Rattle.route_drive.proofs.kept.Lists.{all_weaker}
 
@@ -20,14 +20,9 @@ module _ (riders : List BookRider) (x : ℕ) (status : Status) where
 
   pub same_party : (stop : PlannedStop) → party_at changed stop ≡ party_at riders stop
   same_party stop = elim (cases_eq x stop.rider) [
-    | inl e ↦ subst (λ k. option_map_or (λ (r : BookRider). r.party) (find_rider k changed) 0 ≡ option_map_or (λ (r : BookRider). r.party) (find_rider k riders) 0) e
-        (ap (λ o. option_map_or (λ (r : BookRider). r.party) o 0) (look_up-changed_here (λ (r : BookRider). r.id) x (with_status status) (λ r. refl) riders) ∙ by (find_rider x riders))
+    | inl e ↦ grind (arith, nat_tests, e, look_up-changed_here (λ (r : BookRider). r.id) x (with_status status) (λ r. refl) riders)
     | inr ne ↦ ap (λ o. option_map_or (λ (r : BookRider). r.party) o 0) (find_other stop.rider ne)
   ]
-    where
-      by : (o : Option BookRider) → option_map_or (λ (r : BookRider). r.party) (option_map (with_status status) o) 0 ≡ option_map_or (λ (r : BookRider). r.party) o 0
-      by None = refl
-      by (Some r) = refl
 
 -- seats depend on the parties alone, and more room is room enough
 pub seats_by_party : (riders others : List BookRider) (room more : ℕ) → room ≤ more → (stops : List PlannedStop) → AllByRecursion (λ stop. party_at others stop ≡ party_at riders stop) stops

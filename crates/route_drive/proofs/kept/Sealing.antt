@@ -38,7 +38,7 @@ submit_done settings roads s rider origin destination time party day = by (submi
     by : ((step roads.nodes settings.wait s (Submit rider origin destination time party)).0 ≡ s)
         ⊎ ((find_rider rider s.riders ≡ None) × ((step roads.nodes settings.wait s (Submit rider origin destination time party)).0 ≡ record s { riders = s.riders ++ (record { id = rider; origin = origin; destination = destination; time = time; party = party; status = Waiting }) ∷ [] }))
         → LeavesAll settings roads s (step roads.nodes settings.wait s (Submit rider origin destination time party)).0
-    by (inl same) = subst (LeavesAll settings roads s) (sym same) (record { state = day; vehicles = refl; serve = λ id w free stops e serves. serves; bounds = λ x limit b. b })
+    by (inl same) = subst (LeavesAll settings roads s) (sym same) (record { state = day; vehicles = refl; serve = λ id w free stops e serves. serves; bounds = λ x limit b. b; shows = λ b shows. shows })
     by (inr two) =
         let new = two.0 in
         let next : State = record s { riders = s.riders ++ q ∷ [] } in
@@ -50,6 +50,13 @@ submit_done settings roads s rider origin destination time party day = by (submi
           vehicles = refl;
           serve = λ id w free stops e serves. serve_still settings roads s.riders q new refl w free stops serves;
           bounds = λ x limit b. record { of = b.of; found = still_found settings roads s.riders q new refl x b.of b.found; bound = b.bound };
+          shows = λ b shows. record {
+            rise = shows.rise;
+            shows = λ x y e. let was = shows.shows x y e in (was.0, still_found settings roads s.riders q new refl x was.0 was.1, was.2);
+            promised = λ x r p e t. shows.promised x r p (found_before settings roads s.riders q new refl x r e (λ h. let f : Promised p ≡ Waiting = sym t ∙ h in absurd cc)) t;
+            vehicles = shows.vehicles;
+            last = shows.last;
+          };
         })
 
 -- the first of a rider's calls

@@ -1,6 +1,6 @@
 -- At a seal the stops of a vehicle serve, by the batch's table, its passengers and the riders promised to it.
-use Rattle.std.proofs.Common.{◌≡◌, ◌⊎◌, ℕ, ◌+◌, ◌-◌, ◌*◌, ◌<◌, ◌≤◌, true, false, eqb, List, [], ◌∷◌, length, get_or, map, filter, max, min, Option, Some, None, refl, sym, ap, ◌∙◌, subst, arith, inl, inr, option_and_then, slice_get, Contains}
-use Rattle.route_drive.proofs.Common.{option_map_or, AllByRecursion, range_with_len, cases_Bool, false≢true, get_or-map, length-map, get_or_default, filter_passes, slice_get_within, get_or_from_slice_get, slice_get-get_or, travel_time, Times, Batch, persons_aboard, Passenger, Promise, Rider, Vehicle, IsLegOf, request_at, ideal_second, no_request, promised_limit, is_promised_to, promised_to, kept_legs, kept_leg, IsPlaced, IsSettled, filter_range_has, promised_trip, seat_in, look_up, KeysDiffer, shown, passenger_of, find_rider, find_vehicle, find_passenger, PlannedStop, BookRider, Status, Promised, Aboard, State, look_up-at, KeysDiffer-from_rise, All-look_up, Settings, Roads, index_in, has_node, Leg, Settled, Stop, Pick, Drop, Alight, Task, IsOrder, vehicle_at, rider_at, no_rider, vehicle_task, IsTrip, no_leg, leg_at, persons, visit_at, visits_of, free_seats, IsServable, soon_there, ServesFrom, boarding_of, AreTravelTimes, ideal_dropoff, IsDroppedInTime, party_at, IsRightStop, IsRightPickup, IsRightDropoff, IsOfVehicle, IsServing, IsKept, HasCalls, calls_of, ShowsRiders, eq-eqb, eqb-true, map-map, nat_tests}
+use Rattle.std.proofs.Common.{◌≡◌, ◌⊎◌, ℕ, ◌+◌, ◌-◌, ◌*◌, ◌<◌, ◌≤◌, true, false, List, [], ◌∷◌, length, get_or, map, filter, max, min, Some, refl, sym, ap, ◌∙◌, subst, arith, inl, inr, option_and_then, slice_get, Contains}
+use Rattle.route_drive.proofs.Common.{option_map_or, AllByRecursion, range_with_len, cases_Bool, false≢true, get_or-map, length-map, get_or_default, filter_passes, slice_get_within, get_or_from_slice_get, slice_get-get_or, travel_time, Times, Batch, persons_aboard, Passenger, Promise, Rider, Vehicle, IsLegOf, request_at, ideal_second, no_request, promised_limit, is_promised_to, promised_to, kept_legs, kept_leg, IsPlaced, IsSettled, filter_range_has, promised_trip, seat_in, look_up, KeysDiffer, shown, passenger_of, find_rider, find_vehicle, find_passenger, PlannedStop, BookRider, Status, Promised, Aboard, State, look_up-at, KeysDiffer-from_rise, All-look_up, Settings, Roads, index_in, has_node, Leg, Settled, Stop, Pick, Drop, Alight, Task, IsOrder, vehicle_at, rider_at, no_rider, vehicle_task, IsTrip, no_leg, leg_at, persons, visit_at, visits_of, free_seats, IsServable, soon_there, ServesFrom, boarding_of, AreTravelTimes, ideal_dropoff, IsDroppedInTime, party_at, IsRightStop, IsRightPickup, IsRightDropoff, IsOfVehicle, IsServing, IsKept, HasCalls, calls_of, ShowsRiders, eq-eqb, map-map, nat_tests}
 use Rattle.stop_orders.specs.declared.visit.Visit.TheVariants.{Pickup, Dropoff}
 use Rattle.route_drive.proofs.kept.Lists.{all_weaker, both, map_agrees, all_filtered, all_from}
 use Rattle.route_drive.proofs.kept.Walks.{has_index, name_at, is_node_at}
@@ -8,7 +8,7 @@ use Rattle.route_drive.proofs.kept.Riders.{found_id, right_cases}
 use Rattle.route_drive.proofs.kept.Enter.{picked_up_right, dropped_right}
 use Rattle.route_drive.proofs.kept.Numbers.{number_of, IsNumbered, number_picks, number_drops, number_alights, numbers_are_order, alights_only, passengers_order, order_length}
 use Rattle.route_drive.proofs.kept.Tables.{IsSeen, ideal_is, serves_by_table, sub_serves}
-use Rattle.route_drive.proofs.kept.Batches.{found_at, ids_distinct, distinct_from_differ, same_persons, IsAsking, IsPromisedRider, IsRiderAboard, seat_is}
+use Rattle.route_drive.proofs.kept.Batches.{found_at, ids_distinct, distinct_from_differ, same_persons, IsAsking, IsPromisedRider, IsRiderAboard}
 
 -- a leg's drop-off, as the stop that it is
 leg_drop : (settings : Settings) (roads : Roads) (points : List ℕ) (times : Times) → AreTravelTimes roads.arcs (map (index_in roads.nodes) points) times
@@ -63,16 +63,7 @@ module _ (settings : Settings) (roads : Roads) (s : State) (stops : ℕ → List
   pub promised_request : (vehicle n : ℕ) → n < length b.riders → is_promised_to vehicle (request_at b.riders n) ≡ true → IsPromisedRider s vehicle (request_at b.riders n).id (request_at b.riders n)
   promised_request vehicle n h promised =
       let of = request_rider n h in
-      by of.0 of.1 of.2 of.2.promise refl
-    where
-      by : (r : BookRider) → find_rider (request_at b.riders n).id s.riders ≡ Some r → (asks : IsAsking b.sealed_at r (request_at b.riders n)) (o : Option Promise) → asks.promise ≡ o → IsPromisedRider s vehicle (request_at b.riders n).id (request_at b.riders n)
-      by r found asks None e = absurd (
-          let is : request_at b.riders n ≡ shown r None = asks.is ∙ ap (shown r) e in
-          false≢true (sym (ap (is_promised_to vehicle) is) ∙ promised))
-      by r found asks (Some p) e =
-          let is : request_at b.riders n ≡ shown r (Some p) = asks.is ∙ ap (shown r) e in
-          let own : eqb p.vehicle vehicle ≡ true = sym (ap (is_promised_to vehicle) is) ∙ promised in
-          record { rider = r; found = found; promise = p; status = grind (arith, asks.pool, e); own = eqb-true p.vehicle vehicle own; is = is }
+      grind (arith, nat_tests, promised, of.1, of.2.pool, of.2.is)
 
   module _ (k : ℕ) (x : Vehicle) (at : slice_get b.vehicles k ≡ Some x) where
     placed : IsPlaced settings points (travel_time times) b.sealed_at x (vehicle_at settled k)
@@ -139,14 +130,7 @@ module _ (settings : Settings) (roads : Roads) (s : State) (stops : ℕ → List
         subst (λ z. has_node names z ≡ true) name (is_node_at names has.0 (omega (arith, has.1, names_length)))
 
     pub passenger_rider : (z : ℕ) (p : Passenger) → find_passenger z x.aboard.items ≡ Some p → IsRiderAboard s x.id z p
-    passenger_rider z p e =
-        by (find_rider z s.riders) refl (sym (ap (option_and_then (λ (v : Vehicle). find_passenger z v.aboard.items)) (sym vehicle_found) ∙ kept.state.consistent.aboard x.id z) ∙ e)
-      where
-        by : (o : Option BookRider) → find_rider z s.riders ≡ o → option_and_then (seat_in x.id) (find_rider z s.riders) ≡ Some p → IsRiderAboard s x.id z p
-        by None f g = absurd (let h : option_and_then (seat_in x.id) None ≡ Some p = ap (option_and_then (seat_in x.id)) (sym f) ∙ g in cc)
-        by (Some r) f g =
-            let seat = seat_is x.id r p (ap (option_and_then (seat_in x.id)) (sym f) ∙ g) in
-            record { rider = r; found = f; status = seat.0; is = seat.1 }
+    passenger_rider z p e = grind (arith, nat_tests, e, vehicle_found, kept.state.consistent.aboard x.id z)
 
     abbrev no_passenger : Passenger
     no_passenger = record { rider = 0; origin = 0; destination = 0; time = 0; party = 0 }
