@@ -13,10 +13,7 @@ use Rattle.route_drive.proofs.kept.States.{vehicle_id}
 course_by_ids : (xs ys : List Vehicle) (courses : List Course) (id : ℕ) → map (λ v. v.id) xs ≡ map (λ v. v.id) ys → course_of xs courses id ≡ course_of ys courses id
 course_by_ids [] [] courses id same = refl
 course_by_ids (x ∷ xs) (y ∷ ys) [] id same = refl
-course_by_ids (x ∷ xs) (y ∷ ys) (course ∷ courses) id same =
-    let head : x.id ≡ y.id = cc in
-    let tail : map (λ (v : Vehicle). v.id) xs ≡ map (λ (v : Vehicle). v.id) ys = cc in
-    grind (arith, nat_tests, course_by_ids xs ys courses id tail)
+course_by_ids (x ∷ xs) (y ∷ ys) (course ∷ courses) id same = grind (arith, nat_tests, same, course_by_ids xs ys courses id)
 course_by_ids xs ys courses id same = absurd cc
 
 -- a change of all courses that leaves nothing as it is

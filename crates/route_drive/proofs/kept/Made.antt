@@ -1,6 +1,6 @@
 -- A close with a good plan on a driven day: the chosen trips are what the vehicles now serve, and the state after it is kept.
-use Rattle.std.proofs.Common.{◌≡◌, ◌⊎◌, ℕ, ◌+◌, ◌<◌, ◌≤◌, Bool, true, false, cond, List, [], ◌∷◌, length, get_or, map, Option, Some, None, refl, sym, ap, ◌∙◌, subst, arith, inl, inr, slice_get, is_some, option_map, unwrap_or, ◌&&◌, min, ◌-◌, ◌*◌, MatchBool, max, zero, suc, Contains}
-use Rattle.route_drive.proofs.Common.{AllByRecursion, cases_Bool, slice_get_within, get_or_from_slice_get, slice_get-get_or, travel_time, Times, Batch, Promise, Rider, Vehicle, HasGraphsWith, IsGoodPlan, request_at, IsSettled, HasRightLimit, shown, find_rider, find_vehicle, PlannedStop, Planned, State, Settings, Roads, index_in, Settled, vehicle_at, rider_at, AreTravelTimes, IsKept, option_map_or, cases_lt, false≢true, get_or-map, length-map, persons_aboard, Passenger, rider_id, told_stop, IsTripOf, times_served_some, times_served_found, in_choice, choice_at, riders_at, is_in, IsLegOf, no_request, IsPlaced, picks, trip_picks, after_plan, in_batch, planned_status, look_up, KeysDiffer, with_status, is_active, ChosenTrip, BookRider, Status, Waiting, Promised, Aboard, look_up-at, KeysDiffer-from_rise, has_node, Leg, Stop, Pick, Drop, Alight, IsKnown, trip_task, no_leg, leg_at, visit_at, free_seats, calls_of, and_from, and_parts, cond-true, times_chosen, ideal_second, Task, look_up-map, look_up-key, latest_of, Visit, ideal_dropoff, IsDroppedInTime, AreReached, party_at, HasSeatsFor, IsRightPickup, IsRightDropoff, IsRightStop, IsOfVehicle, HasCalls, IsServing, persons, ShowsRiders, get_or_default, is_promised_to, Delivered, MatchBool-at_false, must_be_served, promised_limit, IsPromiseKept, step, Command, Reply, chosen_stops, IsBoundBy, IsBound, KeepsBounds, eq-eqb, true≢false, lt-ltb, gets, nat_tests}
+use Rattle.std.proofs.Common.{◌≡◌, ◌⊎◌, ℕ, ◌+◌, ◌<◌, ◌≤◌, Bool, true, false, cond, List, [], ◌∷◌, length, get_or, map, Option, Some, None, refl, sym, ap, ◌∙◌, subst, arith, inl, inr, slice_get, is_some, option_map, unwrap_or, ◌&&◌, ◌-◌, ◌*◌, MatchBool, max, zero, suc, Contains}
+use Rattle.route_drive.proofs.Common.{AllByRecursion, cases_Bool, slice_get_within, get_or_from_slice_get, slice_get-get_or, travel_time, Times, Batch, Promise, Rider, Vehicle, HasGraphsWith, IsGoodPlan, request_at, IsSettled, shown, find_rider, find_vehicle, PlannedStop, Planned, State, Settings, Roads, index_in, Settled, vehicle_at, rider_at, AreTravelTimes, IsKept, option_map_or, cases_lt, false≢true, get_or-map, length-map, persons_aboard, Passenger, rider_id, told_stop, IsTripOf, times_served_some, times_served_found, in_choice, choice_at, riders_at, is_in, IsLegOf, no_request, IsPlaced, picks, trip_picks, after_plan, in_batch, planned_status, look_up, KeysDiffer, with_status, is_active, ChosenTrip, BookRider, Status, Waiting, Promised, Aboard, look_up-at, KeysDiffer-from_rise, has_node, Leg, Stop, Pick, Drop, Alight, IsKnown, trip_task, no_leg, leg_at, visit_at, free_seats, calls_of, and_from, and_parts, cond-true, times_chosen, ideal_second, Task, look_up-map, look_up-key, latest_of, Visit, ideal_dropoff, IsDroppedInTime, AreReached, party_at, HasSeatsFor, IsRightPickup, IsRightDropoff, IsRightStop, IsOfVehicle, HasCalls, IsServing, ShowsRiders, get_or_default, is_promised_to, Delivered, MatchBool-at_false, must_be_served, IsPromiseKept, step, Command, Reply, chosen_stops, IsBoundBy, IsBound, KeepsBounds, eq-eqb, true≢false, lt-ltb, gets, nat_tests}
 use Rattle.route_drive.proofs.kept.Batches.{found_at, same_place, IsAsking, IsRiderAboard, same_persons, other_id}
 use Rattle.route_drive.proofs.kept.Served.{passenger_at, request_rider, vehicle_found}
 use Rattle.route_drive.proofs.kept.Trips.{vehicle_of_number, not_late, number_of_vehicle, promise_is_held, trip_of, trip_back, trip_is, one_trip, told_id, row_of, rider_aboard, known, member_calls, passenger_calls, other_calls}
@@ -187,8 +187,7 @@ module _ (settings : Settings) (roads : Roads) (s : State) (stops : ℕ → List
       asks r f n low name (rides j other i h at) =
           let of = planned_rider n low in
           let id : (request_at b.riders n).id ≡ z = name ∙ found_id z s.riders r f in
-          let one : find_rider z s.riders ≡ Some of.0 = ap (λ z. find_rider z s.riders) (sym id) ∙ of.1 in
-          let same : of.0 ≡ r = cc in
+          let same : of.0 ≡ r = cc (id, of.1, f) in
           on_trip j other i h (ap (λ m. (request_at b.riders m).id) at ∙ id)
           (ap (planned_status (picks planned.chosen)) (sym name) ∙ ap (λ m. planned_status (picks planned.chosen) (request_at b.riders m).id) (sym at) ∙ member_status j other i h)
           (subst (λ (r : BookRider). r.time ≤ b.sealed_at) same of.2.asked)
@@ -447,9 +446,7 @@ module _ (settings : Settings) (roads : Roads) (s : State) (stops : ℕ → List
         let dwell : settled.dwell ≡ settings.dwell = limits.dwell in
         let items : own.t.stops.items ≡ told_from roads points times table riders' settled.dwell vis told (vehicle_at settled k).start (vehicle_at settled k).ready own.is.stops = own.is.told in
         let room : free_seats task ≡ own.x.seats - persons_aboard own.x =
-        (let a : persons (vehicle_at settled k).aboard.items ≡ persons_aboard own.x = same_persons (vehicle_at settled k).aboard.items own.x.aboard.items placed.aboard_count (λ k p e. (placed.aboard_legs k p e).size) in
-        let c : (vehicle_at settled k).seats ≡ own.x.seats = placed.seats in
-        ap (λ n. n - persons (vehicle_at settled k).aboard.items) c ∙ ap (λ n. own.x.seats - n) a) in
+        omega (arith, same_persons (vehicle_at settled k).aboard.items own.x.aboard.items placed.aboard_count (λ k p e. (placed.aboard_legs k p e).size), placed.seats) in
         let reached : AreReached roads settled.dwell own.x.node (vehicle_at settled k).ready own.t.stops.items =
         subst (AreReached roads settled.dwell own.x.node (vehicle_at settled k).ready) (sym items) (told_reached roads points times table riders' settled.dwell vis told own.is.stops (vehicle_at settled k).start own.x.node (vehicle_at settled k).ready (free_seats task) are_told placed.start own.is.serves.in_time) in
         let seats : HasSeatsFor riders' (free_seats task) own.t.stops.items =
@@ -497,9 +494,7 @@ module _ (settings : Settings) (roads : Roads) (s : State) (stops : ℕ → List
     each = λ id v found.
         let k = number_of_vehicle settings roads s stops b settled points times kept shows early limits table id v found in
         let own = has_trip k.0 k.1 in
-        let one = own.at in
-        let two = k.2 in
-        let same : own.x ≡ v = cc in
+        let same : own.x ≡ v = cc (own.at, k.2) in
         let vid : own.t.vehicle ≡ id = trip_vehicle k.0 own ∙ ap (λ (v : Vehicle). v.id) same ∙ vehicle_id id s.vehicles v found in
         let items : own.t.stops.items ≡ chosen_stops planned id =
         sym (ap (λ o. option_map_or (λ (t : ChosenTrip). t.stops.items) o []) (ap (λ z. look_up (λ (t : ChosenTrip). t.vehicle) z planned.chosen) (sym vid) ∙ chosen_found k.0 own)) in
@@ -550,7 +545,13 @@ module _ (settings : Settings) (roads : Roads) (s : State) (stops : ℕ → List
           (both (λ stop. IsMemberPickup j other stop ⊎ ((stop.pick ≡ false) × IsRightDropoff roads settings.delay riders' other.x.id stop))
           (λ (stop : PlannedStop). stop.rider ≡ (request_at b.riders (get_or (riders_at good.graph other.is.row) i 0)).id → stop.pick ≡ true → stop.second ≡ (member_promised j other i l).second)
           other.t.stops.items (items_told j other) (member_promised j other i l).at) in
-          let keeps : (rider_at settled n).leg.latest_pickup ≤ p.pickup = by_promise (limits.limits n (let c = limits.rider_count in omega (arith, low, c))) in
+          let keeps : (rider_at settled n).leg.latest_pickup ≤ p.pickup = grind (
+            arith,
+            nat_tests,
+            promise,
+            limits.limits n (omega (arith, low, limits.rider_count)),
+            promise_is_held settings roads s stops b settled points times kept shows early limits table n p.vehicle low (rw promise (eq-eqb p.vehicle p.vehicle refl)),
+          ) in
           record {
             of = with_status (planned_status (picks planned.chosen) was.of.id) was.of;
             found = find' ∙ ap Some (after_is b.riders (picks planned.chosen) was.of (ap is_active t) (promised_in_batch z was.of p was.found t));
@@ -566,20 +567,13 @@ module _ (settings : Settings) (roads : Roads) (s : State) (stops : ℕ → List
               other_id b.riders shows.rise (get_or (riders_at good.graph other.is.row) member.i 0) n (trip.within member.i 0 member.within) low (sym member.rider ∙ rider ∙ ap (λ m. (request_at b.riders m).id) at) in
               subst (λ m. stop.second ≤ (rider_at settled m).leg.latest_pickup) same member.in_limit
 
-          by_promise : HasRightLimit settings b.riders settled n → (rider_at settled n).leg.latest_pickup ≤ p.pickup
-          by_promise (inl live) =
-              let f : promised_limit settings.wait (request_at b.riders n) ≡ min p.pickup ((request_at b.riders n).time + settings.wait) = rw promise refl in
-              omega (arith, live.1, f)
-          by_promise (inr lapsed) = absurd (lapsed.0 (promise_is_held settings roads s stops b settled points times kept shows early limits table n p.vehicle low (rw promise (eq-eqb p.vehicle p.vehicle refl))))
-
       by : (t : Status) → was.of.status ≡ t → IsBoundBy limit t → IsBound planned_state z limit
       by (Promised p) e le =
           let n = number_in_batch b.riders was.of.id (promised_in_batch z was.of p was.found e) in
           let there = shows.promised z was.of p was.found e in
           let id : was.of.id ≡ z = found_id z s.riders was.of was.found in
           let at : look_up (λ (r : Rider). r.id) (request_at b.riders n.0).id b.riders ≡ Some (request_at b.riders n.0) = look_up-at (λ (r : Rider). r.id) n.0 b.riders no_request (KeysDiffer-from_rise (λ (r : Rider). r.id) b.riders shows.rise) n.1 in
-          let at_z : look_up (λ (r : Rider). r.id) z b.riders ≡ Some (request_at b.riders n.0) = ap (λ z. look_up (λ (r : Rider). r.id) z b.riders) (sym (n.2 ∙ id)) ∙ at in
-          let is : request_at b.riders n.0 ≡ shown was.of (Some p) = cc in
+          let is : request_at b.riders n.0 ≡ shown was.of (Some p) = cc (at, there, n.2 ∙ id) in
           again p e le n.0 n.1 n.2 (ap (λ (r : Rider). r.promise) is) (where_is n.0)
       by (Aboard v) e le = stays_same (ap is_active e)
       by Delivered e le = stays_same (ap is_active e)

@@ -15,9 +15,7 @@ module _ (settings : Settings) (roads : Roads) (riders : List BookRider) (q : Bo
   pub found_before : (x : ℕ) (r : BookRider) → find_rider x (riders ++ q ∷ []) ≡ Some r → (r.status ≡ Waiting → ⊥) → find_rider x riders ≡ Some r
   found_before x r e not = elim (cases_eq q.id x) [
     | inl same ↦
-        let none : find_rider x riders ≡ None = subst (λ k. find_rider k riders ≡ None) same new in
-        let here = look_up-push_here (λ (r : BookRider). r.id) x q riders same none in
-        let is : q ≡ r = cc in
+        let is : q ≡ r = cc (look_up-push_here (λ (r : BookRider). r.id) x q riders same (subst (λ k. find_rider k riders ≡ None) same new), e) in
         absurd (not (subst (λ (r : BookRider). r.status ≡ Waiting) is waits))
     | inr ne ↦ sym (look_up-push_there (λ (r : BookRider). r.id) x q riders ne) ∙ e
   ]
@@ -86,8 +84,7 @@ module _ (settings : Settings) (roads : Roads) (s : State) (stops : ℕ → List
           let first = first_call (λ stop. IsRightStop settings roads s.riders v.id stop × (now < stop.second)) x true (false ∷ []) (stops w) (calls (h ∙ sym id))
           (both (IsRightStop settings roads s.riders v.id) (λ (stop : PlannedStop). now < stop.second) (stops w) serves.right (later w v at)) in
           let right = picked_up_right settings roads s.riders v.id first.0 first.2 first.3.0 in
-          let same : find_rider x s.riders ≡ Some right.rider = subst (λ k. find_rider k s.riders ≡ Some right.rider) first.1 right.found in
-          let is : right.rider ≡ r = cc in
+          let is : right.rider ≡ r = cc (first.1, right.found, e) in
           let time : right.rider.time ≡ r.time = ap (λ (r : BookRider). r.time) is in
           rw (f, le-ltb (r.time + settings.wait) now (omega (arith, time, right.in_time, first.3.1))) refl
       by (Aboard u) f h = rw f refl

@@ -104,11 +104,9 @@ IsOwned s command = (id : ℕ) × (v : Vehicle) × (vehicle_in command ≡ Some 
 pub found_by_ids : (xs ys : List Vehicle) (id : ℕ) (v : Vehicle) → map (λ v. v.id) ys ≡ map (λ v. v.id) xs → find_vehicle id xs ≡ Some v → (u : Vehicle) × (find_vehicle id ys ≡ Some u)
 unfolding look_up
 found_by_ids (x ∷ xs) (y ∷ ys) id v same found =
-    let head : y.id ≡ x.id = cc in
-    let tail : map (λ (v : Vehicle). v.id) ys ≡ map (λ (v : Vehicle). v.id) xs = cc in
     elim (cases_eq x.id id) [
-      | inl e ↦ (y, grind (arith, nat_tests))
-      | inr ne ↦ let rest = found_by_ids xs ys id v tail (grind (arith, nat_tests)) in (rest.0, grind (arith, nat_tests))
+      | inl e ↦ (y, grind (arith, nat_tests, same))
+      | inr ne ↦ let rest = found_by_ids xs ys id v (cc) (grind (arith, nat_tests)) in (rest.0, grind (arith, nat_tests, same))
     ]
 found_by_ids xs ys id v same found = absurd cc
 

@@ -1,6 +1,6 @@
 -- At a seal the stops of a vehicle serve, by the batch's table, its passengers and the riders promised to it.
 use Rattle.std.proofs.Common.{◌≡◌, ◌⊎◌, ℕ, ◌+◌, ◌-◌, ◌*◌, ◌<◌, ◌≤◌, true, false, List, [], ◌∷◌, length, get_or, map, filter, max, min, Some, refl, sym, ap, ◌∙◌, subst, arith, inl, inr, option_and_then, slice_get, Contains}
-use Rattle.route_drive.proofs.Common.{option_map_or, AllByRecursion, range_with_len, cases_Bool, false≢true, get_or-map, length-map, get_or_default, filter_passes, slice_get_within, get_or_from_slice_get, slice_get-get_or, travel_time, Times, Batch, persons_aboard, Passenger, Promise, Rider, Vehicle, IsLegOf, request_at, ideal_second, no_request, promised_limit, is_promised_to, promised_to, kept_legs, kept_leg, IsPlaced, IsSettled, filter_range_has, promised_trip, seat_in, look_up, KeysDiffer, shown, passenger_of, find_rider, find_vehicle, find_passenger, PlannedStop, BookRider, Status, Promised, Aboard, State, look_up-at, KeysDiffer-from_rise, All-look_up, Settings, Roads, index_in, has_node, Leg, Settled, Stop, Pick, Drop, Alight, Task, IsOrder, vehicle_at, rider_at, no_rider, vehicle_task, IsTrip, no_leg, leg_at, persons, visit_at, visits_of, free_seats, IsServable, soon_there, ServesFrom, boarding_of, AreTravelTimes, ideal_dropoff, IsDroppedInTime, party_at, IsRightStop, IsRightPickup, IsRightDropoff, IsOfVehicle, IsServing, IsKept, HasCalls, calls_of, ShowsRiders, eq-eqb, map-map, nat_tests}
+use Rattle.route_drive.proofs.Common.{AllByRecursion, range_with_len, cases_Bool, false≢true, get_or-map, length-map, get_or_default, filter_passes, slice_get_within, get_or_from_slice_get, slice_get-get_or, travel_time, Times, Batch, persons_aboard, Passenger, Promise, Rider, Vehicle, IsLegOf, request_at, no_request, promised_limit, is_promised_to, promised_to, kept_legs, kept_leg, IsPlaced, IsSettled, filter_range_has, promised_trip, seat_in, look_up, KeysDiffer, shown, passenger_of, find_rider, find_vehicle, find_passenger, PlannedStop, BookRider, Status, Promised, Aboard, State, look_up-at, KeysDiffer-from_rise, All-look_up, Settings, Roads, index_in, has_node, Leg, Settled, Stop, Pick, Drop, Alight, Task, IsOrder, vehicle_at, rider_at, no_rider, vehicle_task, IsTrip, no_leg, leg_at, visit_at, visits_of, free_seats, IsServable, soon_there, ServesFrom, boarding_of, AreTravelTimes, IsDroppedInTime, IsRightStop, IsRightPickup, IsRightDropoff, IsOfVehicle, IsServing, IsKept, HasCalls, calls_of, ShowsRiders, eq-eqb, map-map, nat_tests}
 use Rattle.stop_orders.specs.declared.visit.Visit.TheVariants.{Pickup, Dropoff}
 use Rattle.route_drive.proofs.kept.Lists.{all_weaker, both, map_agrees, all_filtered, all_from}
 use Rattle.route_drive.proofs.kept.Walks.{has_index, name_at, is_node_at}
@@ -20,17 +20,8 @@ leg_drop settings roads points times table riders r leg stop is drop node found 
   latest = leg.latest_dropoff;
   ideal = leg.ideal;
   node = is.destination_place ∙ ap Some (sym node);
-  in_time =
-      let b : leg.ideal ≡ ideal_second (travel_time times) r.time leg.origin leg.destination = is.ideal in
-      let c : ideal_second (travel_time times) r.time leg.origin leg.destination ≡ ideal_dropoff r.time in_time.seconds = ideal_is roads points times table leg.origin leg.destination r.origin r.destination in_time.seconds r.time is.origin_place is.destination_place in_time.between in
-      let e : leg.ideal ≡ ideal_dropoff r.time in_time.seconds = b ∙ c in
-      let d : leg.latest_dropoff ≡ leg.ideal + settings.delay = is.latest_dropoff in
-      let f : leg.latest_dropoff ≡ ideal_dropoff r.time in_time.seconds + settings.delay = d ∙ ap (λ n. n + settings.delay) e in
-      subst (λ n. stop.second ≤ n) (sym f) in_time.in_time;
-  is =
-      let party : party_at riders stop ≡ r.party = ap (λ o. option_map_or (λ (r : BookRider). r.party) o 0) found in
-      let same : leg.party ≡ party_at riders stop = is.size ∙ sym party in
-      ap (λ n. Dropoff leg.destination leg.latest_dropoff leg.ideal n) same ∙ rw drop refl;
+  in_time = omega (arith, is.latest_dropoff, is.ideal, ideal_is roads points times table leg.origin leg.destination r.origin r.destination in_time.seconds r.time is.origin_place is.destination_place in_time.between, in_time.in_time);
+  is = grind (arith, nat_tests, drop, is.size, found);
 }
 
 -- a leg's pickup, as the stop that it is
@@ -44,10 +35,7 @@ leg_pick settings points times riders r leg limit stop is pick node found in_tim
   ideal = 0;
   node = is.origin_place ∙ ap Some (sym node);
   in_time = in_time;
-  is =
-      let party : party_at riders stop ≡ r.party = ap (λ o. option_map_or (λ (r : BookRider). r.party) o 0) found in
-      let same : leg.party ≡ party_at riders stop = is.size ∙ sym party in
-      ap (λ n. Pickup leg.origin limit n) same ∙ rw pick refl;
+  is = grind (arith, nat_tests, pick, is.size, found);
 }
 
 module _ (settings : Settings) (roads : Roads) (s : State) (stops : ℕ → List PlannedStop) (b : Batch) (settled : Settled) (points : List ℕ) (times : Times)
@@ -158,19 +146,14 @@ module _ (settings : Settings) (roads : Roads) (s : State) (stops : ℕ → List
 
     -- nobody is promised and aboard
     names_apart : (z : ℕ) → has_node names z ≡ true → has_node passenger_names z ≡ false
-    names_apart z h = by (cases_Bool (has_node passenger_names z))
-      where
-        by : (has_node passenger_names z ≡ true) ⊎ (has_node passenger_names z ≡ false) → has_node passenger_names z ≡ false
-        by (inr f) = f
-        by (inl t) =
-            let place = named z h in
-            let promised = subst (λ k. IsPromisedRider s x.id k (request_at b.riders (get_or numbers place.0 0))) place.2 (number_promised place.0 place.1) in
-            let aboard = (passenger_at_name z t).1 in
-            let one = promised.found in
-            let two = aboard.found in
-            let is : promised.rider ≡ aboard.rider = cc in
-            let e : Promised promised.promise ≡ Aboard x.id = sym promised.status ∙ ap (λ (r : BookRider). r.status) is ∙ aboard.status in
-            absurd cc
+    names_apart z h = elim (cases_Bool (has_node passenger_names z)) [
+      | inr f ↦ f
+      | inl t ↦
+          let place = named z h in
+          let promised = subst (λ k. IsPromisedRider s x.id k (request_at b.riders (get_or numbers place.0 0))) place.2 (number_promised place.0 place.1) in
+          let aboard = (passenger_at_name z t).1 in
+          absurd (grind (arith, promised.found, promised.status, aboard.found, aboard.status))
+    ]
 
     stops_numbered : AllByRecursion (IsNumbered names passenger_names) (stops x.id)
     stops_numbered = all_weaker (IsRightStop settings roads s.riders x.id) (IsNumbered names passenger_names) (λ stop right. elim (right_cases settings roads s.riders x.id stop right) [
@@ -217,11 +200,8 @@ module _ (settings : Settings) (roads : Roads) (s : State) (stops : ℕ → List
         let n : ℕ = get_or numbers place.0 0 in
         let h : get_or numbers place.0 0 < length b.riders = number_within place.0 place.1 in
         let promised = subst (λ z. IsPromisedRider s x.id z (request_at b.riders (get_or numbers place.0 0))) place.2 (number_promised place.0 place.1) in
-        let one = promised.found in
-        let two = own.found in
-        let same : promised.rider ≡ own.rider = cc in
-        let promise : promised.promise ≡ record { vehicle = x.id; pickup = stop.second } =
-        (let e : Promised promised.promise ≡ Promised (record { vehicle = x.id; pickup = stop.second }) = sym promised.status ∙ ap (λ (r : BookRider). r.status) same ∙ own.status in cc) in
+        let same : promised.rider ≡ own.rider = cc (promised.found, own.found) in
+        let promise : promised.promise ≡ record { vehicle = x.id; pickup = stop.second } = cc (promised.status, same, own.status) in
         let is : request_at b.riders (get_or numbers place.0 0) ≡ shown own.rider (Some (record { vehicle = x.id; pickup = stop.second })) =
         promised.is ∙ ap (λ r. shown r (Some promised.promise)) same ∙ ap (λ p. shown own.rider (Some p)) promise in
         let leg = limits.legs (get_or numbers place.0 0) (request_at b.riders (get_or numbers place.0 0)) (slice_get-get_or b.riders (get_or numbers place.0 0) no_request h) in
@@ -241,9 +221,7 @@ module _ (settings : Settings) (roads : Roads) (s : State) (stops : ℕ → List
         let place = named stop.rider has in
         let h : get_or numbers place.0 0 < length b.riders = number_within place.0 place.1 in
         let promised = subst (λ z. IsPromisedRider s x.id z (request_at b.riders (get_or numbers place.0 0))) place.2 (number_promised place.0 place.1) in
-        let one = promised.found in
-        let two = own.found in
-        let same : promised.rider ≡ own.rider = cc in
+        let same : promised.rider ≡ own.rider = cc (promised.found, own.found) in
         let is : request_at b.riders (get_or numbers place.0 0) ≡ shown own.rider (Some promised.promise) = promised.is ∙ ap (λ r. shown r (Some promised.promise)) same in
         let leg = limits.legs (get_or numbers place.0 0) (request_at b.riders (get_or numbers place.0 0)) (slice_get-get_or b.riders (get_or numbers place.0 0) no_request h) in
         let leg' : IsLegOf settings points (travel_time times) own.rider.origin own.rider.destination own.rider.time own.rider.party (record (rider_at settled (get_or numbers place.0 0)).leg { latest_pickup = (request_at b.riders (get_or numbers place.0 0)).time + settings.wait }) =
@@ -259,9 +237,7 @@ module _ (settings : Settings) (roads : Roads) (s : State) (stops : ℕ → List
     seen_alight stop drop has own =
         let there = passenger_at_name stop.rider has in
         let aboard = there.1 in
-        let one = aboard.found in
-        let two = own.found in
-        let same : aboard.rider ≡ own.rider = cc in
+        let same : aboard.rider ≡ own.rider = cc (aboard.found, own.found) in
         let is : get_or x.aboard.items (index_in passenger_names stop.rider) no_passenger ≡ passenger_of own.rider = sym aboard.is ∙ ap passenger_of same in
         let leg = placed.aboard_legs (index_in passenger_names stop.rider) (get_or x.aboard.items (index_in passenger_names stop.rider) no_passenger) (slice_get-get_or x.aboard.items (index_in passenger_names stop.rider) no_passenger there.0) in
         let leg' : IsLegOf settings points (travel_time times) own.rider.origin own.rider.destination own.rider.time own.rider.party (leg_at (vehicle_at settled k).aboard.items (index_in passenger_names stop.rider)) =
@@ -282,10 +258,7 @@ module _ (settings : Settings) (roads : Roads) (s : State) (stops : ℕ → List
     ready_is = let a : (vehicle_at settled k).ready ≡ max x.time b.sealed_at = placed.ready in let e = early x.id x vehicle_found in omega (arith, a, e)
 
     room_is : x.seats - persons_aboard x ≡ free_seats task
-    room_is =
-        let a : persons (vehicle_at settled k).aboard.items ≡ persons_aboard x = same_persons (vehicle_at settled k).aboard.items x.aboard.items placed.aboard_count (λ k p e. (placed.aboard_legs k p e).size) in
-        let c : (vehicle_at settled k).seats ≡ x.seats = placed.seats in
-        sym (ap (λ n. n - persons (vehicle_at settled k).aboard.items) c ∙ ap (λ n. x.seats - n) a)
+    room_is = omega (arith, same_persons (vehicle_at settled k).aboard.items x.aboard.items placed.aboard_count (λ k p e. (placed.aboard_legs k p e).size), placed.seats)
 
     in_time : ServesFrom (travel_time times) settings.dwell (vehicle_at settled k).start (vehicle_at settled k).ready (free_seats task) (visits_of task order)
     in_time =

@@ -39,9 +39,7 @@ module _ (settings : Settings) (roads : Roads) (s : State) (day : IsDayState roa
   next_promises : (y : ℕ) (q : BookRider) (promise : Promise) → find_rider y next_state.riders ≡ Some q → q.status ≡ Promised promise → IsPromiseKept next_state q promise
   next_promises y q promise e t = elim (cases_eq x y) [
     | inl same ↦
-        let here = find_same s.riders x status r found in
-        let there : find_rider x (changed s.riders x status) ≡ Some q = subst (λ k. find_rider k (changed s.riders x status) ≡ Some q) (sym same) e in
-        let is : with_status status r ≡ q = cc in
+        let is : with_status status r ≡ q = cc (find_same s.riders x status r found, same, e) in
         absurd (after promise (ap (λ (q : BookRider). q.status) is ∙ t))
     | inr ne ↦
         let was = day.promises y q promise (sym (find_other s.riders x status y ne) ∙ e) t in

@@ -59,19 +59,19 @@ module _ (roads : Roads) (points : List ℕ) (times : Times) (table : AreTravelT
 pub sub_serves : (points : ℕ) (tau : ℕ → ℕ → ℕ) (dwell : ℕ) (vis : Stop → Visit) (keep : Stop → Bool) → IsTravelTime points tau → ((s : Stop) → keep s ≡ true → boarding_of (vis s) ≡ 0)
     → (stops : List Stop) (p f room q g other : ℕ) → AtLeastAsSoon tau p f q g → ServesFrom tau dwell q g other (map vis stops) → ServesFrom tau dwell p f room (map vis (filter keep stops))
 sub_serves points tau dwell vis keep travel nobody [] p f room q g other soon serves = tt
-sub_serves points tau dwell vis keep travel nobody (s ∷ stops) p f room q g other soon serves = elim (cases_Bool (keep s)) [
-  | inl k ↦
-      let sooner = soon.soon (place_of (vis s)) serves.0 in
-      subst (λ ss. ServesFrom tau dwell p f room (map vis ss)) (sym (takes keep s stops k)) (
-        sooner.0,
-        omega (arith, sooner.1, serves.1),
-        omega (arith, nobody s k),
-        sub_serves points tau dwell vis keep travel nobody stops (place_of (vis s)) (f + tau p (place_of (vis s)) + dwell) (room_after (vis s) room) (place_of (vis s)) (g + tau q (place_of (vis s)) + dwell) (room_after (vis s) other)
-            (soon_there tau (place_of (vis s)) (f + tau p (place_of (vis s)) + dwell) (g + tau q (place_of (vis s)) + dwell) (omega (arith, sooner.1))) serves.3,
-      )
-  | inr k ↦
-      let sooner = soon.soon (place_of (vis s)) serves.0 in
-      subst (λ ss. ServesFrom tau dwell p f room (map vis ss)) (sym (skips keep s stops k))
-      (sub_serves points tau dwell vis keep travel nobody stops p f room (place_of (vis s)) (g + tau q (place_of (vis s)) + dwell) (room_after (vis s) other)
-      (soon_over points tau travel p f (place_of (vis s)) (g + tau q (place_of (vis s)) + dwell) sooner.0 (omega (arith, sooner.1))) serves.3)
-]
+sub_serves points tau dwell vis keep travel nobody (s ∷ stops) p f room q g other soon serves =
+    let sooner = soon.soon (place_of (vis s)) serves.0 in
+    elim (cases_Bool (keep s)) [
+      | inl k ↦
+          subst (λ ss. ServesFrom tau dwell p f room (map vis ss)) (sym (takes keep s stops k)) (
+            sooner.0,
+            omega (arith, sooner.1, serves.1),
+            omega (arith, nobody s k),
+            sub_serves points tau dwell vis keep travel nobody stops (place_of (vis s)) (f + tau p (place_of (vis s)) + dwell) (room_after (vis s) room) (place_of (vis s)) (g + tau q (place_of (vis s)) + dwell) (room_after (vis s) other)
+                (soon_there tau (place_of (vis s)) (f + tau p (place_of (vis s)) + dwell) (g + tau q (place_of (vis s)) + dwell) (omega (arith, sooner.1))) serves.3,
+          )
+      | inr k ↦
+          subst (λ ss. ServesFrom tau dwell p f room (map vis ss)) (sym (skips keep s stops k))
+          (sub_serves points tau dwell vis keep travel nobody stops p f room (place_of (vis s)) (g + tau q (place_of (vis s)) + dwell) (room_after (vis s) other)
+          (soon_over points tau travel p f (place_of (vis s)) (g + tau q (place_of (vis s)) + dwell) sooner.0 (omega (arith, sooner.1))) serves.3)
+    ]

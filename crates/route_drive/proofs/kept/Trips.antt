@@ -1,7 +1,7 @@
 -- On a driven day a good plan has no late vehicle and no lapsed promise; and of the trips that it chooses: whose stops they
 -- are, and what they promise.
 use Rattle.std.proofs.Common.{◌≡◌, ℕ, ◌+◌, ◌<◌, ◌≤◌, true, false, not, List, [], ◌∷◌, length, get_or, map, filter, Option, Some, None, refl, sym, ap, ◌∙◌, subst, arith, inl, inr, All, slice_get, is_some, zero, suc, eqb, nat_eq, Bool, Contains}
-use Rattle.route_drive.proofs.Common.{AllByRecursion, AllZip, range_with_len, cases_Bool, MatchBool-at_true, recursion_from_All, All-from_get_or, length-range_with_len, get_or-range_with_len, slice_get_within, slice_get-get_or, slice_get_cases, travel_time, Times, Batch, Promise, Vehicle, HasGraphsWith, IsGoodPlan, IsLate, request_at, is_promised_to, promised_to, filter_range_has, IsLive, IsSettled, IsHeld, find_vehicle, PlannedStop, Planned, State, Settings, Roads, index_in, Settled, vehicle_at, rider_at, no_rider, no_vehicle, vehicle_task, IsServable, AreTravelTimes, IsKept, ShowsRiders, IsDistinct, cases_eq, rider_id, IsTripOf, times_served_as_count, choice_at, riders_at, no_row, is_in, IsRowOf, no_request, ChosenTrip, has_node, IsTrip, find_rider, false≢true, get_or-map, length-map, Passenger, told_stop, IsPlaced, BookRider, Aboard, look_up-at, Stop, Pick, Drop, Alight, is_of_rider, is_of_passenger, IsKnown, trip_task, visit_at, is_stop_of, calls_of, pool_promise, find_passenger, eq-eqb, ne_eqb, zip, gets, nat_tests}
+use Rattle.route_drive.proofs.Common.{AllByRecursion, AllZip, range_with_len, recursion_from_All, All-from_get_or, length-range_with_len, get_or-range_with_len, slice_get_within, slice_get-get_or, slice_get_cases, travel_time, Times, Batch, Promise, Vehicle, HasGraphsWith, IsGoodPlan, IsLate, request_at, is_promised_to, promised_to, filter_range_has, IsLive, IsSettled, IsHeld, find_vehicle, PlannedStop, Planned, State, Settings, Roads, index_in, Settled, vehicle_at, rider_at, no_rider, no_vehicle, AreTravelTimes, IsKept, ShowsRiders, IsDistinct, cases_eq, rider_id, IsTripOf, times_served_as_count, choice_at, riders_at, no_row, is_in, IsRowOf, no_request, ChosenTrip, has_node, IsTrip, false≢true, get_or-map, length-map, Passenger, told_stop, IsPlaced, BookRider, Aboard, look_up-at, Stop, Pick, Drop, Alight, is_of_rider, is_of_passenger, IsKnown, trip_task, visit_at, is_stop_of, calls_of, pool_promise, find_passenger, eq-eqb, ne_eqb, zip, gets, nat_tests}
 use Rattle.route_drive.proofs.kept.Lists.{filter_none, filter_all}
 use Rattle.route_drive.proofs.kept.Batches.{found_at, distinct_from_differ, ids_distinct, other_id, IsRiderAboard}
 use Rattle.route_drive.proofs.kept.States.{vehicle_id}
@@ -54,13 +54,9 @@ module _ (settings : Settings) (roads : Roads) (s : State) (stops : ℕ → List
   ]
 
   pub not_late : (k : ℕ) → k < length settled.vehicles → (vehicle_at settled k).late ≡ false
-  not_late k h = elim (cases_Bool (vehicle_at settled k).late) [
-    | inr f ↦ f
-    | inl t ↦
-        let x = vehicle_of_number k h in
-        absurd ((MatchBool-at_true (IsServable (travel_time times) (vehicle_task settings.dwell (vehicle_at settled k) []) → ⊥) (IsServable (travel_time times) (vehicle_task settings.dwell (vehicle_at settled k) [])) t (limits.late k h))
-        (passengers_served settings roads s stops b settled points times kept shows early limits table k x.0 x.1))
-  ]
+  not_late k h =
+      let x = vehicle_of_number k h in
+      grind (arith, nat_tests, limits.late k h, passengers_served settings roads s stops b settled points times kept shows early limits table k x.0 x.1)
 
   -- a vehicle that has promised is live
   pub live_at : (k : ℕ) → k < length settled.vehicles → IsLive settings (travel_time times) b.riders settled.riders (vehicle_at settled k)
@@ -208,9 +204,7 @@ module _ (settings : Settings) (roads : Roads) (s : State) (stops : ℕ → List
       not_aboard r j lr lj e =
           let of = request_rider settings roads s stops b settled points times kept shows early limits table r lr in
           let aboard = rider_aboard j lj in
-          let one = of.1 in
-          let two : find_rider (request_at b.riders r).id s.riders ≡ Some aboard.rider = subst (λ z. find_rider z s.riders ≡ Some aboard.rider) e aboard.found in
-          let same : of.0 ≡ aboard.rider = cc in
+          let same : of.0 ≡ aboard.rider = cc (of.1, aboard.found, e) in
           let status : of.0.status ≡ Aboard x.id = ap (λ (r : BookRider). r.status) same ∙ aboard.status in
           let pool : pool_promise (Aboard x.id) ≡ Some of.2.promise = ap pool_promise (sym status) ∙ of.2.pool in
           absurd cc
