@@ -114,9 +114,8 @@ module _ (points : ℕ) (task : Task) (valid : IsTask points task) (i : ℕ) (st
   rider_tests k (Alight n) h = refl
 
   passenger_tests : (k : ℕ) → k < length task.aboard.items → (s : Stop) → After s → is_of_passenger k (g s) ≡ is_of_passenger k s
-  passenger_tests k lt (Pick n) h = refl
   passenger_tests k lt (Drop n) h = grind (arith, nat_tests, renamed_own n, renamed_ne n)
-  passenger_tests k lt (Alight n) h = refl
+  passenger_tests k lt s h = refl
 
   last_tests : (s : Stop) → After s → is_of_passenger (length task.aboard.items) (g s) ≡ drops i s
   unfolding drops

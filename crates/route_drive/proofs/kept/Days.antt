@@ -1,6 +1,6 @@
 -- A driven day, round by round.
 use Rattle.std.proofs.Common.{◌≡◌, ℕ, ◌≤◌, List, [], ◌∷◌, ◌++◌, length, map, Option, Some, None, unwrap_or, refl, sym, ap, ◌∙◌, subst, arith, All, MatchOption}
-use Rattle.route_drive.proofs.Common.{AllByRecursion, option_map_or, Vehicle, next_position, look_up, RepliesAreSteps, state_after, find_vehicle, Command, Seal, Entry, Journal, Planned, PlannedStop, BookRider, State, rounds-join, Settings, Roads, IsNetwork, NumberedLanes, lane_at, ClosesAreGood, IsRoundRun, IsRun, Course, seal_of, AreDriven, IsDrivenRound, IsPrecededBy, courses_after, courses_left, left_course, plan_in, planned_course, AreEntered, to_come, course_of, IsKept, IsServing, chosen_stops, stops_with, longest, second_of, flat_map, nat_tests}
+use Rattle.route_drive.proofs.Common.{AllByRecursion, option_map_or, Vehicle, next_position, look_up, RepliesAreSteps, state_after, find_vehicle, Command, Seal, Entry, Journal, Planned, PlannedStop, State, rounds-join, Settings, Roads, IsNetwork, NumberedLanes, lane_at, ClosesAreGood, IsRoundRun, IsRun, Course, seal_of, AreDriven, IsDrivenRound, IsPrecededBy, courses_after, courses_left, left_course, plan_in, planned_course, AreEntered, to_come, course_of, IsKept, IsServing, stops_with, longest, second_of, flat_map, nat_tests}
 use Rattle.route_drive.proofs.kept.DayRounds.{AreDayRounds, IsDayLane, IsDayRound}
 use Rattle.route_drive.proofs.DriveLemmas.{courses_each}
 use Rattle.route_drive.proofs.LeaveLemmas.{count_stays, ids_stay}
@@ -29,20 +29,10 @@ unfolding look_up
 course_made f [] id v found = absurd cc
 course_made f (w ∷ vehicles) id v found = grind (arith, nat_tests, course_made f vehicles id v)
 
--- the stops of a plan
-planned_stops : (riders : List BookRider) (planned : Planned) (v : Vehicle) → (planned_course riders planned v).stops.items ≡ chosen_stops planned v.id
-planned_stops riders planned v = grind arith
-
 -- the stops that are left after a seal, if there is one
 abbrev pub left_stops : Option ℕ → List PlannedStop → List PlannedStop
 left_stops None stops = stops
 left_stops (Some now) stops = to_come now stops
-
-left_is : (seal : Option ℕ) (course : Course) → (left_course seal course).stops.items ≡ left_stops seal course.stops.items
-left_is seal course = grind arith
-
-left_nothing : (seal : Option ℕ) → left_course seal (record { stops = record { items = [] }; target = None }) ≡ record { stops = record { items = [] }; target = None }
-left_nothing seal = grind arith
 
 -- what is on its way after a round, for a vehicle
 course_after : (s t : State) (round : NumberedLanes) (es : List Entry) (courses : List Course) (id : ℕ) (v : Vehicle) → map (λ v. v.id) t.vehicles ≡ map (λ v. v.id) s.vehicles → find_vehicle id t.vehicles ≡ Some v
@@ -50,12 +40,8 @@ course_after : (s t : State) (round : NumberedLanes) (es : List Entry) (courses 
 course_after s t round es courses id v ids found = by (plan_in es)
   where
     by : (o : Option Planned) → (course_of t.vehicles (option_map_or (λ planned. map (planned_course t.riders planned) t.vehicles) o (map (left_course (seal_of round)) courses)) id).stops.items ≡ stops_with o (λ id. left_stops (seal_of round) (course_of s.vehicles courses id).stops.items) id
-    by None =
-        ap (λ (c : Course). c.stops.items) (course_mapped (left_course (seal_of round)) (left_nothing (seal_of round)) t.vehicles courses id) ∙ left_is (seal_of round) (course_of t.vehicles courses id)
-        ∙ ap (λ (c : Course). left_stops (seal_of round) c.stops.items) (course_by_ids t.vehicles s.vehicles courses id ids)
-    by (Some planned) =
-        ap (λ (c : Course). c.stops.items) (course_made (planned_course t.riders planned) t.vehicles id v found) ∙ planned_stops t.riders planned v
-        ∙ ap (chosen_stops planned) (vehicle_id id t.vehicles v found)
+    by None = grind (arith, nat_tests, course_mapped (left_course (seal_of round)) (grind arith) t.vehicles courses id, course_by_ids t.vehicles s.vehicles courses id ids)
+    by (Some planned) = grind (arith, nat_tests, course_made (planned_course t.riders planned) t.vehicles id v found, vehicle_id id t.vehicles v found)
 
 -- the entries of journals, in order
 abbrev pub entries_in : List Journal → List Entry

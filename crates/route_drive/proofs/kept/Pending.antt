@@ -101,9 +101,8 @@ module _ (settings : Settings) (roads : Roads) (net : IsNetwork roads) (now : �
       (subst (λ ss. IsReported roads now (record { node = v.node; second = v.time; free = free }) (goal_of target ss) there) none.1
       (subst (λ ds. IsReported roads now (standing_after settings.dwell (record { node = v.node; second = v.time; free = free }) ds) (goal_of target (to_come now stops)) there) none.0 reported)) in
       let done = report_done settings roads s day v at free there.node there.second stops is.named is.later serves is.reached in
-      let line : command ∷ commands ≡ Report v.id there.node there.second ∷ [] = told ∙ ap (λ ds. map (stop_command v.id) ds ++ Report v.id there.node there.second ∷ []) none.0 in
-      let one : Report v.id there.node there.second ≡ command = cc in
-      let rest : commands ≡ [] = cc in
+      let one : Report v.id there.node there.second ≡ command = cc (told, none.0) in
+      let rest : commands ≡ [] = cc (told, none.0) in
       let by : done.own.v.time ≡ there.second = done.own.by in
       let same : stops ≡ left = sym (left_is ∙ none.1) in
       subst (λ command. IsEnteredOne settings roads s v command (λ riders u. IsPending settings roads now riders u target commands left)) one (record {
@@ -125,9 +124,8 @@ module _ (settings : Settings) (roads : Roads) (net : IsNetwork roads) (now : �
     | inl late ↦ report_next v free target (stop ∷ stops) there command commands left at early serves (late, all_later roads settings.dwell now stop.node (stop.second + settings.dwell) stops (omega (arith, late)) serves.reached.1) reported told left_is
     | inr le ↦
         let first : (due now (stop ∷ stops) ≡ stop ∷ due now stops) × (to_come now (stop ∷ stops) ≡ to_come now stops) = grind (arith, nat_tests, le) in
-        let line : command ∷ commands ≡ stop_command v.id stop ∷ (map (stop_command v.id) (due now stops) ++ Report v.id there.node there.second ∷ []) = told ∙ ap (λ ds. map (stop_command v.id) ds ++ Report v.id there.node there.second ∷ []) first.0 in
-        let one : stop_command v.id stop ≡ command = cc in
-        let rest : commands ≡ map (stop_command v.id) (due now stops) ++ Report v.id there.node there.second ∷ [] = cc in
+        let one : stop_command v.id stop ≡ command = cc (told, first.0) in
+        let rest : commands ≡ map (stop_command v.id) (due now stops) ++ Report v.id there.node there.second ∷ [] = cc (told, first.0) in
         let is : IsReported roads now (standing_after settings.dwell (record { node = stop.node; second = stop.second; free = stop.second + settings.dwell }) (due now stops)) (goal_of target (to_come now stops)) there =
         subst (λ ss. IsReported roads now (standing_after settings.dwell (record { node = stop.node; second = stop.second; free = stop.second + settings.dwell }) (due now stops)) (goal_of target ss) there) first.1
         (subst (λ ds. IsReported roads now (standing_after settings.dwell (record { node = v.node; second = v.time; free = free }) ds) (goal_of target (to_come now (stop ∷ stops))) there) first.0 reported) in

@@ -25,10 +25,6 @@ asked_plans : (es : List Entry) → AllByRecursion IsAsked es → plan_in es ≡
 asked_plans [] all = refl
 asked_plans (e ∷ es) all = ap (λ o. option_or o (plan_in es)) (plain_plan e.command e.reply (asked_plain e.command all.0)) ∙ asked_plans es all.1
 
--- what is entered of a vehicle is neither a seal nor a close
-owned_plain : (c : Command) (id : ℕ) → vehicle_in c ≡ Some id → IsPlain c
-owned_plain c id e = grind arith
-
 module _ (settings : Settings) (roads : Roads) where
   -- entries from a state to the end of a round: each keeps what it must, and every vehicle serves its stops at the end
   pub record Ends (s : State) (es : List Entry) (stops : ℕ → List PlannedStop) (last : Option ℕ) : Type 0 where
@@ -36,10 +32,6 @@ module _ (settings : Settings) (roads : Roads) where
     pub kept : IsKept settings roads (state_after roads.nodes settings.wait s es) (stops_with (plan_in es) stops)
     pub sealed : (state_after roads.nodes settings.wait s es).sealed ≡ None
     pub last_is : (state_after roads.nodes settings.wait s es).last_seal ≡ last
-
-  ends_now : (s : State) (stops : ℕ → List PlannedStop) (last : Option ℕ) → IsKept settings roads s stops → s.sealed ≡ None → s.last_seal ≡ last → Ends s [] stops last
-  unfolding state_after
-  ends_now s stops last kept closed is = record { all = tt; kept = kept; sealed = closed; last_is = is }
 
   -- one entry before, that is no plan
   ends_before : (e : Entry) (es : List Entry) (s : State) (stops : ℕ → List PlannedStop) (last : Option ℕ) → OneKeeps settings roads s e.command e.reply
@@ -77,7 +69,8 @@ module _ (settings : Settings) (roads : Roads) where
 
   -- after the close, or in a round without a seal, there are requests alone
   pub asked_end : (es : List Entry) (s : State) (stops : ℕ → List PlannedStop) (last : Option ℕ) → IsKept settings roads s stops → s.sealed ≡ None → s.last_seal ≡ last → AllByRecursion IsAsked es → Ends s es stops last
-  asked_end [] s stops last kept closed is all = ends_now s stops last kept closed is
+  unfolding state_after
+  asked_end [] s stops last kept closed is all = record { all = tt; kept = kept; sealed = closed; last_is = is }
   asked_end (e ∷ es) s stops last kept closed is all =
       let leaves : LeavesAll settings roads s (step roads.nodes settings.wait s e.command).0 = asked_on s e.command all.0 kept.state in
       let quiet = asked_quiet s e.command all.0 in
@@ -165,7 +158,7 @@ module _ (settings : Settings) (roads : Roads) (P : List BookRider → ℕ → V
       (still_owned s (step roads.nodes settings.wait s e.command).0 (next ∷ entered) (step-leaves roads.nodes settings.wait s e.command).ids owned) (quiet.sealed ∙ closed) (quiet.last ∙ is) two.1 replies.1 good.1)
   entering (e ∷ es) s (next ∷ entered) day pending owned closed is (inr two) replies good =
       let own : vehicle_in e.command ≡ Some owned.0.0 = ap vehicle_in two.0 ∙ owned.0.2 in
-      let plain : IsPlain e.command = owned_plain e.command owned.0.0 own in
+      let plain : IsPlain e.command = grind (arith, own) in
       let quiet = plain-quiet roads.nodes settings.wait s e.command plain in
       let none : sealed_by e.reply ≡ None = ap sealed_by replies.0 ∙ quiet.told in
       let one : IsOneOn settings roads P way s e.command entered = subst (λ c. IsOneOn settings roads P way s c entered) (sym two.0) (one_on settings roads P way s next entered day pending owned.0) in

@@ -80,8 +80,7 @@ module _ (R : Vehicle → Course → List Command → Type 0) (id : ℕ) where
       let split : filter (is_for id) entered ≡ filter (is_for id) are.0 ++ filter (is_for id) are.1 = ap (filter (is_for id)) are.5 ∙ filter-append (is_for id) are.0 are.1 in
       elim (cases_eq v.id id) [
         | inl e ↦
-            let here = look_up-here (λ (v : Vehicle). v.id) id v vehicles e in
-            let is : v ≡ w = cc in
+            let is : v ≡ w = cc (look_up-here (λ (v : Vehicle). v.id) id v vehicles e, found) in
             let none : find_vehicle id vehicles ≡ None = subst (λ k. find_vehicle k vehicles ≡ None) e differ.0 in
             let part : filter (is_for id) entered ≡ are.0 =
             split ∙ ap (λ cs. cs ++ filter (is_for id) are.1) (ap (λ k. filter (is_for k) are.0) (sym e) ∙ all_for v.id are.0 are.3)

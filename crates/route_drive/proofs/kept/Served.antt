@@ -100,11 +100,11 @@ module _ (settings : Settings) (roads : Roads) (s : State) (stops : ℕ → List
     passengers_differ = All-look_up (λ (v : Vehicle). v.id) (λ (v : Vehicle). KeysDiffer (λ p. p.rider) v.aboard.items) x.id s.vehicles x kept.state.consistent.passengers vehicle_found
 
     -- who has a name among the promised is promised, and the other way round
-    named : (z : ℕ) → has_node names z ≡ true → (i : ℕ) × (i < length numbers) × ((request_at b.riders (get_or numbers i 0)).id ≡ z) × (index_in names z ≡ i)
+    named : (z : ℕ) → has_node names z ≡ true → (i : ℕ) × (i < length numbers) × IsPromisedRider s x.id z (request_at b.riders (get_or numbers i 0)) × (index_in names z ≡ i)
     named z h =
         let l : index_in names z < length names = has_index names z h in
         let li : index_in names z < length numbers = omega (arith, l, names_length) in
-        (index_in names z, li, sym (name_is (index_in names z) li) ∙ name_at names z l, refl)
+        (index_in names z, li, subst (λ y. IsPromisedRider s x.id y (request_at b.riders (get_or numbers (index_in names z) 0))) (sym (name_is (index_in names z) li) ∙ name_at names z l) (number_promised (index_in names z) li), refl)
 
     to_named : (z : ℕ) (r : BookRider) (p : Promise) → find_rider z s.riders ≡ Some r → r.status ≡ Promised p → p.vehicle ≡ x.id → has_node names z ≡ true
     to_named z r p found status own =
@@ -150,9 +150,8 @@ module _ (settings : Settings) (roads : Roads) (s : State) (stops : ℕ → List
       | inr f ↦ f
       | inl t ↦
           let place = named z h in
-          let promised = subst (λ k. IsPromisedRider s x.id k (request_at b.riders (get_or numbers place.0 0))) place.2 (number_promised place.0 place.1) in
           let aboard = (passenger_at_name z t).1 in
-          absurd (grind (arith, promised.found, promised.status, aboard.found, aboard.status))
+          absurd (grind (arith, place.2.found, place.2.status, aboard.found, aboard.status))
     ]
 
     stops_numbered : AllByRecursion (IsNumbered names passenger_names) (stops x.id)
@@ -169,8 +168,7 @@ module _ (settings : Settings) (roads : Roads) (s : State) (stops : ℕ → List
     rides : (z : ℕ) → has_node names z ≡ true → calls_of z (stops x.id) ≡ true ∷ false ∷ []
     rides z h =
         let place = named z h in
-        let promised = subst (λ k. IsPromisedRider s x.id k (request_at b.riders (get_or numbers place.0 0))) place.2 (number_promised place.0 place.1) in
-        (subst (λ t. HasCalls x.id t (calls_of z (stops x.id))) promised.status (serves.calls z promised.rider promised.found)) promised.own
+        (subst (λ t. HasCalls x.id t (calls_of z (stops x.id))) place.2.status (serves.calls z place.2.rider place.2.found)) place.2.own
 
     leaves : (z : ℕ) → has_node passenger_names z ≡ true → calls_of z (stops x.id) ≡ false ∷ []
     leaves z h =
@@ -199,11 +197,10 @@ module _ (settings : Settings) (roads : Roads) (s : State) (stops : ℕ → List
         let place = named stop.rider has in
         let n : ℕ = get_or numbers place.0 0 in
         let h : get_or numbers place.0 0 < length b.riders = number_within place.0 place.1 in
-        let promised = subst (λ z. IsPromisedRider s x.id z (request_at b.riders (get_or numbers place.0 0))) place.2 (number_promised place.0 place.1) in
-        let same : promised.rider ≡ own.rider = cc (promised.found, own.found) in
-        let promise : promised.promise ≡ record { vehicle = x.id; pickup = stop.second } = cc (promised.status, same, own.status) in
+        let same : place.2.rider ≡ own.rider = cc (place.2.found, own.found) in
+        let promise : place.2.promise ≡ record { vehicle = x.id; pickup = stop.second } = cc (place.2.status, same, own.status) in
         let is : request_at b.riders (get_or numbers place.0 0) ≡ shown own.rider (Some (record { vehicle = x.id; pickup = stop.second })) =
-        promised.is ∙ ap (λ r. shown r (Some promised.promise)) same ∙ ap (λ p. shown own.rider (Some p)) promise in
+        place.2.is ∙ ap (λ r. shown r (Some place.2.promise)) same ∙ ap (λ p. shown own.rider (Some p)) promise in
         let leg = limits.legs (get_or numbers place.0 0) (request_at b.riders (get_or numbers place.0 0)) (slice_get-get_or b.riders (get_or numbers place.0 0) no_request h) in
         let leg' : IsLegOf settings points (travel_time times) own.rider.origin own.rider.destination own.rider.time own.rider.party (record (rider_at settled (get_or numbers place.0 0)).leg { latest_pickup = (request_at b.riders (get_or numbers place.0 0)).time + settings.wait }) =
         subst (λ (q : Rider). IsLegOf settings points (travel_time times) q.origin q.destination q.time q.party (record (rider_at settled (get_or numbers place.0 0)).leg { latest_pickup = (request_at b.riders (get_or numbers place.0 0)).time + settings.wait })) is leg in
@@ -220,9 +217,8 @@ module _ (settings : Settings) (roads : Roads) (s : State) (stops : ℕ → List
     seen_drop stop drop has none own =
         let place = named stop.rider has in
         let h : get_or numbers place.0 0 < length b.riders = number_within place.0 place.1 in
-        let promised = subst (λ z. IsPromisedRider s x.id z (request_at b.riders (get_or numbers place.0 0))) place.2 (number_promised place.0 place.1) in
-        let same : promised.rider ≡ own.rider = cc (promised.found, own.found) in
-        let is : request_at b.riders (get_or numbers place.0 0) ≡ shown own.rider (Some promised.promise) = promised.is ∙ ap (λ r. shown r (Some promised.promise)) same in
+        let same : place.2.rider ≡ own.rider = cc (place.2.found, own.found) in
+        let is : request_at b.riders (get_or numbers place.0 0) ≡ shown own.rider (Some place.2.promise) = place.2.is ∙ ap (λ r. shown r (Some place.2.promise)) same in
         let leg = limits.legs (get_or numbers place.0 0) (request_at b.riders (get_or numbers place.0 0)) (slice_get-get_or b.riders (get_or numbers place.0 0) no_request h) in
         let leg' : IsLegOf settings points (travel_time times) own.rider.origin own.rider.destination own.rider.time own.rider.party (record (rider_at settled (get_or numbers place.0 0)).leg { latest_pickup = (request_at b.riders (get_or numbers place.0 0)).time + settings.wait }) =
         subst (λ (q : Rider). IsLegOf settings points (travel_time times) q.origin q.destination q.time q.party (record (rider_at settled (get_or numbers place.0 0)).leg { latest_pickup = (request_at b.riders (get_or numbers place.0 0)).time + settings.wait })) is leg in
