@@ -1,7 +1,7 @@
 -- The names that the proofs of this crate cite from elsewhere, passed on from one place. Declares nothing.
 pub use Rattle.std.proofs.Math.Seq.{get_or-append_seam}
 pub use Rattle.std.proofs.lemmas.Bool.Decides.{nat_tests}
-pub use Rattle.std.proofs.lemmas.Bool.{MatchBool-at_false, MatchBool-at_true, and_from, and_parts, cases_Bool, cases_eq, cases_lt, cond-false, cond-true, cond_both, eq-eqb, eqb-true, false≢true, le-leb, le-ltb, leb-true, lt-leb, lt-ltb, ltb-false, ne_eqb, not_from_false, not_from_true, or_parts, true≢false}
+pub use Rattle.std.proofs.lemmas.Bool.{MatchBool-at_false, MatchBool-at_true, and_from, and_parts, cases_Bool, cases_eq, cases_lt, cond-false, cond-true, cond_both, eq-eqb, eqb-true, false≢true, le-leb, le-ltb, leb-true, lt-leb, lt-ltb, ltb-false, ne_eqb, not_from_false, not_from_true, true≢false}
 pub use Rattle.std.proofs.lemmas.List.{append-nil, drop_more, flat_map_more, get_or-append-add, get_or-map, get_or-replicate, get_or-set_other, get_or-set_same, get_or_append_left, get_or_default, get_or_past, get_or_read, length-map, length-replicate, length-set, length-take, map-append, map_push, reverse-append, take_all, take_at, take_more}
 pub use Rattle.std.proofs.lemmas.List.Elements.{All-append, All-cons, All-contains, All-from_get_or, All-from_recursion, All-head, All-nil, All-push, All-tail, Contains-get_or, filter-append, filter_more, filter_passes, recursion_from_All}
 pub use Rattle.std.proofs.lemmas.List.Filters.{length-filter_both}
@@ -44,7 +44,7 @@ pub use Rattle.pool_io.specs.Faults.{one_more}
 pub use Rattle.promise_check.proofs.lemmas.Promises.{filter_range_has, promised_trip}
 pub use Rattle.promise_check.specs.Promised.{IsLive, promised_limit, promised_to}
 pub use Rattle.promise_check.specs.Requests.{IsLegOf, request_at}
-pub use Rattle.promise_check.specs.Settling.{HasRightLimit, IsPlaced, IsSettled}
+pub use Rattle.promise_check.specs.Settling.{IsPlaced, IsSettled}
 pub use Rattle.promise_check.specs.lemmas.Named.{IsHeld, ideal_second, is_promised_to, kept_leg, kept_legs, no_request}
 pub use Rattle.request_book.proofs.lemmas.BatchLemmas.{after_seal-id}
 pub use Rattle.request_book.proofs.lemmas.ConsistentLemmas.{step-consistent}
@@ -62,7 +62,7 @@ unfoldable pub use Rattle.request_book.specs.Keyed.{KeysDiffer, changed_at, look
 unfoldable pub use Rattle.request_book.specs.lemmas.Keyed.{without}
 pub use Rattle.request_book.specs.Keyed.{KeysRise, by_key}
 unfoldable pub use Rattle.request_book.specs.Replay.{RepliesAreSteps, state_after}
-pub use Rattle.request_book.specs.Rider.{is_active, passenger_of, pool_promise, vehicle_of, with_status}
+pub use Rattle.request_book.specs.Rider.{is_active, passenger_of, pool_promise, with_status}
 pub use Rattle.request_book.specs.lemmas.Named.{shown, asking, in_batch, lets_out, planned_status, stands_at, takes_in}
 unfoldable pub use Rattle.request_book.specs.Sealing.{batch_of}
 unfoldable pub use Rattle.request_book.specs.lemmas.Named.{sealed_state}

@@ -29,10 +29,8 @@ adds_none served = record { picked = sym (append-nil served.picked.items); dropp
 
 adds-trans : (es fs : List Entry) (a b c : Served) → AddsServed es a b → AddsServed fs b c → AddsServed (es ++ fs) a c
 adds-trans es fs a b c one two = record {
-  picked = two.picked ∙ ap (λ l. l ++ all_served_by (picked_among fs)) one.picked ∙ append_assoc a.picked.items (all_served_by (picked_among es)) (all_served_by (picked_among fs))
-      ∙ ap (λ l. a.picked.items ++ l) (sym (served-append is_picked es fs));
-  dropped = two.dropped ∙ ap (λ l. l ++ all_served_by (dropped_among fs)) one.dropped ∙ append_assoc a.dropped.items (all_served_by (dropped_among es)) (all_served_by (dropped_among fs))
-      ∙ ap (λ l. a.dropped.items ++ l) (sym (served-append is_dropped es fs));
+  picked = grind (arith, append_assoc, two.picked, one.picked, served-append is_picked es fs);
+  dropped = grind (arith, append_assoc, two.dropped, one.dropped, served-append is_dropped es fs);
 }
 
 -- one more of the entries that follow

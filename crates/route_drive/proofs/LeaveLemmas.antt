@@ -6,19 +6,16 @@ use Rattle.request_book.specs.declared.outcome.Answer.TheVariants as answers
 use Rattle.request_book.specs.declared.rider.Status.TheVariants.{Cancelled as GivenUp}
 
 -- a rider of whatever status
-pub record IsSame (r t : BookRider) : Type 0 where
-  pub id : t.id ≡ r.id
-  pub origin : t.origin ≡ r.origin
-  pub destination : t.destination ≡ r.destination
-  pub time : t.time ≡ r.time
+abbrev pub IsSame : BookRider → BookRider → Type 0
+IsSame r t = t ≡ with_status t.status r
 
 -- who is found is found later, with the same request
 abbrev pub Keeps : List BookRider → List BookRider → Type 0
 Keeps riders later = (id : ℕ) (r : BookRider) → find_rider id riders ≡ Some r → (t : BookRider) × (find_rider id later ≡ Some t) × IsSame r t
 
 same_status : (b : Bool) (status : Status) (r : BookRider) → IsSame r (cond b (with_status status r) r)
-same_status true status r = record { id = refl; origin = refl; destination = refl; time = refl }
-same_status false status r = record { id = refl; origin = refl; destination = refl; time = refl }
+same_status true status r = refl
+same_status false status r = refl
 
 pub keeps_self : (riders : List BookRider) → Keeps riders riders
 keeps_self riders id r found = (r, found, same_status false r.status r)
@@ -26,19 +23,11 @@ keeps_self riders id r found = (r, found, same_status false r.status r)
 pub keeps_trans : (a b c : List BookRider) → Keeps a b → Keeps b c → Keeps a c
 keeps_trans a b c one two id r found =
     let first = one id r found in
-    let second = two id first.0 first.1 in (
-      second.0,
-      second.1,
-      record {
-        id = second.2.id ∙ first.2.id;
-        origin = second.2.origin ∙ first.2.origin;
-        destination = second.2.destination ∙ first.2.destination;
-        time = second.2.time ∙ first.2.time;
-      },
-    )
+    let second = two id first.0 first.1 in
+    (second.0, second.1, second.2 ∙ ap (with_status second.0.status) first.2)
 
 keeps_mapped : (f : BookRider → BookRider) → ((r : BookRider) → IsSame r (f r)) → (riders : List BookRider) → Keeps riders (map f riders)
-keeps_mapped f same riders id r found = (f r, look_up-map (λ (x : BookRider). x.id) f (λ x. (same x).id) id riders ∙ ap (option_map f) found, same r)
+keeps_mapped f same riders id r found = (f r, look_up-map (λ (x : BookRider). x.id) f (λ x. ap (λ (r : BookRider). r.id) (same x)) id riders ∙ ap (option_map f) found, same r)
 
 keeps_changed : (id : ℕ) (status : Status) (riders : List BookRider) → Keeps riders (changed_at (λ (r : BookRider). r.id) id (with_status status) riders)
 unfolding changed_at

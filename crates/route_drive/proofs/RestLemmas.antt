@@ -1,6 +1,6 @@
 -- The suffix law: what remains of a serving order serves.
 use Rattle.std.proofs.Common.{◌≡◌, ℕ, suc, ◌+◌, ◌<◌, ◌≤◌, Bool, true, false, eqb, List, [], ◌∷◌, ◌++◌, length, map, filter, drop, refl, sym, ap, ◌∙◌, subst, arith, inl, inr, length-append, All, remove, slice_index_or, not}
-use Rattle.route_drive.proofs.Common.{AllByRecursion, cases_Bool, cases_lt, cond-true, cond-false, false≢true, get_or_append_left, get_or-append_seam, All-append, All-cons, All-nil, sum_by_push, sum_by-cons, longest, Leg, Task, Stop, Pick, Drop, Alight, Visit, is_of_rider, is_of_passenger, IsKnown, place_of, boarding_of, room_after, ServesFrom, seconds_from, no_leg, leg_at, persons, IsLeg, IsTask, visit_at, visits_of, free_seats, IsOrderOf, Serves, seconds_of, eq-eqb, ne_eqb, eqb-true, not_from_false, not_from_true, map-map, nat_tests}
+use Rattle.route_drive.proofs.Common.{AllByRecursion, cases_lt, cond-true, cond-false, false≢true, get_or_append_left, get_or-append_seam, All-append, All-cons, All-nil, sum_by_push, sum_by-cons, longest, Leg, Task, Stop, Pick, Drop, Alight, Visit, is_of_rider, is_of_passenger, IsKnown, place_of, boarding_of, room_after, ServesFrom, seconds_from, no_leg, leg_at, persons, IsLeg, IsTask, visit_at, visits_of, free_seats, IsOrderOf, Serves, seconds_of, eq-eqb, ne_eqb, not_from_false, not_from_true, map-map, nat_tests}
 use Rattle.std.proofs.lemmas.List.Edits.{length-remove}
 use Rattle.stop_orders.specs.declared.visit.Visit.TheVariants.{Pickup, Dropoff}
 use Rattle.stop_orders.specs.Laws.{number_without, stop_without_passenger, without_passenger}
@@ -28,7 +28,7 @@ got_out points task j stops valid order =
     let within : j < length task.aboard.items = order.known.0 in
     record {
       valid = valid_without_passenger points task valid j within;
-      order = subst (λ ss. IsOrderOf (without_passenger j task) (map (stop_without_passenger j) ss)) first_left (order_without_passenger points task valid j within (Alight j ∷ stops) order);
+      order = subst (λ ss. IsOrderOf (without_passenger j task) (map (stop_without_passenger j) ss)) (skips (λ s. not (is_of_passenger j s)) (Alight j) stops (not_from_true (is_of_passenger j (Alight j)) (eq-eqb j j refl)) ∙ all_left) (order_without_passenger points task valid j within (Alight j ∷ stops) order);
       visits = subst (λ ss. map (visit_at (without_passenger j task)) (map (stop_without_passenger j) ss) ≡ map (visit_at task) ss) all_left
           (visits_renumbered (visit_at (without_passenger j task)) (visit_at task) (stop_without_passenger j) (is_of_passenger j) (visit_without_passenger points task valid j within) stops);
       room = omega (arith, persons_without points task valid j within, valid.seated);
@@ -36,16 +36,11 @@ got_out points task j stops valid order =
   where
     -- nobody else is this passenger
     nobody : filter (is_of_passenger j) stops ≡ []
-    nobody =
-        let e : Alight j ∷ filter (is_of_passenger j) stops ≡ Alight j ∷ [] = sym (takes (is_of_passenger j) (Alight j) stops (eq-eqb j j refl)) ∙ order.alights j order.known.0 in
-        ap (drop 1) e
+    nobody = grind (arith, nat_tests, order.alights j order.known.0)
 
     all_left : filter (λ s. not (is_of_passenger j s)) stops ≡ stops
     all_left = filter_all (λ s. not (is_of_passenger j s)) stops (all_of_filter (λ s. not (is_of_passenger j s) ≡ true) (is_of_passenger j) stops
         (subst (AllByRecursion (λ s. not (is_of_passenger j s) ≡ true)) (sym nobody) tt) (λ x e. not_from_false (is_of_passenger j x) e))
-
-    first_left : filter (λ s. not (is_of_passenger j s)) (Alight j ∷ stops) ≡ stops
-    first_left = skips (λ s. not (is_of_passenger j s)) (Alight j) stops (not_from_true (is_of_passenger j (Alight j)) (eq-eqb j j refl)) ∙ all_left
 
 -- whether the rider is picked up, or dropped, at a stop
 picks : ℕ → Stop → Bool
@@ -87,9 +82,7 @@ module _ (points : ℕ) (task : Task) (valid : IsTask points task) (i : ℕ) (st
   g = stop_after (Pick i) (length task.aboard.items)
 
   own_drop : filter (is_of_rider i) stops ≡ Drop i ∷ []
-  own_drop =
-      let e : Pick i ∷ filter (is_of_rider i) stops ≡ Pick i ∷ Drop i ∷ [] = sym (takes (is_of_rider i) (Pick i) stops (eq-eqb i i refl)) ∙ order.rides i among in
-      ap (drop 1) e
+  own_drop = grind (arith, nat_tests, order.rides i among)
 
   not_picked : (x : Stop) → is_of_rider i x ≡ false → picks i x ≡ false
   unfolding picks
@@ -108,31 +101,21 @@ module _ (points : ℕ) (task : Task) (valid : IsTask points task) (i : ℕ) (st
   renamed_own : (k : ℕ) → eqb k i ≡ true → g (Drop k) ≡ Alight (length task.aboard.items)
   renamed_own k e = cond-true (eqb k i) (Alight (length task.aboard.items)) (Drop (number_without i k)) e
 
-  last_leg : leg_at aboard' (length task.aboard.items) ≡ leg_at task.riders.items i
-  last_leg = get_or-append_seam task.aboard.items (leg_at task.riders.items i) [] no_leg
-
   picked_visit : (s : Stop) → After s → visit_at (task_after (Pick i) task) (g s) ≡ visit_at task s
   unfolding picks
   picked_visit (Pick k) h = ap (λ leg. Pickup leg.origin leg.latest_pickup leg.party) (leg_without task.riders.items i k among (not_same k i h.1))
-  picked_visit (Drop k) h = elim (cases_Bool (eqb k i)) [
-    | inl e ↦ ap (visit_at (task_after (Pick i) task)) (renamed_own k e) ∙ ap (λ leg. Dropoff leg.destination leg.latest_dropoff leg.ideal leg.party) (last_leg ∙ ap (λ n. leg_at task.riders.items n) (sym (eqb-true k i e)))
-    | inr e ↦ ap (visit_at (task_after (Pick i) task)) (renamed_ne k e) ∙ ap (λ leg. Dropoff leg.destination leg.latest_dropoff leg.ideal leg.party) (leg_without task.riders.items i k among (not_same k i e))
-  ]
+  picked_visit (Drop k) h = grind (arith, nat_tests, renamed_own k, renamed_ne k, get_or-append_seam task.aboard.items (leg_at task.riders.items i) [] no_leg, leg_without task.riders.items i k among)
   picked_visit (Alight k) h = ap (λ leg. Dropoff leg.destination leg.latest_dropoff leg.ideal leg.party) (get_or_append_left task.aboard.items (leg_at task.riders.items i ∷ []) no_leg k h.0)
 
   rider_tests : (k : ℕ) (s : Stop) → After s → is_of_rider k (g s) ≡ is_of_rider (old_number i k) s
   unfolding picks
   rider_tests k (Pick n) h = renumbered i k n (not_same n i h.1)
-  rider_tests k (Drop n) h = elim (cases_Bool (eqb n i)) [
-    | inl e ↦ ap (is_of_rider k) (renamed_own n e) ∙ sym (subst (λ m. eqb m (old_number i k) ≡ false) (sym (eqb-true n i e)) (old_number-ne i k))
-    | inr e ↦ ap (is_of_rider k) (renamed_ne n e) ∙ renumbered i k n (not_same n i e)
-  ]
+  rider_tests k (Drop n) h = grind (arith, nat_tests, renamed_own n, renamed_ne n, old_number-ne i k, renumbered i k n)
   rider_tests k (Alight n) h = refl
 
   passenger_tests : (k : ℕ) → k < length task.aboard.items → (s : Stop) → After s → is_of_passenger k (g s) ≡ is_of_passenger k s
-  passenger_tests k lt (Pick n) h = refl
   passenger_tests k lt (Drop n) h = grind (arith, nat_tests, renamed_own n, renamed_ne n)
-  passenger_tests k lt (Alight n) h = refl
+  passenger_tests k lt s h = refl
 
   last_tests : (s : Stop) → After s → is_of_passenger (length task.aboard.items) (g s) ≡ drops i s
   unfolding drops
@@ -152,14 +135,8 @@ module _ (points : ℕ) (task : Task) (valid : IsTask points task) (i : ℕ) (st
   picked_known : (s : Stop) → After s → IsKnown (length (remove task.riders.items i)) (length aboard') (g s)
   unfolding picks
   picked_known (Pick k) h = number_without-lt i k (length task.riders.items) (length (remove task.riders.items i)) among less (not_same k i h.1) h.0
-  picked_known (Drop k) h = elim (cases_Bool (eqb k i)) [
-    | inl e ↦ subst (IsKnown (length (remove task.riders.items i)) (length aboard')) (sym (renamed_own k e)) (let q = more in omega (arith, q))
-    | inr e ↦ subst (IsKnown (length (remove task.riders.items i)) (length aboard')) (sym (renamed_ne k e)) (number_without-lt i k (length task.riders.items) (length (remove task.riders.items i)) among less (not_same k i e) h.0)
-  ]
+  picked_known (Drop k) h = grind (arith, nat_tests, renamed_own k, renamed_ne k, more, number_without-lt i k (length task.riders.items) (length (remove task.riders.items i)) among less, h.0)
   picked_known (Alight k) h = let lt : k < length task.aboard.items = h.0 in let q = more in omega (arith, q)
-
-  ne_back : (k : ℕ) → eqb (old_number i k) i ≡ false
-  ne_back k = ne_eqb (old_number i k) i (λ q. not_same i (old_number i k) (old_number-ne i k) (sym q))
 
   picked_rides : (k : ℕ) → k < length (remove task.riders.items i) → filter (is_of_rider k) (map g stops) ≡ Pick k ∷ Drop k ∷ []
   picked_rides k h =
@@ -167,7 +144,7 @@ module _ (points : ℕ) (task : Task) (valid : IsTask points task) (i : ℕ) (st
       sym (skips (is_of_rider (old_number i k)) (Pick i) stops (old_number-ne i k)) ∙ order.rides (old_number i k) (old_number-lt i k (length task.riders.items) (length (remove task.riders.items i)) among less h) in
       filter_renamed (is_of_rider k) (is_of_rider (old_number i k)) g After (rider_tests k) stops after
       ∙ ap (map g) theirs
-      ∙ ap (λ d. Pick (number_without i (old_number i k)) ∷ d ∷ []) (renamed_ne (old_number i k) (ne_back k))
+      ∙ ap (λ d. Pick (number_without i (old_number i k)) ∷ d ∷ []) (renamed_ne (old_number i k) (ne_eqb (old_number i k) i (λ q. not_same i (old_number i k) (old_number-ne i k) (sym q))))
       ∙ ap (λ n. Pick n ∷ Drop n ∷ []) (renumbered_back i k)
 
   picked_alights : (k : ℕ) → k < length aboard' → filter (is_of_passenger k) (map g stops) ≡ Alight k ∷ []
@@ -214,9 +191,7 @@ module _ (points : ℕ) (task : Task) (valid : IsTask points task) (i : ℕ) (st
 -- one stop on
 onward : (points : ℕ) (task : Task) (stop : Stop) (stops : List Stop) → IsTask points task → IsOrderOf task (stop ∷ stops) → boarding_of (visit_at task stop) ≤ free_seats task → Onward points task stop stops
 onward points task (Pick i) stops valid order boards = got_in points task valid i stops order boards
-onward points task (Drop i) stops valid order boards =
-    let e : Drop i ∷ filter (is_of_rider i) stops ≡ Pick i ∷ Drop i ∷ [] = sym (takes (is_of_rider i) (Drop i) stops (eq-eqb i i refl)) ∙ order.rides i order.known.0 in
-    cc
+onward points task (Drop i) stops valid order boards = grind (arith, nat_tests, order.rides i order.known.0)
 onward points task (Alight j) stops valid order boards = got_out points task j stops valid order
 
 -- what remains, from the place and the second of the last stop that is done

@@ -11,7 +11,7 @@ module _ (settings : Settings) (roads : Roads) where
   entry_wait s later (Pickup vehicle rider second) reply lane is kept keeps =
       let there = keeps rider kept.1 kept.2 in
       let told : wait_of later (record { lane = lane; command = Pickup vehicle rider second; reply = reply }) ≡ second - there.0.time = ap (λ (o : Option BookRider). option_map_or (λ (r : BookRider). second - r.time) o 0) there.1 in
-      omega (arith, told, there.2.time, kept.3)
+      omega (arith, told, ap (λ (r : BookRider). r.time) there.2, kept.3)
   entry_wait s later command reply lane is kept keeps = absurd is
 
   -- the delay of one that is answered `dropped`
@@ -23,11 +23,11 @@ module _ (settings : Settings) (roads : Roads) where
       let known = subst (λ (o : Option BookRider). MatchOption o (d ≡ 0)
       (λ (r : BookRider). (seconds : ℕ) × IsTimeBetween roads.arcs (index_in roads.nodes r.origin) (index_in roads.nodes r.destination) seconds × (d ≡ second - ideal_dropoff r.time seconds))) there.1 delayed in
       let between : IsTimeBetween roads.arcs (index_in roads.nodes own.origin) (index_in roads.nodes own.destination) known.0 =
-      subst (λ (n : ℕ). IsTimeBetween roads.arcs (index_in roads.nodes n) (index_in roads.nodes own.destination) known.0) there.2.origin
-      (subst (λ (n : ℕ). IsTimeBetween roads.arcs (index_in roads.nodes there.0.origin) (index_in roads.nodes n) known.0) there.2.destination known.1) in
+      subst (λ (n : ℕ). IsTimeBetween roads.arcs (index_in roads.nodes n) (index_in roads.nodes own.destination) known.0) (ap (λ (r : BookRider). r.origin) there.2)
+      (subst (λ (n : ℕ). IsTimeBetween roads.arcs (index_in roads.nodes there.0.origin) (index_in roads.nodes n) known.0) (ap (λ (r : BookRider). r.destination) there.2) known.1) in
       let time : known.0 ≡ kept.3.seconds = between_unique roads.arcs (index_in roads.nodes own.origin) (index_in roads.nodes own.destination) known.0 kept.3.seconds between kept.3.between in
       let ideal : ideal_dropoff there.0.time known.0 ≡ ideal_dropoff own.time kept.3.seconds =
-      ap (λ (t : ℕ). ideal_dropoff t known.0) there.2.time ∙ ap (ideal_dropoff own.time) time in
+      ap (λ (r : BookRider). ideal_dropoff r.time known.0) there.2 ∙ ap (ideal_dropoff own.time) time in
       omega (arith, known.2, ideal, kept.3.in_time)
   entry_delay s later d command reply lane is kept keeps delayed = absurd is
 

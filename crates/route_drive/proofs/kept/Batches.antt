@@ -1,8 +1,7 @@
 -- At a seal the stops of each vehicle serve, by the batch's table, its passengers and the riders promised to it.
-use Rattle.std.proofs.Common.{◌≡◌, ℕ, zero, suc, ◌+◌, ◌<◌, ◌≤◌, Bool, true, false, cond, eqb, leb, nat_eq, List, [], ◌∷◌, length, get_or, map, Option, Some, None, refl, sym, ap, ◌∙◌, subst, arith, inl, inr, option_map, option_and_then, slice_get}
-use Rattle.route_drive.proofs.Common.{AllByRecursion, IsDistinct, cases_eq, cases_lt, sum_by-cons, Passenger, Promise, Rider, seat_in, look_up, KeysDiffer, shown, pool_promise, passenger_of, vehicle_of, asking, find_rider, BookRider, Status, Promised, Aboard, State, look_up-here, look_up-there, look_up-nil, Leg, leg_at, persons, IsTrip, request_at, no_request, KeysDiffer-from_rise, length-map, get_or-map, index_in, KeysRise, ne_eqb, eqb-true, leb-true, sum_by, below_from_sorted, nat_tests, sorted_from_strictly_increasing}
+use Rattle.std.proofs.Common.{◌≡◌, ℕ, zero, suc, ◌+◌, ◌<◌, ◌≤◌, false, nat_eq, List, [], ◌∷◌, length, get_or, map, Option, Some, None, refl, sym, ap, ◌∙◌, arith, inl, inr, slice_get}
+use Rattle.route_drive.proofs.Common.{AllByRecursion, IsDistinct, cases_eq, sum_by-cons, Passenger, Promise, Rider, look_up, KeysDiffer, shown, pool_promise, passenger_of, find_rider, BookRider, Promised, Aboard, State, Leg, leg_at, persons, IsTrip, request_at, no_request, KeysDiffer-from_rise, length-map, get_or-map, index_in, KeysRise, ne_eqb, sum_by, below_from_sorted, nat_tests, sorted_from_strictly_increasing}
 use Rattle.route_drive.proofs.kept.Walks.{index_at}
-use Rattle.std.specs.List.Sorted.{IsStrictlyIncreasing}
 use Rattle.std.proofs.lemmas.Map.Keys.{IsDistinct-from_apart}
 
 -- where a list has what is looked up
@@ -61,12 +60,6 @@ pub record IsAsking (now : ℕ) (r : BookRider) (q : Rider) : Type 0 where
   pub is : q ≡ shown r promise
   pub asked : r.time ≤ now
 
-pub asking_is : (now : ℕ) (r : BookRider) (q : Rider) → asking now r ≡ Some q → IsAsking now r q
-asking_is now r q e = grind (arith, nat_tests)
-
-pub promise_status : (status : Status) (p : Promise) → pool_promise status ≡ Some (Some p) → status ≡ Promised p
-promise_status status p e = grind arith
-
 -- a request that is promised to a vehicle
 pub record IsPromisedRider (s : State) (vehicle : ℕ) (id : ℕ) (q : Rider) : Type 0 where
   pub rider : BookRider
@@ -82,6 +75,3 @@ pub record IsRiderAboard (s : State) (vehicle : ℕ) (id : ℕ) (p : Passenger) 
   pub found : find_rider id s.riders ≡ Some rider
   pub status : rider.status ≡ Aboard vehicle
   pub is : passenger_of rider ≡ p
-
-pub seat_is : (x : ℕ) (r : BookRider) (p : Passenger) → seat_in x r ≡ Some p → (r.status ≡ Aboard x) × (passenger_of r ≡ p)
-seat_is x r p e = grind (arith, nat_tests)

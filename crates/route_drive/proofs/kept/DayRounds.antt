@@ -1,6 +1,6 @@
 -- The rounds of a day: requests, and in lane 0 a seal before them.
-use Rattle.std.proofs.Common.{◌≡◌, ℕ, ◌+◌, ◌<◌, ◌≤◌, max, Bool, true, false, not, cond, ltb, List, [], ◌∷◌, ◌++◌, length, drop, get_or, Option, Some, None, unwrap_or, refl, sym, ap, ◌∙◌, subst, arith, inl, inr, append_assoc, length-append, All, option_and_then}
-use Rattle.route_drive.proofs.Common.{AllByRecursion, list_any, option_or, cases_lt, All-head, All-tail, recursion_from_All, first_fault, first_fault-each, Command, Submit, Seal, IsRound, MayStand, NumberedLanes, empty_round, lane_at, day_fault, first_seal, is_of_day, is_seal_command, lane_fault, latest_seal, round_fault, seal_of, seals_fault, fault_at, ltb-false, true≢false, or_parts, get_or-append-add, take_at, get_or_past, nat_tests}
+use Rattle.std.proofs.Common.{◌≡◌, ℕ, ◌+◌, ◌<◌, ◌≤◌, Bool, true, false, not, cond, ltb, List, [], ◌∷◌, ◌++◌, length, drop, get_or, Option, Some, None, unwrap_or, refl, sym, ap, ◌∙◌, subst, arith, inl, inr, append_assoc, length-append, All, option_and_then}
+use Rattle.route_drive.proofs.Common.{AllByRecursion, list_any, option_or, cases_lt, All-head, All-tail, recursion_from_All, first_fault, first_fault-each, Command, Submit, Seal, IsRound, MayStand, NumberedLanes, empty_round, lane_at, day_fault, first_seal, is_of_day, is_seal_command, lane_fault, latest_seal, round_fault, seal_of, seals_fault, fault_at, ltb-false, true≢false, get_or-append-add, take_at, get_or_past, nat_tests}
 use Rattle.route_drive.proofs.DayLemmas.{latest-push}
 use Rattle.route_drive.proofs.kept.Lists.{both, all_weaker}
 use Rattle.route_drive.proofs.kept.Mixed.{IsRequest}
@@ -30,13 +30,6 @@ none_any p (x ∷ xs) e = grind (arith, nat_tests, none_any p xs)
 untold : {X : Type 0} (b : Bool) (x : X) → cond b (Some x) None ≡ None → b ≡ false
 untold b x e = grind arith
 
--- a command of a day in a lane other than 0 is a request
-asks_elsewhere : (lane : ℕ) → (lane ≡ 0 → ⊥) → (c : Command) → (not (is_of_day c) ≡ false) × MayStand lane c → IsRequest c
-asks_elsewhere lane other c two = grind arith
-
-asks_later : (c : Command) → (not (is_of_day c) ≡ false) × (is_seal_command c ≡ false) → IsRequest c
-asks_later c two = grind arith
-
 -- a lane in which nothing is foreign to a day
 lane_of_day : (round : NumberedLanes) (lane : ℕ) → first_fault (lane_fault round) (length round.lanes) ≡ None → AllByRecursion (λ c. not (is_of_day c) ≡ false) (lane_at round lane)
 lane_of_day round lane none = elim (cases_lt lane (length round.lanes)) [
@@ -44,16 +37,13 @@ lane_of_day round lane none = elim (cases_lt lane (length round.lanes)) [
   | inr h ↦ subst (AllByRecursion (λ c. not (is_of_day c) ≡ false)) (sym (get_or_past round.lanes lane [] h)) tt
 ]
 
-dropped : {X : Type 0} (P : X → Type 0) (x : X) (xs : List X) → AllByRecursion P (drop 1 (x ∷ xs)) → AllByRecursion P xs
-dropped P x xs all = all
-
 -- lane 0, by its first command
 own_lane : (latest before : ℕ) (round : NumberedLanes) → before ≤ latest → AllByRecursion (λ c. not (is_of_day c) ≡ false) (lane_at round 0) → AllByRecursion (λ c. is_seal_command c ≡ false) (drop 1 (lane_at round 0))
     → option_and_then (λ now. cond (ltb now latest) (Some (fault.SealBack round.number)) None) (seal_of round) ≡ None → IsDayLane before round
 own_lane latest before round le of_day unsealed back = by (lane_at round 0) refl of_day unsealed
   where
     asked : (cs : List Command) → AllByRecursion (λ c. not (is_of_day c) ≡ false) cs → AllByRecursion (λ c. is_seal_command c ≡ false) cs → AllByRecursion IsRequest cs
-    asked cs day sealed = all_weaker (λ c. (not (is_of_day c) ≡ false) × (is_seal_command c ≡ false)) IsRequest asks_later cs (both (λ c. not (is_of_day c) ≡ false) (λ c. is_seal_command c ≡ false) cs day sealed)
+    asked cs day sealed = all_weaker (λ c. (not (is_of_day c) ≡ false) × (is_seal_command c ≡ false)) IsRequest (λ c two. grind arith) cs (both (λ c. not (is_of_day c) ≡ false) (λ c. is_seal_command c ≡ false) cs day sealed)
 
     in_order : (now : ℕ) → seal_of round ≡ Some now → before ≤ now
     in_order now is =
@@ -64,9 +54,9 @@ own_lane latest before round le of_day unsealed back = by (lane_at round 0) refl
     by [] e day sealed = IsDayLane.asks (ap first_seal e) (subst (AllByRecursion IsRequest) (sym e) tt)
     by (Seal now ∷ cs) e day sealed =
         let is : seal_of round ≡ Some now = ap first_seal e in
-        IsDayLane.seals now cs is e (asked cs day.1 (dropped (λ c. is_seal_command c ≡ false) (Seal now) cs sealed)) (in_order now is)
+        IsDayLane.seals now cs is e (asked cs day.1 sealed) (in_order now is)
     by (Submit rider origin destination time party ∷ cs) e day sealed =
-        IsDayLane.asks (ap first_seal e) (subst (AllByRecursion IsRequest) (sym e) (tt, asked cs day.1 (dropped (λ c. is_seal_command c ≡ false) (Submit rider origin destination time party) cs sealed)))
+        IsDayLane.asks (ap first_seal e) (subst (AllByRecursion IsRequest) (sym e) (tt, asked cs day.1 sealed))
     by (command ∷ cs) e day sealed = absurd (true≢false day.0)
 
 day_round : (latest before : ℕ) (round : NumberedLanes) → before ≤ latest → IsRound round → round_fault latest round ≡ None → IsDayRound before round
@@ -75,13 +65,9 @@ day_round latest before round le is none =
     let rest = neither (seals_fault round) (option_and_then (λ now. cond (ltb now latest) (Some (fault.SealBack round.number)) None) (seal_of round)) lanes.1 in
     record {
       own = own_lane latest before round le (lane_of_day round 0 lanes.0) (none_any is_seal_command (drop 1 (lane_at round 0)) (untold (list_any is_seal_command (drop 1 (lane_at round 0))) (fault.Seals round.number) rest.0)) rest.1;
-      others = λ lane other. all_weaker (λ c. (not (is_of_day c) ≡ false) × MayStand lane c) IsRequest (asks_elsewhere lane other) (lane_at round lane)
+      others = λ lane other. all_weaker (λ c. (not (is_of_day c) ≡ false) × MayStand lane c) IsRequest (λ c two. grind arith) (lane_at round lane)
           (both (λ c. not (is_of_day c) ≡ false) (MayStand lane) (lane_at round lane) (lane_of_day round lane lanes.0) (recursion_from_All (MayStand lane) (lane_at round lane) (is.stand lane)));
     }
-
--- the second behind which the next round comes
-next_latest : (o : Option ℕ) (before latest : ℕ) → before ≤ latest → unwrap_or o before ≤ max (unwrap_or o 0) latest
-next_latest o before latest le = grind arith
 
 fault_front : (before : List NumberedLanes) (r : NumberedLanes) (rest : List NumberedLanes) → fault_at (before ++ r ∷ rest) (length before) ≡ round_fault (latest_seal before) r
 fault_front before r rest =
@@ -94,7 +80,7 @@ rounds_on [] before latest le none all = tt
 rounds_on (r ∷ rest) before latest le none all =
     let same : (before ++ r ∷ []) ++ rest ≡ before ++ r ∷ rest = append_assoc before (r ∷ []) rest in (
       day_round (latest_seal before) latest r le (All-head IsRound r rest all) (sym (fault_front before r rest) ∙ none (length before) (grind (arith, length-append))),
-      rounds_on rest (before ++ r ∷ []) (unwrap_or (seal_of r) latest) (subst (λ n. unwrap_or (seal_of r) latest ≤ n) (sym (latest-push before r)) (next_latest (seal_of r) latest (latest_seal before) le))
+      rounds_on rest (before ++ r ∷ []) (unwrap_or (seal_of r) latest) (subst (λ n. unwrap_or (seal_of r) latest ≤ n) (sym (latest-push before r)) (grind arith))
           (subst (λ l. (k : ℕ) → k < length l → fault_at l k ≡ None) (sym same) none) (All-tail IsRound r rest all),
     )
 

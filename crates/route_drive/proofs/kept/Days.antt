@@ -1,6 +1,6 @@
 -- A driven day, round by round.
-use Rattle.std.proofs.Common.{◌≡◌, ℕ, ◌≤◌, cond, eqb, List, [], ◌∷◌, ◌++◌, length, map, Option, Some, None, unwrap_or, refl, sym, ap, ◌∙◌, subst, arith, inl, inr, All, MatchOption, true, false}
-use Rattle.route_drive.proofs.Common.{AllByRecursion, option_map_or, cases_eq, cond-true, cond-false, Vehicle, next_position, look_up, RepliesAreSteps, state_after, find_vehicle, Command, Seal, Entry, Journal, ChosenTrip, Planned, PlannedStop, BookRider, State, look_up-here, look_up-there, look_up-nil, rounds-join, Settings, Roads, IsNetwork, NumberedLanes, lane_at, ClosesAreGood, IsRoundRun, IsRun, Course, seal_of, AreDriven, IsDrivenRound, IsPrecededBy, courses_after, courses_left, left_course, plan_in, planned_course, AreEntered, to_come, course_of, IsKept, IsServing, chosen_stops, stops_with, longest, second_of, eq-eqb, ne_eqb, flat_map, nat_tests}
+use Rattle.std.proofs.Common.{◌≡◌, ℕ, ◌≤◌, List, [], ◌∷◌, ◌++◌, length, map, Option, Some, None, unwrap_or, refl, sym, ap, ◌∙◌, subst, arith, All, MatchOption}
+use Rattle.route_drive.proofs.Common.{AllByRecursion, option_map_or, Vehicle, next_position, look_up, RepliesAreSteps, state_after, find_vehicle, Command, Seal, Entry, Journal, Planned, PlannedStop, State, rounds-join, Settings, Roads, IsNetwork, NumberedLanes, lane_at, ClosesAreGood, IsRoundRun, IsRun, Course, seal_of, AreDriven, IsDrivenRound, IsPrecededBy, courses_after, courses_left, left_course, plan_in, planned_course, AreEntered, to_come, course_of, IsKept, IsServing, stops_with, longest, second_of, flat_map, nat_tests}
 use Rattle.route_drive.proofs.kept.DayRounds.{AreDayRounds, IsDayLane, IsDayRound}
 use Rattle.route_drive.proofs.DriveLemmas.{courses_each}
 use Rattle.route_drive.proofs.LeaveLemmas.{count_stays, ids_stay}
@@ -13,10 +13,7 @@ use Rattle.route_drive.proofs.kept.States.{vehicle_id}
 course_by_ids : (xs ys : List Vehicle) (courses : List Course) (id : ℕ) → map (λ v. v.id) xs ≡ map (λ v. v.id) ys → course_of xs courses id ≡ course_of ys courses id
 course_by_ids [] [] courses id same = refl
 course_by_ids (x ∷ xs) (y ∷ ys) [] id same = refl
-course_by_ids (x ∷ xs) (y ∷ ys) (course ∷ courses) id same =
-    let head : x.id ≡ y.id = cc in
-    let tail : map (λ (v : Vehicle). v.id) xs ≡ map (λ (v : Vehicle). v.id) ys = cc in
-    grind (arith, nat_tests, course_by_ids xs ys courses id tail)
+course_by_ids (x ∷ xs) (y ∷ ys) (course ∷ courses) id same = grind (arith, nat_tests, same, course_by_ids xs ys courses id)
 course_by_ids xs ys courses id same = absurd cc
 
 -- a change of all courses that leaves nothing as it is
@@ -32,20 +29,10 @@ unfolding look_up
 course_made f [] id v found = absurd cc
 course_made f (w ∷ vehicles) id v found = grind (arith, nat_tests, course_made f vehicles id v)
 
--- the stops of a plan
-planned_stops : (riders : List BookRider) (planned : Planned) (v : Vehicle) → (planned_course riders planned v).stops.items ≡ chosen_stops planned v.id
-planned_stops riders planned v = grind arith
-
 -- the stops that are left after a seal, if there is one
 abbrev pub left_stops : Option ℕ → List PlannedStop → List PlannedStop
 left_stops None stops = stops
 left_stops (Some now) stops = to_come now stops
-
-left_is : (seal : Option ℕ) (course : Course) → (left_course seal course).stops.items ≡ left_stops seal course.stops.items
-left_is seal course = grind arith
-
-left_nothing : (seal : Option ℕ) → left_course seal (record { stops = record { items = [] }; target = None }) ≡ record { stops = record { items = [] }; target = None }
-left_nothing seal = grind arith
 
 -- what is on its way after a round, for a vehicle
 course_after : (s t : State) (round : NumberedLanes) (es : List Entry) (courses : List Course) (id : ℕ) (v : Vehicle) → map (λ v. v.id) t.vehicles ≡ map (λ v. v.id) s.vehicles → find_vehicle id t.vehicles ≡ Some v
@@ -53,12 +40,8 @@ course_after : (s t : State) (round : NumberedLanes) (es : List Entry) (courses 
 course_after s t round es courses id v ids found = by (plan_in es)
   where
     by : (o : Option Planned) → (course_of t.vehicles (option_map_or (λ planned. map (planned_course t.riders planned) t.vehicles) o (map (left_course (seal_of round)) courses)) id).stops.items ≡ stops_with o (λ id. left_stops (seal_of round) (course_of s.vehicles courses id).stops.items) id
-    by None =
-        ap (λ (c : Course). c.stops.items) (course_mapped (left_course (seal_of round)) (left_nothing (seal_of round)) t.vehicles courses id) ∙ left_is (seal_of round) (course_of t.vehicles courses id)
-        ∙ ap (λ (c : Course). left_stops (seal_of round) c.stops.items) (course_by_ids t.vehicles s.vehicles courses id ids)
-    by (Some planned) =
-        ap (λ (c : Course). c.stops.items) (course_made (planned_course t.riders planned) t.vehicles id v found) ∙ planned_stops t.riders planned v
-        ∙ ap (chosen_stops planned) (vehicle_id id t.vehicles v found)
+    by None = grind (arith, nat_tests, course_mapped (left_course (seal_of round)) (grind arith) t.vehicles courses id, course_by_ids t.vehicles s.vehicles courses id ids)
+    by (Some planned) = grind (arith, nat_tests, course_made (planned_course t.riders planned) t.vehicles id v found, vehicle_id id t.vehicles v found)
 
 -- the entries of journals, in order
 abbrev pub entries_in : List Journal → List Entry
@@ -99,29 +82,6 @@ module _ (settings : Settings) (roads : Roads) where
     };
   }
 
-  -- a round without a seal
-  quiet_round : (s : State) (courses : List Course) (latest : ℕ) (round : NumberedLanes) (es : List Entry) → IsOnDay s courses latest → seal_of round ≡ None → AllByRecursion IsRequest (lane_at round 0)
-      → IsMixed None (lane_at round 0) es → RepliesAreSteps roads.nodes settings.wait s es → IsRoundOver s courses latest round es
-  quiet_round s courses latest round es on none all mixed replies =
-      over_by s courses latest round es s.last_seal on.each
-      (subst (λ o. Ends settings roads s es (λ id. left_stops o (course_of s.vehicles courses id).stops.items) s.last_seal) (sym none)
-      (asked_end settings roads es s (λ id. (course_of s.vehicles courses id).stops.items) s.last_seal on.kept on.closed refl (mixed_asked es (lane_at round 0) all (asked_only roads.nodes settings.wait s es replies) mixed)))
-      (λ l is. subst (λ o. l ≤ unwrap_or o latest) (sym none) (on.last l is))
-
-  -- a round with one, before which these commands are entered
-  entered_round : (s : State) (courses : List Course) (latest : ℕ) (round driven : NumberedLanes) (es : List Entry) (now : ℕ) (entered cs : List Command) → IsNetwork roads → IsOnDay s courses latest
-      → seal_of round ≡ Some now → lane_at round 0 ≡ Seal now ∷ cs → AllByRecursion IsRequest cs → latest ≤ now
-      → AreEntered roads settings.dwell now s.vehicles courses entered → IsPrecededBy entered round driven
-      → IsMixed None (lane_at driven 0) es → RepliesAreSteps roads.nodes settings.wait s es → ClosesAreGood settings roads s es → IsRoundOver s courses latest round es
-  entered_round s courses latest round driven es now entered cs net on is lane all le are preceded mixed replies good =
-      let own : lane_at driven 0 ≡ entered ++ Seal now ∷ cs = preceded.first ∙ ap (λ l. entered ++ l) lane in
-      let ends : Ends settings roads s es (λ id. to_come now (course_of s.vehicles courses id).stops.items) (Some now) =
-      seal_round settings roads s courses now entered cs es net on.kept on.each on.closed (λ last h. let before = on.last last h in omega (arith, before, le)) are all
-      (subst (λ l. IsMixed None l es) own mixed) replies good in
-      over_by s courses latest round es (Some now) on.each
-      (subst (λ o. Ends settings roads s es (λ id. left_stops o (course_of s.vehicles courses id).stops.items) (Some now)) (sym is) ends)
-      (λ l e. subst (λ o. l ≤ unwrap_or o latest) (sym is) (let same : now ≡ l = cc in omega (arith, same)))
-
   -- a round of a day
   round_over : (s : State) (courses : List Course) (latest : ℕ) (round driven : NumberedLanes) (j : Journal) → IsNetwork roads → IsOnDay s courses latest → IsDayRound latest round
       → IsDrivenRound settings roads s courses round driven → j.base ≡ s → IsRoundRun settings roads driven j → IsRoundOver s courses latest round j.entries
@@ -141,10 +101,20 @@ module _ (settings : Settings) (roads : Roads) where
       by : IsDayLane latest round → IsRoundOver s courses latest round j.entries
       by (IsDayLane.asks none all) =
           let preceded : IsPrecededBy [] round driven = subst (WayOf settings roads s courses round driven) none is_driven in
-          quiet_round s courses latest round j.entries on none all (subst (λ l. IsMixed None l j.entries) preceded.first (in_order [] preceded)) replies
+          over_by s courses latest round j.entries s.last_seal on.each
+          (subst (λ o. Ends settings roads s j.entries (λ id. left_stops o (course_of s.vehicles courses id).stops.items) s.last_seal) (sym none)
+          (asked_end settings roads j.entries s (λ id. (course_of s.vehicles courses id).stops.items) s.last_seal on.kept on.closed refl (mixed_asked j.entries (lane_at round 0) all (asked_only roads.nodes settings.wait s j.entries replies)
+          (subst (λ l. IsMixed None l j.entries) preceded.first (in_order [] preceded)))))
+          (λ l is. subst (λ o. l ≤ unwrap_or o latest) (sym none) (on.last l is))
       by (IsDayLane.seals now cs is lane all le) =
           let way : WayOf settings roads s courses round driven (Some now) = subst (WayOf settings roads s courses round driven) is is_driven in
-          entered_round s courses latest round driven j.entries now way.0 cs net on is lane all le way.1 way.3 (in_order way.0 way.3) replies good
+          let own : lane_at driven 0 ≡ way.0 ++ Seal now ∷ cs = way.3.first ∙ ap (λ l. way.0 ++ l) lane in
+          let ends : Ends settings roads s j.entries (λ id. to_come now (course_of s.vehicles courses id).stops.items) (Some now) =
+          seal_round settings roads s courses now way.0 cs j.entries net on.kept on.each on.closed (λ last h. let before = on.last last h in omega (arith, before, le)) way.1 all
+          (subst (λ l. IsMixed None l j.entries) own (in_order way.0 way.3)) replies good in
+          over_by s courses latest round j.entries (Some now) on.each
+          (subst (λ o. Ends settings roads s j.entries (λ id. left_stops o (course_of s.vehicles courses id).stops.items) (Some now)) (sym is) ends)
+          (λ l e. subst (λ o. l ≤ unwrap_or o latest) (sym is) (let same : now ≡ l = cc in omega (arith, same)))
 
   -- rounds of a day that are over, with one more journal after them
   pub record AreOver (s : State) (courses : List Course) (rounds : List NumberedLanes) (js : List Journal) (end : NumberedLanes) (j : Journal) : Type 0 where

@@ -1,6 +1,6 @@
 -- Stops that are entered: what each leaves of what the vehicles have to do.
-use Rattle.std.proofs.Common.{◌≡◌, ℕ, ◌+◌, ◌-◌, ◌≤◌, Bool, true, false, List, [], ◌∷◌, ◌++◌, length, Some, None, refl, sym, ap, ◌∙◌, subst, arith, inl, inr, length-append}
-use Rattle.route_drive.proofs.Common.{AllByRecursion, option_map_or, cases_eq, MatchBool-at_true, MatchBool-at_false, sum_by-cons, sum_by_push, persons_aboard, Passenger, Vehicle, look_up, without, KeysDiffer, with_status, passenger_of, find_rider, find_passenger, takes_in, lets_out, PlannedStop, BookRider, Status, Promised, Aboard, Delivered, look_up-here, look_up-there, look_up-nil, without_key-absent, Settings, Roads, IsDroppedInTime, AreReached, party_at, seats_after, IsRightPickup, IsRightDropoff, IsRightStop, IsOfVehicle, calls_of, HasCalls, IsServing, eq-eqb, ne_eqb, sum_by, nat_tests}
+use Rattle.std.proofs.Common.{◌≡◌, ℕ, ◌+◌, ◌-◌, ◌≤◌, true, false, List, [], ◌∷◌, ◌++◌, length, Some, refl, sym, ap, ◌∙◌, subst, arith, inl, inr, length-append}
+use Rattle.route_drive.proofs.Common.{AllByRecursion, option_map_or, cases_eq, MatchBool-at_true, MatchBool-at_false, sum_by-cons, sum_by_push, persons_aboard, Passenger, Vehicle, look_up, without, KeysDiffer, with_status, passenger_of, find_rider, find_passenger, takes_in, lets_out, PlannedStop, BookRider, Status, Promised, Aboard, Delivered, without_key-absent, Settings, Roads, IsDroppedInTime, AreReached, party_at, seats_after, IsRightPickup, IsRightDropoff, IsRightStop, IsOfVehicle, calls_of, HasCalls, IsServing, sum_by, nat_tests}
 use Rattle.route_drive.proofs.kept.Lists.{both, all_weaker, all_from}
 use Rattle.route_drive.proofs.kept.Riders.{changed, find_other, find_same, same_party, seats_by_party, calls_own, calls_other, no_pickup, no_stop, right_elsewhere, serves_elsewhere}
 
@@ -22,14 +22,11 @@ module _ (settings : Settings) (roads : Roads) (riders : List BookRider) where
       → IsServing settings roads riders w free stops → IsServing settings roads (changed riders x status) w free stops
   others_serve x r status w free stops found old new serves = serves_elsewhere settings roads riders (changed riders x status) w free stops
       (λ y q at own. find_other riders x status y (λ e.
-      let same : find_rider x riders ≡ Some q = subst (λ k. find_rider k riders ≡ Some q) (sym e) at in
-      let is : q ≡ r = cc in
+      let is : q ≡ r = cc (e, at, found) in
       old (subst (λ (q : BookRider). IsOfVehicle w.id q.status) is own)))
       (λ y q at own. elim (cases_eq x y) [
         | inl e ↦
-            let here = find_same riders x status r found in
-            let there : find_rider x (changed riders x status) ≡ Some q = subst (λ k. find_rider k (changed riders x status) ≡ Some q) (sym e) at in
-            let is : q ≡ with_status status r = cc in
+            let is : q ≡ with_status status r = cc (find_same riders x status r found, e, at) in
             absurd (new (subst (λ (q : BookRider). IsOfVehicle w.id q.status) is own))
         | inr ne ↦ sym (find_other riders x status y ne) ∙ at
       ])
@@ -49,8 +46,7 @@ module _ (settings : Settings) (roads : Roads) (riders : List BookRider) where
       → IsServing settings roads (changed riders stop.rider (Aboard v.id)) (takes_in r stop.second v) (stop.second + settings.dwell) stops
   serves_on_picked v free stop stops r pick found status node fits serves =
       let own : calls_of stop.rider (stop ∷ stops) ≡ true ∷ false ∷ [] = (subst (λ t. HasCalls v.id t (calls_of stop.rider (stop ∷ stops))) status (serves.calls stop.rider r found)) refl in
-      let later : calls_of stop.rider stops ≡ false ∷ [] =
-      let e : stop.pick ∷ calls_of stop.rider stops ≡ true ∷ false ∷ [] = sym (calls_own stop.rider stop stops refl) ∙ own in ap tail e in
+      let later : calls_of stop.rider stops ≡ false ∷ [] = cc (calls_own stop.rider stop stops refl, own) in
       let party : party_at riders stop ≡ r.party = ap (λ o. option_map_or (λ (r : BookRider). r.party) o 0) found in
       let persons : persons_aboard (takes_in r stop.second v) ≡ persons_aboard v + r.party = sum_by_push (λ (p : Passenger). p.party) v.aboard.items (passenger_of r) in
       let after : seats_after riders stop (v.seats - persons_aboard v) ≡ v.seats - persons_aboard v - party_at riders stop = rw pick refl in
@@ -62,8 +58,7 @@ module _ (settings : Settings) (roads : Roads) (riders : List BookRider) where
               | inl e ↦
                   let drop : s.pick ≡ false = h.1 (sym e) in
                   let was = dropped_right v.id s drop h.0 in
-                  let at : find_rider stop.rider riders ≡ Some was.rider = subst (λ k. find_rider k riders ≡ Some was.rider) (sym e) was.found in
-                  let is : was.rider ≡ r = cc in
+                  let is : was.rider ≡ r = cc (e, was.found, found) in
                   rw drop (record {
                     rider = with_status (Aboard v.id) r;
                     found = subst (λ k. find_rider k (changed riders stop.rider (Aboard v.id)) ≡ Some (with_status (Aboard v.id) r)) e (find_same riders stop.rider (Aboard v.id) r found);
@@ -77,19 +72,13 @@ module _ (settings : Settings) (roads : Roads) (riders : List BookRider) where
             (no_pickup stop.rider stops (subst (λ bs. AllByRecursion (λ b. b ≡ false) bs) (sym later) (refl, tt))));
         calls = λ y q at. elim (cases_eq stop.rider y) [
           | inl e ↦
-              let here = find_same riders stop.rider (Aboard v.id) r found in
-              let there : find_rider stop.rider (changed riders stop.rider (Aboard v.id)) ≡ Some q = subst (λ k. find_rider k (changed riders stop.rider (Aboard v.id)) ≡ Some q) (sym e) at in
-              let is : with_status (Aboard v.id) r ≡ q = cc in
+              let is : with_status (Aboard v.id) r ≡ q = cc (find_same riders stop.rider (Aboard v.id) r found, e, at) in
               subst (λ (q : BookRider). HasCalls v.id q.status (calls_of y stops)) is (λ same. subst (λ k. calls_of k stops ≡ false ∷ []) e later)
           | inr ne ↦ subst (HasCalls v.id q.status) (calls_other y stop stops ne) (serves.calls y q (sym (find_other riders stop.rider (Aboard v.id) y ne) ∙ at))
         ];
         few = let f = serves.few in omega (arith, f, length-append v.aboard.items (passenger_of r ∷ []));
       }
     where
-      tail : List Bool → List Bool
-      tail [] = []
-      tail (b ∷ bs) = bs
-
       still : {second : ℕ} → IsDroppedInTime roads settings.delay r second → IsDroppedInTime roads settings.delay (with_status (Aboard v.id) r) second
       still in_time = record { seconds = in_time.seconds; between = in_time.between; in_time = in_time.in_time }
 
@@ -106,11 +95,9 @@ module _ (settings : Settings) (roads : Roads) (riders : List BookRider) where
       → IsServing settings roads (changed riders stop.rider Delivered) (lets_out r stop.second v) (stop.second + settings.dwell) stops
   serves_on_dropped v free stop stops r p pick found id none node differ seated same fits serves =
       let party : party_at riders stop ≡ r.party = ap (λ o. option_map_or (λ (r : BookRider). r.party) o 0) found in
-      let less = fewer stop.rider v.aboard.items p differ seated in
-      let persons : persons_aboard (lets_out r stop.second v) + p.party ≡ persons_aboard v =
-      subst (λ k. sum_by (λ (p : Passenger). p.party) (without (λ (p : Passenger). p.rider) k v.aboard.items) + p.party ≡ persons_aboard v) (sym id) less.1 in
-      let count : length (without (λ (p : Passenger). p.rider) r.id v.aboard.items) + 1 ≡ length v.aboard.items =
-      subst (λ k. length (without (λ (p : Passenger). p.rider) k v.aboard.items) + 1 ≡ length v.aboard.items) (sym id) less.0 in
+      let less = fewer r.id v.aboard.items p differ (subst (λ k. find_passenger k v.aboard.items ≡ Some p) (sym id) seated) in
+      let persons : persons_aboard (lets_out r stop.second v) + p.party ≡ persons_aboard v = less.1 in
+      let count : length (without (λ (p : Passenger). p.rider) r.id v.aboard.items) + 1 ≡ length v.aboard.items = less.0 in
       let after : seats_after riders stop (v.seats - persons_aboard v) ≡ v.seats - persons_aboard v + party_at riders stop = rw pick refl in
       record {
         reached = subst (λ n. AreReached roads settings.dwell n (stop.second + settings.dwell) stops) node serves.reached.1;
@@ -120,9 +107,7 @@ module _ (settings : Settings) (roads : Roads) (riders : List BookRider) where
             (both (IsRightStop settings roads riders v.id) (λ (s : PlannedStop). s.rider ≡ stop.rider → ⊥) stops serves.right.1 (no_stop stop.rider stops none));
         calls = λ y q at. elim (cases_eq stop.rider y) [
           | inl e ↦
-              let here = find_same riders stop.rider Delivered r found in
-              let there : find_rider stop.rider (changed riders stop.rider Delivered) ≡ Some q = subst (λ k. find_rider k (changed riders stop.rider Delivered) ≡ Some q) (sym e) at in
-              let is : with_status Delivered r ≡ q = cc in
+              let is : with_status Delivered r ≡ q = cc (find_same riders stop.rider Delivered r found, e, at) in
               subst (λ (q : BookRider). HasCalls v.id q.status (calls_of y stops)) is tt
           | inr ne ↦ subst (HasCalls v.id q.status) (calls_other y stop stops ne) (serves.calls y q (sym (find_other riders stop.rider Delivered y ne) ∙ at))
         ];

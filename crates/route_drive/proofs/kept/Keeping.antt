@@ -1,6 +1,6 @@
 -- What entries keep, gathered one by one.
-use Rattle.std.proofs.Common.{◌≡◌, ℕ, arith, Bool, true, false, cond, List, [], ◌∷◌, ◌++◌, Some, refl, sym, ap, subst, All, inl, inr}
-use Rattle.route_drive.proofs.Common.{All-nil, All-cons, HasSeats, state_after, find_rider, step, Command, Report, Pickup, Dropoff, Entry, PlannedStop, Reply, Placed, Picked, Dropped, BookRider, State, Settings, Roads, stop_command, EntryKeeps, EntriesKeep, IsPickedBy, StateKeeps, IsBound, IsBoundBy, IsDayState, IsDone, IsRightStop, KeepsBounds}
+use Rattle.std.proofs.Common.{◌≡◌, ℕ, arith, cond, List, [], ◌∷◌, ◌++◌, refl, sym, ap, subst, All, inl, inr}
+use Rattle.route_drive.proofs.Common.{All-nil, All-cons, HasSeats, state_after, step, Command, Report, Entry, PlannedStop, Reply, Placed, Picked, Dropped, BookRider, State, Settings, Roads, stop_command, EntryKeeps, EntriesKeep, IsPickedBy, StateKeeps, IsBound, IsBoundBy, IsDayState, IsDone, IsRightStop, KeepsBounds}
 use Rattle.route_drive.proofs.kept.Riders.{right_cases}
 
 -- what one entry keeps, and what it leaves to those after it
@@ -58,9 +58,7 @@ module _ (settings : Settings) (roads : Roads) where
   stop_by : (s : State) (v : ℕ) (stop : PlannedStop) → IsRightStop settings roads s.riders v stop → (rider limit : ℕ) → IsBound s rider limit → IsPickedBy rider limit (stop_command v stop)
   stop_by s v stop own rider limit bound = elim (right_cases settings roads s.riders v stop own) [
     | inl right ↦ rw right.0 (λ same.
-        let found : find_rider rider s.riders ≡ Some right.1.rider = subst (λ k. find_rider k s.riders ≡ Some right.1.rider) same right.1.found in
-        let there = bound.found in
-        let is : bound.of ≡ right.1.rider = cc in
+        let is : bound.of ≡ right.1.rider = cc (same, right.1.found, bound.found) in
         subst (IsBoundBy limit) right.1.status (subst (λ (r : BookRider). IsBoundBy limit r.status) is bound.bound))
     | inr right ↦ rw right.0 tt
   ]

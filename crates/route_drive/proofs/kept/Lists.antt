@@ -1,5 +1,5 @@
 -- Filters, and lists whose parts are counted.
-use Rattle.std.proofs.Common.{◌≡◌, ℕ, zero, suc, ◌+◌, ◌*◌, ◌<◌, ◌≤◌, Bool, true, false, not, List, [], ◌∷◌, length, map, filter, refl, sym, ap, ◌∙◌, subst, arith, inl, inr}
+use Rattle.std.proofs.Common.{◌≡◌, ℕ, zero, suc, ◌+◌, ◌*◌, ◌<◌, ◌≤◌, Bool, true, false, not, List, [], ◌∷◌, length, map, filter, refl, ap, ◌∙◌, arith, inl, inr}
 use Rattle.route_drive.proofs.Common.{AllByRecursion, cases_Bool, false≢true, length-filter_both, nat_tests}
 pub use Rattle.stop_orders.proofs.lemmas.DeletionLemmas.{skips, takes}
 

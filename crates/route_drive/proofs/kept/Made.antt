@@ -1,8 +1,8 @@
 -- A close with a good plan on a driven day: the chosen trips are what the vehicles now serve, and the state after it is kept.
-use Rattle.std.proofs.Common.{◌≡◌, ◌⊎◌, ℕ, ◌+◌, ◌<◌, ◌≤◌, Bool, true, false, cond, List, [], ◌∷◌, length, get_or, map, Option, Some, None, refl, sym, ap, ◌∙◌, subst, arith, inl, inr, slice_get, is_some, option_map, option_and_then, unwrap_or, ◌&&◌, min, ◌-◌, ◌*◌, MatchBool, max, zero, suc, Contains}
-use Rattle.route_drive.proofs.Common.{AllByRecursion, cases_Bool, slice_get_within, get_or_from_slice_get, slice_get-get_or, travel_time, Times, Batch, Promise, Rider, Vehicle, HasGraphsWith, IsGoodPlan, request_at, IsSettled, HasRightLimit, shown, find_rider, find_vehicle, PlannedStop, Planned, State, Settings, Roads, index_in, Settled, vehicle_at, rider_at, AreTravelTimes, IsKept, option_map_or, cases_lt, false≢true, get_or-map, length-map, persons_aboard, Passenger, rider_id, told_stop, IsTripOf, times_served_some, times_served_found, in_choice, choice_at, riders_at, is_in, IsLegOf, no_request, IsPlaced, picks, trip_picks, after_plan, in_batch, planned_status, look_up, KeysDiffer, with_status, passenger_of, is_active, ChosenTrip, BookRider, Status, Waiting, Promised, Aboard, look_up-at, KeysDiffer-from_rise, has_node, Leg, Stop, Pick, Drop, Alight, IsKnown, trip_task, no_leg, leg_at, visit_at, free_seats, calls_of, find_passenger, and_from, and_parts, cond-true, times_chosen, ideal_second, Task, look_up-map, look_up-key, latest_of, Visit, ideal_dropoff, IsDroppedInTime, AreReached, party_at, HasSeatsFor, IsRightPickup, IsRightDropoff, IsRightStop, IsOfVehicle, HasCalls, IsServing, seat_in, persons, ShowsRiders, get_or_default, is_promised_to, IsLive, Delivered, MatchBool-at_false, must_be_served, promised_limit, IsPromiseKept, step, Command, Reply, look_up-here, look_up-there, chosen_stops, IsBoundBy, IsBound, KeepsBounds, eq-eqb, true≢false, lt-ltb, gets, nat_tests}
+use Rattle.std.proofs.Common.{◌≡◌, ◌⊎◌, ℕ, ◌+◌, ◌<◌, ◌≤◌, Bool, true, false, cond, List, [], ◌∷◌, length, get_or, map, Option, Some, None, refl, sym, ap, ◌∙◌, subst, arith, inl, inr, slice_get, is_some, option_map, unwrap_or, ◌&&◌, ◌-◌, ◌*◌, MatchBool, max, zero, suc, Contains}
+use Rattle.route_drive.proofs.Common.{AllByRecursion, cases_Bool, slice_get_within, get_or_from_slice_get, slice_get-get_or, travel_time, Times, Batch, Promise, Rider, Vehicle, HasGraphsWith, IsGoodPlan, request_at, IsSettled, shown, find_rider, find_vehicle, PlannedStop, Planned, State, Settings, Roads, index_in, Settled, vehicle_at, rider_at, AreTravelTimes, IsKept, option_map_or, cases_lt, false≢true, get_or-map, length-map, persons_aboard, Passenger, rider_id, told_stop, IsTripOf, times_served_some, times_served_found, in_choice, choice_at, riders_at, is_in, IsLegOf, no_request, IsPlaced, picks, trip_picks, after_plan, in_batch, planned_status, look_up, KeysDiffer, with_status, is_active, ChosenTrip, BookRider, Status, Waiting, Promised, Aboard, look_up-at, KeysDiffer-from_rise, has_node, Leg, Stop, Pick, Drop, Alight, IsKnown, trip_task, no_leg, leg_at, visit_at, free_seats, calls_of, and_from, and_parts, cond-true, times_chosen, ideal_second, Task, look_up-map, look_up-key, latest_of, Visit, ideal_dropoff, IsDroppedInTime, AreReached, party_at, HasSeatsFor, IsRightPickup, IsRightDropoff, IsRightStop, IsOfVehicle, HasCalls, IsServing, ShowsRiders, get_or_default, is_promised_to, Delivered, MatchBool-at_false, must_be_served, IsPromiseKept, step, Command, Reply, chosen_stops, IsBoundBy, IsBound, KeepsBounds, eq-eqb, true≢false, lt-ltb, gets, nat_tests}
 use Rattle.route_drive.proofs.kept.Batches.{found_at, same_place, IsAsking, IsRiderAboard, same_persons, other_id}
-use Rattle.route_drive.proofs.kept.Served.{request_rider, vehicle_found}
+use Rattle.route_drive.proofs.kept.Served.{passenger_at, request_rider, vehicle_found}
 use Rattle.route_drive.proofs.kept.Trips.{vehicle_of_number, not_late, number_of_vehicle, promise_is_held, trip_of, trip_back, trip_is, one_trip, told_id, row_of, rider_aboard, known, member_calls, passenger_calls, other_calls}
 use Rattle.route_drive.proofs.kept.Told.{told_from, none_promised, one_promised, IsPickPromised, found_among, none_among, IsTold, told_reached, told_seats, told_all, told_length}
 use Rattle.route_drive.proofs.kept.Walks.{has_index, name_at, is_node_at}
@@ -172,6 +172,34 @@ module _ (settings : Settings) (roads : Roads) (s : State) (stops : ℕ → List
   promised_in_batch z r p found status =
       ap (λ z. is_some (look_up (λ (r : Rider). r.id) z b.riders)) (found_id z s.riders r found) ∙ ap is_some (shows.promised z r p found status)
 
+  -- a rider after the plan: as before and without a promise, waiting, or promised by a trip
+  data IsAfter (z : ℕ) (q : BookRider) : Type 0 where
+    unchanged : find_rider z s.riders ≡ Some q → ((p : Promise) → q.status ≡ Promised p → ⊥) → IsAfter z q
+    left_waiting : q.status ≡ Waiting → IsAfter z q
+    on_trip : (j : ℕ) (other : HasTrip j) (i : ℕ) (h : i < length (riders_at good.graph other.is.row)) → (request_at b.riders (get_or (riders_at good.graph other.is.row) i 0)).id ≡ z
+        → q.status ≡ Promised (record { vehicle = other.x.id; pickup = (member_promised j other i h).second }) → q.time ≤ b.sealed_at → IsAfter z q
+
+  after_plan_is : (z : ℕ) (q : BookRider) → find_rider z riders' ≡ Some q → IsAfter z q
+  after_plan_is z q e = by (find_rider z s.riders) refl (sym (find_planned z) ∙ e)
+    where
+      asks : (r : BookRider) → find_rider z s.riders ≡ Some r → (n : ℕ) → n < length b.riders → (request_at b.riders n).id ≡ r.id → IsPlaced' n → IsAfter z (with_status (planned_status (picks planned.chosen) r.id) r)
+      asks r f n low name (stays out) = left_waiting (ap (planned_status (picks planned.chosen)) (sym name) ∙ left_status n low out)
+      asks r f n low name (rides j other i h at) =
+          let of = planned_rider n low in
+          let id : (request_at b.riders n).id ≡ z = name ∙ found_id z s.riders r f in
+          let same : of.0 ≡ r = cc (id, of.1, f) in
+          on_trip j other i h (ap (λ m. (request_at b.riders m).id) at ∙ id)
+          (ap (planned_status (picks planned.chosen)) (sym name) ∙ ap (λ m. planned_status (picks planned.chosen) (request_at b.riders m).id) (sym at) ∙ member_status j other i h)
+          (subst (λ (r : BookRider). r.time ≤ b.sealed_at) same of.2.asked)
+
+      with_r : (r : BookRider) → find_rider z s.riders ≡ Some r → (o : Bool) → (is_active r.status && in_batch b.riders r.id) ≡ o → IsAfter z (cond o (with_status (planned_status (picks planned.chosen) r.id) r) r)
+      with_r r f true g = let n = number_in_batch b.riders r.id (and_parts (is_active r.status) (in_batch b.riders r.id) g).1 in asks r f n.0 n.1 n.2 (where_is n.0)
+      with_r r f false g = unchanged f (λ p t. true≢false (sym (and_from (is_active r.status) (in_batch b.riders r.id) (ap is_active t) (promised_in_batch z r p f t)) ∙ g))
+
+      by : (o : Option BookRider) → find_rider z s.riders ≡ o → option_map (after_plan b.riders (picks planned.chosen)) o ≡ Some q → IsAfter z q
+      by None f g = absurd cc
+      by (Some r) f g = let is : after_plan b.riders (picks planned.chosen) r ≡ q = cc in subst (IsAfter z) is (with_r r f (is_active r.status && in_batch b.riders r.id) refl)
+
   module _ (k : ℕ) (own : HasTrip k) where
     abbrev trip : List ℕ
     trip = riders_at good.graph own.is.row
@@ -210,14 +238,7 @@ module _ (settings : Settings) (roads : Roads) (s : State) (stops : ℕ → List
       pub latest_pickup : leg.latest_pickup ≤ r.time + settings.wait
 
     limit_low : (n : ℕ) → n < length settled.riders → (rider_at settled n).leg.latest_pickup ≤ (request_at b.riders n).time + settings.wait
-    limit_low n h = elim (limits.limits n h) [
-      | inl live ↦ subst (λ m. m ≤ (request_at b.riders n).time + settings.wait) (sym live.1) (low (request_at b.riders n) (request_at b.riders n).promise)
-      | inr other ↦ omega (arith, other.1)
-    ]
-      where
-        low : (q : Rider) (o : Option Promise) → option_map_or (λ (p : Promise). min p.pickup (q.time + settings.wait)) o (q.time + settings.wait) ≤ q.time + settings.wait
-        low q None = omega arith
-        low q (Some p) = omega arith
+    limit_low n h = grind (arith, nat_tests, limits.limits n h)
 
     pub member_leg : (i : ℕ) → i < length trip → HasLeg (get_or trip i 0) (leg_at (map (λ r. (rider_at settled r).leg) trip) i)
     member_leg i h =
@@ -301,9 +322,6 @@ module _ (settings : Settings) (roads : Roads) (s : State) (stops : ℕ → List
       pub in_time : stop.second ≤ (member_leg i within).r.time + settings.wait
       pub in_limit : stop.second ≤ (rider_at settled (get_or trip i 0)).leg.latest_pickup
 
-    at_point : (o n : ℕ) → slice_get points o ≡ Some n → get_or points o 0 ≡ n
-    at_point o n e = get_or_from_slice_get points o n 0 e
-
     dropped_in_time : (leg : Leg) (r : BookRider) (second : ℕ) → slice_get points leg.origin ≡ Some r.origin → slice_get points leg.destination ≡ Some r.destination
         → leg.ideal ≡ ideal_dropoff r.time (travel_time times leg.origin leg.destination) → leg.latest_dropoff ≡ leg.ideal + settings.delay → second ≤ leg.latest_dropoff → IsDroppedInTime roads settings.delay r second
     dropped_in_time leg r second origin destination ideal latest le = record {
@@ -324,7 +342,7 @@ module _ (settings : Settings) (roads : Roads) (s : State) (stops : ℕ → List
               within = h;
               rider = told_name i h;
               pick = refl;
-              node = at_point (leg_at (map (λ r. (rider_at settled r).leg) trip) i).origin leg.r.origin leg.origin;
+              node = get_or_from_slice_get points (leg_at (map (λ r. (rider_at settled r).leg) trip) i).origin leg.r.origin 0 leg.origin;
               in_time = omega (arith, le, leg.latest_pickup);
               in_limit = omega (arith, le, same);
             })
@@ -336,7 +354,7 @@ module _ (settings : Settings) (roads : Roads) (s : State) (stops : ℕ → List
                 rider = with_status (planned_status (picks planned.chosen) (request_at b.riders (get_or trip i 0)).id) leg.r;
                 found = ap (λ z. find_rider z riders') (told_name i h) ∙ leg.now_found;
                 own = subst (IsOfVehicle own.x.id) (sym (member_status k own i h)) refl;
-                node = at_point (leg_at (map (λ r. (rider_at settled r).leg) trip) i).destination leg.r.destination leg.destination;
+                node = get_or_from_slice_get points (leg_at (map (λ r. (rider_at settled r).leg) trip) i).destination leg.r.destination 0 leg.destination;
                 in_time = dropped_in_time (leg_at (map (λ r. (rider_at settled r).leg) trip) i) (with_status (planned_status (picks planned.chosen) (request_at b.riders (get_or trip i 0)).id) leg.r) second leg.origin leg.destination leg.ideal leg.latest_dropoff le;
               },
             )
@@ -349,7 +367,7 @@ module _ (settings : Settings) (roads : Roads) (s : State) (stops : ℕ → List
                 rider = of.rider;
                 found = ap (λ z. find_rider z riders') (told_aboard j) ∙ passenger_stays (get_or (map (λ (p : Passenger). p.rider) own.x.aboard.items) j 0) of.rider own.x.id of.found of.status;
                 own = subst (IsOfVehicle own.x.id) (sym of.status) refl;
-                node = at_point (leg_at (vehicle_at settled k).aboard.items j).destination of.rider.destination leg.destination_place;
+                node = get_or_from_slice_get points (leg_at (vehicle_at settled k).aboard.items j).destination of.rider.destination 0 leg.destination_place;
                 in_time = dropped_in_time (leg_at (vehicle_at settled k).aboard.items j) of.rider second leg.origin_place leg.destination_place leg.ideal leg.latest_dropoff le;
               },
             )
@@ -393,49 +411,22 @@ module _ (settings : Settings) (roads : Roads) (s : State) (stops : ℕ → List
     same_trip j other e = let a : slice_get planned.chosen k ≡ Some other.t = subst (λ j. slice_get planned.chosen j ≡ Some other.t) e other.chosen in let c = own.chosen in cc
 
     -- the calls of whoever is of the vehicle after the plan
-    batch_calls : (z : ℕ) (r : BookRider) → find_rider z s.riders ≡ Some r → in_batch b.riders r.id ≡ true → HasCalls own.x.id (planned_status (picks planned.chosen) r.id) (calls_of z own.t.stops.items)
-    batch_calls z r found among = let n = number_in_batch b.riders r.id among in subst (λ id. HasCalls own.x.id (planned_status (picks planned.chosen) id) (calls_of z own.t.stops.items)) n.2 (placed_calls n.0 n.1 n.2 (where_is n.0))
-      where
-        id : r.id ≡ z
-        id = found_id z s.riders r found
-
-        placed_calls : (n : ℕ) → n < length b.riders → (request_at b.riders n).id ≡ r.id → IsPlaced' n → HasCalls own.x.id (planned_status (picks planned.chosen) (request_at b.riders n).id) (calls_of z own.t.stops.items)
-        placed_calls n low e (stays out) = subst (λ t. HasCalls own.x.id t (calls_of z own.t.stops.items)) (sym (left_status n low out)) tt
-        placed_calls n low e (rides j other i h at) =
-            let status : planned_status (picks planned.chosen) (request_at b.riders n).id ≡ Promised (record { vehicle = other.x.id; pickup = (member_promised j other i h).second }) =
-            ap (λ m. planned_status (picks planned.chosen) (request_at b.riders m).id) (sym at) ∙ member_status j other i h in
-            let calls : calls_of (request_at b.riders (get_or (riders_at good.graph other.is.row) i 0)).id other.t.stops.items ≡ true ∷ false ∷ [] =
-            member_calls settings roads s stops b settled points times kept shows early limits table planned good j other.within other.x other.at other.t other.is i h in
-            let name : (request_at b.riders (get_or (riders_at good.graph other.is.row) i 0)).id ≡ z = ap (λ m. (request_at b.riders m).id) at ∙ e ∙ id in
-            subst (λ t. HasCalls own.x.id t (calls_of z own.t.stops.items)) (sym status)
-            (λ same. ap (λ (t : ChosenTrip). calls_of z t.stops.items) (sym (same_trip j other (one_number j other same))) ∙ ap (λ z. calls_of z other.t.stops.items) (sym name) ∙ calls)
-
-    other_status_calls : (z : ℕ) (r : BookRider) → find_rider z s.riders ≡ Some r → (is_active r.status && in_batch b.riders r.id) ≡ false → HasCalls own.x.id r.status (calls_of z own.t.stops.items)
-    other_status_calls z r found out = by r.status refl
-      where
-        by : (t : Status) → r.status ≡ t → HasCalls own.x.id t (calls_of z own.t.stops.items)
-        by (Promised p) e =
-            absurd (true≢false (sym (and_from (is_active r.status) (in_batch b.riders r.id) (ap is_active e) (promised_in_batch z r p found e)) ∙ out))
-        by (Aboard u) e = λ same.
-            let found_x = vehicle_found settings roads s stops b settled points times kept shows early limits table k own.x own.at in
-            let at_z : find_passenger z own.x.aboard.items ≡ Some (passenger_of r) =
-            ap (option_and_then (λ (v : Vehicle). find_passenger z v.aboard.items)) (sym found_x) ∙ kept.state.consistent.aboard own.x.id z ∙ ap (option_and_then (seat_in own.x.id)) found ∙ rw (e, eq-eqb u own.x.id same) refl in
-            let place = found_at (λ (p : Passenger). p.rider) z own.x.aboard.items (passenger_of r) at_z in
-            let name : get_or (map (λ (p : Passenger). p.rider) own.x.aboard.items) place.0 0 ≡ z =
-            get_or-map (λ (p : Passenger). p.rider) own.x.aboard.items place.0 (record { rider = 0; origin = 0; destination = 0; time = 0; party = 0 }) 0 place.1 ∙ ap (λ (p : Passenger). p.rider) (place.2 (record { rider = 0; origin = 0; destination = 0; time = 0; party = 0 })) ∙ found_id z s.riders r found in
-            ap (λ z. calls_of z own.t.stops.items) (sym name) ∙ passenger_calls settings roads s stops b settled points times kept shows early limits table planned good k own.within own.x own.at own.t own.is place.0 place.1
-        by status e = tt
-
     items_calls : (z : ℕ) (q : BookRider) → find_rider z riders' ≡ Some q → HasCalls own.x.id q.status (calls_of z own.t.stops.items)
-    items_calls z q e = by (find_rider z s.riders) refl (sym (find_planned z) ∙ e)
+    items_calls z q e = by (after_plan_is z q e)
       where
-        with_r : (r : BookRider) → find_rider z s.riders ≡ Some r → (o : Bool) → (is_active r.status && in_batch b.riders r.id) ≡ o → cond o (with_status (planned_status (picks planned.chosen) r.id) r) r ≡ q → HasCalls own.x.id q.status (calls_of z own.t.stops.items)
-        with_r r f true g h = subst (λ (q : BookRider). HasCalls own.x.id q.status (calls_of z own.t.stops.items)) h (batch_calls z r f (and_parts (is_active r.status) (in_batch b.riders r.id) g).1)
-        with_r r f false g h = subst (λ (q : BookRider). HasCalls own.x.id q.status (calls_of z own.t.stops.items)) h (other_status_calls z r f g)
+        seated : find_rider z s.riders ≡ Some q → ((p : Promise) → q.status ≡ Promised p → ⊥) → (t : Status) → q.status ≡ t → HasCalls own.x.id t (calls_of z own.t.stops.items)
+        seated found none (Promised p) is = absurd (none p is)
+        seated found none (Aboard u) is = λ same.
+            let place = passenger_at settings roads s stops b settled points times kept shows early limits table k own.x own.at z q found (is ∙ ap Aboard same) in
+            ap (λ z. calls_of z own.t.stops.items) (sym place.2) ∙ passenger_calls settings roads s stops b settled points times kept shows early limits table planned good k own.within own.x own.at own.t own.is place.0 place.1
+        seated found none status is = tt
 
-        by : (o : Option BookRider) → find_rider z s.riders ≡ o → option_map (after_plan b.riders (picks planned.chosen)) o ≡ Some q → HasCalls own.x.id q.status (calls_of z own.t.stops.items)
-        by None f g = absurd cc
-        by (Some r) f g = with_r r f (is_active r.status && in_batch b.riders r.id) refl (let h : Some (after_plan b.riders (picks planned.chosen) r) ≡ Some q = g in cc)
+        by : IsAfter z q → HasCalls own.x.id q.status (calls_of z own.t.stops.items)
+        by (unchanged found none) = seated found none q.status refl
+        by (left_waiting waits) = subst (λ t. HasCalls own.x.id t (calls_of z own.t.stops.items)) (sym waits) tt
+        by (on_trip j other i h name status asked) = subst (λ t. HasCalls own.x.id t (calls_of z own.t.stops.items)) (sym status)
+            (λ same. ap (λ (t : ChosenTrip). calls_of z t.stops.items) (sym (same_trip j other (one_number j other same))) ∙ ap (λ z. calls_of z other.t.stops.items) (sym name)
+            ∙ member_calls settings roads s stops b settled points times kept shows early limits table planned good j other.within other.x other.at other.t other.is i h)
 
     few_items : length own.t.stops.items ≤ 2 * settings.trip + length own.x.aboard.items
     few_items =
@@ -455,9 +446,7 @@ module _ (settings : Settings) (roads : Roads) (s : State) (stops : ℕ → List
         let dwell : settled.dwell ≡ settings.dwell = limits.dwell in
         let items : own.t.stops.items ≡ told_from roads points times table riders' settled.dwell vis told (vehicle_at settled k).start (vehicle_at settled k).ready own.is.stops = own.is.told in
         let room : free_seats task ≡ own.x.seats - persons_aboard own.x =
-        (let a : persons (vehicle_at settled k).aboard.items ≡ persons_aboard own.x = same_persons (vehicle_at settled k).aboard.items own.x.aboard.items placed.aboard_count (λ k p e. (placed.aboard_legs k p e).size) in
-        let c : (vehicle_at settled k).seats ≡ own.x.seats = placed.seats in
-        ap (λ n. n - persons (vehicle_at settled k).aboard.items) c ∙ ap (λ n. own.x.seats - n) a) in
+        omega (arith, same_persons (vehicle_at settled k).aboard.items own.x.aboard.items placed.aboard_count (λ k p e. (placed.aboard_legs k p e).size), placed.seats) in
         let reached : AreReached roads settled.dwell own.x.node (vehicle_at settled k).ready own.t.stops.items =
         subst (AreReached roads settled.dwell own.x.node (vehicle_at settled k).ready) (sym items) (told_reached roads points times table riders' settled.dwell vis told own.is.stops (vehicle_at settled k).start own.x.node (vehicle_at settled k).ready (free_seats task) are_told placed.start own.is.serves.in_time) in
         let seats : HasSeatsFor riders' (free_seats task) own.t.stops.items =
@@ -482,45 +471,21 @@ module _ (settings : Settings) (roads : Roads) (s : State) (stops : ℕ → List
 
   -- whoever is promised something after the plan
   next_promise : (z : ℕ) (q : BookRider) (promise : Promise) → find_rider z riders' ≡ Some q → q.status ≡ Promised promise → IsPromiseKept planned_state q promise
-  next_promise z q promise e status = by (find_rider z s.riders) refl (sym (find_planned z) ∙ e)
+  next_promise z q promise e status = by (after_plan_is z q e)
     where
-      member : (r : BookRider) → find_rider z s.riders ≡ Some r → (n : ℕ) → n < length b.riders → (request_at b.riders n).id ≡ r.id → with_status (planned_status (picks planned.chosen) r.id) r ≡ q
-          → IsPlaced' n → IsPromiseKept planned_state q promise
-      member r f n low name h (stays out) = absurd (
-          let a : planned_status (picks planned.chosen) (request_at b.riders n).id ≡ Waiting = left_status n low out in
-          let c : Promised promise ≡ Waiting = sym status ∙ sym (ap (λ (q : BookRider). q.status) h) ∙ ap (planned_status (picks planned.chosen)) (sym name) ∙ a in cc)
-      member r f n low name h (rides j other i l at) =
-          let a = member_status j other i l in
-          let second : ℕ = (member_promised j other i l).second in
-          let c : Promised promise ≡ Promised (record { vehicle = other.x.id; pickup = (member_promised j other i l).second }) =
-          sym status ∙ sym (ap (λ (q : BookRider). q.status) h) ∙ ap (planned_status (picks planned.chosen)) (sym name) ∙ ap (λ m. planned_status (picks planned.chosen) (request_at b.riders m).id) (sym at) ∙ a in
-          let d : promise ≡ record { vehicle = other.x.id; pickup = (member_promised j other i l).second } = cc in
-          let of = planned_rider n low in
-          let one = of.1 in
-          let id : r.id ≡ z = found_id z s.riders r f in
-          let two : find_rider (request_at b.riders n).id s.riders ≡ Some r = ap (λ z. find_rider z s.riders) (name ∙ id) ∙ f in
-          let same : of.0 ≡ r = cc in
-          let time : r.time ≡ q.time = ap (λ (q : BookRider). q.time) h in
-          let asked = of.2.asked in
+      by : IsAfter z q → IsPromiseKept planned_state q promise
+      by (unchanged found none) = absurd (none promise status)
+      by (left_waiting waits) = absurd (let c : Promised promise ≡ Waiting = sym status ∙ waits in cc)
+      by (on_trip j other i h name is asked) =
+          let c : Promised promise ≡ Promised (record { vehicle = other.x.id; pickup = (member_promised j other i h).second }) = sym status ∙ is in
+          let d : promise ≡ record { vehicle = other.x.id; pickup = (member_promised j other i h).second } = cc in
           record {
             last = b.sealed_at;
             sealed = shows.last;
-            asked = subst (λ m. m ≤ b.sealed_at) (ap (λ (r : BookRider). r.time) same ∙ time) asked;
+            asked = asked;
             vehicle = other.x;
             at = ap (λ (p : Promise). find_vehicle p.vehicle s.vehicles) d ∙ vehicle_found settings roads s stops b settled points times kept shows early limits table j other.x other.at;
           }
-
-      with_r : (r : BookRider) → find_rider z s.riders ≡ Some r → (o : Bool) → (is_active r.status && in_batch b.riders r.id) ≡ o → cond o (with_status (planned_status (picks planned.chosen) r.id) r) r ≡ q → IsPromiseKept planned_state q promise
-      with_r r f true g h =
-          let n = number_in_batch b.riders r.id (and_parts (is_active r.status) (in_batch b.riders r.id) g).1 in
-          member r f n.0 n.1 n.2 h (where_is n.0)
-      with_r r f false g h = absurd (
-          let t : r.status ≡ Promised promise = ap (λ (q : BookRider). q.status) h ∙ status in
-          true≢false (sym (and_from (is_active r.status) (in_batch b.riders r.id) (ap is_active t) (promised_in_batch z r promise f t)) ∙ g))
-
-      by : (o : Option BookRider) → find_rider z s.riders ≡ o → option_map (after_plan b.riders (picks planned.chosen)) o ≡ Some q → IsPromiseKept planned_state q promise
-      by None f g = absurd cc
-      by (Some r) f g = with_r r f (is_active r.status && in_batch b.riders r.id) refl (let h : Some (after_plan b.riders (picks planned.chosen) r) ≡ Some q = g in cc)
 
   -- the state after the close is kept, with the stops of the chosen trips
   pub closed_kept : (command : Command) (reply : Reply) → step roads.nodes settings.wait s command ≡ (planned_state, reply) → IsKept settings roads planned_state (chosen_stops planned)
@@ -529,9 +494,7 @@ module _ (settings : Settings) (roads : Roads) (s : State) (stops : ℕ → List
     each = λ id v found.
         let k = number_of_vehicle settings roads s stops b settled points times kept shows early limits table id v found in
         let own = has_trip k.0 k.1 in
-        let one = own.at in
-        let two = k.2 in
-        let same : own.x ≡ v = cc in
+        let same : own.x ≡ v = cc (own.at, k.2) in
         let vid : own.t.vehicle ≡ id = trip_vehicle k.0 own ∙ ap (λ (v : Vehicle). v.id) same ∙ vehicle_id id s.vehicles v found in
         let items : own.t.stops.items ≡ chosen_stops planned id =
         sym (ap (λ o. option_map_or (λ (t : ChosenTrip). t.stops.items) o []) (ap (λ z. look_up (λ (t : ChosenTrip). t.vehicle) z planned.chosen) (sym vid) ∙ chosen_found k.0 own)) in
@@ -582,7 +545,13 @@ module _ (settings : Settings) (roads : Roads) (s : State) (stops : ℕ → List
           (both (λ stop. IsMemberPickup j other stop ⊎ ((stop.pick ≡ false) × IsRightDropoff roads settings.delay riders' other.x.id stop))
           (λ (stop : PlannedStop). stop.rider ≡ (request_at b.riders (get_or (riders_at good.graph other.is.row) i 0)).id → stop.pick ≡ true → stop.second ≡ (member_promised j other i l).second)
           other.t.stops.items (items_told j other) (member_promised j other i l).at) in
-          let keeps : (rider_at settled n).leg.latest_pickup ≤ p.pickup = by_promise (limits.limits n (let c = limits.rider_count in omega (arith, low, c))) in
+          let keeps : (rider_at settled n).leg.latest_pickup ≤ p.pickup = grind (
+            arith,
+            nat_tests,
+            promise,
+            limits.limits n (omega (arith, low, limits.rider_count)),
+            promise_is_held settings roads s stops b settled points times kept shows early limits table n p.vehicle low (rw promise (eq-eqb p.vehicle p.vehicle refl)),
+          ) in
           record {
             of = with_status (planned_status (picks planned.chosen) was.of.id) was.of;
             found = find' ∙ ap Some (after_is b.riders (picks planned.chosen) was.of (ap is_active t) (promised_in_batch z was.of p was.found t));
@@ -598,20 +567,13 @@ module _ (settings : Settings) (roads : Roads) (s : State) (stops : ℕ → List
               other_id b.riders shows.rise (get_or (riders_at good.graph other.is.row) member.i 0) n (trip.within member.i 0 member.within) low (sym member.rider ∙ rider ∙ ap (λ m. (request_at b.riders m).id) at) in
               subst (λ m. stop.second ≤ (rider_at settled m).leg.latest_pickup) same member.in_limit
 
-          by_promise : HasRightLimit settings b.riders settled n → (rider_at settled n).leg.latest_pickup ≤ p.pickup
-          by_promise (inl live) =
-              let f : promised_limit settings.wait (request_at b.riders n) ≡ min p.pickup ((request_at b.riders n).time + settings.wait) = rw promise refl in
-              omega (arith, live.1, f)
-          by_promise (inr lapsed) = absurd (lapsed.0 (promise_is_held settings roads s stops b settled points times kept shows early limits table n p.vehicle low (rw promise (eq-eqb p.vehicle p.vehicle refl))))
-
       by : (t : Status) → was.of.status ≡ t → IsBoundBy limit t → IsBound planned_state z limit
       by (Promised p) e le =
           let n = number_in_batch b.riders was.of.id (promised_in_batch z was.of p was.found e) in
           let there = shows.promised z was.of p was.found e in
           let id : was.of.id ≡ z = found_id z s.riders was.of was.found in
           let at : look_up (λ (r : Rider). r.id) (request_at b.riders n.0).id b.riders ≡ Some (request_at b.riders n.0) = look_up-at (λ (r : Rider). r.id) n.0 b.riders no_request (KeysDiffer-from_rise (λ (r : Rider). r.id) b.riders shows.rise) n.1 in
-          let at_z : look_up (λ (r : Rider). r.id) z b.riders ≡ Some (request_at b.riders n.0) = ap (λ z. look_up (λ (r : Rider). r.id) z b.riders) (sym (n.2 ∙ id)) ∙ at in
-          let is : request_at b.riders n.0 ≡ shown was.of (Some p) = cc in
+          let is : request_at b.riders n.0 ≡ shown was.of (Some p) = cc (at, there, n.2 ∙ id) in
           again p e le n.0 n.1 n.2 (ap (λ (r : Rider). r.promise) is) (where_is n.0)
       by (Aboard v) e le = stays_same (ap is_active e)
       by Delivered e le = stays_same (ap is_active e)

@@ -1,5 +1,5 @@
 -- The entries of a round in one order: those of lane 0, with requests of any lanes between.
-use Rattle.std.proofs.Common.{◌≡◌, ◌⊎◌, ℕ, true, eqb, List, [], ◌∷◌, Option, Some, None, refl, sym, subst, inl, inr, arith}
+use Rattle.std.proofs.Common.{◌≡◌, ◌⊎◌, ℕ, true, eqb, List, [], ◌∷◌, Option, Some, None, sym, subst, inl, inr, arith}
 use Rattle.route_drive.proofs.Common.{AllByRecursion, cases_eq, RepliesAreSteps, step, Command, Submit, Entry, State, sealed_by, IsCloseOf, IsLaneRun, IsLaneRunFrom, of_lane, plain-quiet, IsPlain, eq-eqb, ne_eqb, nat_tests}
 use Rattle.route_drive.proofs.kept.Lists.{all_filtered, all_weaker, skips, takes}
 
@@ -30,8 +30,7 @@ IsMixed (Some batch) cs (e ∷ es) = (IsRequest e.command × IsMixed (Some batch
 
 asked_first : (e : Entry) (es : List Entry) (o : Option ℕ) (cs : List Command) → IsRequest e.command → IsMixed o cs es → IsMixed o cs (e ∷ es)
 asked_first e es None [] is rest = (is, rest)
-asked_first e es None (c ∷ cs) is rest = inl (is, rest)
-asked_first e es (Some batch) cs is rest = inl (is, rest)
+asked_first e es o cs is rest = inl (is, rest)
 
 own_first : (e : Entry) (es : List Entry) (o : Option ℕ) (cs : List Command) → ((o : Option ℕ) (cs : List Command) → IsLaneRunFrom o cs (of_lane 0 es) → IsMixed o cs es)
     → IsLaneRunFrom o cs (e ∷ of_lane 0 es) → IsMixed o cs (e ∷ es)

@@ -1,6 +1,6 @@
 -- Stops by riders' ids, as an order of numbered riders and passengers.
-use Rattle.std.proofs.Common.{◌≡◌, ℕ, ◌+◌, ◌*◌, ◌<◌, ◌≤◌, Bool, true, false, cond, not, eqb, nat_eq, List, [], ◌∷◌, length, get_or, map, filter, refl, sym, ap, ◌∙◌, subst, arith, inl, inr}
-use Rattle.route_drive.proofs.Common.{AllByRecursion, IsDistinct, cases_eq, false≢true, length-filter_both, PlannedStop, index_in, has_node, Stop, Pick, Drop, Alight, is_of_rider, is_of_passenger, IsKnown, IsOrder, is_stop_of, calls_of, eq-eqb, ne_eqb, eqb-true, nat_tests}
+use Rattle.std.proofs.Common.{◌≡◌, ℕ, ◌+◌, ◌*◌, ◌<◌, ◌≤◌, Bool, true, false, cond, not, eqb, nat_eq, List, [], ◌∷◌, length, get_or, map, filter, refl, sym, ap, ◌∙◌, subst, arith}
+use Rattle.route_drive.proofs.Common.{AllByRecursion, IsDistinct, false≢true, length-filter_both, PlannedStop, index_in, has_node, Stop, Pick, Drop, Alight, is_of_rider, is_of_passenger, IsKnown, IsOrder, is_stop_of, calls_of, ne_eqb, eqb-true, nat_tests}
 use Rattle.route_drive.proofs.kept.Lists.{filter_renamed, filter_filter, all_filtered, all_mapped, all_weaker, many_apart}
 use Rattle.route_drive.proofs.kept.Walks.{has_index, index_at, name_at, is_node_at}
 

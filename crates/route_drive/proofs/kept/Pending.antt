@@ -1,7 +1,7 @@
 -- What is entered of a vehicle before a seal, command by command.
-use Rattle.std.proofs.Common.{◌≡◌, ◌⊎◌, ℕ, ◌+◌, ◌<◌, ◌≤◌, true, false, cond, leb, ltb, List, [], ◌∷◌, ◌++◌, map, Option, Some, refl, sym, ap, ◌∙◌, subst, arith, inl, inr}
-use Rattle.route_drive.proofs.Common.{AllByRecursion, cases_Bool, cases_lt, lt-leb, Vehicle, IsNode, find_rider, find_vehicle, step, Command, Report, PlannedStop, Reply, Placed, Picked, Dropped, BookRider, State, All-look_up, Settings, Roads, IsNetwork, has_node, NodeAt, IsReported, due, goal_of, standing_after, stop_command, to_come, AreReached, IsRightStop, IsServing, IsDayState, IsDone, lt-ltb, le-ltb, le-leb, nat_tests}
-use Rattle.route_drive.proofs.kept.Lists.{takes, skips, all_weaker}
+use Rattle.std.proofs.Common.{◌≡◌, ◌⊎◌, ℕ, ◌+◌, ◌<◌, ◌≤◌, true, cond, List, [], ◌∷◌, ◌++◌, map, Option, Some, refl, sym, ap, ◌∙◌, subst, arith, inl, inr}
+use Rattle.route_drive.proofs.Common.{AllByRecursion, cases_lt, Vehicle, IsNode, find_rider, find_vehicle, step, Command, Report, PlannedStop, Reply, Placed, Picked, Dropped, BookRider, State, All-look_up, Settings, Roads, IsNetwork, has_node, NodeAt, IsReported, due, goal_of, standing_after, stop_command, to_come, AreReached, IsRightStop, IsServing, IsDayState, IsDone, nat_tests}
+use Rattle.route_drive.proofs.kept.Lists.{all_weaker}
 use Rattle.route_drive.proofs.kept.Riders.{right_cases}
 use Rattle.route_drive.proofs.kept.Keeping.{OneKeeps, report_one, stop_one}
 use Rattle.route_drive.proofs.kept.States.{report_done, vehicle_id}
@@ -22,15 +22,9 @@ all_later roads dwell now node free [] late reached = tt
 all_later roads dwell now node free (stop ∷ stops) late reached =
     (omega (arith, reached.0.reached, late), all_later roads dwell now stop.node (stop.second + dwell) stops (omega (arith, reached.0.reached, late)) reached.1)
 
-later_from : (roads : Roads) (dwell now node free : ℕ) (stop : PlannedStop) (stops : List PlannedStop) → now < stop.second → AreReached roads dwell node free (stop ∷ stops) → AllByRecursion (λ stop. now < stop.second) (stop ∷ stops)
-later_from roads dwell now node free stop stops late reached = (late, all_later roads dwell now stop.node (stop.second + dwell) stops (omega (arith, late)) reached.1)
-
 none_due : (now : ℕ) (stops : List PlannedStop) → AllByRecursion (λ stop. now < stop.second) stops → (due now stops ≡ []) × (to_come now stops ≡ stops)
 none_due now [] all = (refl, refl)
 none_due now (stop ∷ stops) all = grind (arith, nat_tests, all.0, none_due now stops all.1)
-
-first_due : (now : ℕ) (stop : PlannedStop) (stops : List PlannedStop) → stop.second ≤ now → (due now (stop ∷ stops) ≡ stop ∷ due now stops) × (to_come now (stop ∷ stops) ≡ to_come now stops)
-first_due now stop stops le = grind (arith, nat_tests)
 
 -- the stops of a vehicle that are still to be entered, once no report follows them
 pub record IsRunning (settings : Settings) (roads : Roads) (riders : List BookRider) (v : Vehicle) (commands : List Command) : Type 0 where
@@ -107,9 +101,8 @@ module _ (settings : Settings) (roads : Roads) (net : IsNetwork roads) (now : �
       (subst (λ ss. IsReported roads now (record { node = v.node; second = v.time; free = free }) (goal_of target ss) there) none.1
       (subst (λ ds. IsReported roads now (standing_after settings.dwell (record { node = v.node; second = v.time; free = free }) ds) (goal_of target (to_come now stops)) there) none.0 reported)) in
       let done = report_done settings roads s day v at free there.node there.second stops is.named is.later serves is.reached in
-      let line : command ∷ commands ≡ Report v.id there.node there.second ∷ [] = told ∙ ap (λ ds. map (stop_command v.id) ds ++ Report v.id there.node there.second ∷ []) none.0 in
-      let one : Report v.id there.node there.second ≡ command = cc in
-      let rest : commands ≡ [] = cc in
+      let one : Report v.id there.node there.second ≡ command = cc (told, none.0) in
+      let rest : commands ≡ [] = cc (told, none.0) in
       let by : done.own.v.time ≡ there.second = done.own.by in
       let same : stops ≡ left = sym (left_is ∙ none.1) in
       subst (λ command. IsEnteredOne settings roads s v command (λ riders u. IsPending settings roads now riders u target commands left)) one (record {
@@ -128,12 +121,11 @@ module _ (settings : Settings) (roads : Roads) (net : IsNetwork roads) (now : �
   entered_next v target command commands left at (IsPending.over by serves later none) = absurd cc
   entered_next v target command commands left at (IsPending.waits free [] there early serves reported told left_is) = report_next v free target [] there command commands left at early serves tt reported told left_is
   entered_next v target command commands left at (IsPending.waits free (stop ∷ stops) there early serves reported told left_is) = elim (cases_lt now stop.second) [
-    | inl late ↦ report_next v free target (stop ∷ stops) there command commands left at early serves (later_from roads settings.dwell now v.node free stop stops late serves.reached) reported told left_is
+    | inl late ↦ report_next v free target (stop ∷ stops) there command commands left at early serves (late, all_later roads settings.dwell now stop.node (stop.second + settings.dwell) stops (omega (arith, late)) serves.reached.1) reported told left_is
     | inr le ↦
-        let first = first_due now stop stops le in
-        let line : command ∷ commands ≡ stop_command v.id stop ∷ (map (stop_command v.id) (due now stops) ++ Report v.id there.node there.second ∷ []) = told ∙ ap (λ ds. map (stop_command v.id) ds ++ Report v.id there.node there.second ∷ []) first.0 in
-        let one : stop_command v.id stop ≡ command = cc in
-        let rest : commands ≡ map (stop_command v.id) (due now stops) ++ Report v.id there.node there.second ∷ [] = cc in
+        let first : (due now (stop ∷ stops) ≡ stop ∷ due now stops) × (to_come now (stop ∷ stops) ≡ to_come now stops) = grind (arith, nat_tests, le) in
+        let one : stop_command v.id stop ≡ command = cc (told, first.0) in
+        let rest : commands ≡ map (stop_command v.id) (due now stops) ++ Report v.id there.node there.second ∷ [] = cc (told, first.0) in
         let is : IsReported roads now (standing_after settings.dwell (record { node = stop.node; second = stop.second; free = stop.second + settings.dwell }) (due now stops)) (goal_of target (to_come now stops)) there =
         subst (λ ss. IsReported roads now (standing_after settings.dwell (record { node = stop.node; second = stop.second; free = stop.second + settings.dwell }) (due now stops)) (goal_of target ss) there) first.1
         (subst (λ ds. IsReported roads now (standing_after settings.dwell (record { node = v.node; second = v.time; free = free }) ds) (goal_of target (to_come now (stop ∷ stops))) there) first.0 reported) in

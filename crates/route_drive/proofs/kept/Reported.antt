@@ -1,7 +1,7 @@
 -- Where a vehicle is reported at a seal, its stops to come are still reached at their seconds.
 use Rattle.std.proofs.Common.{◌≡◌, ℕ, ◌+◌, ◌<◌, ◌≤◌, Bool, true, false, cond, leb, List, [], ◌∷◌, length, get_or, max, find, Contains, Option, Some, refl, sym, ap, ◌∙◌, subst, arith}
-use Rattle.route_drive.proofs.Common.{AllByRecursion, sum_by-cons, never, PlannedStop, Arc, Roads, IsNetwork, index_in, has_node, IsWalk, walk_seconds, IsLeastTime, NodeAt, Stay, WalkStep, IsReported, goal_of, walk_end, steps_of, AreReached, leb-true, cond_some, goal_within}
-use Rattle.route_drive.proofs.kept.Walks.{rest_is_least, has_index, index_at, is_node_at, node_from_index, contains_node}
+use Rattle.route_drive.proofs.Common.{AllByRecursion, sum_by-cons, PlannedStop, Arc, Roads, IsNetwork, index_in, has_node, IsWalk, walk_seconds, IsLeastTime, NodeAt, Stay, WalkStep, IsReported, goal_of, walk_end, steps_of, AreReached, leb-true, cond_some, goal_within}
+use Rattle.route_drive.proofs.kept.Walks.{rest_is_least, has_index, index_at, is_node_at, name_at, contains_node}
 
 -- a step of a walk parts it
 record IsOnWay (roads : Roads) (from goal acc : ℕ) (walk : List Arc) (step : WalkStep) : Type 0 where
@@ -106,7 +106,7 @@ module _ (roads : Roads) (net : IsNetwork roads) (dwell now : ℕ) (at : Stay) (
           )
   reported_there [] named later reached (IsReported.arrived to steps le goal shortest done is) =
       let l = step_named to shortest.walk (index_in roads.nodes to) shortest.walks in
-      subst (IsThere roads dwell now at []) (sym is) (record { reached = tt; named = node_from_index roads.nodes to l; by = omega arith; later = omega arith })
+      subst (IsThere roads dwell now at []) (sym is) (record { reached = tt; named = subst (λ n. has_node roads.nodes n ≡ true) (name_at roads.nodes to l) (is_node_at roads.nodes (index_in roads.nodes to) l); by = omega arith; later = omega arith })
   reported_there (s ∷ stops) named later reached (IsReported.arrived to steps le goal shortest done is) =
       let e : s.node ≡ to = cc in
       let short_walk = subst (λ n. IsWalk roads.arcs (index_in roads.nodes at.node) shortest.walk (index_in roads.nodes n)) (sym e) shortest.walks in

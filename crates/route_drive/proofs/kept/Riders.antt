@@ -1,7 +1,7 @@
 -- What a change of one rider's status, or of one vehicle, leaves.
-use Rattle.std.proofs.Common.{◌≡◌, ◌⊎◌, ℕ, ◌-◌, ◌≤◌, Bool, true, false, List, [], ◌∷◌, map, Option, Some, None, refl, sym, ap, ◌∙◌, subst, arith, inl, inr, option_map, MatchBool}
-use Rattle.route_drive.proofs.Common.{AllByRecursion, option_map_or, cases_Bool, cases_eq, MatchBool-at_true, MatchBool-at_false, persons_aboard, Vehicle, changed_at, with_status, find_rider, PlannedStop, BookRider, Status, Promised, Aboard, look_up-key, look_up-changed_here, look_up-changed_there, Settings, Roads, party_at, seats_after, HasSeatsFor, IsRightPickup, IsRightDropoff, IsRightStop, IsOfVehicle, is_stop_of, calls_of, HasCalls, IsServing, eq-eqb, ne_eqb, nat_tests}
-use Rattle.route_drive.proofs.kept.Lists.{skips, takes, all_weaker}
+use Rattle.std.proofs.Common.{◌≡◌, ◌⊎◌, ℕ, ◌-◌, ◌≤◌, Bool, true, false, List, [], ◌∷◌, Some, refl, sym, ap, ◌∙◌, subst, arith, inl, inr, option_map}
+use Rattle.route_drive.proofs.Common.{AllByRecursion, option_map_or, cases_Bool, cases_eq, MatchBool-at_true, MatchBool-at_false, persons_aboard, Vehicle, changed_at, with_status, find_rider, PlannedStop, BookRider, Status, Promised, Aboard, look_up-key, look_up-changed_here, look_up-changed_there, Settings, Roads, party_at, seats_after, HasSeatsFor, IsRightPickup, IsRightDropoff, IsRightStop, IsOfVehicle, calls_of, HasCalls, IsServing, nat_tests}
+use Rattle.route_drive.proofs.kept.Lists.{all_weaker}
 
 -- what is found has the id that was looked for
 pub found_id : (x : ℕ) (riders : List BookRider) (r : BookRider) → find_rider x riders ≡ Some r → r.id ≡ x
@@ -20,14 +20,9 @@ module _ (riders : List BookRider) (x : ℕ) (status : Status) where
 
   pub same_party : (stop : PlannedStop) → party_at changed stop ≡ party_at riders stop
   same_party stop = elim (cases_eq x stop.rider) [
-    | inl e ↦ subst (λ k. option_map_or (λ (r : BookRider). r.party) (find_rider k changed) 0 ≡ option_map_or (λ (r : BookRider). r.party) (find_rider k riders) 0) e
-        (ap (λ o. option_map_or (λ (r : BookRider). r.party) o 0) (look_up-changed_here (λ (r : BookRider). r.id) x (with_status status) (λ r. refl) riders) ∙ by (find_rider x riders))
+    | inl e ↦ grind (arith, nat_tests, e, look_up-changed_here (λ (r : BookRider). r.id) x (with_status status) (λ r. refl) riders)
     | inr ne ↦ ap (λ o. option_map_or (λ (r : BookRider). r.party) o 0) (find_other stop.rider ne)
   ]
-    where
-      by : (o : Option BookRider) → option_map_or (λ (r : BookRider). r.party) (option_map (with_status status) o) 0 ≡ option_map_or (λ (r : BookRider). r.party) o 0
-      by None = refl
-      by (Some r) = refl
 
 -- seats depend on the parties alone, and more room is room enough
 pub seats_by_party : (riders others : List BookRider) (room more : ℕ) → room ≤ more → (stops : List PlannedStop) → AllByRecursion (λ stop. party_at others stop ≡ party_at riders stop) stops
@@ -36,10 +31,6 @@ seats_by_party riders others room more le [] same has = tt
 seats_by_party riders others room more le (stop ∷ stops) same has =
     let on : seats_after riders stop room ≤ seats_after others stop more = grind (arith, nat_tests, same.0) in
     (λ pick. omega (arith, has.0 pick, same.0), seats_by_party riders others (seats_after riders stop room) (seats_after others stop more) on stops same.1 has.1)
-
--- a party is read by who is found
-pub party_by_found : (riders others : List BookRider) (stop : PlannedStop) → find_rider stop.rider others ≡ find_rider stop.rider riders → party_at others stop ≡ party_at riders stop
-party_by_found riders others stop e = ap (λ o. option_map_or (λ (r : BookRider). r.party) o 0) e
 
 -- a rider's calls at the front of the stops
 pub calls_own : (x : ℕ) (stop : PlannedStop) (stops : List PlannedStop) → stop.rider ≡ x → calls_of x (stop ∷ stops) ≡ stop.pick ∷ calls_of x stops
@@ -103,7 +94,7 @@ pub serves_elsewhere : (settings : Settings) (roads : Roads) (riders others : Li
 serves_elsewhere settings roads riders others w free stops there back serves = record {
   reached = serves.reached;
   seats = seats_by_party riders others (w.seats - persons_aboard w) (w.seats - persons_aboard w) (omega arith) stops
-      (all_weaker (IsRightStop settings roads riders w.id) (λ stop. party_at others stop ≡ party_at riders stop) (λ stop right. party_by_found riders others stop (same stop right)) stops serves.right) serves.seats;
+      (all_weaker (IsRightStop settings roads riders w.id) (λ stop. party_at others stop ≡ party_at riders stop) (λ stop right. ap (λ o. option_map_or (λ (r : BookRider). r.party) o 0) (same stop right)) stops serves.right) serves.seats;
   right = all_weaker (IsRightStop settings roads riders w.id) (IsRightStop settings roads others w.id) (λ stop right. right_elsewhere settings roads riders others w.id stop (same stop right) right) stops serves.right;
   calls = λ x r found. by x r found (cases_of w.id r.status);
   few = serves.few;

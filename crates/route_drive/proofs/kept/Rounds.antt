@@ -1,13 +1,13 @@
 -- A round of a driven day, from its last entry to its first.
 use Rattle.std.proofs.Common.{◌≡◌, ◌⊎◌, ℕ, ◌≤◌, List, [], ◌∷◌, ◌++◌, length, map, filter, Option, Some, None, refl, sym, ap, ◌∙◌, subst, arith, inl, inr, option_and_then}
-use Rattle.route_drive.proofs.Common.{AllByRecursion, option_or, recursion_from_All, Batch, Vehicle, IsGoodOutcome, one_more, KeysDiffer, RepliesAreSteps, state_after, batch_of, sealed_state, find_rider, find_vehicle, step, Command, Submit, Seal, Close, Entry, Answer, PlannedStop, Reply, Closed, Sealed, BookRider, Promised, Waiting, State, KeysDiffer-from_rise, look_up-at, Settings, Roads, IsNetwork, sealed_by, ClosesAreGood, IsCloseOf, IsGoodClose, Course, plan_in, planned_in, AreEntered, to_come, IsClosedInTime, AreReported, IsReadyForSeal, closed, course_of, IsDayState, IsKept, KeepsBounds, LeavesAll, ShowsRiders, stops_with, IsServing, left_commands, IsEntered, closed_outcome, stop_command, IsQuiet, plain-quiet, IsPlain, append-nil}
+use Rattle.route_drive.proofs.Common.{AllByRecursion, option_or, recursion_from_All, Batch, Vehicle, IsGoodOutcome, one_more, KeysDiffer, RepliesAreSteps, state_after, batch_of, sealed_state, find_vehicle, step, Command, Submit, Seal, Close, Entry, Answer, PlannedStop, Reply, Closed, Sealed, BookRider, State, KeysDiffer-from_rise, look_up-at, Settings, Roads, IsNetwork, sealed_by, ClosesAreGood, IsCloseOf, IsGoodClose, Course, plan_in, planned_in, AreEntered, to_come, IsClosedInTime, AreReported, IsReadyForSeal, closed, course_of, IsDayState, IsKept, KeepsBounds, LeavesAll, ShowsRiders, stops_with, IsServing, left_commands, IsEntered, closed_outcome, stop_command, IsQuiet, plain-quiet, IsPlain, append-nil}
 use Rattle.route_drive.proofs.LeaveLemmas.{step-leaves}
 use Rattle.route_drive.proofs.kept.Keeping.{AllKeep, OneKeeps}
 use Rattle.route_drive.proofs.kept.Laws.{closes_keep, no_promise_lapses}
 use Rattle.route_drive.proofs.kept.Mixed.{IsAsked, IsMixed, IsRequest, asked_only, asked_plain, mixed_asked}
 use Rattle.route_drive.proofs.kept.Pending.{IsPending, IsRunning}
-use Rattle.route_drive.proofs.kept.Replies.{close_is, seal_is, submit_is}
-use Rattle.route_drive.proofs.kept.Sealing.{found_before, sealed_bounds, sealed_kept, sealed_shows, still_found, submit_done}
+use Rattle.route_drive.proofs.kept.Replies.{close_is, seal_is}
+use Rattle.route_drive.proofs.kept.Sealing.{sealed_bounds, sealed_kept, sealed_shows, submit_done}
 use Rattle.route_drive.proofs.kept.Sequence.{ArePending, EachEnters, IsOneOn, IsOwned, IsWay, asked_pending, entered_each, finished, is_for, left_each, one_on, owners, part_of, pending_way, running_way, still_owned, vehicle_in}
 use Rattle.request_book.specs.declared.outcome.Answer.TheVariants as answer
 
@@ -25,10 +25,6 @@ asked_plans : (es : List Entry) → AllByRecursion IsAsked es → plan_in es ≡
 asked_plans [] all = refl
 asked_plans (e ∷ es) all = ap (λ o. option_or o (plan_in es)) (plain_plan e.command e.reply (asked_plain e.command all.0)) ∙ asked_plans es all.1
 
--- what is entered of a vehicle is neither a seal nor a close
-owned_plain : (c : Command) (id : ℕ) → vehicle_in c ≡ Some id → IsPlain c
-owned_plain c id e = grind arith
-
 module _ (settings : Settings) (roads : Roads) where
   -- entries from a state to the end of a round: each keeps what it must, and every vehicle serves its stops at the end
   pub record Ends (s : State) (es : List Entry) (stops : ℕ → List PlannedStop) (last : Option ℕ) : Type 0 where
@@ -36,10 +32,6 @@ module _ (settings : Settings) (roads : Roads) where
     pub kept : IsKept settings roads (state_after roads.nodes settings.wait s es) (stops_with (plan_in es) stops)
     pub sealed : (state_after roads.nodes settings.wait s es).sealed ≡ None
     pub last_is : (state_after roads.nodes settings.wait s es).last_seal ≡ last
-
-  ends_now : (s : State) (stops : ℕ → List PlannedStop) (last : Option ℕ) → IsKept settings roads s stops → s.sealed ≡ None → s.last_seal ≡ last → Ends s [] stops last
-  unfolding state_after
-  ends_now s stops last kept closed is = record { all = tt; kept = kept; sealed = closed; last_is = is }
 
   -- one entry before, that is no plan
   ends_before : (e : Entry) (es : List Entry) (s : State) (stops : ℕ → List PlannedStop) (last : Option ℕ) → OneKeeps settings roads s e.command e.reply
@@ -77,34 +69,13 @@ module _ (settings : Settings) (roads : Roads) where
 
   -- after the close, or in a round without a seal, there are requests alone
   pub asked_end : (es : List Entry) (s : State) (stops : ℕ → List PlannedStop) (last : Option ℕ) → IsKept settings roads s stops → s.sealed ≡ None → s.last_seal ≡ last → AllByRecursion IsAsked es → Ends s es stops last
-  asked_end [] s stops last kept closed is all = ends_now s stops last kept closed is
+  unfolding state_after
+  asked_end [] s stops last kept closed is all = record { all = tt; kept = kept; sealed = closed; last_is = is }
   asked_end (e ∷ es) s stops last kept closed is all =
       let leaves : LeavesAll settings roads s (step roads.nodes settings.wait s e.command).0 = asked_on s e.command all.0 kept.state in
       let quiet = asked_quiet s e.command all.0 in
       asked_before e es s stops last all.0 kept.state leaves
       (asked_end es (step roads.nodes settings.wait s e.command).0 stops last (kept_still s (step roads.nodes settings.wait s e.command).0 stops kept leaves) (quiet.sealed ∙ closed) (quiet.last ∙ is) all.1)
-
-  -- a sealed batch shows the same riders after a request
-  shows_still : (s : State) (b : Batch) (c : Command) → IsRequest c → ShowsRiders s b → ShowsRiders (step roads.nodes settings.wait s c).0 b
-  shows_still s b (Submit rider origin destination time party) is shows = by (submit_is roads.nodes settings.wait s rider origin destination time party)
-    where
-      q : BookRider
-      q = record { id = rider; origin = origin; destination = destination; time = time; party = party; status = Waiting }
-
-      by : ((step roads.nodes settings.wait s (Submit rider origin destination time party)).0 ≡ s)
-          ⊎ ((find_rider rider s.riders ≡ None) × ((step roads.nodes settings.wait s (Submit rider origin destination time party)).0 ≡ record s { riders = s.riders ++ (record { id = rider; origin = origin; destination = destination; time = time; party = party; status = Waiting }) ∷ [] }))
-          → ShowsRiders (step roads.nodes settings.wait s (Submit rider origin destination time party)).0 b
-      by (inl same) = subst (λ t. ShowsRiders t b) (sym same) shows
-      by (inr two) =
-          let new = two.0 in
-          subst (λ t. ShowsRiders t b) (sym two.1) (record {
-            rise = shows.rise;
-            shows = λ x y e. let was = shows.shows x y e in (was.0, still_found settings roads s.riders q new refl x was.0 was.1, was.2);
-            promised = λ x r p e t. shows.promised x r p (found_before settings roads s.riders q new refl x r e (λ h. let f : Promised p ≡ Waiting = sym t ∙ h in absurd cc)) t;
-            vehicles = shows.vehicles;
-            last = shows.last;
-          })
-  shows_still s b command is shows = absurd is
 
   -- the close of the sealed batch
   close_end : (lane : ℕ) (c : Command) (reply : Reply) (es : List Entry) (s : State) (b : Batch) (stops : ℕ → List PlannedStop) (last : Option ℕ) → IsKept settings roads s stops → ShowsRiders s b → AreReported s b
@@ -146,7 +117,7 @@ module _ (settings : Settings) (roads : Roads) where
       let leaves : LeavesAll settings roads s (step roads.nodes settings.wait s e.command).0 = asked_on s e.command two.0 kept.state in
       let quiet = asked_quiet s e.command two.0 in
       asked_before e es s stops last two.0 kept.state leaves
-      (closing es (step roads.nodes settings.wait s e.command).0 b cs stops last (kept_still s (step roads.nodes settings.wait s e.command).0 stops kept leaves) (shows_still s b e.command two.0 shows)
+      (closing es (step roads.nodes settings.wait s e.command).0 b cs stops last (kept_still s (step roads.nodes settings.wait s e.command).0 stops kept leaves) (leaves.shows b shows)
       (λ id v found. early id v (ap (find_vehicle id) (sym leaves.vehicles) ∙ found)) (quiet.sealed ∙ sealed) (quiet.last ∙ is) all two.1 replies.1 good.1)
   closing (e ∷ es) s b cs stops last kept shows early sealed is all (inr two) replies good =
       close_end e.lane e.command e.reply es s b stops last kept shows early sealed is two.0 replies.0 good.0
@@ -187,7 +158,7 @@ module _ (settings : Settings) (roads : Roads) (P : List BookRider → ℕ → V
       (still_owned s (step roads.nodes settings.wait s e.command).0 (next ∷ entered) (step-leaves roads.nodes settings.wait s e.command).ids owned) (quiet.sealed ∙ closed) (quiet.last ∙ is) two.1 replies.1 good.1)
   entering (e ∷ es) s (next ∷ entered) day pending owned closed is (inr two) replies good =
       let own : vehicle_in e.command ≡ Some owned.0.0 = ap vehicle_in two.0 ∙ owned.0.2 in
-      let plain : IsPlain e.command = owned_plain e.command owned.0.0 own in
+      let plain : IsPlain e.command = grind (arith, own) in
       let quiet = plain-quiet roads.nodes settings.wait s e.command plain in
       let none : sealed_by e.reply ≡ None = ap sealed_by replies.0 ∙ quiet.told in
       let one : IsOneOn settings roads P way s e.command entered = subst (λ c. IsOneOn settings roads P way s c entered) (sym two.0) (one_on settings roads P way s next entered day pending owned.0) in

@@ -1,14 +1,11 @@
 -- Requests and seals: what they leave of the riders on a driven day, and whom the batch shows.
-use Rattle.std.proofs.Common.{◌≡◌, ◌⊎◌, ℕ, ◌+◌, ◌<◌, ◌≤◌, Bool, true, false, cond, leb, List, [], ◌∷◌, ◌++◌, map, Option, Some, None, refl, sym, ap, ◌∙◌, subst, arith, inl, inr, option_map, option_and_then}
-use Rattle.route_drive.proofs.Common.{AllByRecursion, cases_eq, Promise, Rider, Vehicle, look_up, by_key, KeysDiffer, with_status, shown, pool_promise, is_over, after_seal, batch_of, sealed_state, asking, find_rider, find_vehicle, step, Command, Submit, Seal, PlannedStop, Reply, BookRider, Status, Waiting, Promised, Aboard, Delivered, Expired, State, after_seal-id, look_up-key, look_up-map, look_up-push_there, look_up-push_here, look_up-push_found, look_up-filter_map, by_key-order, KeysDiffer-map, KeysDiffer-filter_map, Settings, Roads, IsOfVehicle, IsRightStop, IsServing, IsDayState, IsKept, HasCalls, calls_of, IsBoundBy, IsBound, KeepsBounds, LeavesAll, ShowsRiders, le-ltb, le-leb, filter_map, nat_tests}
+use Rattle.std.proofs.Common.{◌≡◌, ◌⊎◌, ℕ, ◌+◌, ◌<◌, ◌≤◌, Bool, true, false, List, [], ◌∷◌, ◌++◌, map, Option, Some, None, refl, sym, ap, ◌∙◌, subst, arith, inl, inr, option_map, option_and_then}
+use Rattle.route_drive.proofs.Common.{AllByRecursion, cases_eq, Rider, Vehicle, look_up, by_key, KeysDiffer, after_seal, batch_of, sealed_state, asking, find_rider, find_vehicle, step, Submit, Seal, PlannedStop, Reply, BookRider, Status, Waiting, Promised, Aboard, Delivered, Expired, State, after_seal-id, look_up-key, look_up-map, look_up-push_there, look_up-push_here, look_up-push_found, look_up-filter_map, by_key-order, KeysDiffer-map, KeysDiffer-filter_map, Settings, Roads, IsOfVehicle, IsRightStop, IsServing, IsDayState, IsKept, HasCalls, calls_of, IsBoundBy, IsBound, KeepsBounds, LeavesAll, ShowsRiders, le-ltb, le-leb, filter_map, nat_tests}
 use Rattle.route_drive.proofs.kept.Lists.{both}
-use Rattle.route_drive.proofs.kept.Riders.{calls_own, calls_other, serves_elsewhere}
+use Rattle.route_drive.proofs.kept.Riders.{serves_elsewhere}
 use Rattle.route_drive.proofs.kept.Enter.{picked_up_right}
 use Rattle.route_drive.proofs.kept.Replies.{submit_is}
 use Rattle.route_drive.proofs.kept.States.{stepped}
-
-not_waiting : (w : ℕ) (status : Status) → status ≡ Waiting → IsOfVehicle w status → ⊥
-not_waiting w status e own = subst (IsOfVehicle w) e own
 
 -- one more rider, who waits
 module _ (settings : Settings) (roads : Roads) (riders : List BookRider) (q : BookRider) (new : find_rider q.id riders ≡ None) (waits : q.status ≡ Waiting) where
@@ -18,9 +15,7 @@ module _ (settings : Settings) (roads : Roads) (riders : List BookRider) (q : Bo
   pub found_before : (x : ℕ) (r : BookRider) → find_rider x (riders ++ q ∷ []) ≡ Some r → (r.status ≡ Waiting → ⊥) → find_rider x riders ≡ Some r
   found_before x r e not = elim (cases_eq q.id x) [
     | inl same ↦
-        let none : find_rider x riders ≡ None = subst (λ k. find_rider k riders ≡ None) same new in
-        let here = look_up-push_here (λ (r : BookRider). r.id) x q riders same none in
-        let is : q ≡ r = cc in
+        let is : q ≡ r = cc (look_up-push_here (λ (r : BookRider). r.id) x q riders same (subst (λ k. find_rider k riders ≡ None) same new), e) in
         absurd (not (subst (λ (r : BookRider). r.status ≡ Waiting) is waits))
     | inr ne ↦ sym (look_up-push_there (λ (r : BookRider). r.id) x q riders ne) ∙ e
   ]
@@ -28,7 +23,7 @@ module _ (settings : Settings) (roads : Roads) (riders : List BookRider) (q : Bo
   pub serve_still : (w : Vehicle) (free : ℕ) (stops : List PlannedStop) → IsServing settings roads riders w free stops → IsServing settings roads (riders ++ q ∷ []) w free stops
   serve_still w free stops serves = serves_elsewhere settings roads riders (riders ++ q ∷ []) w free stops
       (λ x r e own. still_found x r e ∙ sym e)
-      (λ x r e own. found_before x r e (λ h. not_waiting w.id r.status h own))
+      (λ x r e own. found_before x r e (λ h. subst (IsOfVehicle w.id) h own))
       serves
 
 pub submit_done : (settings : Settings) (roads : Roads) (s : State) (rider origin destination time party : ℕ) → IsDayState roads s
@@ -41,7 +36,7 @@ submit_done settings roads s rider origin destination time party day = by (submi
     by : ((step roads.nodes settings.wait s (Submit rider origin destination time party)).0 ≡ s)
         ⊎ ((find_rider rider s.riders ≡ None) × ((step roads.nodes settings.wait s (Submit rider origin destination time party)).0 ≡ record s { riders = s.riders ++ (record { id = rider; origin = origin; destination = destination; time = time; party = party; status = Waiting }) ∷ [] }))
         → LeavesAll settings roads s (step roads.nodes settings.wait s (Submit rider origin destination time party)).0
-    by (inl same) = subst (LeavesAll settings roads s) (sym same) (record { state = day; vehicles = refl; serve = λ id w free stops e serves. serves; bounds = λ x limit b. b })
+    by (inl same) = subst (LeavesAll settings roads s) (sym same) (record { state = day; vehicles = refl; serve = λ id w free stops e serves. serves; bounds = λ x limit b. b; shows = λ b shows. shows })
     by (inr two) =
         let new = two.0 in
         let next : State = record s { riders = s.riders ++ q ∷ [] } in
@@ -53,6 +48,13 @@ submit_done settings roads s rider origin destination time party day = by (submi
           vehicles = refl;
           serve = λ id w free stops e serves. serve_still settings roads s.riders q new refl w free stops serves;
           bounds = λ x limit b. record { of = b.of; found = still_found settings roads s.riders q new refl x b.of b.found; bound = b.bound };
+          shows = λ b shows. record {
+            rise = shows.rise;
+            shows = λ x y e. let was = shows.shows x y e in (was.0, still_found settings roads s.riders q new refl x was.0 was.1, was.2);
+            promised = λ x r p e t. shows.promised x r p (found_before settings roads s.riders q new refl x r e (λ h. let f : Promised p ≡ Waiting = sym t ∙ h in absurd cc)) t;
+            vehicles = shows.vehicles;
+            last = shows.last;
+          };
         })
 
 -- the first of a rider's calls
@@ -82,8 +84,7 @@ module _ (settings : Settings) (roads : Roads) (s : State) (stops : ℕ → List
           let first = first_call (λ stop. IsRightStop settings roads s.riders v.id stop × (now < stop.second)) x true (false ∷ []) (stops w) (calls (h ∙ sym id))
           (both (IsRightStop settings roads s.riders v.id) (λ (stop : PlannedStop). now < stop.second) (stops w) serves.right (later w v at)) in
           let right = picked_up_right settings roads s.riders v.id first.0 first.2 first.3.0 in
-          let same : find_rider x s.riders ≡ Some right.rider = subst (λ k. find_rider k s.riders ≡ Some right.rider) first.1 right.found in
-          let is : right.rider ≡ r = cc in
+          let is : right.rider ≡ r = cc (first.1, right.found, e) in
           let time : right.rider.time ≡ r.time = ap (λ (r : BookRider). r.time) is in
           rw (f, le-ltb (r.time + settings.wait) now (omega (arith, time, right.in_time, first.3.1))) refl
       by (Aboard u) f h = rw f refl
@@ -101,9 +102,6 @@ module _ (settings : Settings) (roads : Roads) (s : State) (stops : ℕ → List
   -- whoever isn't expired after the seal was the same before
   find_was : (x : ℕ) (q : BookRider) → find_rider x after ≡ Some q → (q.status ≡ Expired → ⊥) → find_rider x s.riders ≡ Some q
   find_was x q e not = grind (arith, nat_tests, find_after x)
-
-  not_expired : (w : ℕ) (status : Status) → IsOfVehicle w status → status ≡ Expired → ⊥
-  not_expired w status own e = subst (IsOfVehicle w) e own
 
   asking_id : (r : BookRider) (y : Rider) → asking now r ≡ Some y → y.id ≡ r.id
   asking_id r y e = grind (arith, nat_tests)
@@ -129,7 +127,7 @@ module _ (settings : Settings) (roads : Roads) (s : State) (stops : ℕ → List
         record { last = now; sealed = refl; asked = let a = was.asked in omega (arith, a, after_time was.last was.sealed); vehicle = was.vehicle; at = was.at });
     each = λ id v at. serves_elsewhere settings roads s.riders after v v.time (stops id)
         (λ x r e own. find_kept x r id v e at (subst (λ k. IsOfVehicle k r.status) (look_up-key (λ (v : Vehicle). v.id) id s.vehicles v at) own) ∙ sym e)
-        (λ x r e own. find_was x r e (not_expired v.id r.status own))
+        (λ x r e own. find_was x r e (λ h. subst (IsOfVehicle v.id) h own))
         (kept.each id v at);
   }
 

@@ -80,8 +80,7 @@ module _ (R : Vehicle → Course → List Command → Type 0) (id : ℕ) where
       let split : filter (is_for id) entered ≡ filter (is_for id) are.0 ++ filter (is_for id) are.1 = ap (filter (is_for id)) are.5 ∙ filter-append (is_for id) are.0 are.1 in
       elim (cases_eq v.id id) [
         | inl e ↦
-            let here = look_up-here (λ (v : Vehicle). v.id) id v vehicles e in
-            let is : v ≡ w = cc in
+            let is : v ≡ w = cc (look_up-here (λ (v : Vehicle). v.id) id v vehicles e, found) in
             let none : find_vehicle id vehicles ≡ None = subst (λ k. find_vehicle k vehicles ≡ None) e differ.0 in
             let part : filter (is_for id) entered ≡ are.0 =
             split ∙ ap (λ cs. cs ++ filter (is_for id) are.1) (ap (λ k. filter (is_for k) are.0) (sym e) ∙ all_for v.id are.0 are.3)
@@ -104,11 +103,9 @@ IsOwned s command = (id : ℕ) × (v : Vehicle) × (vehicle_in command ≡ Some 
 pub found_by_ids : (xs ys : List Vehicle) (id : ℕ) (v : Vehicle) → map (λ v. v.id) ys ≡ map (λ v. v.id) xs → find_vehicle id xs ≡ Some v → (u : Vehicle) × (find_vehicle id ys ≡ Some u)
 unfolding look_up
 found_by_ids (x ∷ xs) (y ∷ ys) id v same found =
-    let head : y.id ≡ x.id = cc in
-    let tail : map (λ (v : Vehicle). v.id) ys ≡ map (λ (v : Vehicle). v.id) xs = cc in
     elim (cases_eq x.id id) [
-      | inl e ↦ (y, grind (arith, nat_tests))
-      | inr ne ↦ let rest = found_by_ids xs ys id v tail (grind (arith, nat_tests)) in (rest.0, grind (arith, nat_tests))
+      | inl e ↦ (y, grind (arith, nat_tests, same))
+      | inr ne ↦ let rest = found_by_ids xs ys id v (cc) (grind (arith, nat_tests)) in (rest.0, grind (arith, nat_tests, same))
     ]
 found_by_ids xs ys id v same found = absurd cc
 

@@ -1,7 +1,6 @@
 -- At a seal the stops of a vehicle serve, by the batch's table, its passengers and the riders promised to it.
-use Rattle.std.proofs.Common.{◌≡◌, ◌⊎◌, ℕ, ◌+◌, ◌-◌, ◌*◌, ◌<◌, ◌≤◌, true, false, eqb, nat_eq, List, [], ◌∷◌, length, get_or, map, filter, max, min, Option, Some, None, refl, sym, ap, ◌∙◌, subst, arith, inl, inr, option_and_then, slice_get, Contains}
-use Rattle.route_drive.proofs.Common.{option_map_or, AllByRecursion, IsDistinct, range_with_len, cases_Bool, false≢true, get_or-map, length-map, get_or_default, filter_passes, slice_get_within, get_or_from_slice_get, slice_get-get_or, travel_time, Times, Batch, persons_aboard, Passenger, Promise, Rider, Vehicle, IsLegOf, request_at, ideal_second, no_request, promised_limit, is_promised_to, promised_to, kept_legs, kept_leg, IsPlaced, IsSettled, filter_range_has, promised_trip, seat_in, look_up, KeysDiffer, shown, passenger_of, find_rider, find_vehicle, find_passenger, PlannedStop, BookRider, Status, Promised, Aboard, State, look_up-at, KeysDiffer-from_rise, All-look_up, Settings, Roads, index_in, has_node, Leg, Settled, Stop, Pick, Drop, Alight, Task, Visit, IsOrder, vehicle_at, rider_at, no_rider, vehicle_task, IsTrip, no_leg, leg_at, persons, visit_at, visits_of, free_seats, IsServable, soon_there, ServesFrom, boarding_of, AreTravelTimes, ideal_dropoff, IsDroppedInTime, party_at, IsRightStop, IsRightPickup, IsRightDropoff, IsOfVehicle, IsServing, IsKept, HasCalls, calls_of, ShowsRiders, eq-eqb, eqb-true, map-map}
-use Rattle.stop_orders.specs.declared.settled_vehicle.SettledVehicle.{SettledVehicle}
+use Rattle.std.proofs.Common.{◌≡◌, ◌⊎◌, ℕ, ◌+◌, ◌-◌, ◌*◌, ◌<◌, ◌≤◌, true, false, List, [], ◌∷◌, length, get_or, map, filter, max, min, Some, refl, sym, ap, ◌∙◌, subst, arith, inl, inr, option_and_then, slice_get, Contains}
+use Rattle.route_drive.proofs.Common.{AllByRecursion, range_with_len, cases_Bool, false≢true, get_or-map, length-map, get_or_default, filter_passes, slice_get_within, get_or_from_slice_get, slice_get-get_or, travel_time, Times, Batch, persons_aboard, Passenger, Promise, Rider, Vehicle, IsLegOf, request_at, no_request, promised_limit, is_promised_to, promised_to, kept_legs, kept_leg, IsPlaced, IsSettled, filter_range_has, promised_trip, seat_in, look_up, KeysDiffer, shown, passenger_of, find_rider, find_vehicle, find_passenger, PlannedStop, BookRider, Status, Promised, Aboard, State, look_up-at, KeysDiffer-from_rise, All-look_up, Settings, Roads, index_in, has_node, Leg, Settled, Stop, Pick, Drop, Alight, Task, IsOrder, vehicle_at, rider_at, no_rider, vehicle_task, IsTrip, no_leg, leg_at, visit_at, visits_of, free_seats, IsServable, soon_there, ServesFrom, boarding_of, AreTravelTimes, IsDroppedInTime, IsRightStop, IsRightPickup, IsRightDropoff, IsOfVehicle, IsServing, IsKept, HasCalls, calls_of, ShowsRiders, eq-eqb, map-map, nat_tests}
 use Rattle.stop_orders.specs.declared.visit.Visit.TheVariants.{Pickup, Dropoff}
 use Rattle.route_drive.proofs.kept.Lists.{all_weaker, both, map_agrees, all_filtered, all_from}
 use Rattle.route_drive.proofs.kept.Walks.{has_index, name_at, is_node_at}
@@ -9,7 +8,7 @@ use Rattle.route_drive.proofs.kept.Riders.{found_id, right_cases}
 use Rattle.route_drive.proofs.kept.Enter.{picked_up_right, dropped_right}
 use Rattle.route_drive.proofs.kept.Numbers.{number_of, IsNumbered, number_picks, number_drops, number_alights, numbers_are_order, alights_only, passengers_order, order_length}
 use Rattle.route_drive.proofs.kept.Tables.{IsSeen, ideal_is, serves_by_table, sub_serves}
-use Rattle.route_drive.proofs.kept.Batches.{found_at, ids_distinct, distinct_from_differ, same_persons, IsAsking, asking_is, promise_status, IsPromisedRider, IsRiderAboard, seat_is}
+use Rattle.route_drive.proofs.kept.Batches.{found_at, ids_distinct, distinct_from_differ, same_persons, IsAsking, IsPromisedRider, IsRiderAboard}
 
 -- a leg's drop-off, as the stop that it is
 leg_drop : (settings : Settings) (roads : Roads) (points : List ℕ) (times : Times) → AreTravelTimes roads.arcs (map (index_in roads.nodes) points) times
@@ -21,17 +20,8 @@ leg_drop settings roads points times table riders r leg stop is drop node found 
   latest = leg.latest_dropoff;
   ideal = leg.ideal;
   node = is.destination_place ∙ ap Some (sym node);
-  in_time =
-      let b : leg.ideal ≡ ideal_second (travel_time times) r.time leg.origin leg.destination = is.ideal in
-      let c : ideal_second (travel_time times) r.time leg.origin leg.destination ≡ ideal_dropoff r.time in_time.seconds = ideal_is roads points times table leg.origin leg.destination r.origin r.destination in_time.seconds r.time is.origin_place is.destination_place in_time.between in
-      let e : leg.ideal ≡ ideal_dropoff r.time in_time.seconds = b ∙ c in
-      let d : leg.latest_dropoff ≡ leg.ideal + settings.delay = is.latest_dropoff in
-      let f : leg.latest_dropoff ≡ ideal_dropoff r.time in_time.seconds + settings.delay = d ∙ ap (λ n. n + settings.delay) e in
-      subst (λ n. stop.second ≤ n) (sym f) in_time.in_time;
-  is =
-      let party : party_at riders stop ≡ r.party = ap (λ o. option_map_or (λ (r : BookRider). r.party) o 0) found in
-      let same : leg.party ≡ party_at riders stop = is.size ∙ sym party in
-      ap (λ n. Dropoff leg.destination leg.latest_dropoff leg.ideal n) same ∙ rw drop refl;
+  in_time = omega (arith, is.latest_dropoff, is.ideal, ideal_is roads points times table leg.origin leg.destination r.origin r.destination in_time.seconds r.time is.origin_place is.destination_place in_time.between, in_time.in_time);
+  is = grind (arith, nat_tests, drop, is.size, found);
 }
 
 -- a leg's pickup, as the stop that it is
@@ -45,38 +35,23 @@ leg_pick settings points times riders r leg limit stop is pick node found in_tim
   ideal = 0;
   node = is.origin_place ∙ ap Some (sym node);
   in_time = in_time;
-  is =
-      let party : party_at riders stop ≡ r.party = ap (λ o. option_map_or (λ (r : BookRider). r.party) o 0) found in
-      let same : leg.party ≡ party_at riders stop = is.size ∙ sym party in
-      ap (λ n. Pickup leg.origin limit n) same ∙ rw pick refl;
+  is = grind (arith, nat_tests, pick, is.size, found);
 }
 
 module _ (settings : Settings) (roads : Roads) (s : State) (stops : ℕ → List PlannedStop) (b : Batch) (settled : Settled) (points : List ℕ) (times : Times)
     (kept : IsKept settings roads s stops) (shows : ShowsRiders s b) (early : (id : ℕ) (v : Vehicle) → find_vehicle id s.vehicles ≡ Some v → b.sealed_at ≤ v.time)
     (limits : IsSettled settings points (travel_time times) b settled) (table : AreTravelTimes roads.arcs (map (index_in roads.nodes) points) times) where
-  batch_differ : KeysDiffer (λ (r : Rider). r.id) b.riders
-  batch_differ = KeysDiffer-from_rise (λ (r : Rider). r.id) b.riders shows.rise
-
   -- a request of the batch, and its rider
   pub request_rider : (n : ℕ) → n < length b.riders → (r : BookRider) × (find_rider (request_at b.riders n).id s.riders ≡ Some r) × IsAsking b.sealed_at r (request_at b.riders n)
   request_rider n h =
-      let at : look_up (λ (r : Rider). r.id) (request_at b.riders n).id b.riders ≡ Some (request_at b.riders n) = look_up-at (λ (r : Rider). r.id) n b.riders no_request batch_differ h in
+      let at : look_up (λ (r : Rider). r.id) (request_at b.riders n).id b.riders ≡ Some (request_at b.riders n) = look_up-at (λ (r : Rider). r.id) n b.riders no_request (KeysDiffer-from_rise (λ (r : Rider). r.id) b.riders shows.rise) h in
       let of = shows.shows (request_at b.riders n).id (request_at b.riders n) at in
-      (of.0, of.1, asking_is b.sealed_at of.0 (request_at b.riders n) of.2)
+      (of.0, of.1, grind (arith, nat_tests, of.2))
 
   pub promised_request : (vehicle n : ℕ) → n < length b.riders → is_promised_to vehicle (request_at b.riders n) ≡ true → IsPromisedRider s vehicle (request_at b.riders n).id (request_at b.riders n)
   promised_request vehicle n h promised =
       let of = request_rider n h in
-      by of.0 of.1 of.2 of.2.promise refl
-    where
-      by : (r : BookRider) → find_rider (request_at b.riders n).id s.riders ≡ Some r → (asks : IsAsking b.sealed_at r (request_at b.riders n)) (o : Option Promise) → asks.promise ≡ o → IsPromisedRider s vehicle (request_at b.riders n).id (request_at b.riders n)
-      by r found asks None e = absurd (
-          let is : request_at b.riders n ≡ shown r None = asks.is ∙ ap (shown r) e in
-          false≢true (sym (ap (is_promised_to vehicle) is) ∙ promised))
-      by r found asks (Some p) e =
-          let is : request_at b.riders n ≡ shown r (Some p) = asks.is ∙ ap (shown r) e in
-          let own : eqb p.vehicle vehicle ≡ true = sym (ap (is_promised_to vehicle) is) ∙ promised in
-          record { rider = r; found = found; promise = p; status = promise_status r.status p (asks.pool ∙ ap Some e); own = eqb-true p.vehicle vehicle own; is = is }
+      grind (arith, nat_tests, promised, of.1, of.2.pool, of.2.is)
 
   module _ (k : ℕ) (x : Vehicle) (at : slice_get b.vehicles k ≡ Some x) where
     placed : IsPlaced settings points (travel_time times) b.sealed_at x (vehicle_at settled k)
@@ -121,21 +96,15 @@ module _ (settings : Settings) (roads : Roads) (s : State) (stops : ℕ → List
     passengers_length : length passenger_names ≡ length x.aboard.items
     passengers_length = length-map x.aboard.items (λ (p : Passenger). p.rider)
 
-    names_distinct : IsDistinct nat_eq names
-    names_distinct = ids_distinct b.riders shows.rise (promised_to (vehicle_at settled k).id b.riders) trip
-
     pub passengers_differ : KeysDiffer (λ (p : Passenger). p.rider) x.aboard.items
     passengers_differ = All-look_up (λ (v : Vehicle). v.id) (λ (v : Vehicle). KeysDiffer (λ p. p.rider) v.aboard.items) x.id s.vehicles x kept.state.consistent.passengers vehicle_found
 
-    passengers_distinct : IsDistinct nat_eq passenger_names
-    passengers_distinct = distinct_from_differ (λ (p : Passenger). p.rider) x.aboard.items passengers_differ
-
     -- who has a name among the promised is promised, and the other way round
-    named : (z : ℕ) → has_node names z ≡ true → (i : ℕ) × (i < length numbers) × ((request_at b.riders (get_or numbers i 0)).id ≡ z) × (index_in names z ≡ i)
+    named : (z : ℕ) → has_node names z ≡ true → (i : ℕ) × (i < length numbers) × IsPromisedRider s x.id z (request_at b.riders (get_or numbers i 0)) × (index_in names z ≡ i)
     named z h =
         let l : index_in names z < length names = has_index names z h in
         let li : index_in names z < length numbers = omega (arith, l, names_length) in
-        (index_in names z, li, sym (name_is (index_in names z) li) ∙ name_at names z l, refl)
+        (index_in names z, li, subst (λ y. IsPromisedRider s x.id y (request_at b.riders (get_or numbers (index_in names z) 0))) (sym (name_is (index_in names z) li) ∙ name_at names z l) (number_promised (index_in names z) li), refl)
 
     to_named : (z : ℕ) (r : BookRider) (p : Promise) → find_rider z s.riders ≡ Some r → r.status ≡ Promised p → p.vehicle ≡ x.id → has_node names z ≡ true
     to_named z r p found status own =
@@ -149,14 +118,7 @@ module _ (settings : Settings) (roads : Roads) (s : State) (stops : ℕ → List
         subst (λ z. has_node names z ≡ true) name (is_node_at names has.0 (omega (arith, has.1, names_length)))
 
     pub passenger_rider : (z : ℕ) (p : Passenger) → find_passenger z x.aboard.items ≡ Some p → IsRiderAboard s x.id z p
-    passenger_rider z p e =
-        by (find_rider z s.riders) refl (sym (ap (option_and_then (λ (v : Vehicle). find_passenger z v.aboard.items)) (sym vehicle_found) ∙ kept.state.consistent.aboard x.id z) ∙ e)
-      where
-        by : (o : Option BookRider) → find_rider z s.riders ≡ o → option_and_then (seat_in x.id) (find_rider z s.riders) ≡ Some p → IsRiderAboard s x.id z p
-        by None f g = absurd (let h : option_and_then (seat_in x.id) None ≡ Some p = ap (option_and_then (seat_in x.id)) (sym f) ∙ g in cc)
-        by (Some r) f g =
-            let seat = seat_is x.id r p (ap (option_and_then (seat_in x.id)) (sym f) ∙ g) in
-            record { rider = r; found = f; status = seat.0; is = seat.1 }
+    passenger_rider z p e = grind (arith, nat_tests, e, vehicle_found, kept.state.consistent.aboard x.id z)
 
     abbrev no_passenger : Passenger
     no_passenger = record { rider = 0; origin = 0; destination = 0; time = 0; party = 0 }
@@ -172,29 +134,25 @@ module _ (settings : Settings) (roads : Roads) (s : State) (stops : ℕ → List
         look_up-at (λ (p : Passenger). p.rider) (index_in passenger_names z) x.aboard.items no_passenger passengers_differ lj in
         (lj, passenger_rider z (get_or x.aboard.items (index_in passenger_names z) no_passenger) (ap (λ z. find_passenger z x.aboard.items) (sym name) ∙ found))
 
-    to_passenger : (z : ℕ) (r : BookRider) → find_rider z s.riders ≡ Some r → r.status ≡ Aboard x.id → has_node passenger_names z ≡ true
-    to_passenger z r found status =
+    pub passenger_at : (z : ℕ) (r : BookRider) → find_rider z s.riders ≡ Some r → r.status ≡ Aboard x.id → (j : ℕ) × (j < length x.aboard.items) × (get_or (map (λ (p : Passenger). p.rider) x.aboard.items) j 0 ≡ z)
+    passenger_at z r found status =
         let at_z : find_passenger z x.aboard.items ≡ Some (passenger_of r) =
         ap (option_and_then (λ (v : Vehicle). find_passenger z v.aboard.items)) (sym vehicle_found) ∙ kept.state.consistent.aboard x.id z ∙ ap (option_and_then (seat_in x.id)) found ∙ rw (status, eq-eqb x.id x.id refl) refl in
         let place = found_at (λ (p : Passenger). p.rider) z x.aboard.items (passenger_of r) at_z in
-        let name : get_or passenger_names place.0 0 ≡ z = get_or-map (λ (p : Passenger). p.rider) x.aboard.items place.0 no_passenger 0 place.1 ∙ ap (λ (p : Passenger). p.rider) (place.2 no_passenger) ∙ found_id z s.riders r found in
-        subst (λ z. has_node passenger_names z ≡ true) name (is_node_at passenger_names place.0 (omega (arith, place.1, passengers_length)))
+        (place.0, place.1, get_or-map (λ (p : Passenger). p.rider) x.aboard.items place.0 no_passenger 0 place.1 ∙ ap (λ (p : Passenger). p.rider) (place.2 no_passenger) ∙ found_id z s.riders r found)
+
+    to_passenger : (z : ℕ) (r : BookRider) → find_rider z s.riders ≡ Some r → r.status ≡ Aboard x.id → has_node passenger_names z ≡ true
+    to_passenger z r found status = let place = passenger_at z r found status in subst (λ z. has_node passenger_names z ≡ true) place.2 (is_node_at passenger_names place.0 (omega (arith, place.1, passengers_length)))
 
     -- nobody is promised and aboard
     names_apart : (z : ℕ) → has_node names z ≡ true → has_node passenger_names z ≡ false
-    names_apart z h = by (cases_Bool (has_node passenger_names z))
-      where
-        by : (has_node passenger_names z ≡ true) ⊎ (has_node passenger_names z ≡ false) → has_node passenger_names z ≡ false
-        by (inr f) = f
-        by (inl t) =
-            let place = named z h in
-            let promised = subst (λ k. IsPromisedRider s x.id k (request_at b.riders (get_or numbers place.0 0))) place.2 (number_promised place.0 place.1) in
-            let aboard = (passenger_at_name z t).1 in
-            let one = promised.found in
-            let two = aboard.found in
-            let is : promised.rider ≡ aboard.rider = cc in
-            let e : Promised promised.promise ≡ Aboard x.id = sym promised.status ∙ ap (λ (r : BookRider). r.status) is ∙ aboard.status in
-            absurd cc
+    names_apart z h = elim (cases_Bool (has_node passenger_names z)) [
+      | inr f ↦ f
+      | inl t ↦
+          let place = named z h in
+          let aboard = (passenger_at_name z t).1 in
+          absurd (grind (arith, place.2.found, place.2.status, aboard.found, aboard.status))
+    ]
 
     stops_numbered : AllByRecursion (IsNumbered names passenger_names) (stops x.id)
     stops_numbered = all_weaker (IsRightStop settings roads s.riders x.id) (IsNumbered names passenger_names) (λ stop right. elim (right_cases settings roads s.riders x.id stop right) [
@@ -210,8 +168,7 @@ module _ (settings : Settings) (roads : Roads) (s : State) (stops : ℕ → List
     rides : (z : ℕ) → has_node names z ≡ true → calls_of z (stops x.id) ≡ true ∷ false ∷ []
     rides z h =
         let place = named z h in
-        let promised = subst (λ k. IsPromisedRider s x.id k (request_at b.riders (get_or numbers place.0 0))) place.2 (number_promised place.0 place.1) in
-        (subst (λ t. HasCalls x.id t (calls_of z (stops x.id))) promised.status (serves.calls z promised.rider promised.found)) promised.own
+        (subst (λ t. HasCalls x.id t (calls_of z (stops x.id))) place.2.status (serves.calls z place.2.rider place.2.found)) place.2.own
 
     leaves : (z : ℕ) → has_node passenger_names z ≡ true → calls_of z (stops x.id) ≡ false ∷ []
     leaves z h =
@@ -232,7 +189,7 @@ module _ (settings : Settings) (roads : Roads) (s : State) (stops : ℕ → List
         let a : length names ≡ length (kept_legs settings.wait b.riders settled.riders numbers) = names_length ∙ sym legs_length in
         let c : length passenger_names ≡ length (vehicle_at settled k).aboard.items = passengers_length ∙ sym placed.aboard_count in
         subst (λ n. IsOrder n (length (vehicle_at settled k).aboard.items) order) a
-        (subst (λ m. IsOrder (length names) m order) c (numbers_are_order names passenger_names names_distinct passengers_distinct names_apart (stops x.id) stops_numbered rides leaves))
+        (subst (λ m. IsOrder (length names) m order) c (numbers_are_order names passenger_names (ids_distinct b.riders shows.rise (promised_to (vehicle_at settled k).id b.riders) trip) (distinct_from_differ (λ (p : Passenger). p.rider) x.aboard.items passengers_differ) names_apart (stops x.id) stops_numbered rides leaves))
 
     -- each stop is seen by the task as what it is
     seen_pick : (stop : PlannedStop) → stop.pick ≡ true → has_node names stop.rider ≡ true → IsRightPickup settings.wait s.riders x.id stop → IsSeen points s.riders stop (visit_at task (number_of names passenger_names stop))
@@ -240,14 +197,10 @@ module _ (settings : Settings) (roads : Roads) (s : State) (stops : ℕ → List
         let place = named stop.rider has in
         let n : ℕ = get_or numbers place.0 0 in
         let h : get_or numbers place.0 0 < length b.riders = number_within place.0 place.1 in
-        let promised = subst (λ z. IsPromisedRider s x.id z (request_at b.riders (get_or numbers place.0 0))) place.2 (number_promised place.0 place.1) in
-        let one = promised.found in
-        let two = own.found in
-        let same : promised.rider ≡ own.rider = cc in
-        let promise : promised.promise ≡ record { vehicle = x.id; pickup = stop.second } =
-        (let e : Promised promised.promise ≡ Promised (record { vehicle = x.id; pickup = stop.second }) = sym promised.status ∙ ap (λ (r : BookRider). r.status) same ∙ own.status in cc) in
+        let same : place.2.rider ≡ own.rider = cc (place.2.found, own.found) in
+        let promise : place.2.promise ≡ record { vehicle = x.id; pickup = stop.second } = cc (place.2.status, same, own.status) in
         let is : request_at b.riders (get_or numbers place.0 0) ≡ shown own.rider (Some (record { vehicle = x.id; pickup = stop.second })) =
-        promised.is ∙ ap (λ r. shown r (Some promised.promise)) same ∙ ap (λ p. shown own.rider (Some p)) promise in
+        place.2.is ∙ ap (λ r. shown r (Some place.2.promise)) same ∙ ap (λ p. shown own.rider (Some p)) promise in
         let leg = limits.legs (get_or numbers place.0 0) (request_at b.riders (get_or numbers place.0 0)) (slice_get-get_or b.riders (get_or numbers place.0 0) no_request h) in
         let leg' : IsLegOf settings points (travel_time times) own.rider.origin own.rider.destination own.rider.time own.rider.party (record (rider_at settled (get_or numbers place.0 0)).leg { latest_pickup = (request_at b.riders (get_or numbers place.0 0)).time + settings.wait }) =
         subst (λ (q : Rider). IsLegOf settings points (travel_time times) q.origin q.destination q.time q.party (record (rider_at settled (get_or numbers place.0 0)).leg { latest_pickup = (request_at b.riders (get_or numbers place.0 0)).time + settings.wait })) is leg in
@@ -264,11 +217,8 @@ module _ (settings : Settings) (roads : Roads) (s : State) (stops : ℕ → List
     seen_drop stop drop has none own =
         let place = named stop.rider has in
         let h : get_or numbers place.0 0 < length b.riders = number_within place.0 place.1 in
-        let promised = subst (λ z. IsPromisedRider s x.id z (request_at b.riders (get_or numbers place.0 0))) place.2 (number_promised place.0 place.1) in
-        let one = promised.found in
-        let two = own.found in
-        let same : promised.rider ≡ own.rider = cc in
-        let is : request_at b.riders (get_or numbers place.0 0) ≡ shown own.rider (Some promised.promise) = promised.is ∙ ap (λ r. shown r (Some promised.promise)) same in
+        let same : place.2.rider ≡ own.rider = cc (place.2.found, own.found) in
+        let is : request_at b.riders (get_or numbers place.0 0) ≡ shown own.rider (Some place.2.promise) = place.2.is ∙ ap (λ r. shown r (Some place.2.promise)) same in
         let leg = limits.legs (get_or numbers place.0 0) (request_at b.riders (get_or numbers place.0 0)) (slice_get-get_or b.riders (get_or numbers place.0 0) no_request h) in
         let leg' : IsLegOf settings points (travel_time times) own.rider.origin own.rider.destination own.rider.time own.rider.party (record (rider_at settled (get_or numbers place.0 0)).leg { latest_pickup = (request_at b.riders (get_or numbers place.0 0)).time + settings.wait }) =
         subst (λ (q : Rider). IsLegOf settings points (travel_time times) q.origin q.destination q.time q.party (record (rider_at settled (get_or numbers place.0 0)).leg { latest_pickup = (request_at b.riders (get_or numbers place.0 0)).time + settings.wait })) is leg in
@@ -283,9 +233,7 @@ module _ (settings : Settings) (roads : Roads) (s : State) (stops : ℕ → List
     seen_alight stop drop has own =
         let there = passenger_at_name stop.rider has in
         let aboard = there.1 in
-        let one = aboard.found in
-        let two = own.found in
-        let same : aboard.rider ≡ own.rider = cc in
+        let same : aboard.rider ≡ own.rider = cc (aboard.found, own.found) in
         let is : get_or x.aboard.items (index_in passenger_names stop.rider) no_passenger ≡ passenger_of own.rider = sym aboard.is ∙ ap passenger_of same in
         let leg = placed.aboard_legs (index_in passenger_names stop.rider) (get_or x.aboard.items (index_in passenger_names stop.rider) no_passenger) (slice_get-get_or x.aboard.items (index_in passenger_names stop.rider) no_passenger there.0) in
         let leg' : IsLegOf settings points (travel_time times) own.rider.origin own.rider.destination own.rider.time own.rider.party (leg_at (vehicle_at settled k).aboard.items (index_in passenger_names stop.rider)) =
@@ -306,10 +254,7 @@ module _ (settings : Settings) (roads : Roads) (s : State) (stops : ℕ → List
     ready_is = let a : (vehicle_at settled k).ready ≡ max x.time b.sealed_at = placed.ready in let e = early x.id x vehicle_found in omega (arith, a, e)
 
     room_is : x.seats - persons_aboard x ≡ free_seats task
-    room_is =
-        let a : persons (vehicle_at settled k).aboard.items ≡ persons_aboard x = same_persons (vehicle_at settled k).aboard.items x.aboard.items placed.aboard_count (λ k p e. (placed.aboard_legs k p e).size) in
-        let c : (vehicle_at settled k).seats ≡ x.seats = placed.seats in
-        sym (ap (λ n. n - persons (vehicle_at settled k).aboard.items) c ∙ ap (λ n. x.seats - n) a)
+    room_is = omega (arith, same_persons (vehicle_at settled k).aboard.items x.aboard.items placed.aboard_count (λ k p e. (placed.aboard_legs k p e).size), placed.seats)
 
     in_time : ServesFrom (travel_time times) settings.dwell (vehicle_at settled k).start (vehicle_at settled k).ready (free_seats task) (visits_of task order)
     in_time =

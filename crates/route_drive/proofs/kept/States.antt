@@ -1,6 +1,6 @@
 -- What an entry of a driven day leaves of a state: a stop that is entered, a report, a request.
 use Rattle.std.proofs.Common.{◌≡◌, ℕ, ◌+◌, ◌-◌, ◌≤◌, true, false, List, ◌∷◌, Some, refl, sym, ap, ◌∙◌, subst, arith, inl, inr, option_map, option_and_then}
-use Rattle.route_drive.proofs.Common.{option_map_or, cases_eq, persons_aboard, HasSeats, Passenger, Promise, Vehicle, IsConsistent, NamesNodes, seat_in, KeysDiffer, with_status, passenger_of, find_rider, find_vehicle, find_passenger, step, rider_becomes, vehicle_becomes, stands_at, takes_in, lets_out, Command, Report, Pickup, Dropoff, PlannedStop, Reply, Placed, Picked, Dropped, BookRider, Status, Promised, Aboard, Delivered, State, step-consistent, step-named, look_up-key, look_up-changed_here, look_up-changed_there, All-look_up, Settings, Roads, has_node, AreReached, party_at, IsOfVehicle, IsServing, IsPromiseKept, IsDayState, IsBoundBy, KeepsBounds, LeavesOthers, IsDone, eq-eqb}
+use Rattle.route_drive.proofs.Common.{option_map_or, cases_eq, persons_aboard, HasSeats, Promise, Vehicle, IsConsistent, NamesNodes, seat_in, KeysDiffer, with_status, passenger_of, find_rider, find_vehicle, find_passenger, step, rider_becomes, vehicle_becomes, stands_at, takes_in, lets_out, Command, Report, Pickup, Dropoff, PlannedStop, Reply, Placed, Picked, Dropped, BookRider, Status, Promised, Aboard, Delivered, State, step-consistent, step-named, look_up-key, look_up-changed_here, look_up-changed_there, All-look_up, Settings, Roads, has_node, AreReached, party_at, IsOfVehicle, IsServing, IsPromiseKept, IsDayState, IsBoundBy, KeepsBounds, LeavesOthers, IsDone, eq-eqb}
 use Rattle.route_drive.proofs.kept.Riders.{changed, find_other, find_same, found_id, of_one}
 use Rattle.route_drive.proofs.kept.Enter.{others_serve, picked_up_right, dropped_right, serves_on_picked, dropped_is_aboard, serves_on_dropped}
 use Rattle.route_drive.proofs.kept.Replies.{pickup_is, dropoff_is, report_is}
@@ -39,9 +39,7 @@ module _ (settings : Settings) (roads : Roads) (s : State) (day : IsDayState roa
   next_promises : (y : ℕ) (q : BookRider) (promise : Promise) → find_rider y next_state.riders ≡ Some q → q.status ≡ Promised promise → IsPromiseKept next_state q promise
   next_promises y q promise e t = elim (cases_eq x y) [
     | inl same ↦
-        let here = find_same s.riders x status r found in
-        let there : find_rider x (changed s.riders x status) ≡ Some q = subst (λ k. find_rider k (changed s.riders x status) ≡ Some q) (sym same) e in
-        let is : with_status status r ≡ q = cc in
+        let is : with_status status r ≡ q = cc (find_same s.riders x status r found, same, e) in
         absurd (after promise (ap (λ (q : BookRider). q.status) is ∙ t))
     | inr ne ↦
         let was = day.promises y q promise (sym (find_other s.riders x status y ne) ∙ e) t in

@@ -1,5 +1,5 @@
 -- Stops that are reached by shortest walks, as visits of a task over a table of travel times.
-use Rattle.std.proofs.Common.{◌≡◌, ℕ, ◌+◌, ◌<◌, ◌≤◌, Bool, true, false, cond, ltb, List, [], ◌∷◌, length, get_or, map, filter, Some, refl, sym, ap, ◌∙◌, subst, arith, inl, inr, slice_get}
+use Rattle.std.proofs.Common.{◌≡◌, ℕ, ◌+◌, ◌<◌, ◌≤◌, Bool, true, cond, ltb, List, [], ◌∷◌, length, get_or, map, filter, Some, sym, ap, ◌∙◌, subst, arith, inl, inr, slice_get}
 use Rattle.route_drive.proofs.Common.{AllByRecursion, cases_Bool, get_or-map, length-map, slice_get_within, get_or_from_slice_get, never, IsTravelTime, travel_time, Times, ideal_second, PlannedStop, BookRider, Roads, index_in, IsTimeBetween, AtLeastAsSoon, soon_over, soon_there, Stop, Visit, place_of, latest_of, boarding_of, room_after, ServesFrom, AreTravelTimes, ideal_dropoff, AreReached, party_at, seats_after, HasSeatsFor}
 use Rattle.stop_orders.specs.declared.visit.Visit.TheVariants.{Pickup, Dropoff}
 use Rattle.route_drive.proofs.kept.Lists.{takes, skips}
@@ -40,52 +40,38 @@ module _ (roads : Roads) (points : List ℕ) (times : Times) (table : AreTravelT
   serves_by_table riders dwell vis [] place node free room at reached seats seen = tt
   serves_by_table riders dwell vis (stop ∷ stops) place node free room at reached seats seen =
       let tau : travel_time times place seen.0.place ≡ reached.0.seconds = time_is place seen.0.place node stop.node reached.0.seconds at seen.0.node (inl reached.0.least) in
-      let where_ : place_of (vis stop) ≡ seen.0.place = of_place stop.pick seen.0.is in
+      let where_ : place_of (vis stop) ≡ seen.0.place = grind (arith, seen.0.is) in
+      let until : latest_of (vis stop) ≡ seen.0.latest = grind (arith, seen.0.is) in
+      let left : room_after (vis stop) room ≡ seats_after riders stop room = grind (arith, seen.0.is) in
       let hop : travel_time times place (place_of (vis stop)) ≡ reached.0.seconds = ap (travel_time times place) where_ ∙ tau in
       let then : free + travel_time times place (place_of (vis stop)) + dwell ≡ stop.second + dwell = omega (arith, hop, reached.0.reached) in
       let in_time = seen.0.in_time in (
         omega (arith, hop, reached.0.short),
-        omega (arith, hop, reached.0.reached, in_time, of_latest stop.pick seen.0.is),
-        fits stop.pick refl seen.0.is,
+        omega (arith, hop, reached.0.reached, in_time, until),
+        grind (arith, seen.0.is, seats.0),
         subst (λ p. ServesFrom (travel_time times) dwell p (free + travel_time times place (place_of (vis stop)) + dwell) (room_after (vis stop) room) (map vis stops)) (sym where_)
             (subst (λ f. ServesFrom (travel_time times) dwell seen.0.place f (room_after (vis stop) room) (map vis stops)) (sym then)
-            (subst (λ r. ServesFrom (travel_time times) dwell seen.0.place (stop.second + dwell) r (map vis stops)) (sym (after stop.pick refl seen.0.is))
+            (subst (λ r. ServesFrom (travel_time times) dwell seen.0.place (stop.second + dwell) r (map vis stops)) (sym left)
             (serves_by_table riders dwell vis stops seen.0.place stop.node (stop.second + dwell) (seats_after riders stop room) seen.0.node reached.1 seats.1 seen.1))),
       )
-    where
-      of_place : (b : Bool) → vis stop ≡ cond b (Pickup seen.0.place seen.0.latest (party_at riders stop)) (Dropoff seen.0.place seen.0.latest seen.0.ideal (party_at riders stop)) → place_of (vis stop) ≡ seen.0.place
-      of_place true e = ap place_of e
-      of_place false e = ap place_of e
-
-      of_latest : (b : Bool) → vis stop ≡ cond b (Pickup seen.0.place seen.0.latest (party_at riders stop)) (Dropoff seen.0.place seen.0.latest seen.0.ideal (party_at riders stop)) → latest_of (vis stop) ≡ seen.0.latest
-      of_latest true e = ap latest_of e
-      of_latest false e = ap latest_of e
-
-      fits : (b : Bool) → stop.pick ≡ b → vis stop ≡ cond b (Pickup seen.0.place seen.0.latest (party_at riders stop)) (Dropoff seen.0.place seen.0.latest seen.0.ideal (party_at riders stop)) → boarding_of (vis stop) ≤ room
-      fits true p e = let f : boarding_of (vis stop) ≡ party_at riders stop = ap boarding_of e in let h = seats.0 p in omega (arith, f, h)
-      fits false p e = let f : boarding_of (vis stop) ≡ 0 = ap boarding_of e in omega (arith, f)
-
-      after : (b : Bool) → stop.pick ≡ b → vis stop ≡ cond b (Pickup seen.0.place seen.0.latest (party_at riders stop)) (Dropoff seen.0.place seen.0.latest seen.0.ideal (party_at riders stop)) → room_after (vis stop) room ≡ seats_after riders stop room
-      after true p e = ap (λ v. room_after v room) e ∙ rw p refl
-      after false p e = ap (λ v. room_after v room) e ∙ rw p refl
 
 -- of a serving order, the stops where nobody gets in serve without the others
 pub sub_serves : (points : ℕ) (tau : ℕ → ℕ → ℕ) (dwell : ℕ) (vis : Stop → Visit) (keep : Stop → Bool) → IsTravelTime points tau → ((s : Stop) → keep s ≡ true → boarding_of (vis s) ≡ 0)
     → (stops : List Stop) (p f room q g other : ℕ) → AtLeastAsSoon tau p f q g → ServesFrom tau dwell q g other (map vis stops) → ServesFrom tau dwell p f room (map vis (filter keep stops))
 sub_serves points tau dwell vis keep travel nobody [] p f room q g other soon serves = tt
-sub_serves points tau dwell vis keep travel nobody (s ∷ stops) p f room q g other soon serves = elim (cases_Bool (keep s)) [
-  | inl k ↦
-      let sooner = soon.soon (place_of (vis s)) serves.0 in
-      subst (λ ss. ServesFrom tau dwell p f room (map vis ss)) (sym (takes keep s stops k)) (
-        sooner.0,
-        omega (arith, sooner.1, serves.1),
-        omega (arith, nobody s k),
-        sub_serves points tau dwell vis keep travel nobody stops (place_of (vis s)) (f + tau p (place_of (vis s)) + dwell) (room_after (vis s) room) (place_of (vis s)) (g + tau q (place_of (vis s)) + dwell) (room_after (vis s) other)
-            (soon_there tau (place_of (vis s)) (f + tau p (place_of (vis s)) + dwell) (g + tau q (place_of (vis s)) + dwell) (omega (arith, sooner.1))) serves.3,
-      )
-  | inr k ↦
-      let sooner = soon.soon (place_of (vis s)) serves.0 in
-      subst (λ ss. ServesFrom tau dwell p f room (map vis ss)) (sym (skips keep s stops k))
-      (sub_serves points tau dwell vis keep travel nobody stops p f room (place_of (vis s)) (g + tau q (place_of (vis s)) + dwell) (room_after (vis s) other)
-      (soon_over points tau travel p f (place_of (vis s)) (g + tau q (place_of (vis s)) + dwell) sooner.0 (omega (arith, sooner.1))) serves.3)
-]
+sub_serves points tau dwell vis keep travel nobody (s ∷ stops) p f room q g other soon serves =
+    let sooner = soon.soon (place_of (vis s)) serves.0 in
+    elim (cases_Bool (keep s)) [
+      | inl k ↦
+          subst (λ ss. ServesFrom tau dwell p f room (map vis ss)) (sym (takes keep s stops k)) (
+            sooner.0,
+            omega (arith, sooner.1, serves.1),
+            omega (arith, nobody s k),
+            sub_serves points tau dwell vis keep travel nobody stops (place_of (vis s)) (f + tau p (place_of (vis s)) + dwell) (room_after (vis s) room) (place_of (vis s)) (g + tau q (place_of (vis s)) + dwell) (room_after (vis s) other)
+                (soon_there tau (place_of (vis s)) (f + tau p (place_of (vis s)) + dwell) (g + tau q (place_of (vis s)) + dwell) (omega (arith, sooner.1))) serves.3,
+          )
+      | inr k ↦
+          subst (λ ss. ServesFrom tau dwell p f room (map vis ss)) (sym (skips keep s stops k))
+          (sub_serves points tau dwell vis keep travel nobody stops p f room (place_of (vis s)) (g + tau q (place_of (vis s)) + dwell) (room_after (vis s) other)
+          (soon_over points tau travel p f (place_of (vis s)) (g + tau q (place_of (vis s)) + dwell) sooner.0 (omega (arith, sooner.1))) serves.3)
+    ]

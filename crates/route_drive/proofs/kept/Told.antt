@@ -1,9 +1,9 @@
 -- The stops that a plan tells of a serving order: their seconds, their seats, whose they are, and what they promise.
 use Rattle.std.proofs.Common.{◌≡◌, ℕ, zero, suc, ◌+◌, ◌≤◌, Bool, true, false, List, [], ◌∷◌, ◌++◌, length, map, filter, Some, None, refl, sym, ap, ◌∙◌, subst, arith, inl, inr, slice_get}
-use Rattle.route_drive.proofs.Common.{AllByRecursion, cases_Bool, cases_eq, travel_time, Times, trip_picks, look_up, PlannedStop, BookRider, look_up-here, look_up-there, look_up-nil, Roads, index_in, Stop, Drop, Alight, Visit, place_of, latest_of, boarding_of, room_after, seconds_from, ServesFrom, AreTravelTimes, AreReached, party_at, seats_after, HasSeatsFor, is_stop_of, calls_of, true≢false, zip, flat_map, nat_tests}
+use Rattle.route_drive.proofs.Common.{AllByRecursion, cases_eq, travel_time, Times, trip_picks, look_up, PlannedStop, BookRider, look_up-nil, Roads, index_in, Stop, Visit, place_of, latest_of, boarding_of, room_after, seconds_from, ServesFrom, AreTravelTimes, AreReached, party_at, seats_after, HasSeatsFor, is_stop_of, calls_of, true≢false, zip, flat_map, nat_tests}
 use Rattle.request_book.specs.Closing.{Pick}
 use Rattle.stop_orders.specs.declared.stop.Stop.TheVariants.{Pick as PickStop}
-use Rattle.route_drive.proofs.kept.Lists.{takes, skips, all_weaker}
+use Rattle.route_drive.proofs.kept.Lists.{all_weaker}
 use Rattle.route_drive.proofs.kept.Walks.{least_between}
 use Rattle.route_drive.proofs.kept.Riders.{calls_own, calls_other, no_pickup}
 use Rattle.route_drive.proofs.kept.Tables.{time_between}
@@ -82,19 +82,11 @@ module _ (roads : Roads) (points : List ℕ) (times : Times) (table : AreTravelT
 abbrev pub pick_of : ℕ → PlannedStop → Pick
 pick_of vehicle stop = record { rider = stop.rider; promise = record { vehicle = vehicle; pickup = stop.second } }
 
-picks_take : (vehicle : ℕ) (stop : PlannedStop) (stops : List PlannedStop) → stop.pick ≡ true → trip_picks vehicle (stop ∷ stops) ≡ pick_of vehicle stop ∷ trip_picks vehicle stops
-unfolding trip_picks
-picks_take vehicle stop stops e = rw e refl
-
-picks_skip : (vehicle : ℕ) (stop : PlannedStop) (stops : List PlannedStop) → stop.pick ≡ false → trip_picks vehicle (stop ∷ stops) ≡ trip_picks vehicle stops
-unfolding trip_picks
-picks_skip vehicle stop stops e = rw e refl
-
 -- whoever has no pickup is promised none
 pub none_promised : (x vehicle : ℕ) (stops : List PlannedStop) → AllByRecursion (λ b. b ≡ false) (calls_of x stops) → look_up (λ (p : Pick). p.rider) x (trip_picks vehicle stops) ≡ None
 unfolding trip_picks look_up
 none_promised x vehicle [] all = refl
-none_promised x vehicle (stop ∷ stops) all = grind (arith, nat_tests, none_promised x vehicle stops, picks_take vehicle stop stops, picks_skip vehicle stop stops)
+none_promised x vehicle (stop ∷ stops) all = grind (arith, nat_tests, none_promised x vehicle stops)
 
 -- whoever has one pickup is promised it
 pub record IsPickPromised (x vehicle : ℕ) (stops : List PlannedStop) : Type 0 where
@@ -103,17 +95,15 @@ pub record IsPickPromised (x vehicle : ℕ) (stops : List PlannedStop) : Type 0 
   pub at : AllByRecursion (λ (stop : PlannedStop). stop.rider ≡ x → stop.pick ≡ true → stop.second ≡ second) stops
 
 pub one_promised : (x vehicle : ℕ) (stops : List PlannedStop) → calls_of x stops ≡ true ∷ false ∷ [] → IsPickPromised x vehicle stops
+unfolding trip_picks look_up
 one_promised x vehicle [] e = absurd cc
 one_promised x vehicle (stop ∷ stops) e = elim (cases_eq stop.rider x) [
   | inl same ↦
-      let f : stop.pick ∷ calls_of x stops ≡ true ∷ false ∷ [] = sym (calls_own x stop stops same) ∙ e in
-      let pick : stop.pick ≡ true = cc in
-      let rest : calls_of x stops ≡ false ∷ [] = cc in
+      let pick : stop.pick ≡ true = cc (calls_own x stop stops same, e) in
+      let rest : calls_of x stops ≡ false ∷ [] = cc (calls_own x stop stops same, e) in
       record {
         second = stop.second;
-        found =
-            ap (look_up (λ (p : Pick). p.rider) x) (picks_take vehicle stop stops pick) ∙ look_up-here (λ (p : Pick). p.rider) x (pick_of vehicle stop) (trip_picks vehicle stops) same
-            ∙ ap (λ n. Some (record { rider = n; promise = record { vehicle = vehicle; pickup = stop.second } })) same;
+        found = grind (arith, nat_tests, same, pick);
         at = (
           λ a b. refl,
           all_weaker (λ (s : PlannedStop). s.rider ≡ x → s.pick ≡ false) (λ (s : PlannedStop). s.rider ≡ x → s.pick ≡ true → s.second ≡ stop.second)
@@ -124,10 +114,7 @@ one_promised x vehicle (stop ∷ stops) e = elim (cases_eq stop.rider x) [
       let rest = one_promised x vehicle stops (sym (calls_other x stop stops ne) ∙ e) in
       record {
         second = rest.second;
-        found = elim (cases_Bool stop.pick) [
-          | inl p ↦ ap (look_up (λ (p : Pick). p.rider) x) (picks_take vehicle stop stops p) ∙ look_up-there (λ (p : Pick). p.rider) x (pick_of vehicle stop) (trip_picks vehicle stops) ne ∙ rest.found
-          | inr d ↦ ap (look_up (λ (p : Pick). p.rider) x) (picks_skip vehicle stop stops d) ∙ rest.found
-        ];
+        found = grind (arith, nat_tests, ne, rest.found);
         at = (λ a b. absurd (ne a), rest.at);
       }
 ]

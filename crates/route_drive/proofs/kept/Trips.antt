@@ -1,7 +1,7 @@
 -- On a driven day a good plan has no late vehicle and no lapsed promise; and of the trips that it chooses: whose stops they
 -- are, and what they promise.
 use Rattle.std.proofs.Common.{◌≡◌, ℕ, ◌+◌, ◌<◌, ◌≤◌, true, false, not, List, [], ◌∷◌, length, get_or, map, filter, Option, Some, None, refl, sym, ap, ◌∙◌, subst, arith, inl, inr, All, slice_get, is_some, zero, suc, eqb, nat_eq, Bool, Contains}
-use Rattle.route_drive.proofs.Common.{AllByRecursion, AllZip, range_with_len, cases_Bool, MatchBool-at_true, recursion_from_All, All-from_get_or, length-range_with_len, get_or-range_with_len, slice_get_within, slice_get-get_or, slice_get_cases, travel_time, Times, Batch, Promise, Vehicle, HasGraphsWith, IsGoodPlan, IsLate, request_at, is_promised_to, promised_to, filter_range_has, IsLive, IsSettled, IsHeld, find_vehicle, PlannedStop, Planned, State, Settings, Roads, index_in, Settled, vehicle_at, rider_at, no_rider, no_vehicle, vehicle_task, IsServable, AreTravelTimes, IsKept, ShowsRiders, get_or_from_slice_get, IsDistinct, cases_eq, rider_id, IsTripOf, times_served_as_count, choice_at, riders_at, no_row, is_in, IsRowOf, no_request, ChosenTrip, has_node, IsTrip, find_rider, false≢true, get_or-map, length-map, Passenger, told_stop, IsPlaced, BookRider, Aboard, look_up-at, Stop, Pick, Drop, Alight, is_of_rider, is_of_passenger, IsKnown, trip_task, visit_at, is_stop_of, calls_of, pool_promise, find_passenger, eq-eqb, ne_eqb, zip, gets, nat_tests}
+use Rattle.route_drive.proofs.Common.{AllByRecursion, AllZip, range_with_len, recursion_from_All, All-from_get_or, length-range_with_len, get_or-range_with_len, slice_get_within, slice_get-get_or, slice_get_cases, travel_time, Times, Batch, Promise, Vehicle, HasGraphsWith, IsGoodPlan, IsLate, request_at, is_promised_to, promised_to, filter_range_has, IsLive, IsSettled, IsHeld, find_vehicle, PlannedStop, Planned, State, Settings, Roads, index_in, Settled, vehicle_at, rider_at, no_rider, no_vehicle, AreTravelTimes, IsKept, ShowsRiders, IsDistinct, cases_eq, rider_id, IsTripOf, times_served_as_count, choice_at, riders_at, no_row, is_in, IsRowOf, no_request, ChosenTrip, has_node, IsTrip, false≢true, get_or-map, length-map, Passenger, told_stop, IsPlaced, BookRider, Aboard, look_up-at, Stop, Pick, Drop, Alight, is_of_rider, is_of_passenger, IsKnown, trip_task, visit_at, is_stop_of, calls_of, pool_promise, find_passenger, eq-eqb, ne_eqb, zip, gets, nat_tests}
 use Rattle.route_drive.proofs.kept.Lists.{filter_none, filter_all}
 use Rattle.route_drive.proofs.kept.Batches.{found_at, distinct_from_differ, ids_distinct, other_id, IsRiderAboard}
 use Rattle.route_drive.proofs.kept.States.{vehicle_id}
@@ -35,12 +35,6 @@ zip_back R (x ∷ xs) (y ∷ ys) zero b zip e = let is : y ≡ b = cc in (x, ref
 zip_back R (x ∷ xs) (y ∷ ys) (suc i) b zip e = zip_back R xs ys i b zip.1 e
 zip_back R xs ys i b zip e = grind arith
 
-range_get : (n k : ℕ) → k < n → slice_get (range_with_len 0 n) k ≡ Some k
-range_get n k h = grind (arith, gets, length-range_with_len 0 n, get_or-range_with_len 0 n k 0 h)
-
-range_within : (n k a : ℕ) → slice_get (range_with_len 0 n) k ≡ Some a → (k < n) × (a ≡ k)
-range_within n k a e = grind (arith, gets, length-range_with_len 0 n, get_or-range_with_len 0 n k 0)
-
 -- a name is met again only at its own number
 pub same_number : (names : List ℕ) (q i : ℕ) → IsDistinct nat_eq names → q < length names → i < length names → eqb (get_or names q 0) (get_or names i 0) ≡ eqb q i
 same_number names q i distinct lq li = grind (arith, nat_tests, index_at names q distinct lq, index_at names i distinct li)
@@ -60,13 +54,9 @@ module _ (settings : Settings) (roads : Roads) (s : State) (stops : ℕ → List
   ]
 
   pub not_late : (k : ℕ) → k < length settled.vehicles → (vehicle_at settled k).late ≡ false
-  not_late k h = elim (cases_Bool (vehicle_at settled k).late) [
-    | inr f ↦ f
-    | inl t ↦
-        let x = vehicle_of_number k h in
-        absurd ((MatchBool-at_true (IsServable (travel_time times) (vehicle_task settings.dwell (vehicle_at settled k) []) → ⊥) (IsServable (travel_time times) (vehicle_task settings.dwell (vehicle_at settled k) [])) t (limits.late k h))
-        (passengers_served settings roads s stops b settled points times kept shows early limits table k x.0 x.1))
-  ]
+  not_late k h =
+      let x = vehicle_of_number k h in
+      grind (arith, nat_tests, limits.late k h, passengers_served settings roads s stops b settled points times kept shows early limits table k x.0 x.1)
 
   -- a vehicle that has promised is live
   pub live_at : (k : ℕ) → k < length settled.vehicles → IsLive settings (travel_time times) b.riders settled.riders (vehicle_at settled k)
@@ -132,12 +122,12 @@ module _ (settings : Settings) (roads : Roads) (s : State) (stops : ℕ → List
         (good.holds point.Plan).trips
 
     pub trip_of : (k : ℕ) → k < length settled.vehicles → (t : ChosenTrip) × (slice_get planned.chosen k ≡ Some t) × IsTripOf points (travel_time times) settled good.graph (good.holds point.Plan).chosen k t
-    trip_of k h = zip_get (IsTripOf points (travel_time times) settled good.graph (good.holds point.Plan).chosen) (range_with_len 0 (length settled.vehicles)) planned.chosen k k trips (range_get (length settled.vehicles) k h)
+    trip_of k h = zip_get (IsTripOf points (travel_time times) settled good.graph (good.holds point.Plan).chosen) (range_with_len 0 (length settled.vehicles)) planned.chosen k k trips (grind (arith, gets, length-range_with_len 0 (length settled.vehicles), get_or-range_with_len 0 (length settled.vehicles) k 0 h))
 
     pub trip_back : (i : ℕ) (t : ChosenTrip) → slice_get planned.chosen i ≡ Some t → (i < length settled.vehicles) × IsTripOf points (travel_time times) settled good.graph (good.holds point.Plan).chosen i t
     trip_back i t e =
         let back = zip_back (IsTripOf points (travel_time times) settled good.graph (good.holds point.Plan).chosen) (range_with_len 0 (length settled.vehicles)) planned.chosen i t trips e in
-        let at = range_within (length settled.vehicles) i back.0 back.1 in
+        let at : (i < length settled.vehicles) × (back.0 ≡ i) = grind (arith, gets, length-range_with_len 0 (length settled.vehicles), get_or-range_with_len 0 (length settled.vehicles) i 0, back.1) in
         (at.0, subst (λ a. IsTripOf points (travel_time times) settled good.graph (good.holds point.Plan).chosen a t) at.1 back.2)
 
     lawful : IsLawful good.graph (good.holds point.Plan).chosen
@@ -214,9 +204,7 @@ module _ (settings : Settings) (roads : Roads) (s : State) (stops : ℕ → List
       not_aboard r j lr lj e =
           let of = request_rider settings roads s stops b settled points times kept shows early limits table r lr in
           let aboard = rider_aboard j lj in
-          let one = of.1 in
-          let two : find_rider (request_at b.riders r).id s.riders ≡ Some aboard.rider = subst (λ z. find_rider z s.riders ≡ Some aboard.rider) e aboard.found in
-          let same : of.0 ≡ aboard.rider = cc in
+          let same : of.0 ≡ aboard.rider = cc (of.1, aboard.found, e) in
           let status : of.0.status ≡ Aboard x.id = ap (λ (r : BookRider). r.status) same ∙ aboard.status in
           let pool : pool_promise (Aboard x.id) ≡ Some of.2.promise = ap pool_promise (sym status) ∙ of.2.pool in
           absurd cc
@@ -242,13 +230,10 @@ module _ (settings : Settings) (roads : Roads) (s : State) (stops : ℕ → List
       rider_test i h (Drop q) second l = ap (λ n. eqb n (get_or trip_names i 0)) (told_member q l) ∙ same_number trip_names q i trip_names_distinct (let e = trip_names_length in omega (arith, e, l)) (let e = trip_names_length in omega (arith, e, h))
       rider_test i h (Alight j) second l = ap (λ n. eqb n (get_or trip_names i 0)) (told_passenger j) ∙ ne_eqb (get_or passenger_names j 0) (get_or trip_names i 0) (λ e. not_aboard (get_or trip i 0) j (member_within i h) l (e ∙ name_is i h))
 
-      passengers_named : IsDistinct nat_eq passenger_names
-      passengers_named = distinct_from_differ (λ (p : Passenger). p.rider) x.aboard.items (passengers_differ settings roads s stops b settled points times kept shows early limits table k x at)
-
       passenger_test : (i : ℕ) → i < length x.aboard.items → (stop : Stop) (second : ℕ) → IsKnown (length trip) (length x.aboard.items) stop → is_stop_of (get_or passenger_names i 0) (told (stop, second)) ≡ is_of_passenger i stop
       passenger_test i h (Pick q) second l = ap (λ n. eqb n (get_or passenger_names i 0)) (told_member q l) ∙ ne_eqb (get_or trip_names q 0) (get_or passenger_names i 0) (λ e. not_aboard (get_or trip q 0) i (member_within q l) h (sym e ∙ name_is q l))
       passenger_test i h (Drop q) second l = ap (λ n. eqb n (get_or passenger_names i 0)) (told_member q l) ∙ ne_eqb (get_or trip_names q 0) (get_or passenger_names i 0) (λ e. not_aboard (get_or trip q 0) i (member_within q l) h (sym e ∙ name_is q l))
-      passenger_test i h (Alight j) second l = ap (λ n. eqb n (get_or passenger_names i 0)) (told_passenger j) ∙ same_number passenger_names j i passengers_named (let e = passengers_length in omega (arith, e, l)) (let e = passengers_length in omega (arith, e, h))
+      passenger_test i h (Alight j) second l = ap (λ n. eqb n (get_or passenger_names i 0)) (told_passenger j) ∙ same_number passenger_names j i (distinct_from_differ (λ (p : Passenger). p.rider) x.aboard.items (passengers_differ settings roads s stops b settled points times kept shows early limits table k x at)) (let e = passengers_length in omega (arith, e, l)) (let e = passengers_length in omega (arith, e, h))
 
       other_test : (r : ℕ) → r < length b.riders → has_node trip r ≡ false → (stop : Stop) (second : ℕ) → IsKnown (length trip) (length x.aboard.items) stop → is_stop_of (request_at b.riders r).id (told (stop, second)) ≡ false
       other_test r lr out (Pick q) second l = ap (λ n. eqb n (request_at b.riders r).id) (told_member q l) ∙ ne_eqb (get_or trip_names q 0) (request_at b.riders r).id (λ e.

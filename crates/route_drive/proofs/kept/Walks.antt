@@ -1,12 +1,9 @@
 -- Shortest walks: their seconds are one number, and what is left of one is one.
-use Rattle.std.proofs.Common.{◌≡◌, ℕ, zero, suc, ◌+◌, ◌<◌, ◌≤◌, Bool, true, false, eqb, List, [], ◌∷◌, ◌++◌, length, get_or, Contains, nat_eq, refl, sym, ◌∙◌, subst, arith, inl, inr}
-use Rattle.route_drive.proofs.Common.{IsDistinct, false≢true, All-from_recursion, Contains-get_or, passes_at_first, never, Arc, IsWalk, walk_seconds, IsLeastTime, IsTimeBetween, index_in, has_node, eqb-true, eq-eqb, ne_eqb, IsWalk-append, walk_seconds-append, nat_tests}
-
-pub least_unique : (arcs : List Arc) (a b s t : ℕ) → IsLeastTime arcs a b s → IsLeastTime arcs a b t → s ≡ t
-least_unique arcs a b s t one other = omega (arith, one.least other.walk other.walks, other.least one.walk one.walks, one.takes, other.takes)
+use Rattle.std.proofs.Common.{◌≡◌, ℕ, zero, suc, ◌+◌, ◌<◌, ◌≤◌, true, false, eqb, List, [], ◌∷◌, ◌++◌, length, get_or, Contains, nat_eq, refl, sym, ◌∙◌, subst, arith, inl, inr}
+use Rattle.route_drive.proofs.Common.{IsDistinct, false≢true, All-from_recursion, Contains-get_or, passes_at_first, never, Arc, IsWalk, walk_seconds, IsLeastTime, IsTimeBetween, index_in, has_node, eqb-true, eq-eqb, IsWalk-append, walk_seconds-append, nat_tests}
 
 pub between_unique : (arcs : List Arc) (a b s t : ℕ) → IsTimeBetween arcs a b s → IsTimeBetween arcs a b t → s ≡ t
-between_unique arcs a b s t (inl one) (inl other) = least_unique arcs a b s t one other
+between_unique arcs a b s t (inl one) (inl other) = omega (arith, one.least other.walk other.walks, other.least one.walk one.walks, one.takes, other.takes)
 between_unique arcs a b s t (inl one) (inr other) = absurd (other.0 one.walk one.walks)
 between_unique arcs a b s t (inr one) (inl other) = absurd (one.0 other.walk other.walks)
 between_unique arcs a b s t (inr one) (inr other) = one.1 ∙ sym other.1
@@ -47,9 +44,6 @@ index_at (x ∷ xs) (suc k) apart h = grind (arith, nat_tests, index_at xs k apa
 -- a node with an index is the name at it
 pub name_at : (nodes : List ℕ) (node : ℕ) → index_in nodes node < length nodes → get_or nodes (index_in nodes node) 0 ≡ node
 name_at nodes node h = sym (eqb-true node (get_or nodes (index_in nodes node) 0) (passes_at_first (λ x. eqb node x) nodes 0 h))
-
-pub node_from_index : (nodes : List ℕ) (node : ℕ) → index_in nodes node < length nodes → has_node nodes node ≡ true
-node_from_index nodes node h = subst (λ n. has_node nodes n ≡ true) (name_at nodes node h) (is_node_at nodes (index_in nodes node) h)
 
 pub contains_node : (nodes : List ℕ) (node : ℕ) → has_node nodes node ≡ true → Contains nodes node
 contains_node nodes node h =

@@ -174,13 +174,6 @@ pub record IsDone (settings : Settings) (roads : Roads) (s : State) (command : C
   pub others : LeavesOthers settings roads s t vehicle
   pub bounds : KeepsBounds s t
 
--- what leaves all vehicles as they are, and everything that they serve
-pub record LeavesAll (settings : Settings) (roads : Roads) (s t : State) : Type 0 where
-  pub state : IsDayState roads t
-  pub vehicles : t.vehicles ≡ s.vehicles
-  pub serve : (id : ℕ) (w : Vehicle) (free : ℕ) (stops : List PlannedStop) → find_vehicle id s.vehicles ≡ Some w → IsServing settings roads s.riders w free stops → IsServing settings roads t.riders w free stops
-  pub bounds : KeepsBounds s t
-
 -- a sealed batch that isn't closed yet, in a state: whom it shows
 pub record ShowsRiders (s : State) (b : Batch) : Type 0 where
   pub rise : KeysRise (λ r. r.id) b.riders
@@ -188,6 +181,14 @@ pub record ShowsRiders (s : State) (b : Batch) : Type 0 where
   pub promised : (x : ℕ) (r : BookRider) (p : Promise) → find_rider x s.riders ≡ Some r → r.status ≡ Promised p → look_up (λ r. r.id) x b.riders ≡ Some (shown r (Some p))
   pub vehicles : b.vehicles ≡ s.vehicles
   pub last : s.last_seal ≡ Some b.sealed_at
+
+-- what leaves all vehicles as they are, and everything that they serve
+pub record LeavesAll (settings : Settings) (roads : Roads) (s t : State) : Type 0 where
+  pub state : IsDayState roads t
+  pub vehicles : t.vehicles ≡ s.vehicles
+  pub serve : (id : ℕ) (w : Vehicle) (free : ℕ) (stops : List PlannedStop) → find_vehicle id s.vehicles ≡ Some w → IsServing settings roads s.riders w free stops → IsServing settings roads t.riders w free stops
+  pub bounds : KeepsBounds s t
+  pub shows : (b : Batch) → ShowsRiders s b → ShowsRiders t b
 
 -- the stops that a plan gives a vehicle
 abbrev pub chosen_stops : Planned → ℕ → List PlannedStop
