@@ -9,7 +9,8 @@
 //! fn relaxed(alloc: Global, graph: &TripGraph) -> Result<(i128, usize), OutOfMemory> {
 //!     let allowed = vec![in alloc; true; graph.rows().len()]?;
 //!     let table = RowTable::of_graph(alloc, graph)?;
-//!     let mut relaxation = Relaxation::new(alloc, &table, graph.held())?;
+//!     let allowance = Allowance::new(1_000_000_000);
+//!     let mut relaxation = Relaxation::new(alloc, &table, graph.held(), allowance)?;
 //!     relaxation.solve(&table, i64::MAX, 20, 10)?;
 //!     let mut shares: Vec<Share> = Vec::new(alloc);
 //!     relaxation.find_shares(&table, &mut shares)?;
@@ -21,6 +22,8 @@
 //! Main clauses: none, only what safety needs.
 #![tactic(auto)]
 
+mod allowance;
 mod relaxation;
 
+pub use allowance::Allowance;
 pub use relaxation::{Ended, Relaxation, Saved};

@@ -15,6 +15,7 @@ mod pool;
 mod pricing;
 mod sparse;
 
+use crate::allowance::Allowance;
 use crate::relaxation::basis::Basis;
 use crate::relaxation::pool::Pool;
 use crate::relaxation::sparse::Sparse;
@@ -23,6 +24,7 @@ use pool_base::OutOfMemory;
 use row_tables::fixed_point::{ONE, at, copy, item, reset, set_at, times, write_over};
 use row_tables::{RowTable, Share};
 use std::alloc::Global;
+use std::mem::replace;
 
 /// Within so much of what it may be at most a solution counts as the best, in 1/1024 second.
 const NEAR: i64 = 200;
@@ -39,12 +41,8 @@ const MOST_PASSES: u32 = 1000;
 /// How many columns for each condition the dual simplex takes in at most for a solution.
 const MOST_DUAL_PIVOTS: u64 = 20;
 
-/// After going through so many numbers of factors and columns it takes no more columns in: then any solution must do. One
-/// beside another rests after half of that.
-const MOST_WORK: u64 = 1_500_000_000;
-
 /// How many numbers a look at a row or a column counts as.
-const A_LOOK: u64 = 8;
+const A_LOOK: u64 = 2;
 
 /// A basis with its factors and prices, to come back to.
 #[derive(Drop)]
@@ -83,15 +81,15 @@ pub struct Relaxation {
     parts: Vec<i64>,
     /// A row of the basis's inverse over the conditions, and its products with the rows of the pool.
     row: Sparse,
-    products: Sparse,
+    products: Vec<i64>,
     /// The reduced costs of columns that may come in, with their places in the pool, and in how many turns these are
     /// still good.
     candidates: Vec<(i64, u32)>,
     turns: u32,
     pivots: u64,
-    /// How many numbers of columns were gone through so far, and after how much work it rests.
-    work: u64,
-    most_work: u64,
+    /// How many numbers it may still go through. Once they are gone it takes no more columns in: then any solution must
+    /// do.
+    allowance: Allowance,
     /// The best multipliers of the last solution and their value, in 1/1024 second.
     multipliers: Vec<i64>,
     value: i64,
@@ -108,6 +106,7 @@ impl Relaxation {
         alloc: Global,
         table: &RowTable,
         start: &[Option<u32>],
+        allowance: Allowance,
     ) -> Result<Self, OutOfMemory> {
         let mut relaxation = Relaxation {
             basis: Basis::new(alloc),
@@ -119,12 +118,11 @@ impl Relaxation {
             scale: scale_of(table),
             parts: Vec::new(alloc),
             row: Sparse::new(alloc),
-            products: Sparse::new(alloc),
+            products: Vec::new(alloc),
             candidates: Vec::new(alloc),
             turns: 0,
             pivots: 0,
-            work: 0,
-            most_work: MOST_WORK,
+            allowance,
             multipliers: Vec::new(alloc),
             value: i64::MIN,
             tried: Vec::new(alloc),
@@ -145,9 +143,9 @@ impl Relaxation {
         alloc: Global,
         table: &RowTable,
         start: &[Option<u32>],
+        allowance: Allowance,
     ) -> Result<Self, OutOfMemory> {
-        let mut relaxation = Relaxation::new(alloc, table, start)?;
-        relaxation.most_work = MOST_WORK / 2;
+        let mut relaxation = Relaxation::new(alloc, table, start, allowance)?;
         for column in self.pool.columns() {
             relaxation.add(table, *column as usize)?;
         }
@@ -291,14 +289,25 @@ impl Relaxation {
     }
 
     /// Counts looks at so many rows or columns.
-    fn count_looks(&mut self, count: usize) {
-        let looks = (count as u64).saturating_mul(A_LOOK);
-        self.work = self.work.saturating_add(looks);
+    pub fn count_looks(&mut self, count: usize) {
+        self.allowance.spend((count as u64).saturating_mul(A_LOOK));
+    }
+
+    /// Has it go on with this allowance.
+    pub fn allow_work(&mut self, allowance: Allowance) {
+        self.allowance = allowance;
+    }
+
+    /// What is left of its allowance.
+    pub fn allowance(&mut self) -> Allowance {
+        self.allowance
+            .spend(replace(&mut self.basis.factors.work, 0));
+        self.allowance
     }
 
     /// Whether it takes no more columns in.
-    pub fn is_tired(&self) -> bool {
-        self.work.saturating_add(self.basis.factors.work) > self.most_work
+    pub fn is_tired(&mut self) -> bool {
+        self.allowance().is_gone()
     }
 
     /// How many columns came in so far.

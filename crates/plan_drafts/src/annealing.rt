@@ -7,19 +7,20 @@
 use crate::beside::{Beside, mark_of};
 use crate::present::Present;
 use crate::regrets::Regrets;
+use linear_relaxation::Allowance;
 use pool_base::OutOfMemory;
 use row_tables::Draws;
 use row_tables::fixed_point::{item, set_at};
 use row_tables::lists::short;
 use std::alloc::Global;
 
-/// How many moves there are, at most, at most by the number of vehicles, since a move looks at many of them, and at most
-/// for each row of the table; and how many have the same temperature.
-const MOVES: u64 = 1_200_000;
-
-const MOVES_BY_VEHICLES: u64 = 120_000_000;
+/// How many moves there are at most, and at most for each row of the table; how many numbers one counts as, beside one
+/// for each vehicle; and how many have the same temperature.
+const MOVES: u64 = 900_000;
 
 const MOVES_A_ROW: u64 = 150;
+
+const A_MOVE: u64 = 100;
 
 const MOVES_EACH: u64 = 1024;
 
@@ -60,6 +61,7 @@ pub fn anneal<'a>(
     beside: &'a Beside,
     rows: &[Option<u32>],
     seed: u64,
+    allowance: &mut Allowance,
 ) -> Result<Vec<Option<u32>>, OutOfMemory> {
     let mut annealing = Annealing {
         regrets,
@@ -80,18 +82,20 @@ pub fn anneal<'a>(
             annealing.replace(row);
         }
     }
-    annealing.run()?;
+    annealing.run(allowance)?;
     Ok(annealing.found)
 }
 
 impl Annealing<'_> {
     /// Makes all moves while it cools.
-    fn run(&mut self) -> Result<(), OutOfMemory> {
+    fn run(&mut self, allowance: &mut Allowance) -> Result<(), OutOfMemory> {
         let most = (self.regrets.table.row_count() as u64).saturating_mul(MOVES_A_ROW);
         let vehicles = self.regrets.table.vehicle_count() as u64;
-        let dear = MOVES_BY_VEHICLES.checked_div(vehicles).unwrap_or(MOVES);
+        let each = vehicles.saturating_add(A_MOVE);
+        let dear = allowance.rest().checked_div(each).unwrap_or(0);
         let moves = MOVES.min(most).min(dear);
         let stages = moves / MOVES_EACH;
+        allowance.spend(moves.saturating_mul(each));
         for stage in 0..stages {
             let part = (stage << 20).checked_div(stages).unwrap_or(0).min(1 << 20) as i64;
             let cooled = (WARM - COOL).saturating_mul(part) >> 10;

@@ -27,8 +27,8 @@ pub struct Effort {
 /// The effort in most graphs; in graphs of up to so many vehicles and riders, where a trial is cheap; and in graphs
 /// of more than so many, where it is dear.
 const EFFORT: Effort = Effort {
-    candidates: 12,
-    idle: 8,
+    candidates: 6,
+    idle: 4,
     pivots: 30,
 };
 

@@ -14,6 +14,9 @@ use std::alloc::Global;
 /// How many rows are looked at for a choice at most, on the average.
 const MOST_TRIES: u64 = 200;
 
+/// How many numbers a look at a row counts as.
+const A_ROW: u64 = 8;
+
 /// A vehicle's turn to choose.
 #[derive(Clone, Copy)]
 struct Turn {
@@ -41,6 +44,8 @@ pub struct Choices {
     /// The row of each turn, and those of the best choice.
     picks: Vec<u32>,
     best: Vec<u32>,
+    /// How many numbers the last search went through.
+    pub work: u64,
 }
 
 /// Stands where there is no turn any more.
@@ -62,6 +67,7 @@ impl Choices {
             is_served: vec![in alloc; false; riders]?,
             picks: Vec::new(alloc),
             best: Vec::new(alloc),
+            work: 0,
         })
     }
 
@@ -96,6 +102,7 @@ impl Choices {
     ) -> Result<(), OutOfMemory> {
         self.fits.clear();
         self.turns.clear();
+        self.work = 0;
         for vehicle in vehicles {
             let first = self.fits.len();
             self.add_fits(regrets, present, *vehicle as usize)?;
@@ -119,12 +126,20 @@ impl Choices {
         present: &Present,
         vehicle: usize,
     ) -> Result<(), OutOfMemory> {
-        for row in regrets.rows_of(vehicle) {
+        let rows = regrets.rows_of(vehicle);
+        self.count(rows.len());
+        for row in rows {
             if present.is_free(regrets.table, *row) {
                 self.fits.push(*row)?;
             }
         }
         Ok(())
+    }
+
+    /// Counts looks at so many rows.
+    fn count(&mut self, rows: usize) {
+        let numbers = (rows as u64).saturating_mul(A_ROW);
+        self.work = self.work.saturating_add(numbers);
     }
 
     #[inline]
@@ -231,6 +246,7 @@ impl Choices {
         let rest = self.turn(number.saturating_add(1)).least;
         let room = limit.saturating_sub(turn.sum).saturating_sub(rest);
         for place in turn.next..turn.end {
+            self.work = self.work.saturating_add(A_ROW);
             let row = item(&self.fits, place, 0);
             if regrets.above(row) >= room {
                 return None;

@@ -7,9 +7,9 @@ use crate::plans::Plans;
 use crate::regrets::Regrets;
 use crate::scout::{Scout, Start};
 use crate::tree::DraftTree;
-use linear_relaxation::Relaxation;
+use linear_relaxation::{Allowance, Relaxation};
 use pool_base::OutOfMemory;
-use row_tables::{Draft, Drafter, RowTable, Share, first_multipliers};
+use row_tables::{Draft, Drafter, RowTable, Share, ascend, first_multipliers};
 use std::alloc::Global;
 use std::ops::Range;
 use std::thread;
@@ -24,6 +24,14 @@ const MANY_A_CONDITION: usize = 140;
 const TURNS: u32 = 60;
 
 const MORE_TURNS: u32 = 200;
+
+/// Where the relaxation tires an ascent goes on from there: for so many turns at most, through so many rows at most,
+/// toward so many penalties above the value.
+const MOST_TURNS: usize = 400;
+
+const MOST_LOOKS: usize = 100_000_000;
+
+const ABOVE: i64 = 10;
 
 /// How many rows of a vehicle a pass puts into the pool.
 const MOST_ROWS: usize = 20;
@@ -52,6 +60,30 @@ const NEAR_PART: i64 = 2000;
 
 const MOST_TIMES: u64 = 3;
 
+/// A tree grows over the rows whose reduced cost is at most this part of the gap, and those that passes bring. It is
+/// larger with up to so many vehicles and riders, where a row costs little.
+const POOL_PART: i64 = 4;
+
+const LARGER_PART: i64 = 2;
+
+const FEW_CONDITIONS: usize = 350;
+
+/// How many numbers a draft goes through at most. Of those who go through some side by side the one counts who goes
+/// through most.
+const MOST_WORK: u64 = 3_200_000_000;
+
+/// How many numbers a row counts as that is judged at a node.
+const A_ROW: u64 = 2;
+
+/// How many hundredths of what is left the first solution takes at most, and each dive, scout and merge.
+const FIRST_SHARE: u64 = 50;
+
+const DIVE_SHARE: u64 = 10;
+
+const SCOUT_SHARE: u64 = 15;
+
+const MERGE_SHARE: u64 = 15;
+
 /// Drafts by the relaxation of all rows, as this crate does.
 #[derive(Clone, Copy)]
 pub struct RelaxationDrafter;
@@ -66,7 +98,9 @@ impl Drafter for RelaxationDrafter {
         budget: usize,
         workers: u8,
     ) -> Result<Draft, OutOfMemory> {
-        let mut drafting = Drafting::new(alloc, table, held, workers)?;
+        let mut allowance = Allowance::new(MOST_WORK);
+        allowance.spend(work_above(table, budget));
+        let mut drafting = Drafting::new(alloc, table, held, workers, allowance)?;
         drafting.make_plans()?;
         let first = drafting.tree.draft.bound;
         drafting.grow(rt, budget.min(PROBE))?;
@@ -102,10 +136,13 @@ impl<'a> Drafting<'a> {
         table: &'a RowTable,
         held: &[Option<u32>],
         workers: u8,
+        allowance: Allowance,
     ) -> Result<Self, OutOfMemory> {
-        let mut relaxation = Relaxation::new(alloc, table, held)?;
+        let share = allowance.share(FIRST_SHARE);
+        let mut relaxation = Relaxation::new(alloc, table, held, share)?;
         solve(alloc, table, &mut relaxation)?;
-        let tree = DraftTree::new(alloc, table, &mut relaxation)?;
+        let mut tree = DraftTree::new(alloc, table, &mut relaxation, allowance)?;
+        tree.allowance.settle(share, relaxation.allowance());
         Ok(Drafting {
             alloc,
             workers,
@@ -123,9 +160,8 @@ impl<'a> Drafting<'a> {
         let mut plans = Plans::new(self.alloc, &self.regrets, 0)?;
         plans.round(&self.regrets, &shares)?;
         self.better(&mut plans)?;
-        if self.tree.is_open() {
-            let decided = &mut self.decided;
-            if let Some(plan) = dive(self.alloc, table, decided, self.tree.root_basis(), 0)? {
+        if self.tree.is_open() && !self.decided.relaxation.is_tired() {
+            if let Some(plan) = self.dive()? {
                 plans.adopt(&self.regrets, &plan)?;
                 self.better(&mut plans)?;
             }
@@ -133,13 +169,27 @@ impl<'a> Drafting<'a> {
         Ok(())
     }
 
+    /// A plan by a dive from the solution, if it comes to one.
+    fn dive(&mut self) -> Result<Option<Vec<Option<u32>>>, OutOfMemory> {
+        let share = self.tree.allowance.share(DIVE_SHARE);
+        self.decided.relaxation.allow_work(share);
+        let decided = &mut self.decided;
+        let basis = self.tree.root_basis();
+        let plan = dive(self.alloc, self.regrets.table, decided, basis, 0)?;
+        let left = self.decided.relaxation.allowance();
+        self.tree.allowance.settle(share, left);
+        Ok(plan)
+    }
+
     /// Betters a plan by neighbourhoods, and takes it where it is the best so far.
     fn better(&mut self, plans: &mut Plans) -> Result<(), OutOfMemory> {
-        plans.better(&self.regrets, self.tree.draft.bound, IDLE, STEPS)?;
+        let bound = self.tree.draft.bound;
+        let allowance = &mut self.tree.allowance;
+        plans.better(&self.regrets, bound, IDLE, STEPS, allowance)?;
         self.tree.offer(self.alloc, plans.rows(), plans.cost())
     }
 
-    /// Grows the tree to so many nodes, without the rows whose reduced cost exceeds the gap.
+    /// Grows the tree to so many nodes, at first without the rows whose reduced cost exceeds a part of the gap.
     fn grow<R: Threads + Sync>(&mut self, rt: &R, budget: usize) -> Result<(), OutOfMemory> {
         if !self.tree.is_open() {
             return Ok(());
@@ -148,8 +198,14 @@ impl<'a> Drafting<'a> {
         let value = self.tree.standing(0).map_or(0, |standing| standing.value);
         let cost = self.tree.draft.cost.saturating_mul(1024);
         let gap = cost.saturating_sub(value);
+        let is_small = table.condition_count() <= FEW_CONDITIONS;
+        let most = if is_small {
+            gap / LARGER_PART
+        } else {
+            gap / POOL_PART
+        };
         let relaxation = &mut self.decided.relaxation;
-        relaxation.shrink_pool(table, self.tree.multipliers(0), gap)?;
+        relaxation.shrink_pool(table, self.tree.multipliers(0), most)?;
         let relaxation = &self.decided.relaxation;
         self.tree
             .grow(rt, self.alloc, table, relaxation, budget, self.workers)
@@ -195,20 +251,25 @@ impl<'a> Drafting<'a> {
         beside: Option<&Beside>,
         numbers: Range<u64>,
     ) -> Result<(), OutOfMemory> {
+        let share = self.tree.allowance.share(SCOUT_SHARE);
         let start = Start {
             regrets: &self.regrets,
             relaxation: &self.decided.relaxation,
             tree: &self.tree,
             beside,
+            share,
         };
         let scouts = send_scouts(rt, self.alloc, start, numbers, self.workers)?;
+        let mut left = share;
         for scout in &scouts {
             if !scout.is_done {
                 return Err(OutOfMemory);
             }
+            left = left.least(scout.left);
             self.tree
                 .offer(self.alloc, scout.plans.rows(), scout.plans.cost())?;
         }
+        self.tree.allowance.settle(share, left);
         self.merge(rt, &scouts)
     }
 
@@ -216,12 +277,14 @@ impl<'a> Drafting<'a> {
     fn merge<R: Threads + Sync>(&mut self, rt: &R, scouts: &[Scout]) -> Result<(), OutOfMemory> {
         let merge = Merge::new(self.alloc, &self.regrets, &self.tree.draft.plan, scouts)?;
         let plan = renumbered(self.alloc, &self.tree.draft.plan, &merge.parts)?;
-        let mut drafting = Drafting::new(self.alloc, &merge.part, &plan, self.workers)?;
+        let share = self.tree.allowance.share(MERGE_SHARE);
+        let mut drafting = Drafting::new(self.alloc, &merge.part, &plan, self.workers, share)?;
         drafting
             .tree
             .offer(self.alloc, &plan, self.tree.draft.cost)?;
         drafting.make_plans()?;
         drafting.grow(rt, MERGE_NODES)?;
+        self.tree.allowance.settle(share, drafting.tree.allowance);
         let draft = &drafting.tree.draft;
         let plan = renumbered(self.alloc, &draft.plan, &merge.wholes)?;
         self.tree.offer(self.alloc, &plan, draft.cost)
@@ -252,22 +315,56 @@ fn send_scouts<R: Threads + Sync>(
     Ok(scouts)
 }
 
-/// Solves the relaxation, at first with little to pay for a rider who is left out. If it tires before it is solved, the
-/// first multipliers are taken where they are better.
+/// How many numbers who judges a draft goes through: each node is judged over all rows, and at most as many nodes count
+/// as most budgets have.
+fn work_above(table: &RowTable, budget: usize) -> u64 {
+    let rows = (table.row_count() as u64).saturating_mul(A_ROW);
+    rows.saturating_mul(budget.min(MERGE_NODES) as u64)
+}
+
+/// Solves the relaxation, at first with little to pay for a rider who is left out. If it tires before it is solved, an
+/// ascent goes on from its multipliers, or from the first ones where they are better.
 fn solve(alloc: Global, table: &RowTable, relaxation: &mut Relaxation) -> Result<(), OutOfMemory> {
     let rows = table.row_count();
     let is_dear = rows > table.condition_count().saturating_mul(MANY_A_CONDITION);
     let is_long = rows > MANY_ROWS && !is_dear;
     let turns = if is_long { MORE_TURNS } else { TURNS };
     let first = first_multipliers(alloc, table, turns)?;
+    relaxation.count_looks(rows.saturating_mul(turns as usize));
     relaxation.fill_pool(table, &first, MOST_ROWS)?;
     relaxation.set_boxed_costs(table, &first, BOX);
     relaxation.pivot_on(table)?;
     relaxation.set_true_costs(table);
     relaxation.solve(table, i64::MAX, MOST_ROWS, u32::MAX)?;
     if relaxation.is_tired() {
-        relaxation.fill_pool(table, &first, 0)?;
-        relaxation.pass(table, 0)?;
+        try_multipliers(table, relaxation, &first)?;
+        ascend_on(alloc, table, relaxation)?;
     }
+    Ok(())
+}
+
+/// Goes on from a relaxation's multipliers by an ascent.
+fn ascend_on(
+    alloc: Global,
+    table: &RowTable,
+    relaxation: &mut Relaxation,
+) -> Result<(), OutOfMemory> {
+    let start = relaxation.multipliers(alloc, table.rider_count())?;
+    let more = table.penalty().saturating_mul(1024 * ABOVE);
+    let target = relaxation.value().saturating_add(more);
+    let turns = MOST_LOOKS.checked_div(table.row_count()).unwrap_or(0);
+    let turns = turns.min(MOST_TURNS) as u32;
+    let multipliers = ascend(alloc, table, start, target, turns)?;
+    try_multipliers(table, relaxation, &multipliers)
+}
+
+/// Has a relaxation take these multipliers where they are better than its own.
+fn try_multipliers(
+    table: &RowTable,
+    relaxation: &mut Relaxation,
+    multipliers: &[i64],
+) -> Result<(), OutOfMemory> {
+    relaxation.fill_pool(table, multipliers, 0)?;
+    relaxation.pass(table, 0)?;
     Ok(())
 }

@@ -58,6 +58,11 @@ impl Neighbourhood {
             .choose(regrets, present, &self.vehicles, most_steps)
     }
 
+    /// How many numbers the last choice went through.
+    pub fn work(&self) -> u64 {
+        self.choices.work
+    }
+
     fn begin(&mut self, regrets: &Regrets, present: &Present) -> Result<(), OutOfMemory> {
         let left = self.left_rider(regrets, present);
         if let Some(rider) = left {

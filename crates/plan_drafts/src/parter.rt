@@ -3,7 +3,7 @@ use crate::branching::{Branching, decision};
 use crate::decided::Decided;
 use crate::diving::whole_plan;
 use crate::tree::{DraftTree, Standing, standing_of};
-use linear_relaxation::Relaxation;
+use linear_relaxation::{Allowance, Relaxation};
 use pool_base::OutOfMemory;
 use row_tables::{Decision, RowTable};
 use std::alloc::Global;
@@ -47,8 +47,9 @@ impl Parter {
         table: &RowTable,
         relaxation: &Relaxation,
         plan: &[Option<u32>],
+        allowance: Allowance,
     ) -> Result<Self, OutOfMemory> {
-        let mut beside = relaxation.beside(alloc, table, plan)?;
+        let mut beside = relaxation.beside(alloc, table, plan, allowance)?;
         beside.hold(true);
         Ok(Parter {
             decided: Decided::new(alloc, beside),

@@ -8,6 +8,7 @@ use crate::costs::{UNLAWFUL, plan_cost};
 use crate::neighbourhood::Neighbourhood;
 use crate::present::Present;
 use crate::regrets::Regrets;
+use linear_relaxation::Allowance;
 use pool_base::OutOfMemory;
 use row_tables::Share;
 use std::alloc::Global;
@@ -73,17 +74,19 @@ impl Plans {
     }
 
     /// Chooses the rows of a few vehicles anew, over and over, until the plan costs no more than the bound,
-    /// or nothing was saved so many times in a row. Each choice is broken off after so many steps.
+    /// or nothing was saved so many times in a row, or the allowance is gone. Each choice is broken off after so many
+    /// steps.
     pub fn better(
         &mut self,
         regrets: &Regrets,
         bound: i64,
         most_idle: u32,
         most_steps: u32,
+        allowance: &mut Allowance,
     ) -> Result<(), OutOfMemory> {
         let mut idle: u32 = 0;
         for attempt in 0..MOST_ATTEMPTS {
-            if self.cost <= bound || idle > most_idle {
+            if self.cost <= bound || idle > most_idle || allowance.is_gone() {
                 break;
             }
             let size = 3 + attempt / 32 % 8;
@@ -91,6 +94,7 @@ impl Plans {
             let saved = self
                 .neighbourhood
                 .attempt(regrets, present, size, most_steps)?;
+            allowance.spend(self.neighbourhood.work());
             self.cost = self.cost.saturating_sub(saved / 1024);
             idle = if saved > 0 { 0 } else { idle.saturating_add(1) };
         }

@@ -7,7 +7,7 @@ use crate::diving::dive;
 use crate::plans::Plans;
 use crate::regrets::Regrets;
 use crate::tree::DraftTree;
-use linear_relaxation::Relaxation;
+use linear_relaxation::{Allowance, Relaxation};
 use pool_base::OutOfMemory;
 use std::alloc::Global;
 
@@ -28,6 +28,8 @@ pub struct Start<'a> {
     pub tree: &'a DraftTree,
     /// What annealings need, where one rider more might be served.
     pub beside: Option<&'a Beside>,
+    /// What work each may do.
+    pub share: Allowance,
 }
 
 /// One who looks for plans, with a relaxation of its own.
@@ -36,6 +38,8 @@ pub struct Scout {
     number: u64,
     decided: Decided,
     pub plans: Plans,
+    /// What is left of its share.
+    pub left: Allowance,
     /// Whether there was memory for it.
     pub is_done: bool,
 }
@@ -47,10 +51,12 @@ impl Scout {
         let plan = start.tree.draft.plan.as_slice();
         let mut plans = Plans::new(alloc, start.regrets, number)?;
         plans.adopt(start.regrets, plan)?;
+        let relaxation = start.relaxation.beside(alloc, table, plan, start.share)?;
         Ok(Scout {
             number,
-            decided: Decided::new(alloc, start.relaxation.beside(alloc, table, plan)?),
+            decided: Decided::new(alloc, relaxation),
             plans,
+            left: start.share,
             is_done: false,
         })
     }
@@ -65,18 +71,22 @@ impl Scout {
         let plan = match start.beside {
             Some(beside) if self.number % TURNS > 0 => {
                 let plan = start.tree.draft.plan.as_slice();
-                Some(anneal(alloc, start.regrets, beside, plan, self.number)?)
+                let left = &mut self.left;
+                Some(anneal(alloc, start.regrets, beside, plan, self.number, left)?)
             }
             _ => {
                 let basis = start.tree.root_basis();
                 let decided = &mut self.decided;
-                dive(alloc, start.regrets.table, decided, basis, self.number)?
+                let plan = dive(alloc, start.regrets.table, decided, basis, self.number)?;
+                self.left = self.decided.relaxation.allowance();
+                plan
             }
         };
         if let Some(plan) = plan {
             self.plans.adopt(start.regrets, &plan)?;
         }
         let bound = start.tree.draft.bound;
-        self.plans.better(start.regrets, bound, IDLE, STEPS)
+        let left = &mut self.left;
+        self.plans.better(start.regrets, bound, IDLE, STEPS, left)
     }
 }

@@ -2,7 +2,7 @@
 //! to branch on and multipliers, which are judged where they are used.
 use crate::costs::{UNLAWFUL, plan_cost};
 use crate::parter::{End, MOST_AT_ONCE, Parter};
-use linear_relaxation::Relaxation;
+use linear_relaxation::{Allowance, Relaxation};
 use pool_base::OutOfMemory;
 use row_tables::lists::short;
 use row_tables::{Decision, Draft, DraftNode, RowTable, Share};
@@ -16,6 +16,9 @@ use std::thread::Threads;
 const LEAST_PART: i64 = (1 << 32) / 100;
 
 const MOST_PART: i64 = (1 << 32) / 100 * 99;
+
+/// How many hundredths of what is left a tree's growth takes at most.
+const SHARE: u64 = 40;
 
 /// Up to this part of the gap above the bound nodes are parted beside the one of least value.
 const NEAR_PART: i64 = 8;
@@ -39,6 +42,8 @@ pub struct DraftTree {
     standings: Vec<Standing>,
     /// The open nodes, least value first.
     open: BinaryHeap<(i64, u32)>,
+    /// What work may still be done for the draft.
+    pub allowance: Allowance,
 }
 
 impl DraftTree {
@@ -47,6 +52,7 @@ impl DraftTree {
         alloc: Global,
         table: &RowTable,
         relaxation: &mut Relaxation,
+        allowance: Allowance,
     ) -> Result<Self, OutOfMemory> {
         let mut tree = DraftTree {
             draft: Draft {
@@ -57,6 +63,7 @@ impl DraftTree {
             },
             standings: Vec::new(alloc),
             open: BinaryHeap::new(alloc),
+            allowance,
         };
         let multipliers = relaxation.multipliers(alloc, table.rider_count())?;
         let standing = standing_of(alloc, table, relaxation)?;
@@ -137,31 +144,36 @@ impl DraftTree {
         budget: usize,
         workers: u8,
     ) -> Result<(), OutOfMemory> {
+        let share = self.allowance.share(SHARE);
+        let mut left = share;
         let mut team: Vec<Parter> = Vec::new(alloc);
         for _ in 0..budget {
             for _ in team.len()..self.open.len().min(MOST_AT_ONCE) {
-                team.push(Parter::beside(alloc, table, relaxation, &self.draft.plan)?)?;
+                let plan = &self.draft.plan;
+                team.push(Parter::beside(alloc, table, relaxation, plan, left)?)?;
             }
-            if !self.hand_out(&mut team, budget) {
+            if left.is_gone() || !self.hand_out(&mut team, budget, left) {
                 break;
             }
             self.part_all(rt, alloc, table, workers, &mut team);
             for parter in team.iter_mut() {
+                left = left.least(parter.decided.relaxation.allowance());
                 self.take_in(alloc, table, parter)?;
             }
         }
+        self.allowance.settle(share, left);
         Ok(())
     }
 
-    /// Gives the open nodes of least value to these, one each. Whether there was one: not where the bound meets the
-    /// cost, or there is no room, and none for who is tired.
-    fn hand_out(&mut self, team: &mut [Parter], budget: usize) -> bool {
+    /// Gives the open nodes of least value to these, one each, and so much to go through. Whether there was one: not
+    /// where the bound meets the cost, or there is no room.
+    fn hand_out(&mut self, team: &mut [Parter], budget: usize, allowance: Allowance) -> bool {
         self.raise_bound();
         let mut room = budget.saturating_sub(self.standings.len()) / 2;
         let mut is_any = false;
         for parter in team.iter_mut() {
-            let is_free = room > 0 && !parter.decided.relaxation.is_tired();
-            parter.node = if is_free { self.take_near() } else { None };
+            parter.decided.relaxation.allow_work(allowance);
+            parter.node = if room > 0 { self.take_near() } else { None };
             is_any = is_any || parter.node.is_some();
             room = room.saturating_sub(1);
         }

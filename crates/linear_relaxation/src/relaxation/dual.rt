@@ -3,7 +3,7 @@ use crate::relaxation::Relaxation;
 use crate::relaxation::ordering::LEAST_PIVOT;
 use pool_base::OutOfMemory;
 use row_tables::RowTable;
-use row_tables::fixed_point::{quotient, times};
+use row_tables::fixed_point::{add_at, quotient, reset, times};
 
 /// How pivots ended.
 #[derive(Clone, Copy, PartialEq, Eq)]
@@ -74,7 +74,7 @@ impl Relaxation {
     pub fn list_places(&mut self) -> Result<(), OutOfMemory> {
         self.pool
             .list_places(self.prices.len(), &self.is_forbidden)?;
-        self.products.make_space(self.pool.columns().len())
+        reset(&mut self.products, self.pool.columns().len(), 0)
     }
 
     /// Has the level at a place leave for the column that prices use up first. How much the cost rises, `None`
@@ -117,10 +117,13 @@ impl Relaxation {
     /// The column whose reduced cost is used up first as the prices change with the row that was found.
     fn entering(&self) -> Option<Entering> {
         let mut best = None;
-        for place in self.products.places() {
-            let value = self.products.at(place);
+        for (place, value) in self.products.iter().enumerate() {
+            let value = *value;
+            if value <= LEAST_PIVOT {
+                continue;
+            }
             let column = self.pool.column(place);
-            if value > LEAST_PIVOT && !self.is_forbidden(column) && !self.basis.has(column) {
+            if !self.is_forbidden(column) && !self.basis.has(column) {
                 let found = Entering {
                     column,
                     cost: self.pool.reduced_cost(place, &self.prices).max(0),
@@ -135,16 +138,18 @@ impl Relaxation {
     /// Adds the row that was found up over the conditions of each place of the pool, or its negative where the
     /// leaving level is too low.
     fn find_products(&mut self, is_high: bool) {
-        self.products.clear();
+        self.products.as_mut_slice().fill(0);
+        let mut count = self.products.len() as u64 / 8;
         for condition in self.row.places() {
             let value = self.row.at(condition);
             let value = if is_high { value } else { value.wrapping_neg() };
             let places = self.pool.places_with(condition);
-            self.products.add_all(places, value);
-            self.work = self
-                .work
-                .saturating_add((places.len() as u64).saturating_mul(2));
+            for place in places {
+                add_at(&mut self.products, *place as usize, value);
+            }
+            count = count.saturating_add(places.len() as u64);
         }
+        self.allowance.spend(count);
     }
 }
 

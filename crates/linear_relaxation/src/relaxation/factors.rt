@@ -10,6 +10,9 @@ use row_tables::lists::{Lists, short};
 use std::alloc::Global;
 use std::mem::replace;
 
+/// How many columns that are passed over count as one number that is gone through.
+const A_NUMBER: usize = 8;
+
 /// No column stands here.
 pub const NONE: u32 = u32::MAX;
 
@@ -110,7 +113,7 @@ impl Factors {
 
     pub fn copy_from(&mut self, other: &Factors) -> Result<(), OutOfMemory> {
         write_over(&mut self.pivots, &other.pivots)?;
-        self.work = self.work.wrapping_add(other.size() as u64);
+        self.count(other.size());
         self.columns.copy_from(&other.columns)?;
         self.above.copy_from(&other.above)
     }
@@ -214,6 +217,7 @@ impl Factors {
 
     /// Takes these columns from one, in their order.
     fn take_from(&mut self, column: &mut Sparse, first: usize, end: usize) {
+        self.count(end.saturating_sub(first) / A_NUMBER);
         for number in first..end {
             let (place, divisor) = self.pivot(number);
             let value = column.at(place);
@@ -252,6 +256,7 @@ impl Factors {
     /// Prices the places of these columns, the last one first. The marks of all that isn't 0 then.
     fn price_by(&mut self, costs: &mut Sparse, first: usize, end: usize, marks: u64) -> u64 {
         let mut marks = marks;
+        self.count(end.saturating_sub(first) / A_NUMBER);
         for number in (first..end).rev() {
             let (place, divisor) = self.pivot(number);
             let mut rest = costs.at(place);
@@ -268,6 +273,12 @@ impl Factors {
             }
         }
         marks
+    }
+
+    /// Counts so many numbers as gone through.
+    #[inline]
+    fn count(&mut self, numbers: usize) {
+        self.work = self.work.wrapping_add(numbers as u64);
     }
 
     #[inline]

@@ -28,8 +28,11 @@ impl Relaxation {
         self.reprice();
         let mut is_exact = true;
         for _ in 0..u64::MAX {
-            match self.next_place()? {
-                _ if self.is_tired() => return Ok(()),
+            let next = self.next_place()?;
+            if self.is_tired() {
+                return Ok(());
+            }
+            match next {
                 Some((cost, place)) => {
                     is_exact = false;
                     let column = self.pool.column(place as usize);
