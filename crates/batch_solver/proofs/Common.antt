@@ -3,6 +3,7 @@ pub use Rattle.std.proofs.lemmas.List.{drop_more, get_or_default, get_or_read, l
 pub use Rattle.std.proofs.lemmas.List.Elements.{All-contains, All-filter, All-from_get_or, All-map, All-nil, Contains-get_or}
 pub use Rattle.std.specs.List.{AllByRecursion, AllZip, list_any, range_with_len}
 pub use Rattle.batch_snapshot.specs.Batch.{Batch}
+pub use Rattle.batch_solver.specs.Instance.{posed_by}
 pub use Rattle.batch_solver.specs.Moves.{AreMoves, HasPlaces, idle_vehicles, is_idle, move_line, origins_of, starts_of}
 pub use Rattle.batch_solver.specs.Points.{Posed}
 pub use Rattle.batch_solver.specs.Told.{left_riders, rider_id, row_line, told_stop}

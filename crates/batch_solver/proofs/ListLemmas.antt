@@ -10,7 +10,7 @@ use Rattle.batch_solver.specs.declared.point.Point.TheVariants as point
 
 -- a found plan with the lists that belong to it
 pub good_plan : (settings : Settings) (p : Posed) (found : Found) (planned : Planned) → IsSearchAnswer p.graph settings.budget found → planned.cost ≡ found.cost → planned.bound ≡ found.bound → planned.tree ≡ found.tree
-    → AreLists p.points p.tau p.settled p.graph found.plan p.edges p.pairs planned → IsGoodPlan settings planned p
+    → AreLists p found.plan planned → IsGoodPlan settings planned p
 good_plan settings p found planned of cost_is bound_is tree_is lists = by
   where
     With : ℕ → ℤ → List Node → Type 0

@@ -1,34 +1,31 @@
-ghost use Rattle.std.specs.Prelude.{◌≡◌, ◌<◌, ℕ, IfOk, length};
-ghost use Rattle.pool_base.specs.Times.{point_count, travel_time};
-ghost use Rattle.stop_orders.specs.Sound.{IsSound};
+ghost use Rattle.std.specs.Prelude.{◌<◌, IfOk, length};
+ghost use Rattle.pool_base.specs.Times.{travel_time};
+ghost use Rattle.batch_solver.specs.Instance.{HasSoundLimits};
 ghost use Rattle.batch_solver.specs.Trips.{IsLate, AreLate};
 
+use crate::instance::Instance;
 use crate::told::tell_stops;
-use batch_snapshot::Points;
-use pool_base::{OutOfMemory, Times};
+use pool_base::OutOfMemory;
 use request_book::LateVehicle;
 use small_routing::least_delay_unlimited;
 use std::alloc::Global;
-use stop_orders::{Settled, task_of};
+use stop_orders::task_of;
 
 /// The vehicles whose passengers can't all be dropped in time, each with an order of least delay.
 pub(crate) fn late_lines(
     alloc: Global,
-    points: &Points,
-    times: &Times,
-    settled: &Settled,
+    instance: &Instance<'_>,
 ) -> Result<Vec<LateVehicle>, OutOfMemory>
-    requires table { point_count times.now ≡ length points.now }
-    requires sound { (k : ℕ) × IsSound k (point_count times.now) (travel_time times.now) settled.now }
-    ensures { IfOk result (λ late. AreLate points.entry.now (travel_time times.entry.now) settled.entry.now late.items) }
+    requires { HasSoundLimits instance.now }
+    ensures { IfOk result (λ late. AreLate instance.now.points.now (travel_time instance.now.times.now) instance.now.settled.now late.items) }
 {
-    let vehicles = settled.vehicles.as_slice();
+    let vehicles = instance.settled.vehicles.as_slice();
     let mut lines = Vec::new(alloc);
     for vehicle in 0..vehicles.len() {
         if !vehicles[vehicle].late {
             continue;
         }
-        let line = late_line(alloc, points, times, settled, vehicle)?;
+        let line = late_line(alloc, instance, vehicle)?;
         lines.push(line)?;
     }
     Ok(lines)
@@ -37,19 +34,16 @@ pub(crate) fn late_lines(
 /// A late vehicle with an order of least delay; without one where some place can't be reached.
 fn late_line(
     alloc: Global,
-    points: &Points,
-    times: &Times,
-    settled: &Settled,
+    instance: &Instance<'_>,
     vehicle: usize,
 ) -> Result<LateVehicle, OutOfMemory>
-    requires table { point_count times.now ≡ length points.now }
-    requires sound { (k : ℕ) × IsSound k (point_count times.now) (travel_time times.now) settled.now }
-    requires vehicle { vehicle < length settled.now.vehicles }
-    ensures { IfOk result (IsLate points.entry.now (travel_time times.entry.now) settled.entry.now vehicle) }
+    requires sound { HasSoundLimits instance.now }
+    requires vehicle { vehicle < length instance.now.settled.now.vehicles }
+    ensures { IfOk result (IsLate instance.now.points.now (travel_time instance.now.times.now) instance.now.settled.now vehicle) }
 {
-    let id = settled.vehicles.as_slice()[vehicle].id;
-    let task = task_of(settled, vehicle, &[]);
-    match least_delay_unlimited(alloc, &task, times)? {
+    let id = instance.settled.vehicles.as_slice()[vehicle].id;
+    let task = task_of(instance.settled, vehicle, &[]);
+    match least_delay_unlimited(alloc, &task, instance.times)? {
         None => Ok(LateVehicle {
             vehicle: id,
             delay: 0,
@@ -57,7 +51,7 @@ fn late_line(
         }),
         Some(route) => {
             let order = route.stops.as_slice();
-            let stops = tell_stops::<10>(points, times, settled, vehicle, &[], &task, order);
+            let stops = tell_stops::<10>(instance, vehicle, &[], &task, order);
             Ok(LateVehicle {
                 vehicle: id,
                 delay: route.delay,

@@ -22,6 +22,7 @@
 //! Main clauses: of `solve_batch` its one clause, `IsGoodOutcome`.
 #![tactic(auto)]
 
+mod instance;
 mod late;
 mod left;
 mod lines;
@@ -31,6 +32,7 @@ mod solving;
 mod told;
 mod trips;
 
+pub use instance::{Graphs, Instance};
 pub use left::left_riders;
 pub use lines::{lapsed_ids, rider_ids, row_lines, rr_lines, rv_lines};
 pub use moves::{idle_vehicles, origins_of, starts_of};

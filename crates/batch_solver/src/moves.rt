@@ -4,10 +4,11 @@ ghost use Rattle.plan_rules.specs.Graph.{riders_at};
 ghost use Rattle.plan_rules.specs.Plan.{IsPlan};
 ghost use Rattle.pool_base.specs.Times.{point_count, travel_time};
 ghost use Rattle.stop_orders.specs.Settled.{rider_at, vehicle_at};
-ghost use Rattle.stop_orders.specs.Sound.{IsSound};
+ghost use Rattle.batch_solver.specs.Instance.{AreExact};
 ghost use Rattle.batch_solver.specs.Moves.{AreMoves, idle_vehicles, is_idle, move_line, HasPlaces, move_from_to};
 ghost use Rattle.batch_solver.specs.Told.{left_riders};
 
+use crate::instance::Graphs;
 use plan_rules::TripGraph;
 use pool_base::{OutOfMemory, Times};
 use rebalancing::rebalance;
@@ -18,24 +19,21 @@ use stop_orders::Settled;
 /// Moves of idle vehicles to riders who were left out: as many as can be, in the least total of seconds.
 pub(crate) fn move_lines(
     alloc: Global,
-    times: &Times,
-    settled: &Settled,
-    graph: &TripGraph,
+    graphs: &Graphs<'_, '_>,
     chosen: &[Option<u32>],
     left: &[usize],
 ) -> Result<Vec<MoveLine>, OutOfMemory>
-    requires sound { (k : ℕ) × IsSound k (point_count times.now) (travel_time times.now) settled.now }
-    requires vehicles { graph.now.vehicles ≡ length settled.now.vehicles }
-    requires riders { graph.now.riders ≡ length settled.now.riders }
-    requires plan { IsPlan graph.now chosen.now }
-    requires left { left.now ≡ left_riders graph.now chosen.now }
-    ensures { IfOk result (λ moves. AreMoves (travel_time times.now) settled.entry.now (idle_vehicles settled.entry.now graph.now chosen.now) left.now moves.items) }
+    requires exact { AreExact graphs.now }
+    requires plan { IsPlan graphs.now.graph.now chosen.now }
+    requires left { left.now ≡ left_riders graphs.now.graph.now chosen.now }
+    ensures { IfOk result (λ moves. AreMoves (travel_time graphs.now.instance.now.times.now) graphs.now.instance.now.settled.now (idle_vehicles graphs.now.instance.now.settled.now graphs.now.graph.now chosen.now) left.now moves.items) }
 {
-    let idle = idle_vehicles(alloc, settled, graph, chosen)?;
+    let idle = idle_vehicles(alloc, graphs.instance.settled, graphs.graph, chosen)?;
     if idle.is_empty() {
         return Ok(Vec::new(alloc));
     }
-    best_moves(alloc, times, settled, &idle, left)
+    let instance = graphs.instance;
+    best_moves(alloc, instance.times, instance.settled, &idle, left)
 }
 
 /// The vehicles in which nobody is or will be, and that aren't late.

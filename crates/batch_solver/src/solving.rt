@@ -1,25 +1,21 @@
-ghost use Rattle.std.specs.Prelude.{◌≡◌, ℕ, All, Contains, IfOk, OnOk, length};
+ghost use Rattle.std.specs.Prelude.{◌≡◌, All, Contains, IfOk, OnOk};
 ghost use Rattle.batch_snapshot.specs.Points.{named_nodes};
-ghost use Rattle.pair_graph.specs.RrGraph.{IsRrGraph};
-ghost use Rattle.pair_graph.specs.RvGraph.{IsRvGraph};
 ghost use Rattle.plan_rules.specs.Plan.{IsLawful};
-ghost use Rattle.pool_base.specs.Times.{point_count, travel_time};
-ghost use Rattle.stop_orders.specs.Sound.{IsSound};
-ghost use Rattle.trip_graph.specs.Answer.{IsTripGraphOf};
-ghost use Rattle.rider_limits.specs.declared.settings.Settings.{Settings as SettingsValue};
+ghost use Rattle.pool_base.specs.Times.{travel_time};
+ghost use Rattle.batch_solver.specs.Instance.{AreExact, HasSoundLimits, posed_by};
 ghost use Rattle.batch_solver.specs.Outcome.{AnswersWith, HasGraphsWith, IsGoodOutcome, IsGoodPlan};
 ghost use Rattle.batch_solver.specs.work.Lists.{AreLists};
 
+use crate::instance::{Graphs, Instance};
 use crate::late::late_lines;
 use crate::left::left_riders;
 use crate::lines::{lapsed_ids, rider_ids, row_lines, rr_lines, rv_lines};
 use crate::moves::move_lines;
 use crate::trips::chosen_trips;
 use assignment_search::{Found, search_by};
-use batch_snapshot::{Points, Snapshot};
-use pair_graph::RvEdge;
-use plan_rules::{Tree, TripGraph};
-use pool_base::{OutOfMemory, Sequence, Times};
+use batch_snapshot::Snapshot;
+use plan_rules::Tree;
+use pool_base::{OutOfMemory, Sequence};
 use promise_check::settle;
 use request_book::{Answer, Outcome, Planned};
 use rider_limits::Settings;
@@ -27,7 +23,6 @@ use road_network::Network;
 use row_tables::Drafter;
 use std::alloc::Global;
 use std::thread::Threads;
-use stop_orders::{PairList, Settled};
 use travel_times::Ways;
 use trip_graph::{GraphAnswer, grow_graph};
 use worker_gate::Gate;
@@ -56,9 +51,13 @@ pub fn solve_batch<W: Ways, D: Drafter, G: Gate>(
     let times = ways.table(rt, alloc, points.nodes())?;
     let settled = settle(alloc, snapshot, settings, &points, &times)?;
     let expired = Vec::from_slice(alloc, snapshot.expired.as_slice())?;
-    let answer = answer_of(
-        rt, alloc, settings, &points, &times, &settled, drafter, gate,
-    )?;
+    let instance = Instance {
+        settings,
+        points: &points,
+        times: &times,
+        settled: &settled,
+    };
+    let answer = answer_of(rt, alloc, &instance, drafter, gate)?;
     Ok(Outcome {
         expired: Sequence::of(expired),
         answer,
@@ -69,32 +68,24 @@ pub fn solve_batch<W: Ways, D: Drafter, G: Gate>(
 fn answer_of<D: Drafter, G: Gate>(
     rt: &(impl Threads + Sync),
     alloc: Global,
-    settings: &Settings,
-    points: &Points,
-    times: &Times,
-    settled: &Settled,
+    instance: &Instance<'_>,
     drafter: &D,
     gate: &G,
 ) -> Result<Answer, OutOfMemory>
-    requires table { point_count times.now ≡ length points.now }
-    requires sound { IsSound settings.now.trip (point_count times.now) (travel_time times.now) settled.now }
-    ensures { IfOk result (AnswersWith settings.now points.now (travel_time times.now) settled.entry.now (IsGoodPlan settings.now)) }
+    requires { HasSoundLimits instance.now }
+    ensures { IfOk result (AnswersWith instance.now.settings.now instance.now.points.now (travel_time instance.now.times.now) instance.now.settled.now (IsGoodPlan instance.now.settings.now)) }
 {
-    match grow_graph(rt, alloc, settled, times, settings, gate)? {
+    let settled = instance.settled;
+    match grow_graph(rt, alloc, settled, instance.times, instance.settings, gate)? {
         GraphAnswer::Overflow => Ok(Answer::Overflow),
         GraphAnswer::Graph { graph, rv, rr } => {
-            let planned = planned_of(
-                rt,
-                alloc,
-                settings,
-                points,
-                times,
-                settled,
-                &graph,
-                rv.as_slice(),
-                &rr,
-                drafter,
-            )?;
+            let graphs = Graphs {
+                instance,
+                graph: &graph,
+                rv: rv.as_slice(),
+                rr: &rr,
+            };
+            let planned = planned_of(rt, alloc, &graphs, drafter)?;
             Ok(Answer::Planned(planned))
         }
     }
@@ -104,37 +95,19 @@ fn answer_of<D: Drafter, G: Gate>(
 fn planned_of<D: Drafter>(
     rt: &(impl Threads + Sync),
     alloc: Global,
-    settings: &Settings,
-    points: &Points,
-    times: &Times,
-    settled: &Settled,
-    graph: &TripGraph,
-    rv: &[RvEdge],
-    rr: &PairList,
+    graphs: &Graphs<'_, '_>,
     drafter: &D,
 ) -> Result<Planned, OutOfMemory>
-    requires table { point_count times.now ≡ length points.now }
-    requires sound { IsSound settings.now.trip (point_count times.now) (travel_time times.now) settled.now }
-    requires graph { IsTripGraphOf settings.now (travel_time times.now) settled.now graph.now }
-    requires rv { IsRvGraph (travel_time times.now) settled.now rv.now }
-    requires rr { IsRrGraph (travel_time times.now) settled.now rr.now }
-    ensures { IfOk result (λ planned. HasGraphsWith settings.now points.now (travel_time times.now) settled.entry.now (IsGoodPlan settings.now planned)) }
+    requires { AreExact graphs.now }
+    ensures { IfOk result (λ planned. HasGraphsWith graphs.now.instance.now.settings.now graphs.now.instance.now.points.now (travel_time graphs.now.instance.now.times.now) graphs.now.instance.now.settled.now (IsGoodPlan graphs.now.instance.now.settings.now planned)) }
 {
+    let graph = graphs.graph;
+    let settings = graphs.instance.settings;
     let found = search_by(rt, alloc, graph, settings.budget, settings.workers, drafter)?;
     let bound = bound_of(&found);
     let mut planned = unlisted(alloc, found.cost, bound, found.tree);
     let chosen = found.plan.chosen();
-    match list_all(
-        &mut planned,
-        alloc,
-        points,
-        times,
-        settled,
-        graph,
-        rv,
-        rr,
-        chosen,
-    ) {
+    match list_all(&mut planned, alloc, graphs, chosen) {
         Ok(()) => Ok(planned),
         Err(fault) => {
             drop(planned);
@@ -168,38 +141,27 @@ fn unlisted(alloc: Global, cost: u64, bound: i128, tree: Tree) -> Planned
 fn list_all(
     planned: &mut Planned,
     alloc: Global,
-    points: &Points,
-    times: &Times,
-    settled: &Settled,
-    graph: &TripGraph,
-    rv: &[RvEdge],
-    rr: &PairList,
+    graphs: &Graphs<'_, '_>,
     chosen: &[Option<u32>],
 ) -> Result<(), OutOfMemory>
-    requires table { point_count times.now ≡ length points.now }
-    requires sound { (k : ℕ) × IsSound k (point_count times.now) (travel_time times.now) settled.now }
-    requires graph { (settings : SettingsValue) × IsTripGraphOf settings (travel_time times.now) settled.now graph.now }
-    requires rv { IsRvGraph (travel_time times.now) settled.now rv.now }
-    requires rr { IsRrGraph (travel_time times.now) settled.now rr.now }
-    requires lawful { IsLawful graph.now chosen.now }
-    ensures lists { OnOk result (AreLists points.entry.now (travel_time times.entry.now) settled.entry.now graph.entry.now chosen.entry.now rv.entry.now rr.entry.now planned.new) }
+    requires exact { AreExact graphs.now }
+    requires lawful { IsLawful graphs.now.graph.now chosen.now }
+    ensures lists { OnOk result (AreLists (posed_by graphs.now) chosen.now planned.new) }
     ensures cost { planned.new.cost ≡ planned.old.cost }
     ensures bound { planned.new.bound ≡ planned.old.bound }
     ensures tree { planned.new.tree ≡ planned.old.tree }
 {
+    let settled = graphs.instance.settled;
+    let graph = graphs.graph;
     put(&mut planned.lapsed, lapsed_ids(alloc, settled)?);
-    put(
-        &mut planned.late,
-        late_lines(alloc, points, times, settled)?,
-    );
-    put(&mut planned.rv, rv_lines(alloc, settled, rv)?);
-    put(&mut planned.rr, rr_lines(alloc, settled, rr.all())?);
+    put(&mut planned.late, late_lines(alloc, graphs.instance)?);
+    put(&mut planned.rv, rv_lines(alloc, settled, graphs.rv)?);
+    put(&mut planned.rr, rr_lines(alloc, settled, graphs.rr.all())?);
     put(&mut planned.rows, row_lines(alloc, settled, graph.rows())?);
-    let trips = chosen_trips(alloc, points, times, settled, graph, chosen)?;
-    put(&mut planned.chosen, trips);
+    put(&mut planned.chosen, chosen_trips(alloc, graphs, chosen)?);
     let left = left_riders(alloc, graph, chosen)?;
     put(&mut planned.left, rider_ids(alloc, settled, &left)?);
-    let moves = move_lines(alloc, times, settled, graph, chosen, &left)?;
+    let moves = move_lines(alloc, graphs, chosen, &left)?;
     put(&mut planned.moves, moves);
     Ok(())
 }

@@ -6,40 +6,37 @@ ghost use Rattle.stop_orders.specs.Settled.{trip_task, vehicle_at};
 ghost use Rattle.stop_orders.specs.Task.{IsTask, IsOrderOf, seconds_of};
 ghost use Rattle.batch_solver.specs.Told.{rider_id, told_stop};
 
+use crate::instance::Instance;
 use arrayvec::ArrayVec;
-use batch_snapshot::Points;
-use pool_base::{RiderId, Times};
+use pool_base::RiderId;
 use request_book::PlannedStop;
 use stop_orders::{Settled, Stop, Task, visit_of};
 
 /// Tells the stops of a vehicle's order for a trip, each with its second. The task is the vehicle's with
 /// the trip.
 pub fn tell_stops<const N: usize>(
-    points: &Points,
-    times: &Times,
-    settled: &Settled,
+    instance: &Instance<'_>,
     vehicle: usize,
     trip: &[usize],
     task: &Task,
     stops: &[Stop],
 ) -> ArrayVec<PlannedStop, N>
-    requires table { point_count times.now ≡ length points.now }
-    requires vehicle { vehicle < length settled.now.vehicles }
-    requires riders { All (λ r. r < length settled.now.riders) trip.now }
-    requires task { task.now ≡ trip_task settled.now vehicle trip.now }
-    requires valid { IsTask (point_count times.now) task.now }
+    requires vehicle { vehicle < length instance.now.settled.now.vehicles }
+    requires riders { All (λ r. r < length instance.now.settled.now.riders) trip.now }
+    requires task { task.now ≡ trip_task instance.now.settled.now vehicle trip.now }
+    requires valid { IsTask (point_count instance.now.times.now) task.now }
     requires order { IsOrderOf task.now stops.now }
     requires room { length stops.now ≤ N }
-    ensures { result.items ≡ map (told_stop points.entry.now settled.entry.now vehicle trip.entry.now)
-        (zip stops.entry.now (seconds_of (travel_time times.entry.now) (trip_task settled.entry.now vehicle trip.entry.now) stops.entry.now)) }
+    ensures { result.items ≡ map (told_stop instance.now.points.now instance.now.settled.now vehicle trip.now)
+        (zip stops.now (seconds_of (travel_time instance.now.times.now) (trip_task instance.now.settled.now vehicle trip.now) stops.now)) }
 {
     let mut told = ArrayVec::new();
     let mut place = task.start;
     let mut free = task.ready;
     for stop in stops {
         let to = visit_of(task, *stop).place();
-        let second = free + times.seconds(place, to) as u64;
-        told.push(tell_stop(points, settled, vehicle, trip, task, *stop, second));
+        let second = free + instance.times.seconds(place, to) as u64;
+        told.push(tell_stop(instance, vehicle, trip, task, *stop, second));
         place = to;
         free = second + task.dwell as u64;
     }
@@ -48,23 +45,22 @@ pub fn tell_stops<const N: usize>(
 
 /// Tells whom a stop picks up or drops, and at which node.
 fn tell_stop(
-    points: &Points,
-    settled: &Settled,
+    instance: &Instance<'_>,
     vehicle: usize,
     trip: &[usize],
     task: &Task,
     stop: Stop,
     second: u64,
 ) -> PlannedStop
-    requires vehicle { vehicle < length settled.now.vehicles }
-    requires riders { All (λ r. r < length settled.now.riders) trip.now }
-    requires task { task.now ≡ trip_task settled.now vehicle trip.now }
-    requires valid { IsTask (length points.now) task.now }
+    requires vehicle { vehicle < length instance.now.settled.now.vehicles }
+    requires riders { All (λ r. r < length instance.now.settled.now.riders) trip.now }
+    requires task { task.now ≡ trip_task instance.now.settled.now vehicle trip.now }
+    requires valid { IsTask (length instance.now.points.now) task.now }
     requires known { IsKnown (length task.now.riders.items) (length task.now.aboard.items) stop }
-    ensures { result ≡ told_stop points.entry.now settled.entry.now vehicle trip.entry.now (stop, second) }
+    ensures { result ≡ told_stop instance.now.points.now instance.now.settled.now vehicle trip.now (stop, second) }
 {
-    let nodes = points.nodes();
-    let riders = settled.riders.as_slice();
+    let nodes = instance.points.nodes();
+    let riders = instance.settled.riders.as_slice();
     match stop {
         Stop::Pick(i) => PlannedStop {
             pick: true,
@@ -80,7 +76,7 @@ fn tell_stop(
         },
         Stop::Alight(j) => PlannedStop {
             pick: false,
-            rider: passenger_id(settled, vehicle, j as usize),
+            rider: passenger_id(instance.settled, vehicle, j as usize),
             node: nodes[task.aboard[j as usize].destination],
             second,
         },

@@ -17,6 +17,7 @@ pub use Rattle.batch_snapshot.specs.lemmas.Kept.{IsOnce, riders_aboard}
 pub use Rattle.batch_solver.proofs.lemmas.LeftLemmas.{kept_few}
 pub use Rattle.batch_solver.proofs.lemmas.MoveLemmas.{has_places, no_moves, none_matched}
 pub use Rattle.batch_solver.proofs.lemmas.TripLemmas.{valid_task, vehicle_read}
+pub use Rattle.batch_solver.specs.Instance.{posed_by}
 pub use Rattle.batch_solver.specs.Moves.{AreMoves, idle_vehicles, is_idle, move_line}
 pub use Rattle.batch_solver.specs.Outcome.{AnswersWith, HasGraphsWith, IsGoodOutcome, IsGoodPlan, IsOutcomeWith}
 pub use Rattle.batch_solver.specs.Points.{GivesPlanWith, Holds, Posed}

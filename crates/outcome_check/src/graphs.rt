@@ -1,50 +1,37 @@
 //! What is told of the graphs.
-ghost use Rattle.std.specs.Prelude.{◌≡◌, ◌↔◌, ◌<◌, ◌≤◌, ℕ, All, IfOk, IsTrue, filter, length, map};
-ghost use Rattle.batch_solver.specs.Told.{rider_id, row_line};
-ghost use Rattle.stop_orders.specs.Settled.{vehicle_at};
+ghost use Rattle.std.specs.Prelude.{◌≡◌, ◌↔◌, IfOk, IsTrue};
+ghost use Rattle.batch_solver.specs.Instance.{AreExact, posed_by};
+ghost use Rattle.batch_solver.specs.Points.{Holds};
+ghost use Rattle.batch_solver.specs.declared.point.Point.TheVariants.{Graphs as GraphsPoint};
 
-use batch_solver::{lapsed_ids, row_lines, rr_lines, rv_lines};
-use pair_graph::RvEdge;
-use plan_rules::TripGraph;
+use batch_solver::{Graphs, lapsed_ids, row_lines, rr_lines, rv_lines};
 use pool_base::{OutOfMemory, RiderId, VehicleId};
 use request_book::{Planned, RowLine};
 use std::alloc::Global;
-use stop_orders::Settled;
 
 /// Whether lapsed promises, edges and rows are told as they are.
 pub(crate) fn tells_graphs(
     alloc: Global,
-    settled: &Settled,
-    graph: &TripGraph,
-    rv: &[RvEdge],
-    rr: &[(usize, usize)],
+    graphs: &Graphs<'_, '_>,
     planned: &Planned,
 ) -> Result<bool, OutOfMemory>
-    requires vehicles { All (λ edge. edge.vehicle < length settled.now.vehicles) rv.now }
-    requires riders { All (λ edge. edge.rider < length settled.now.riders) rv.now }
-    requires firsts { All (λ (pair : ℕ × ℕ). pair.0 < length settled.now.riders) rr.now }
-    requires seconds { All (λ (pair : ℕ × ℕ). pair.1 < length settled.now.riders) rr.now }
-    requires row_vehicles { All (λ row. row.vehicle < length settled.now.vehicles) graph.now.rows }
-    requires row_riders { All (λ row. All (λ r. r < length settled.now.riders) row.riders.items) graph.now.rows }
-    requires few { All (λ row. length row.riders.items ≤ 6) graph.now.rows }
-    ensures { IfOk result (λ yes. IsTrue yes ↔ ((planned.entry.now.lapsed ≡ map (λ r. r.id) (filter (λ r. r.lapsed) settled.entry.now.riders))
-        × (planned.entry.now.rv ≡ map (λ edge. ((vehicle_at settled.entry.now edge.vehicle).id, rider_id settled.entry.now edge.rider)) rv.entry.now)
-        × (planned.entry.now.rr ≡ map (λ (pair : ℕ × ℕ). (rider_id settled.entry.now pair.0, rider_id settled.entry.now pair.1)) rr.entry.now)
-        × (planned.entry.now.rows ≡ map (row_line settled.entry.now) graph.entry.now.rows))) }
+    requires { AreExact graphs.now }
+    ensures { IfOk result (λ yes. IsTrue yes ↔ Holds graphs.now.instance.now.settings.now GraphsPoint planned.now (posed_by graphs.now)) }
 {
+    let settled = graphs.instance.settled;
     let lapsed = lapsed_ids(alloc, settled)?;
     if !are_same_riders(&lapsed, planned.lapsed.as_slice()) {
         return Ok(false);
     }
-    let edges = rv_lines(alloc, settled, rv)?;
+    let edges = rv_lines(alloc, settled, graphs.rv)?;
     if !are_same_edges(&edges, planned.rv.as_slice()) {
         return Ok(false);
     }
-    let pairs = rr_lines(alloc, settled, rr)?;
+    let pairs = rr_lines(alloc, settled, graphs.rr.all())?;
     if !are_same_pairs(&pairs, planned.rr.as_slice()) {
         return Ok(false);
     }
-    let rows = row_lines(alloc, settled, graph.rows())?;
+    let rows = row_lines(alloc, settled, graphs.graph.rows())?;
     Ok(are_same_rows(&rows, planned.rows.as_slice()))
 }
 

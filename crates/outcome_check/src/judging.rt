@@ -1,15 +1,12 @@
 //! The judge of an outcome.
-ghost use Rattle.std.specs.Prelude.{◌≡◌, ◌↔◌, ◌<◌, ℕ, All, Contains, IfOk, IsTrue, length};
+ghost use Rattle.std.specs.Prelude.{◌≡◌, ◌↔◌, ◌<◌, All, Contains, IfOk, IsTrue};
 ghost use Rattle.batch_snapshot.specs.Points.{named_nodes};
+ghost use Rattle.batch_solver.specs.Instance.{AreExact, HasSoundLimits, posed_by};
 ghost use Rattle.batch_solver.specs.Outcome.{AnswersWith, IsGoodOutcome};
 ghost use Rattle.batch_solver.specs.Points.{Holds};
 ghost use Rattle.batch_solver.specs.declared.point.Point.{Point as OnePoint};
-ghost use Rattle.pair_graph.specs.RrGraph.{IsRrGraph};
-ghost use Rattle.pair_graph.specs.RvGraph.{IsRvGraph};
-ghost use Rattle.pool_base.specs.Times.{point_count, travel_time};
+ghost use Rattle.pool_base.specs.Times.{travel_time};
 ghost use Rattle.assignment_search.specs.Found.{ShowsBound, IsClose, IsFair};
-ghost use Rattle.stop_orders.specs.Sound.{IsSound};
-ghost use Rattle.trip_graph.specs.Answer.{IsTripGraphOf};
 ghost use Rattle.outcome_check.specs.Verdict.{IsVerdictOf, Meets, point_place};
 ghost use Rattle.outcome_check.specs.declared.verdict.Verdict.TheVariants.{Good};
 ghost use Rattle.outcome_check.specs.work.Orders.{HasOwnIds};
@@ -21,11 +18,10 @@ use crate::moves::are_moves;
 use crate::plan::tells_plan;
 use crate::trips::plan_of_trips;
 use crate::verdict::Verdict;
-use batch_snapshot::{Points, Snapshot};
-use batch_solver::{Point, left_riders};
-use pair_graph::RvEdge;
+use batch_snapshot::Snapshot;
+use batch_solver::{Graphs, Instance, Point, left_riders};
 use plan_rules::{Plan, TripGraph};
-use pool_base::{OutOfMemory, Times};
+use pool_base::OutOfMemory;
 use promise_check::settle;
 use request_book::{Answer, Outcome, Planned};
 use rider_limits::Settings;
@@ -33,7 +29,6 @@ use road_network::Network;
 use search_check::{is_best_near, is_close, is_fair, shows_bound};
 use std::alloc::Global;
 use std::thread::Threads;
-use stop_orders::Settled;
 use travel_times::Ways;
 use trip_graph::{GraphAnswer, grow_graph};
 use worker_gate::Gate;
@@ -63,35 +58,29 @@ pub fn judge<W: Ways, G: Gate>(
     if !are_same_riders(outcome.expired.as_slice(), snapshot.expired.as_slice()) {
         return Ok(Verdict::Fails(Point::Answer));
     }
-    judge_answer(
-        rt,
-        alloc,
+    let instance = Instance {
         settings,
-        &points,
-        &times,
-        &settled,
-        &outcome.answer,
-        gate,
-    )
+        points: &points,
+        times: &times,
+        settled: &settled,
+    };
+    judge_answer(rt, alloc, &instance, &outcome.answer, gate)
 }
 
 /// The same for the answer to a batch whose limits are settled.
 fn judge_answer<G: Gate>(
     rt: &(impl Threads + Sync),
     alloc: Global,
-    settings: &Settings,
-    points: &Points,
-    times: &Times,
-    settled: &Settled,
+    instance: &Instance<'_>,
     answer: &Answer,
     gate: &G,
 ) -> Result<Verdict, OutOfMemory>
-    requires table { point_count times.now ≡ length points.now }
-    requires sound { IsSound settings.now.trip (point_count times.now) (travel_time times.now) settled.now }
-    requires ids { HasOwnIds settled.now }
-    ensures { IfOk result (IsVerdictOf (λ q. AnswersWith settings.entry.now points.entry.now (travel_time times.entry.now) settled.entry.now (Holds settings.entry.now q) answer.entry.now)) }
+    requires sound { HasSoundLimits instance.now }
+    requires ids { HasOwnIds instance.now.settled.now }
+    ensures { IfOk result (IsVerdictOf (λ q. AnswersWith instance.now.settings.now instance.now.points.now (travel_time instance.now.times.now) instance.now.settled.now (Holds instance.now.settings.now q) answer.now)) }
 {
-    match grow_graph(rt, alloc, settled, times, settings, gate)? {
+    let settled = instance.settled;
+    match grow_graph(rt, alloc, settled, instance.times, instance.settings, gate)? {
         GraphAnswer::Overflow => match answer {
             Answer::Overflow => Ok(Verdict::Good),
             Answer::Planned(_planned) => Ok(Verdict::Fails(Point::Answer)),
@@ -99,17 +88,13 @@ fn judge_answer<G: Gate>(
         GraphAnswer::Graph { graph, rv, rr } => match answer {
             Answer::Overflow => Ok(Verdict::Fails(Point::Answer)),
             Answer::Planned(planned) => {
-                judge_plan(
-                    alloc,
-                    settings,
-                    points,
-                    times,
-                    settled,
-                    &graph,
-                    rv.as_slice(),
-                    rr.all(),
-                    planned,
-                )
+                let graphs = Graphs {
+                    instance,
+                    graph: &graph,
+                    rv: rv.as_slice(),
+                    rr: &rr,
+                };
+                judge_plan(alloc, &graphs, planned)
             }
         },
     }
@@ -118,86 +103,55 @@ fn judge_answer<G: Gate>(
 /// The same for a plan, with the graphs of the batch.
 fn judge_plan(
     alloc: Global,
-    settings: &Settings,
-    points: &Points,
-    times: &Times,
-    settled: &Settled,
-    graph: &TripGraph,
-    rv: &[RvEdge],
-    rr: &[(usize, usize)],
+    graphs: &Graphs<'_, '_>,
     planned: &Planned,
 ) -> Result<Verdict, OutOfMemory>
-    requires table { point_count times.now ≡ length points.now }
-    requires sound { IsSound settings.now.trip (point_count times.now) (travel_time times.now) settled.now }
-    requires ids { HasOwnIds settled.now }
-    requires graph { IsTripGraphOf settings.now (travel_time times.now) settled.now graph.now }
-    requires rv { IsRvGraph (travel_time times.now) settled.now rv.now }
-    requires rr { IsRrGraph (travel_time times.now) settled.now rr.now }
-    ensures { IfOk result (IsVerdictOf (λ q. Holds settings.entry.now q planned.entry.now (record { points = points.entry.now; tau = travel_time times.entry.now; settled = settled.entry.now; graph = graph.entry.now; edges = rv.entry.now; pairs = rr.entry.now }))) }
+    requires exact { AreExact graphs.now }
+    requires ids { HasOwnIds graphs.now.instance.now.settled.now }
+    ensures { IfOk result (IsVerdictOf (λ q. Holds graphs.now.instance.now.settings.now q planned.now (posed_by graphs.now))) }
 {
-    if !tells_graphs(alloc, settled, graph, rv, rr, planned)? {
+    if !tells_graphs(alloc, graphs, planned)? {
         return Ok(Verdict::Fails(Point::Graphs));
     }
-    if !are_late(alloc, points, times, settled, planned.late.as_slice())? {
+    if !are_late(alloc, graphs.instance, planned.late.as_slice())? {
         return Ok(Verdict::Fails(Point::Late));
     }
-    match plan_of_trips(
-        alloc,
-        points,
-        times,
-        settled,
-        graph,
-        planned.chosen.as_slice(),
-    )? {
+    match plan_of_trips(alloc, graphs, planned.chosen.as_slice())? {
         None => Ok(Verdict::Fails(Point::Trips)),
-        Some(plan) => judge_chosen(
-            alloc, settings, points, times, settled, graph, rv, rr, &plan, planned,
-        ),
+        Some(plan) => judge_chosen(alloc, graphs, &plan, planned),
     }
 }
 
 /// The same from the fifth point on, with the plan that the trips give.
 fn judge_chosen(
     alloc: Global,
-    settings: &Settings,
-    points: &Points,
-    times: &Times,
-    settled: &Settled,
-    graph: &TripGraph,
-    rv: &[RvEdge],
-    rr: &[(usize, usize)],
+    graphs: &Graphs<'_, '_>,
     plan: &Plan,
     planned: &Planned,
 ) -> Result<Verdict, OutOfMemory>
-    requires sound { IsSound settings.now.trip (point_count times.now) (travel_time times.now) settled.now }
-    requires ids { HasOwnIds settled.now }
-    requires graph { IsTripGraphOf settings.now (travel_time times.now) settled.now graph.now }
-    requires gives { GivesTrips points.now (travel_time times.now) settled.now graph.now plan.now planned.now.chosen }
-    requires before { (q : OnePoint) → point_place q < 4 → Holds settings.now q planned.now (record { points = points.now; tau = travel_time times.now; settled = settled.now; graph = graph.now; edges = rv.now; pairs = rr.now }) }
-    ensures { IfOk result (IsVerdictOf (λ q. Holds settings.entry.now q planned.entry.now (record { points = points.entry.now; tau = travel_time times.entry.now; settled = settled.entry.now; graph = graph.entry.now; edges = rv.entry.now; pairs = rr.entry.now }))) }
+    requires exact { AreExact graphs.now }
+    requires ids { HasOwnIds graphs.now.instance.now.settled.now }
+    requires gives { GivesTrips graphs.now.instance.now.points.now (travel_time graphs.now.instance.now.times.now) graphs.now.instance.now.settled.now graphs.now.graph.now plan.now planned.now.chosen }
+    requires before { (q : OnePoint) → point_place q < 4 → Holds graphs.now.instance.now.settings.now q planned.now (posed_by graphs.now) }
+    ensures { IfOk result (IsVerdictOf (λ q. Holds graphs.now.instance.now.settings.now q planned.now (posed_by graphs.now))) }
 {
-    if !tells_plan(alloc, settled, graph, plan, planned)? {
+    let graph = graphs.graph;
+    let budget = graphs.instance.settings.budget;
+    if !tells_plan(alloc, graphs.instance.settled, graph, plan, planned)? {
         return Ok(Verdict::Fails(Point::Plan));
     }
-    if !shows_bound(alloc, graph, settings.budget, &planned.bound, &planned.tree)? {
+    if !shows_bound(alloc, graph, budget, &planned.bound, &planned.tree)? {
         return Ok(Verdict::Fails(Point::Bound));
     }
-    if !is_well_shown(alloc, graph, settings.budget, planned)? {
+    if !is_well_shown(alloc, graph, budget, planned)? {
         return Ok(Verdict::Fails(Point::Tree));
     }
     if !is_best_near(alloc, graph, plan)? {
         return Ok(Verdict::Fails(Point::Best));
     }
     let left = left_riders(alloc, graph, plan.chosen())?;
-    if !are_moves(
-        alloc,
-        times,
-        settled,
-        graph,
-        plan.chosen(),
-        &left,
-        planned.moves.as_slice(),
-    )? {
+    let moves = planned.moves.as_slice();
+    if !are_moves(alloc, graphs, plan.chosen(), &left, moves)? {
         return Ok(Verdict::Fails(Point::Moves));
     }
     Ok(Verdict::Good)

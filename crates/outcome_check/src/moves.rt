@@ -1,16 +1,15 @@
 //! Moves of idle vehicles.
 ghost use Rattle.std.specs.Prelude.{◌≡◌, ◌↔◌, ◌<◌, ◌≤◌, ℕ, All, IfOk, IsTrue, List, MatchOption, length, slice_index, sum_by};
+ghost use Rattle.batch_solver.specs.Instance.{AreExact};
 ghost use Rattle.batch_solver.specs.Moves.{AreMoves, idle_vehicles, move_line};
 ghost use Rattle.batch_solver.specs.Told.{left_riders, rider_id};
 ghost use Rattle.batch_solver.specs.lemmas.Named.{vehicle_id};
 ghost use Rattle.plan_rules.specs.Plan.{IsPlan};
 ghost use Rattle.pool_base.specs.Times.{point_count, travel_time};
 ghost use Rattle.rebalancing.specs.Matching.{IsBestMatching, IsMatching, pair_seconds};
-ghost use Rattle.stop_orders.specs.Sound.{IsSound};
 ghost use Rattle.outcome_check.specs.work.Moves.{HaveOwnPlaces, IsRisingMatching, IsWithin, TellsMoves};
 
-use batch_solver::{idle_vehicles, origins_of, starts_of};
-use plan_rules::TripGraph;
+use batch_solver::{Graphs, idle_vehicles, origins_of, starts_of};
 use pool_base::{OutOfMemory, Times};
 use rebalancing::rebalance;
 use request_book::MoveLine;
@@ -20,25 +19,22 @@ use stop_orders::Settled;
 /// Whether the moves are a best matching of idle vehicles to the riders who are left out.
 pub(crate) fn are_moves(
     alloc: Global,
-    times: &Times,
-    settled: &Settled,
-    graph: &TripGraph,
+    graphs: &Graphs<'_, '_>,
     chosen: &[Option<u32>],
     left: &[usize],
     moves: &[MoveLine],
 ) -> Result<bool, OutOfMemory>
-    requires sound { (k : ℕ) × IsSound k (point_count times.now) (travel_time times.now) settled.now }
-    requires vehicles { graph.now.vehicles ≡ length settled.now.vehicles }
-    requires riders { graph.now.riders ≡ length settled.now.riders }
-    requires plan { IsPlan graph.now chosen.now }
-    requires left { left.now ≡ left_riders graph.now chosen.now }
-    ensures { IfOk result (λ yes. IsTrue yes ↔ AreMoves (travel_time times.entry.now) settled.entry.now (idle_vehicles settled.entry.now graph.now chosen.now) left.entry.now moves.entry.now) }
+    requires exact { AreExact graphs.now }
+    requires plan { IsPlan graphs.now.graph.now chosen.now }
+    requires left { left.now ≡ left_riders graphs.now.graph.now chosen.now }
+    ensures { IfOk result (λ yes. IsTrue yes ↔ AreMoves (travel_time graphs.now.instance.now.times.now) graphs.now.instance.now.settled.now (idle_vehicles graphs.now.instance.now.settled.now graphs.now.graph.now chosen.now) left.now moves.now) }
 {
-    let idle = idle_vehicles(alloc, settled, graph, chosen)?;
+    let settled = graphs.instance.settled;
+    let idle = idle_vehicles(alloc, settled, graphs.graph, chosen)?;
     if idle.is_empty() {
         return Ok(moves.is_empty());
     }
-    are_best(alloc, times, settled, &idle, left, moves)
+    are_best(alloc, graphs.instance.times, settled, &idle, left, moves)
 }
 
 /// The same for these vehicles and riders.

@@ -10,50 +10,38 @@ ghost use Rattle.stop_orders.specs.declared.stop.Stop.{Stop as OneStop};
 ghost use Rattle.outcome_check.specs.work.Orders.{HasOwnIds};
 
 use arrayvec::ArrayVec;
-use batch_snapshot::Points;
-use batch_solver::tell_stops;
-use pool_base::{RiderId, Times};
+use batch_solver::{Instance, tell_stops};
+use pool_base::RiderId;
 use request_book::PlannedStop;
 use stop_orders::{Settled, SettledRider, Stop, Task, is_order};
 
 /// The order of a vehicle's stops for a trip that is told so; `None` where there is none. The task is the
 /// vehicle's with the trip.
 pub(crate) fn told_order(
-    points: &Points,
-    times: &Times,
-    settled: &Settled,
+    instance: &Instance<'_>,
     vehicle: usize,
     trip: &[usize],
     task: &Task,
     told: &[PlannedStop],
 ) -> Option<ArrayVec<Stop, 22>>
-    requires table { point_count times.now ≡ length points.now }
-    requires ids { HasOwnIds settled.now }
-    requires vehicle { vehicle < length settled.now.vehicles }
-    requires trip { IsTrip (length settled.now.riders) trip.now }
+    requires ids { HasOwnIds instance.now.settled.now }
+    requires vehicle { vehicle < length instance.now.settled.now.vehicles }
+    requires trip { IsTrip (length instance.now.settled.now.riders) trip.now }
     requires few { length trip.now ≤ 6 }
-    requires task { task.now ≡ trip_task settled.now vehicle trip.now }
-    requires valid { IsTask (point_count times.now) task.now }
+    requires task { task.now ≡ trip_task instance.now.settled.now vehicle trip.now }
+    requires valid { IsTask (point_count instance.now.times.now) task.now }
     ensures order { IfSome result (λ order. IsOrderOf task.now order.items) }
-    ensures told { IfSome result (λ order. told.now ≡ told_stops points.now (travel_time times.now) settled.entry.now vehicle trip.now order.items) }
-    ensures only { IfSome result (λ order. (stops : List OneStop) → IsOrderOf task.now stops → told.now ≡ told_stops points.now (travel_time times.now) settled.entry.now vehicle trip.now stops → order.items ≡ stops) }
-    ensures none { IfNone result ((stops : List OneStop) → IsOrderOf task.now stops → told.now ≡ told_stops points.now (travel_time times.now) settled.entry.now vehicle trip.now stops → ⊥) }
+    ensures told { IfSome result (λ order. told.now ≡ told_stops instance.now.points.now (travel_time instance.now.times.now) instance.now.settled.now vehicle trip.now order.items) }
+    ensures only { IfSome result (λ order. (stops : List OneStop) → IsOrderOf task.now stops → told.now ≡ told_stops instance.now.points.now (travel_time instance.now.times.now) instance.now.settled.now vehicle trip.now stops → order.items ≡ stops) }
+    ensures none { IfNone result ((stops : List OneStop) → IsOrderOf task.now stops → told.now ≡ told_stops instance.now.points.now (travel_time instance.now.times.now) instance.now.settled.now vehicle trip.now stops → ⊥) }
 {
-    let Some(order) = read_order(settled, vehicle, trip, told) else {
+    let Some(order) = read_order(instance.settled, vehicle, trip, told) else {
         return None;
     };
     if !is_order(task, order.as_slice()) {
         return None;
     }
-    let stops = tell_stops::<22>(
-        points,
-        times,
-        settled,
-        vehicle,
-        trip,
-        task,
-        order.as_slice(),
-    );
+    let stops = tell_stops::<22>(instance, vehicle, trip, task, order.as_slice());
     if !are_same_stops(stops.as_slice(), told) {
         return None;
     }

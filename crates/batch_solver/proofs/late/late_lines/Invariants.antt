@@ -3,4 +3,4 @@ use Rattle.std.specs.List.{filter}
 use Rattle.batch_solver.proofs.late.late_lines.Given as goal
 
 abbrev pub invariant-loop-vehicle : goal.invariant-loop-vehicle
-invariant-loop-vehicle l = AllZip (IsLate l.points (travel_time l.times) l.settled) (filter (λ v. (vehicle_at l.settled v).late) (range_with_len 0 l.vehicle)) l.lines.items
+invariant-loop-vehicle l = AllZip (IsLate l.instance.points.now (travel_time l.instance.times.now) l.instance.settled.now) (filter (λ v. (vehicle_at l.instance.settled.now v).late) (range_with_len 0 l.vehicle)) l.lines.items

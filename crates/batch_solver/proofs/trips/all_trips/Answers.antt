@@ -6,8 +6,8 @@ use Rattle.batch_solver.proofs.trips.all_trips.Goals as goal
 
 pub loop-vehicle-preserved-then-vehicles-vehicle : goal.loop-vehicle-preserved-then-vehicles-vehicle
 loop-vehicle-preserved-then-vehicles-vehicle g c =
-    let settled = c.args.settled.now in let v = c.loop-vehicle.vehicle in
-    let R = IsTripOf c.args.points.now (travel_time c.args.times.now) settled c.args.graph.now c.args.chosen.now in
+    let instance = c.args.graphs.now.instance.now in let settled = instance.settled.now in let v = c.loop-vehicle.vehicle in
+    let R = IsTripOf instance.points.now (travel_time instance.times.now) settled c.args.graphs.now.graph.now c.args.chosen.now in
     let within = subst (λ (list : List SettledVehicle). v < length list) c.as_slice-vehicles.ensures c.loop-vehicle-test.true in
     let here = ap (λ (one : SettledVehicle). one.late) (vehicle_read settled c.as_slice-vehicles.result.now v _ c.as_slice-vehicles.ensures within) in
     let late : (vehicle_at settled v).late ≡ true = sym here ∙ c.if-vehicles-vehicle.true in
@@ -16,8 +16,8 @@ loop-vehicle-preserved-then-vehicles-vehicle g c =
 
 pub loop-vehicle-preserved : goal.loop-vehicle-preserved
 loop-vehicle-preserved g c =
-    let settled = c.args.settled.now in let v = c.loop-vehicle.vehicle in
-    let R = IsTripOf c.args.points.now (travel_time c.args.times.now) settled c.args.graph.now c.args.chosen.now in
+    let instance = c.args.graphs.now.instance.now in let settled = instance.settled.now in let v = c.loop-vehicle.vehicle in
+    let R = IsTripOf instance.points.now (travel_time instance.times.now) settled c.args.graphs.now.graph.now c.args.chosen.now in
     let within = subst (λ (list : List SettledVehicle). v < length list) c.as_slice-vehicles.ensures c.loop-vehicle-test.true in
     let here = ap (λ (one : SettledVehicle). one.late) (vehicle_read settled c.as_slice-vehicles.result.now v _ c.as_slice-vehicles.ensures within) in
     let in_time : (vehicle_at settled v).late ≡ false = sym here ∙ c.if-vehicles-vehicle.false in

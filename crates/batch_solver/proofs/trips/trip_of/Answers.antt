@@ -6,11 +6,12 @@ use Rattle.batch_solver.proofs.trips.trip_of.Goals as goal
 
 pub unreachable-requires-in_default-2 : goal.unreachable-requires-in_default-2
 unreachable-requires-in_default-2 g c =
-    let tau = travel_time c.args.times.now in let settled = c.args.settled.now in let graph = c.args.graph.now in let chosen = c.args.chosen.now in
+    let instance = c.args.graphs.now.instance.now in let settings = instance.settings.now in
+    let tau = travel_time instance.times.now in let settled = instance.settled.now in let graph = c.args.graphs.now.graph.now in let chosen = c.args.chosen.now in
     let v = c.args.vehicle in let number = c.in-Some.number in
-    let long = chosen_long c.requires.graph.0 tau settled graph chosen c.requires.graph.1 c.requires.lawful v c.requires.vehicle in
+    let long = chosen_long settings tau settled graph chosen c.requires.exact.exact c.requires.lawful v c.requires.vehicle in
     let choice = sym (choice_read chosen v _ long) ∙ c.in-Some.is in
-    let served = served_row c.requires.graph.0 tau settled graph chosen c.requires.graph.1 c.requires.lawful v number c.requires.vehicle choice in
+    let served = served_row settings tau settled graph chosen c.requires.exact.exact c.requires.lawful v number c.requires.vehicle choice in
     let row_is = row_read graph c.rows.result.now number c.index-rows-number.result c.rows.ensures.value served.within c.index-rows-number.is in
     let riders_is : c.as_slice-riders.result.now ≡ riders_at graph number = c.as_slice-riders.ensures.value ∙ ap (λ (row : TripRow). row.riders.items) row_is in
     let task_is = c.task_of-task.ensures ∙ ap (trip_task settled v) riders_is in
@@ -19,20 +20,21 @@ unreachable-requires-in_default-2 g c =
 
 pub returns : goal.returns
 returns g c =
-    let tau = travel_time c.args.times.now in let settled = c.args.settled.now in let graph = c.args.graph.now in let chosen = c.args.chosen.now in
+    let instance = c.args.graphs.now.instance.now in let settings = instance.settings.now in
+    let tau = travel_time instance.times.now in let settled = instance.settled.now in let graph = c.args.graphs.now.graph.now in let chosen = c.args.chosen.now in
     let v = c.args.vehicle in let number = c.in-Some.number in
-    let long = chosen_long c.requires.graph.0 tau settled graph chosen c.requires.graph.1 c.requires.lawful v c.requires.vehicle in
+    let long = chosen_long settings tau settled graph chosen c.requires.exact.exact c.requires.lawful v c.requires.vehicle in
     let choice = sym (choice_read chosen v _ long) ∙ c.in-Some.is in
-    let served = served_row c.requires.graph.0 tau settled graph chosen c.requires.graph.1 c.requires.lawful v number c.requires.vehicle choice in
+    let served = served_row settings tau settled graph chosen c.requires.exact.exact c.requires.lawful v number c.requires.vehicle choice in
     let row_is = row_read graph c.rows.result.now number c.index-rows-number.result c.rows.ensures.value served.within c.index-rows-number.is in
     let riders_is : c.as_slice-riders.result.now ≡ riders_at graph number = c.as_slice-riders.ensures.value ∙ ap (λ (row : TripRow). row.riders.items) row_is in
     let found = c.in_ok-route.ensures in
-    trip_found c.args.points.now tau settled graph chosen v number c.task_of-task.result c.in-Some-2.route.stops.items c.in-Some-2.route.delay _
+    trip_found instance.points.now tau settled graph chosen v number c.task_of-task.result c.in-Some-2.route.stops.items c.in-Some-2.route.delay _
     choice served
     (ap (λ (one : SettledVehicle). one.id) (vehicle_read settled c.as_slice.result.now v _ c.as_slice.ensures c.requires.vehicle))
     (ap (λ (row : TripRow). row.cost) row_is)
     (c.task_of-task.ensures ∙ ap (trip_task settled v) riders_is)
     (rw c.in-Some-2.is at found.serves) (rw c.in-Some-2.is at found.delay) (rw c.in-Some-2.is at found.least)
     (c.tell_stops-stops.ensures
-    ∙ ap (λ (trip : List ℕ). told_stops c.args.points.now tau settled v trip c.as_slice-order.result.now) riders_is
-    ∙ ap (λ (stops : List Stop). told_stops c.args.points.now tau settled v (riders_at graph number) stops) c.as_slice-order.ensures.value)
+    ∙ ap (λ (trip : List ℕ). told_stops instance.points.now tau settled v trip c.as_slice-order.result.now) riders_is
+    ∙ ap (λ (stops : List Stop). told_stops instance.points.now tau settled v (riders_at graph number) stops) c.as_slice-order.ensures.value)

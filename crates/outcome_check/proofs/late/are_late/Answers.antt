@@ -7,7 +7,7 @@ use Rattle.outcome_check.proofs.late.are_late.Goals as goal
 
 pub returns-then-len-late : goal.returns-then-len-late
 returns-then-len-late c =
-    let R = IsLate c.args.points.now (travel_time c.args.times.now) c.args.settled.now in
+    let R = IsLate c.args.instance.now.points.now (travel_time c.args.instance.now.times.now) c.args.instance.now.settled.now in
     let xs = c.in_ok-vehicles.vehicles.items in let late = c.args.late.now in (
       λ no. absurd (let f : false ≡ true = no in cc),
       λ all. absurd (c.if-len-late.true (let long = all_zip_long R xs late (subst (λ (ys : List ℕ). AllZip R ys late) (sym c.in_ok-vehicles.ensures) all) in omega (arith, c.len.ensures, c.in_ok-vehicles.vehicles.ok.0, long))),
@@ -15,7 +15,7 @@ returns-then-len-late c =
 
 pub is_late-requires-clause-vehicle : goal.is_late-requires-clause-vehicle
 is_late-requires-clause-vehicle c =
-    let settled = c.args.settled.now in
+    let settled = c.args.instance.now.settled.now in
     let xs = c.in_ok-vehicles.vehicles.items in
     let within : c.loop-place.place < length xs = omega (arith, c.len-place-end.ensures, c.in_ok-vehicles.vehicles.ok.0) in
     let all : All (λ v. v < length settled.vehicles) xs = subst (λ (ys : List ℕ). All (λ v. v < length settled.vehicles) ys) (sym c.in_ok-vehicles.ensures) (filter_range_below (λ v. (vehicle_at settled v).late) (length settled.vehicles)) in
@@ -23,7 +23,7 @@ is_late-requires-clause-vehicle c =
 
 pub returns-then-not-branch : goal.returns-then-not-branch
 returns-then-not-branch c =
-    let R = IsLate c.args.points.now (travel_time c.args.times.now) c.args.settled.now in
+    let R = IsLate c.args.instance.now.points.now (travel_time c.args.instance.now.times.now) c.args.instance.now.settled.now in
     let xs = c.in_ok-vehicles.vehicles.items in let late = c.args.late.now in
     let k = c.loop-place.place in
     let within : k < length xs = omega (arith, c.len-place-end.ensures, c.in_ok-vehicles.vehicles.ok.0) in
@@ -39,7 +39,7 @@ returns-then-not-branch c =
 
 pub loop-place-preserved : goal.loop-place-preserved
 loop-place-preserved c =
-    let R = IsLate c.args.points.now (travel_time c.args.times.now) c.args.settled.now in
+    let R = IsLate c.args.instance.now.points.now (travel_time c.args.instance.now.times.now) c.args.instance.now.settled.now in
     let xs = c.in_ok-vehicles.vehicles.items in let late = c.args.late.now in
     let k = c.loop-place.place in
     let inside : k < length late = omega (arith, c.len.ensures, c.len-place-end.ensures, c.if-len-late.false) in
@@ -52,7 +52,7 @@ loop-place-preserved c =
 
 pub returns : goal.returns
 returns c =
-    let R = IsLate c.args.points.now (travel_time c.args.times.now) c.args.settled.now in
+    let R = IsLate c.args.instance.now.points.now (travel_time c.args.instance.now.times.now) c.args.instance.now.settled.now in
     let xs = c.in_ok-vehicles.vehicles.items in let late = c.args.late.now in
     let long : length xs ≡ length late = omega (arith, c.len.ensures, c.in_ok-vehicles.vehicles.ok.0, c.if-len-late.false) in
     let end : length xs ≡ c.loop-place.place = omega (arith, c.len-place-end.ensures, c.in_ok-vehicles.vehicles.ok.0) in (

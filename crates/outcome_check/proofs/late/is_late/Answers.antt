@@ -6,15 +6,15 @@ use Rattle.outcome_check.proofs.late.is_late.Goals as goal
 
 pub least_delay_unlimited-requires-clause-valid : goal.least_delay_unlimited-requires-clause-valid
 least_delay_unlimited-requires-clause-valid c =
-    valid_task c.args.settled.now c.args.vehicle (point_count c.args.times.now) (travel_time c.args.times.now) c.task_of-task.result c.requires.sound c.requires.vehicle c.task_of-task.ensures
+    valid_task c.args.instance.now.settled.now c.args.vehicle (point_count c.args.instance.now.times.now) (travel_time c.args.instance.now.times.now) c.task_of-task.result (c.args.instance.now.settings.now.trip, c.requires.sound) c.requires.vehicle c.task_of-task.ensures
 
 pub is_late_order-requires-clause-valid : goal.is_late_order-requires-clause-valid
 is_late_order-requires-clause-valid c =
-    valid_task c.args.settled.now c.args.vehicle (point_count c.args.times.now) (travel_time c.args.times.now) c.task_of-task.result c.requires.sound c.requires.vehicle c.task_of-task.ensures
+    valid_task c.args.instance.now.settled.now c.args.vehicle (point_count c.args.instance.now.times.now) (travel_time c.args.instance.now.times.now) c.task_of-task.result (c.args.instance.now.settings.now.trip, c.requires.sound) c.requires.vehicle c.task_of-task.ensures
 
 pub returns-then-late-route : goal.returns-then-late-route
 returns-then-late-route c =
-    let points = c.args.points.now in let tau = travel_time c.args.times.now in let settled = c.args.settled.now in let v = c.args.vehicle in let task = c.task_of-task.result in
+    let instance = c.args.instance.now in let points = instance.points.now in let tau = travel_time instance.times.now in let settled = instance.settled.now in let v = c.args.vehicle in let task = c.task_of-task.result in
     let found = c.in_ok-least_delay_unlimited.ensures in (
       λ no. absurd (let f : false ≡ true = no in cc),
       λ late.
@@ -25,7 +25,7 @@ returns-then-late-route c =
 
 pub returns-in-None-stops : goal.returns-in-None-stops
 returns-in-None-stops c =
-    let points = c.args.points.now in let tau = travel_time c.args.times.now in let settled = c.args.settled.now in let v = c.args.vehicle in
+    let instance = c.args.instance.now in let points = instance.points.now in let tau = travel_time instance.times.now in let settled = instance.settled.now in let v = c.args.vehicle in
     let none = rw c.in-None.is at c.in_ok-least_delay_unlimited.ensures.none in
     let nowhere : HasNoOrder tau settled v = subst (λ (t : Task). (others : List Stop) → IsOrderOf t others → ReachesAll tau t others → ⊥) c.task_of-task.ensures none in (
       λ is. record {
@@ -37,7 +37,7 @@ returns-in-None-stops c =
 
 pub returns-in-Some-stops : goal.returns-in-Some-stops
 returns-in-Some-stops c =
-    let points = c.args.points.now in let tau = travel_time c.args.times.now in let settled = c.args.settled.now in let v = c.args.vehicle in let task = c.task_of-task.result in
+    let instance = c.args.instance.now in let points = instance.points.now in let tau = travel_time instance.times.now in let settled = instance.settled.now in let v = c.args.vehicle in let task = c.task_of-task.result in
     let none = rw c.in-None.is at c.in_ok-least_delay_unlimited.ensures.none in (
       λ no. absurd (let f : false ≡ true = no in cc),
       λ late.
@@ -48,7 +48,7 @@ returns-in-Some-stops c =
 
 pub returns-in-None-stops-2 : goal.returns-in-None-stops-2
 returns-in-None-stops-2 c =
-    let tau = travel_time c.args.times.now in let settled = c.args.settled.now in let v = c.args.vehicle in
+    let tau = travel_time c.args.instance.now.times.now in let settled = c.args.instance.now.settled.now in let v = c.args.vehicle in
     let found = c.in_ok-least_delay_unlimited.ensures in (
       λ no. absurd (let f : false ≡ true = no in cc),
       λ late.

@@ -6,7 +6,7 @@ use Rattle.outcome_check.proofs.late.is_late_order.Goals as goal
 
 pub returns-in_default-delay_of : goal.returns-in_default-delay_of
 returns-in_default-delay_of c =
-    let points = c.args.points.now in let tau = travel_time c.args.times.now in let settled = c.args.settled.now in let v = c.args.vehicle in let task = c.args.task.now in (
+    let instance = c.args.instance.now in let points = instance.points.now in let tau = travel_time instance.times.now in let settled = instance.settled.now in let v = c.args.vehicle in let task = c.args.task.now in (
       λ no. absurd (let f : false ≡ true = no in cc),
       λ late.
           let only = c.in-Some.ensures.only late.stops (late_order_of points tau settled v task c.requires.task c.args.delay c.args.told.now late) late.told in
@@ -15,7 +15,7 @@ returns-in_default-delay_of c =
 
 pub returns : goal.returns
 returns c =
-    let points = c.args.points.now in let tau = travel_time c.args.times.now in let settled = c.args.settled.now in let v = c.args.vehicle in let task = c.args.task.now in
+    let instance = c.args.instance.now in let points = instance.points.now in let tau = travel_time instance.times.now in let settled = instance.settled.now in let v = c.args.vehicle in let task = c.args.task.now in
     let slice = c.as_slice.ensures.value in
     let reaches = c.in-Some-delay_of.ensures.0 in
     let has = c.in-Some-delay_of.ensures.1 in (

@@ -8,8 +8,8 @@ use Rattle.outcome_check.proofs.moves.are_moves.Goals as goal
 
 pub returns-then-is_empty : goal.returns-then-is_empty
 returns-then-is_empty c =
-    let tau = travel_time c.args.times.now in let settled = c.args.settled.now in let left = c.args.left.now in let moves = c.args.moves.now in
-    let idle = idle_vehicles settled c.args.graph.now c.args.chosen.now in
+    let tau = travel_time c.args.graphs.now.instance.now.times.now in let settled = c.args.graphs.now.instance.now.settled.now in let left = c.args.left.now in let moves = c.args.moves.now in
+    let idle = idle_vehicles settled c.args.graphs.now.graph.now c.args.chosen.now in
     let nobody : length c.in_ok-idle.idle.items ≡ 0 = grind (arith, c.is_empty.ensures, c.if-is_empty.true) in
     let none : idle ≡ [] = sym c.in_ok-idle.ensures.value ∙ nil_from_length c.in_ok-idle.idle.items nobody in
     let told = c.is_empty-then-is_empty.ensures in (
@@ -19,29 +19,29 @@ returns-then-is_empty c =
 
 pub are_best-requires-clause-places : goal.are_best-requires-clause-places
 are_best-requires-clause-places c =
-    let settled = c.args.settled.now in let graph = c.args.graph.now in let chosen = c.args.chosen.now in let left = c.args.left.now in
+    let settled = c.args.graphs.now.instance.now.settled.now in let graph = c.args.graphs.now.graph.now in let chosen = c.args.chosen.now in let left = c.args.left.now in
     let some : 0 < length c.in_ok-idle.idle.items = grind (arith, c.is_empty.ensures, c.if-is_empty.false) in
     let few : length c.in_ok-idle.idle.items ≤ length settled.vehicles = c.in_ok-idle.ensures.few in
     let left_out : All (λ r. r < length settled.riders) left =
-    subst (λ (n : ℕ). All (λ r. r < n) left) c.requires.riders
+    subst (λ (n : ℕ). All (λ r. r < n) left) c.requires.exact.exact.rider_total
     (subst (λ (rs : List ℕ). All (λ r. r < graph.riders) rs) (sym c.requires.left) (filter_range_below (λ r. times_chosen graph chosen r == 0) graph.riders)) in
     let idle : c.deref.result.now ≡ idle_vehicles settled graph chosen = c.deref.ensures.value ∙ c.in_ok-idle.ensures.value in
-    own_places c.requires.sound.0 (point_count c.args.times.now) (travel_time c.args.times.now) settled c.deref.result.now left c.requires.sound.1 (omega arith)
+    own_places c.args.graphs.now.instance.now.settings.now.trip (point_count c.args.graphs.now.instance.now.times.now) (travel_time c.args.graphs.now.instance.now.times.now) settled c.deref.result.now left c.requires.exact.sound (omega arith)
     (subst (λ (vs : List ℕ). All (λ v. v < length settled.vehicles) vs) (sym idle) (filter_range_below (is_idle settled graph chosen) (length settled.vehicles))) left_out
     (subst (λ (vs : List ℕ). IsStrictlyIncreasing vs) (sym idle) (kept_rises (is_idle settled graph chosen) (length settled.vehicles)))
     (subst (λ (rs : List ℕ). IsStrictlyIncreasing rs) (sym c.requires.left) (kept_rises (λ r. times_chosen graph chosen r == 0) graph.riders))
 
 pub are_best-requires-clause-few_riders : goal.are_best-requires-clause-few_riders
 are_best-requires-clause-few_riders c =
-    let few = kept_few (λ r. times_chosen c.args.graph.now c.args.chosen.now r == 0) c.args.graph.now.riders in
-    let most : length c.args.settled.now.riders ≤ 1000 = c.requires.sound.1.rider_count in
-    let total = c.requires.riders in
+    let few = kept_few (λ r. times_chosen c.args.graphs.now.graph.now c.args.chosen.now r == 0) c.args.graphs.now.graph.now.riders in
+    let most : length c.args.graphs.now.instance.now.settled.now.riders ≤ 1000 = c.requires.exact.sound.rider_count in
+    let total = c.requires.exact.exact.rider_total in
     rw c.requires.left (omega arith)
 
 pub returns : goal.returns
 returns c =
-    let tau = travel_time c.args.times.now in let settled = c.args.settled.now in
-    let idle : c.deref.result.now ≡ idle_vehicles settled c.args.graph.now c.args.chosen.now = c.deref.ensures.value ∙ c.in_ok-idle.ensures.value in
+    let tau = travel_time c.args.graphs.now.instance.now.times.now in let settled = c.args.graphs.now.instance.now.settled.now in
+    let idle : c.deref.result.now ≡ idle_vehicles settled c.args.graphs.now.graph.now c.args.chosen.now = c.deref.ensures.value ∙ c.in_ok-idle.ensures.value in
     IfOk-weaker c.are_best.result _ _
     (λ yes told. (
       λ is. subst (λ (vs : List ℕ). AreMoves tau settled vs c.args.left.now c.args.moves.now) idle (told.0 is),

@@ -5,6 +5,6 @@ use Rattle.outcome_check.proofs.trips.rows_of_trips.Given as goal
 abbrev pub invariant-loop-place : goal.invariant-loop-place
 invariant-loop-place l = record {
   sized : length l.rows.items ≡ l.place;
-  own : (k : ℕ) → k < l.place → IsRowOf l.graph (get_or l.vehicles k 0) (get_or l.rows.items k 0);
-  told : (k : ℕ) → k < l.place → TellsRow l.points (travel_time l.times) l.settled l.graph (get_or l.vehicles k 0) (get_or l.rows.items k 0) (get_or l.trips k no_chosen);
+  own : (k : ℕ) → k < l.place → IsRowOf l.graphs.graph.now (get_or l.vehicles k 0) (get_or l.rows.items k 0);
+  told : (k : ℕ) → k < l.place → TellsRow l.graphs.instance.now.points.now (travel_time l.graphs.instance.now.times.now) l.graphs.instance.now.settled.now l.graphs.graph.now (get_or l.vehicles k 0) (get_or l.rows.items k 0) (get_or l.trips k no_chosen);
 }
