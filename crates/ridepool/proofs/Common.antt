@@ -27,11 +27,12 @@ pub use Rattle.ridepool.specs.Reading.{IsFleetIn, first_version, in_rows, own_fa
 pub use Rattle.ridepool.specs.Report.{AppendsWithPart, EndsText, IsCutShort, IsPart, IsWhole, Runs, journals_of, rounds_notices}
 pub use Rattle.ridepool.specs.Run.{AnswersRun, RunsScript, RunsSome}
 pub use Rattle.ridepool.specs.Seen.{IsSilent, IsUntouched, Seen, SourceView, Sources, source_at, source_seen}
+pub use Rattle.ridepool.specs.Status.{HidesNoMemory}
 pub use Rattle.ridepool.specs.declared.inputs.ReadInputs.{ReadInputs}
 pub use Rattle.ridepool.specs.declared.status.RunStatus.{RunStatus}
 pub use Rattle.ridepool.specs.declared.status.RunStatus.TheVariants.{Day, Done, Fleet, Network, OutOfMemory, ReadFault, Report, Script, TooLate, TooLong, Words, WriteFault}
 pub use Rattle.ridepool.specs.work.Auditing.{IsAuditFault, IsSameSink, RefusesBytes, WritesYes}
-pub use Rattle.ridepool.specs.work.Ended.{HidesNoMemory, IsLimited, IsNoReport, IsRunReport}
+pub use Rattle.ridepool.specs.work.Ended.{IsLimited, IsNoReport, IsRunReport}
 pub use Rattle.ridepool.specs.work.Held.{HoldsRound, HoldsRounds}
 pub use Rattle.ridepool.specs.work.Reading.{AreInputs, GotInputs, IsNoInput, IsReadAsNoDay, IsUnread, ReadSources, RefusesFleet, RefusesNetwork, RefusesRounds, StopsAt, inputs_got}
 pub use Rattle.ridepool.specs.work.Writing.{AreAllWith, AreFirst, BeginsRounds, EndsRounds, HasPut, IsDayFor, IsReportFault, IsReportWhole, IsRoundFault, IsTextFault, IsUnput, IsWritingFault, NextJournal, PutsRound, RunsAll, RunsFirst, RunsFrom, StopsIn, WritesRound, added_by, added_text, day_ending, first_text, head_of, late_status, made_of, rounds_text, status_of}

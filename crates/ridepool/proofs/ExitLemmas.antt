@@ -15,6 +15,12 @@ use Rattle.pool_base.specs.declared.which.Which.TheVariants as file
 pub untouched_within : (w : Which) (s : Change SourceView) → IsUntouched s → IsWithin w s
 untouched_within w s untouched = omega (arith, ap (λ v. v.taken) untouched)
 
+all_within : (s : Sources) → AreUntouched s → (w : Which) → IsWithin w (source_at s w)
+all_within s untouched file.Network = untouched_within file.Network s.network untouched.network
+all_within s untouched file.Fleet = untouched_within file.Fleet s.fleet untouched.fleet
+all_within s untouched file.Script = untouched_within file.Script s.script untouched.script
+all_within s untouched file.Report = untouched_within file.Report s.report untouched.report
+
 -- so did each of the first three sources that was read, and each of the inputs of a call
 read_within : (s : Sources) (i : Inputs) → AreReadFrom s i → (w : Which) → IsWithin w (source_at s w) ⊎ (w ≡ file.Report)
 read_within s i read file.Network = inl (reads_within s.network _ read.network)
@@ -23,10 +29,7 @@ read_within s i read file.Script = inl (reads_within s.script _ read.script)
 read_within s i read file.Report = inr refl
 
 inputs_within : (m : Mode) (s : Sources) (i : Inputs) → AreInputs m s i → (w : Which) → IsWithin w (source_at s w) ⊎ (w ≡ file.Report)
-inputs_within (Load shape) s i made file.Network = inl (untouched_within file.Network s.network made.1.network)
-inputs_within (Load shape) s i made file.Fleet = inl (untouched_within file.Fleet s.fleet made.1.fleet)
-inputs_within (Load shape) s i made file.Script = inl (untouched_within file.Script s.script made.1.script)
-inputs_within (Load shape) s i made file.Report = inr refl
+inputs_within (Load shape) s i made w = inl (all_within s made.1 w)
 inputs_within _ s i read w = read_within s i read.0 w
 
 -- and each source but the one that a run came to
@@ -45,39 +48,26 @@ others_within s file.Script file.Script came = inr refl
 others_within s file.Script file.Report came = inl (untouched_within file.Report s.report came.4)
 others_within s file.Report v came = absurd came
 
-at_stop : (s : Sources) (w v : Which) (e : RunStatus) → IsWithin w (source_at s w) → IsWithin v (source_at s v) ⊎ (v ≡ w) → IsWithin v (source_at s v) ⊎ (e ≡ TooLong v)
-at_stop s w v e within (inl other) = inl other
-at_stop s w v e within (inr here) = inl (subst (λ x. IsWithin x (source_at s x)) (sym here) within)
-
-too_long : (s : Sources) (w v : Which) → IsWithin v (source_at s v) ⊎ (v ≡ w) → IsWithin v (source_at s v) ⊎ (TooLong w ≡ TooLong v)
-too_long s w v (inl other) = inl other
-too_long s w v (inr here) = inr (ap TooLong (sym here))
+-- where the one it came to is within its limit, or its excess is the answer, all are
+limited_but : (s : Sources) (w v : Which) (e : RunStatus) → IsWithin w (source_at s w) ⊎ (e ≡ TooLong w) → IsWithin v (source_at s v) ⊎ (v ≡ w) → IsWithin v (source_at s v) ⊎ (e ≡ TooLong v)
+limited_but s w v e report (inl within) = inl within
+limited_but s w v e report (inr is) = subst (λ x. IsWithin x (source_at s x) ⊎ (e ≡ TooLong x)) (sym is) report
 
 stop_limited : (s : Sources) (e : RunStatus) → IsStop s e → IsLimited s e
-stop_limited s (Network fault) why = λ v. at_stop s file.Network v _ (reads_within s.network _ why.1) (others_within s file.Network v why.0)
-stop_limited s (Fleet fault) why = λ v. at_stop s file.Fleet v _ (reads_within s.fleet _ why.1) (others_within s file.Fleet v why.0)
-stop_limited s (Script fault) why = λ v. at_stop s file.Script v _ (reads_within s.script _ why.1) (others_within s file.Script v why.0)
-stop_limited s (TooLong w) why = λ v. too_long s w v (others_within s w v why.0)
-stop_limited s (ReadFault w) why = λ v. at_stop s w v _ why.1 (others_within s w v why.0)
-stop_limited s OutOfMemory why = λ v. at_stop s why.0 v _ why.2 (others_within s why.0 v why.1)
+stop_limited s (Network fault) why = λ v. limited_but s file.Network v _ (inl (reads_within s.network _ why.1)) (others_within s file.Network v why.0)
+stop_limited s (Fleet fault) why = λ v. limited_but s file.Fleet v _ (inl (reads_within s.fleet _ why.1)) (others_within s file.Fleet v why.0)
+stop_limited s (Script fault) why = λ v. limited_but s file.Script v _ (inl (reads_within s.script _ why.1)) (others_within s file.Script v why.0)
+stop_limited s (TooLong w) why = λ v. limited_but s w v _ (inr refl) (others_within s w v why.0)
+stop_limited s (ReadFault w) why = λ v. limited_but s w v _ (inl why.1) (others_within s w v why.0)
+stop_limited s OutOfMemory why = λ v. limited_but s why.0 v _ (inl why.2) (others_within s why.0 v why.1)
 stop_limited s _ why = absurd why
-
-untouched_limited : (s : Sources) (e : RunStatus) → AreUntouched s → IsLimited s e
-untouched_limited s e untouched file.Network = inl (untouched_within file.Network s.network untouched.network)
-untouched_limited s e untouched file.Fleet = inl (untouched_within file.Fleet s.fleet untouched.fleet)
-untouched_limited s e untouched file.Script = inl (untouched_within file.Script s.script untouched.script)
-untouched_limited s e untouched file.Report = inl (untouched_within file.Report s.report untouched.report)
 
 -- the source of the report gave no more than may be, or one byte more
 abbrev IsReportLimited : Sources → RunStatus → Type 0
 IsReportLimited s e = IsWithin file.Report s.report ⊎ (e ≡ TooLong file.Report)
 
-with_report : (s : Sources) (e : RunStatus) → IsReportLimited s e → (w : Which) → IsWithin w (source_at s w) ⊎ (w ≡ file.Report) → IsWithin w (source_at s w) ⊎ (e ≡ TooLong w)
-with_report s e report w (inl within) = inl within
-with_report s e report w (inr is) = subst (λ x. IsWithin x (source_at s x) ⊎ (e ≡ TooLong x)) (sym is) report
-
 inputs_limited : (m : Mode) (s : Sources) (i : Inputs) (e : RunStatus) → AreInputs m s i → IsReportLimited s e → IsLimited s e
-inputs_limited m s i e inputs report = λ w. with_report s e report w (inputs_within m s i inputs w)
+inputs_limited m s i e inputs report = λ w. limited_but s file.Report w e report (inputs_within m s i inputs w)
 
 untouched_report : (s : Sources) (e : RunStatus) → IsUntouched s.report → IsReportLimited s e
 untouched_report s e report = inl (untouched_within file.Report s.report report)
@@ -123,15 +113,7 @@ answer seen e answered hides limited =
     record {
       answered = answered;
       limited = limited;
-      refused = (
-        (λ is. subst HidesNoMemory is hides refl),
-        (λ is. subst HidesNoMemory is hides refl),
-        (λ is. subst HidesNoMemory is hides refl),
-        (λ is. subst HidesNoMemory is hides refl),
-        (λ is. subst HidesNoMemory is hides refl),
-        (λ is. subst HidesNoMemory is hides refl),
-        (λ is. subst HidesNoMemory is hides refl),
-      );
+      refused = hides;
     }
 
 good_answer : (seen : Seen) (settings : Settings) (e : RunStatus) → AreGood seen.words settings → AnswersAs settings.mode settings seen e → HidesNoMemory e → IsLimited seen.sources e → Answers seen e
@@ -140,7 +122,7 @@ good_answer seen settings e good answers hides limited = answer seen e (subst (A
 -- words that are refused
 pub words_answer : (seen : Seen) (fault : WordFault) → fault_of seen.words ≡ Some fault → AreUntouched seen.sources → IsSilent seen → Answers seen (Words fault)
 words_answer seen fault why sources out =
-    answer seen (Words fault) (subst (AnswersWords seen (Words fault)) (sym why) (refl, sources, out)) tt (untouched_limited seen.sources (Words fault) sources)
+    answer seen (Words fault) (subst (AnswersWords seen (Words fault)) (sym why) (refl, sources, out)) tt (λ w. inl (all_within seen.sources sources w))
 
 -- inputs that aren't there
 no_day : (seen : Seen) (settings : Settings) (fault : DayFault) → IsReadAsNoDay seen.sources fault → IsUntouched seen.sources.report → IsSilent seen → AnswersDrive settings seen (Day fault)
@@ -157,8 +139,8 @@ no_input seen settings e (Load shape) (untouched, is) report out = load_answers 
 
 no_input_limited : (s : Sources) (e : RunStatus) (m : Mode) → IsNoInput m s e → IsUntouched s.report → IsLimited s e
 no_input_limited s e Drive (inl why) report = stop_limited s e why
-no_input_limited s e Drive (inr (fault, is, (i, read, refused))) report = λ w. with_report s e (untouched_report s e report) w (read_within s i read w)
-no_input_limited s e (Load shape) (untouched, is) report = untouched_limited s e untouched
+no_input_limited s e Drive (inr (fault, is, (i, read, refused))) report = λ w. limited_but s file.Report w e (untouched_report s e report) (read_within s i read w)
+no_input_limited s e (Load shape) (untouched, is) report = λ w. inl (all_within s untouched w)
 no_input_limited s e _ why report = stop_limited s e why
 
 pub input_answer : (seen : Seen) (settings : Settings) (e : RunStatus) → AreGood seen.words settings → GotInputs settings seen.sources (Err e) → IsUntouched seen.sources.report → IsSilent seen → Answers seen e
@@ -220,7 +202,7 @@ module _ (seen : Seen) (settings : Settings) (got : ReadInputs) (good : AreGood 
   of_audit : (e : RunStatus) → EndsAudit (inputs_got settings got) seen e → HidesNoMemory e → IsReportLimited seen.sources e → Answers seen e
   of_audit e ends hides report =
       good_answer seen settings e good (subst (λ m. AnswersAs m settings seen e) (sym is) (audit_answers settings seen e (inr (inputs_got settings got, refl, read, ends)))) hides
-      (λ w. with_report seen.sources e report w (read_within seen.sources (inputs_got settings got) read w))
+      (λ w. limited_but seen.sources file.Report w e report (read_within seen.sources (inputs_got settings got) read w))
 
   silent : IsSameSink seen.out.before.written seen.out.after.written seen.out.before.faults seen.out.after.faults → IsSilent seen
   silent same = record { out = same_sink seen.out same.bytes same.faults; notifiers = told }

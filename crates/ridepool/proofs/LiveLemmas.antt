@@ -131,14 +131,7 @@ answers-live call status why limited hides =
       explained = why;
       complete = λ f writes. complete-live call status f writes why;
       limited = limited;
-      refused = (
-        (λ is. subst HidesNoMemory is hides refl),
-        (λ is. subst HidesNoMemory is hides refl),
-        (λ is. subst HidesNoMemory is hides refl),
-        (λ is. subst HidesNoMemory is hides refl),
-        (λ is. subst HidesNoMemory is hides refl),
-        (λ is. subst HidesNoMemory is hides refl),
-      );
+      refused = hides;
     }
 
 -- the end of a call behind its inputs hides no want of memory

@@ -34,6 +34,12 @@ journals_more made r = map-append (λ (x : DayRound). x.journal) made (r ∷ [])
 flat_more : {X A : Type 0} (f : X → List A) (xs : List X) (x : X) → flat_map f (xs ++ x ∷ []) ≡ flat_map f xs ++ f x
 flat_more f xs x = flat_map-append f xs (x ∷ []) ∙ ap (λ t. flat_map f xs ++ t) (append-nil (f x))
 
+-- a text that isn't written whole
+pub text_unwritten : (text : List ℕ) (a b : Option (List ℕ)) (low high : ℕ) (fault : ReportFault) (s : RunStatus)
+    → s ≡ status_of fault → AppendsPart a b text → (fault ≡ report.WriteFault → Rose low high) → IsTextFault text a b low high s
+text_unwritten text a b low high report.WriteFault s is part rose = subst (IsTextFault text a b low high) (sym is) (IsTextFault.failed (rose refl) part)
+text_unwritten text a b low high report.OutOfMemory s is part rose = subst (IsTextFault text a b low high) (sym is) (IsTextFault.unstored part)
+
 module _ (settings : Settings) (roads : Roads) where
   -- no round, and one round more
   pub put_none : (a : Option (List ℕ)) (n : List NotifierView) → HasPut settings roads [] a a n n
@@ -150,15 +156,18 @@ module _ (settings : Settings) (roads : Roads) where
         → AppendsWithPart a c (rounds_text settings made) text
     part_behind made text a b c n m w part = (part.0, part.1, Appends-trans a b c (rounds_text settings made) (take part.0 text) w.text part.2)
 
+    -- a text that isn't written whole, where a part of it cuts the whole short
+    cut_fault : (head text : List ℕ) (a b c : Option (List ℕ)) (n k : List NotifierView) (low middle high : ℕ) (s : RunStatus) → low ≤ middle → IsTextFault text b c middle high s
+        → (AppendsPart b c text → IsCutShort settings roads (added_by settings) head P Q a c n k) → IsReportFault settings roads head P Q a c n k low high s
+    cut_fault head text a b c n k low middle high _ up (IsTextFault.failed rose part) cut = IsReportFault.failed (omega (arith, rose, up)) (cut part)
+    cut_fault head text a b c n k low middle high _ up (IsTextFault.unstored part) cut = IsReportFault.unstored (IsPart.cut (cut part))
+
     -- a round that wasn't put out
     pub unput_fault : (made : List DayRound) (r : DayRound) (a b c : Option (List ℕ)) (n m k : List NotifierView) (low middle high : ℕ) (s : RunStatus)
         → P (made ++ r ∷ []) → HasPut settings roads made a b n m → low ≤ middle → IsUnput settings roads r b c m k middle high s → IsReportFault settings roads [] P Q a c n k low high s
-    unput_fault made r a b c n m k low middle high _ first w up (IsUnput.unwritten _ (IsTextFault.failed rose part) same) =
-        IsReportFault.failed (omega (arith, rose, up))
-        (subst (IsCutShort settings roads (added_by settings) [] P Q a c n) (sym same) (IsCutShort.round made r first (part_behind made (added_by settings r) a b c n m w part) w.told))
-    unput_fault made r a b c n m k low middle high _ first w up (IsUnput.unwritten _ (IsTextFault.unstored part) same) =
-        IsReportFault.unstored
-        (IsPart.cut (subst (IsCutShort settings roads (added_by settings) [] P Q a c n) (sym same) (IsCutShort.round made r first (part_behind made (added_by settings r) a b c n m w part) w.told)))
+    unput_fault made r a b c n m k low middle high _ first w up (IsUnput.unwritten s why same) =
+        cut_fault [] (added_by settings r) a b c n k low middle high s up why
+        (λ part. subst (IsCutShort settings roads (added_by settings) [] P Q a c n) (sym same) (IsCutShort.round made r first (part_behind made (added_by settings r) a b c n m w part) w.told))
     unput_fault made r a b c n m k low middle high _ first w up (IsUnput.untold text same) =
         IsReportFault.unstored
         (subst (IsPart settings roads (added_by settings) [] P Q a c n) (sym same)
@@ -179,13 +188,8 @@ module _ (settings : Settings) (roads : Roads) where
     -- last lines that aren't written whole
     pub end_unwritten : (made : List DayRound) (end : List ℕ) (a b c : Option (List ℕ)) (n m : List NotifierView) (low middle high : ℕ) (fault : ReportFault) (s : RunStatus)
         → s ≡ status_of fault → Q made end → HasPut settings roads made a b n m → AppendsPart b c end → low ≤ middle → (fault ≡ report.WriteFault → Rose middle high) → IsReportFault settings roads [] P Q a c n m low high s
-    end_unwritten made end a b c n m low middle high report.WriteFault s is all w part up rose =
-        let rises : Rose middle high = rose refl in
-        subst (IsReportFault settings roads [] P Q a c n m low high) (sym is)
-        (IsReportFault.failed (omega (arith, rises, up)) (IsCutShort.last_lines made end all (part_behind made end a b c n m w part) w.told))
-    end_unwritten made end a b c n m low middle high report.OutOfMemory s is all w part up rose =
-        subst (IsReportFault settings roads [] P Q a c n m low high) (sym is)
-        (IsReportFault.unstored (IsPart.cut (IsCutShort.last_lines made end all (part_behind made end a b c n m w part) w.told)))
+    end_unwritten made end a b c n m low middle high fault s is all w part up rose =
+        cut_fault [] end a b c n m low middle high s up (text_unwritten end b c middle high fault s is part rose) (λ p. IsCutShort.last_lines made end all (part_behind made end a b c n m w p) w.told)
 
     -- what stands behind the first lines
     module _ (head : List ℕ) (a b c : Option (List ℕ)) (n m : List NotifierView) (first : Appends a b head) where
@@ -220,10 +224,8 @@ module _ (settings : Settings) (roads : Roads) where
     -- first lines that aren't written whole
     pub unbegun : (head : List ℕ) (a b : Option (List ℕ)) (n : List NotifierView) (low high : ℕ) (fault : ReportFault) (s : RunStatus) → s ≡ status_of fault → AppendsPart a b head → (fault ≡ report.WriteFault → Rose low high)
         → IsReportFault settings roads head P Q a b n n low high s
-    unbegun head a b n low high report.WriteFault s is part rose =
-        subst (IsReportFault settings roads head P Q a b n n low high) (sym is) (IsReportFault.failed (rose refl) (IsCutShort.first_lines part refl))
-    unbegun head a b n low high report.OutOfMemory s is part rose =
-        subst (IsReportFault settings roads head P Q a b n n low high) (sym is) (IsReportFault.unstored (IsPart.cut (IsCutShort.first_lines part refl)))
+    unbegun head a b n low high fault s is part rose =
+        cut_fault head head a a b n n low low high s (omega arith) (text_unwritten head a b low high fault s is part rose) (λ p. IsCutShort.first_lines p refl)
 
   -- a round of a run that wasn't run or put out
   pub round_fault : (book current : BookView) (rounds : List NumberedLanes) (i : ℕ) (r : NumberedLanes) (a b c : Option (List ℕ)) (n m k : List NotifierView) (low middle high : ℕ) (s : RunStatus)
@@ -294,12 +296,6 @@ module _ (settings : Settings) (roads : Roads) where
             ∙ ap (λ k. state_after roads.nodes settings.wait book.base k.entries) (sym is);
         entries = ap (λ k. k.entries) emptied;
       }
-
--- a text that isn't written whole
-pub text_unwritten : (text : List ℕ) (a b : Option (List ℕ)) (low high : ℕ) (fault : ReportFault) (s : RunStatus)
-    → s ≡ status_of fault → AppendsPart a b text → (fault ≡ report.WriteFault → Rose low high) → IsTextFault text a b low high s
-text_unwritten text a b low high report.WriteFault s is part rose = subst (IsTextFault text a b low high) (sym is) (IsTextFault.failed (rose refl) part)
-text_unwritten text a b low high report.OutOfMemory s is part rose = subst (IsTextFault text a b low high) (sym is) (IsTextFault.unstored part)
 
 -- lines have bytes
 some_bytes : (x : List ℕ) (xs : List (List ℕ)) → 0 < length (lines_text (x ∷ xs))

@@ -1,25 +1,20 @@
 -- What the answer of a call says, by its command.
-use Rattle.std.specs.Prelude.{◌≡◌, ◌≢◌, MatchOption, ◌⊎◌}
-use Rattle.fleet_state.specs.declared.fault.FleetFault.TheVariants as fleet
+use Rattle.std.specs.Prelude.{◌≡◌, MatchOption, ◌⊎◌}
 use Rattle.pool_base.specs.declared.which.Which.{Which}
-use Rattle.pool_io.specs.declared.input.Input.TheVariants.{Rows, Own}
-use Rattle.pool_io.specs.declared.records.RowFault.TheVariants as row
-use Rattle.report_audit.specs.declared.fault.AuditFault.TheVariants as audit
 use Rattle.rider_limits.specs.Settings.{AreGiven}
 use Rattle.rider_limits.specs.Words.{fault_of}
 use Rattle.rider_limits.specs.declared.settings.Mode.{Mode}
 use Rattle.rider_limits.specs.declared.settings.Mode.TheVariants.{Run, Drive, Load, Audit}
 use Rattle.rider_limits.specs.declared.settings.Settings.{Settings}
-use Rattle.road_network.specs.declared.fault.NetworkFault.TheVariants as network
-use Rattle.script_rows.specs.declared.fault.ScriptFault.TheVariants as script
 use Rattle.ridepool.specs.Audit.{AnswersAudit}
 use Rattle.ridepool.specs.Drive.{AnswersDrive}
 use Rattle.ridepool.specs.Inputs.{AreUntouched, IsWithin}
 use Rattle.ridepool.specs.Load.{AnswersLoad}
 use Rattle.ridepool.specs.Run.{AnswersRun}
 use Rattle.ridepool.specs.Seen.{IsSilent, Seen, source_at}
+use Rattle.ridepool.specs.Status.{HidesNoMemory}
 use Rattle.ridepool.specs.declared.status.RunStatus.{RunStatus}
-use Rattle.ridepool.specs.declared.status.RunStatus.TheVariants.{Words, Network, Fleet, Script, TooLong, Report}
+use Rattle.ridepool.specs.declared.status.RunStatus.TheVariants.{Words, TooLong}
 
 -- what a call of this command answers
 abbrev pub AnswersAs : Mode → Settings → Seen → RunStatus → Type 0
@@ -37,7 +32,4 @@ pub record Answers (seen : Seen) (status : RunStatus) : Type 0 where
   -- no more bytes than may be were taken from each source, and one more only where it is answered as too long
   pub limited : (w : Which) → IsWithin w (source_at seen.sources w) ⊎ (status ≡ TooLong w)
   -- want of memory stands inside no other status
-  pub refused : (status ≢ Network (Rows row.OutOfMemory)) × (status ≢ Network (Own network.OutOfMemory))
-      × (status ≢ Fleet (Rows row.OutOfMemory)) × (status ≢ Fleet (Own fleet.OutOfMemory))
-      × (status ≢ Script (Rows row.OutOfMemory)) × (status ≢ Script (Own script.OutOfMemory))
-      × (status ≢ Report audit.OutOfMemory)
+  pub refused : HidesNoMemory status

@@ -1,11 +1,10 @@
 -- A call of `live`: what is seen of it, how it ends, and what stands then.
-use Rattle.std.specs.Prelude.{◌≡◌, ◌≢◌, ℕ, List, [], ◌∷◌, ◌++◌, Option, Some, None, Ok, Err, codes, is_none, length, if◌then◌else◌, ◌⊎◌}
+use Rattle.std.specs.Prelude.{◌≡◌, ℕ, List, [], ◌∷◌, ◌++◌, Option, Some, None, Ok, Err, codes, is_none, length, if◌then◌else◌, ◌⊎◌}
 use Rattle.std.specs.Io.KnownBytes.{Appends}
 use Rattle.batch_snapshot.specs.declared.vehicle.Vehicle.{Vehicle}
 use Rattle.dispatch_report.specs.Head.{head_text}
 use Rattle.dispatch_report.specs.Written.{Change, SinkView}
 use Rattle.fleet_state.specs.declared.fault.FleetFault.{FleetFault}
-use Rattle.fleet_state.specs.declared.fault.FleetFault.TheVariants as fleet
 use Rattle.live_dispatch.specs.Live.{BeginsRows, RunsRows}
 use Rattle.live_rows.specs.Lines.{lines_in}
 use Rattle.live_rows.specs.Start.{live_rows, HasOtherStart}
@@ -13,7 +12,7 @@ use Rattle.pool_base.specs.declared.which.Which.TheVariants as file
 use Rattle.pool_io.specs.Faults.{Rose}
 use Rattle.pool_io.specs.Sink.{AppendsPart}
 use Rattle.pool_io.specs.declared.input.Input.{Input}
-use Rattle.pool_io.specs.declared.input.Input.TheVariants.{Rows, Own}
+use Rattle.pool_io.specs.declared.input.Input.TheVariants.{Rows}
 use Rattle.pool_io.specs.declared.records.RowFault.TheVariants as row
 use Rattle.request_book.specs.Book.{BookView, opening}
 use Rattle.rider_limits.specs.Words.{fault_of, text_given}
@@ -22,12 +21,11 @@ use Rattle.rider_limits.specs.declared.word_fault.WordFault.{WordFault}
 use Rattle.rider_notices.specs.Told.{NotifierView}
 use Rattle.road_network.specs.Roads.{Roads}
 use Rattle.road_network.specs.declared.fault.NetworkFault.{NetworkFault}
-use Rattle.road_network.specs.declared.fault.NetworkFault.TheVariants as network
-use Rattle.script_rows.specs.declared.fault.ScriptFault.TheVariants as script
 use Rattle.script_rows.specs.declared.line.Line.{Line}
 use Rattle.ridepool.specs.Inputs.{AreGood, IsSourceTooLong, IsWithin, Reads, Tells}
 use Rattle.ridepool.specs.Reading.{network_in, vehicles_in, IsFleetIn}
 use Rattle.ridepool.specs.Seen.{IsUntouched, SourceView}
+use Rattle.ridepool.specs.Status.{HidesNoMemory}
 use Rattle.ridepool.specs.declared.status.RunStatus.{RunStatus}
 use Rattle.ridepool.specs.declared.status.RunStatus.TheVariants.{Done, Words, Network, Fleet, Script, TooLong, ReadFault, WriteFault, OutOfMemory}
 
@@ -175,6 +173,4 @@ pub record AnswersLive (call : LiveCall) (status : RunStatus) : Type 0 where
   -- no more bytes than may be were taken from network and fleet
   pub limited : AreLimited call.network call.fleet status
   -- want of memory stands inside no other status
-  pub refused : (status ≢ Network (Rows row.OutOfMemory)) × (status ≢ Network (Own network.OutOfMemory))
-      × (status ≢ Fleet (Rows row.OutOfMemory)) × (status ≢ Fleet (Own fleet.OutOfMemory))
-      × (status ≢ Script (Rows row.OutOfMemory)) × (status ≢ Script (Own script.OutOfMemory))
+  pub refused : HidesNoMemory status

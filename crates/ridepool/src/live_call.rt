@@ -11,7 +11,7 @@ ghost use Rattle.pool_base.specs.declared.which.Which.TheVariants as file;
 ghost use Rattle.ridepool.specs.Inputs.{IsWithin};
 ghost use Rattle.ridepool.specs.Live.{AnswersLive, AreLimited, AreLiveInputs, EndsLive, ExplainsLive, IsSilentCall, LiveCall, LiveInputs, LiveSeen, live_head, opened_book};
 ghost use Rattle.ridepool.specs.Seen.{source_seen};
-ghost use Rattle.ridepool.specs.work.Ended.{HidesNoMemory};
+ghost use Rattle.ridepool.specs.Status.{HidesNoMemory};
 ghost use Rattle.ridepool.specs.work.Live.{live_seen, status_of_end, status_of_start};
 
 use crate::reading::{fleet_from, network_from};

@@ -3,7 +3,7 @@ ghost use Rattle.pool_base.specs.declared.which.Which.TheVariants as file;
 ghost use Rattle.pool_base.specs.Header.{party_header};
 ghost use Rattle.pool_io.specs.Table.{table_of};
 ghost use Rattle.request_book.specs.Consistent.{IsNode};
-ghost use Rattle.ridepool.specs.work.Ended.{HidesNoMemory};
+ghost use Rattle.ridepool.specs.Status.{HidesNoMemory};
 ghost use Rattle.ridepool.specs.Inputs.{Reads, most_bytes};
 ghost use Rattle.ridepool.specs.Reading.{network_in, vehicles_in, IsFleetIn, script_in, in_rows, own_fault};
 ghost use Rattle.ridepool.specs.Seen.{source_seen};

@@ -11,7 +11,7 @@ use Rattle.route_drive.specs.Day.{day_fault}
 use Rattle.route_drive.specs.declared.day.DayFault.{DayFault}
 use Rattle.script_rows.specs.Round.{NumberedLanes}
 use Rattle.script_rows.specs.declared.fault.ScriptFault.{ScriptFault}
-use Rattle.ridepool.specs.work.Ended.{HidesNoMemory}
+use Rattle.ridepool.specs.Status.{HidesNoMemory}
 use Rattle.ridepool.specs.Inputs.{Inputs, IsWithin, IsSourceTooLong, Reads, AreReadFrom, AreUntouched, IsStop}
 use Rattle.ridepool.specs.Load.{AreTexts}
 use Rattle.ridepool.specs.Reading.{network_in, vehicles_in}
