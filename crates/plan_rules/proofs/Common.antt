@@ -1,5 +1,5 @@
 -- The names that the proofs of this crate cite from elsewhere, passed on from one place. Declares nothing.
-pub use Rattle.std.proofs.lemmas.Bool.{and_from, and_left, and_parts, and_right, both_ways, cases_Bool, cases_eq, cases_lt, cond-false, cond-true, cond_both, false_from_ne_true, false≢true, or_cases, or_left, or_right}
+pub use Rattle.std.proofs.lemmas.Bool.{and_from, and_left, and_right, both_ways, cases_Bool, cases_eq, cases_lt, cond-false, cond-true, cond_both, false_from_ne_true, false≢true, or_cases, or_left, or_right}
 pub use Rattle.std.proofs.lemmas.Bool.Decides.{nat_tests}
 pub use Rattle.std.proofs.lemmas.Int.{int_min_is, ints}
 pub use Rattle.std.proofs.lemmas.List.{at_drop_more, get_or-replicate, get_or_append_left, get_or_default, get_or_past, get_or_push, get_or_read, length-replicate, length_push, map-append, set_at, take_more}
@@ -19,8 +19,8 @@ pub use Rattle.plan_rules.specs.GoodGraph.{IsGoodGraph}
 pub use Rattle.plan_rules.specs.Greedy.{IsGreedy, IsTaken, IsTriedBefore}
 pub use Rattle.plan_rules.specs.work.Rank.{IsApart, AreRanks, IsInTheWay, IsSelection, parts_of, row_of}
 unfoldable pub use Rattle.plan_rules.specs.Multipliers.{first_fit_below, leaf_value}
-pub use Rattle.plan_rules.specs.Multipliers.{Usable, first_fit_of, first_fit_value, is_usable_by, multiplier_at, multiplier_sum, reduced_cost, room_at, usable_of}
-pub use Rattle.plan_rules.specs.Terms.{first_fit, least_cost, rider_term, vehicle_term}
+pub use Rattle.plan_rules.specs.Multipliers.{Usable, first_fit_of, first_fit_value, is_usable_by, multiplier_at, multiplier_sum, reduced_cost, usable_of}
+pub use Rattle.plan_rules.specs.Terms.{least_cost, rider_term, vehicle_term}
 pub use Rattle.plan_rules.specs.Parts.{graph_of}
 unfoldable pub use Rattle.plan_rules.specs.Path.{standing_of}
 pub use Rattle.plan_rules.specs.Path.{Standing, decided, root}

@@ -1,28 +1,23 @@
 -- Marks on riders of usable and of sole rows.
-use Rattle.std.proofs.Common.{◌≡◌, ◌⊎◌, ℕ, ◌+◌, ◌<◌, Bool, true, false, List, length, get_or, sym, ◌∙◌, subst, ⊎_elim, arith}
+use Rattle.std.proofs.Common.{◌≡◌, ◌⊎◌, ℕ, ◌+◌, ◌<◌, Bool, true, false, List, length, get_or, sym, ◌∙◌, subst, ⊎_elim, arith, rules}
 use Rattle.plan_rules.proofs.Common.{list_any, cases_eq, or_cases, or_right, both_ways, get_or_past, Graph, row_at, riders_at, has_rider, must_be_served, IsGraphRow, IsGoodGraph, Usable, IsSoleRow, IsClash, IsStranded, StandsInSome, MarksSole}
 use Rattle.plan_rules.proofs.lemmas.GraphLemmas.{rider_below, vehicle_below}
 use Rattle.plan_rules.proofs.lemmas.PlanLemmas.{must_below}
 use Rattle.plan_rules.proofs.lemmas.MarkLemmas.{IsMarking, any_marked, marked_one}
 
 pub marks_from : (g : Graph) (k : ℕ) (old new : List Bool) (r : ℕ) → IsMarking old new (riders_at g k) → get_or new r false ≡ true → (get_or old r false ≡ true) ⊎ (has_rider g k r ≡ true)
-marks_from g k old new r adds e =
-    or_cases (get_or old r false) (has_rider g k r) (grind (arith, adds.marked r, get_or_past new r false, adds.sized))
+marks_from g k old new r adds e = search (rules, or_cases, get_or_past)
 
 pub marks_old : (g : Graph) (k : ℕ) (old new : List Bool) (r : ℕ) → IsMarking old new (riders_at g k) → get_or old r false ≡ true → get_or new r false ≡ true
 marks_old g k old new r adds e = grind (arith, adds.marked r, get_or_past old r false)
 
 pub marks_new : (g : Graph) (k : ℕ) (old new : List Bool) (r : ℕ) → IsMarking old new (riders_at g k) → length old ≡ g.riders → IsGraphRow g.vehicles g.riders (row_at g k) → has_rider g k r ≡ true → get_or new r false ≡ true
-marks_new g k old new r adds sized row e =
-    let low : r < g.riders = rider_below g k r row e in
-    adds.marked r (omega (arith, low, sized)) ∙ or_right (get_or old r false) (has_rider g k r) e
+marks_new g k old new r adds sized row e = search (rules, rider_below, or_right)
 
 -- ---- usable rows
 
 pub not_stranded : (g : Graph) (usable : Usable) → IsGoodGraph g → ((r : ℕ) → r < g.riders → must_be_served g r ≡ true → StandsInSome g usable (length g.rows) r) → IsStranded g usable → ⊥
-not_stranded g usable good all s =
-    let w = all s.rider (must_below g s.rider good s.must) s.must in
-    both_ways _ (s.nowhere (w.0) (w.1) (w.2)) (w.3)
+not_stranded g usable good all s = search (rules, must_below, both_ways)
 
 -- ---- sole rows
 
@@ -80,21 +75,7 @@ sole_more g usable n k old new adds sized row here unmarked before = record {
 
 -- a marked rider of the vehicle's sole row stands in another one, too
 pub clash_from : (g : Graph) (usable : Usable) (n k : ℕ) (marks : List Bool) → IsSoleRow g usable n k → (list_any (λ q. get_or marks q false) (riders_at g k) ≡ true) → MarksSole g usable n marks → IsClash g usable
-clash_from g usable n k marks here some before =
-    let r = marked_one marks (riders_at g k) some in
-    let w = before.from_sole (r.0) (r.2) in
-    record {
-      first = w.0;
-      second = n;
-      first_row = w.1;
-      second_row = k;
-      rider = r.0;
-      differ = λ (e : w.0 ≡ n). let l = w.2 in omega (arith, l, e);
-      first_sole = w.3;
-      second_sole = here;
-      in_first = w.4;
-      in_second = r.1;
-    }
+clash_from g usable n k marks here some before = search (rules, marked_one)
 
 pub no_clash : (g : Graph) (usable : Usable) (marks : List Bool) → IsGoodGraph g → MarksSole g usable g.vehicles marks → IsClash g usable → ⊥
 no_clash g usable marks good marked c =

@@ -1,5 +1,5 @@
 -- Rows: rising riders, and the order of vehicles.
-use Rattle.std.proofs.Common.{◌≡◌, ◌==◌, ◌⊎◌, ℕ, zero, suc, ◌+◌, ◌-◌, ◌<◌, ◌≤◌, true, false, List, [], ◌∷◌, ◌++◌, length, get_or, eqb, not, Ordering, Less, Equal, Greater, nat_cmp, refl, sym, ap, ◌∙◌, subst, inl, inr, ⊎_elim, arith}
+use Rattle.std.proofs.Common.{◌≡◌, ◌==◌, ◌⊎◌, ℕ, zero, suc, ◌+◌, ◌-◌, ◌<◌, ◌≤◌, true, false, List, [], ◌∷◌, ◌++◌, length, get_or, eqb, not, Ordering, Less, Equal, Greater, nat_cmp, refl, ap, inl, inr, arith, rules}
 use Rattle.plan_rules.proofs.Common.{ordering_then, ordering_index, get_or_push, get_or_append_left, cases_eq, both_ways, nat_tests, Graph, row_at, row_vehicle, IsInOrder, AreRisingBelow, IsStartOf, row_cmp}
 use Rattle.plan_rules.specs.GraphFault.{HasRowsInOrder, IsFirstUnordered}
 
@@ -12,12 +12,8 @@ pub record IsRisingSoFar (riders least i : ℕ) (xs : List ℕ) : Type 0 where
 
 -- a number that is too low or too high breaks the order
 pub not_rising : (riders least i : ℕ) (xs : List ℕ) → IsRisingSoFar riders least i xs → i < length xs → (get_or xs i 0 < least) ⊎ (riders ≤ get_or xs i 0) → AreRisingBelow riders xs → ⊥
-not_rising riders least i xs h l (inr high) all =
-    let low : get_or xs i 0 < riders = all.below i l in
-    omega arith
-not_rising riders least zero xs h l (inl low) all =
-    let none : least ≡ 0 = h.start refl in
-    omega arith
+not_rising riders least i xs h l (inr high) all = search rules
+not_rising riders least zero xs h l (inl low) all = search rules
 not_rising riders least (suc k) xs h l (inl low) all =
     let e : k + 1 ≡ suc k = omega arith in
     let last : least ≡ get_or xs k 0 + 1 = h.last k e in
@@ -34,16 +30,8 @@ pub vehicle_rises : (g : Graph) (k : ℕ) → IsInOrder g k → row_vehicle g k 
 vehicle_rises g k e = less_vehicle (row_vehicle g k) (row_vehicle g (suc k)) _ e
 
 pub vehicles_rise : (g : Graph) → HasRowsInOrder g → (j n : ℕ) → j + n < length g.rows → row_vehicle g j ≤ row_vehicle g (j + n)
-vehicles_rise g order j zero l =
-    let same : j + 0 ≡ j = omega arith in
-    let e : row_vehicle g (j + 0) ≡ row_vehicle g j = ap (row_vehicle g) same in
-    omega arith
-vehicles_rise g order j (suc n) l =
-    let before : row_vehicle g j ≤ row_vehicle g (j + n) = vehicles_rise g order j n (omega arith) in
-    let next : row_vehicle g (j + n) ≤ row_vehicle g (suc (j + n)) = vehicle_rises g (j + n) (order (j + n) (omega arith)) in
-    let same : suc (j + n) ≡ j + suc n = omega arith in
-    let e : row_vehicle g (suc (j + n)) ≡ row_vehicle g (j + suc n) = ap (row_vehicle g) same in
-    omega arith
+vehicles_rise g order j zero l = search rules
+vehicles_rise g order j (suc n) l = grind (arith, vehicle_rises, (vehicles_rise g order j n))
 
 -- where the rows of vehicle v end, those of the next one start
 pub start_next : (g : Graph) (v row end : ℕ) → HasRowsInOrder g → IsStartOf g v row → row ≤ end → end ≤ length g.rows → ((k : ℕ) → row ≤ k → k < end → row_vehicle g k ≡ v) → (end < length g.rows → row_vehicle g end ≡ v → ⊥) → IsStartOf g (v + 1) end
@@ -61,24 +49,12 @@ start_next g v row end order start up within own next = record {
 
 -- the start of one more vehicle at the end of the list
 pub starts_push : (g : Graph) (starts : List ℕ) (row n : ℕ) → length starts ≡ n → ((v : ℕ) → v < n → IsStartOf g v (get_or starts v 0)) → IsStartOf g n row → (v : ℕ) → v < n + 1 → IsStartOf g v (get_or (starts ++ row ∷ []) v 0)
-starts_push g starts row n long before here v l =
-    ⊎_elim
-    (λ (last : v ≡ n). subst (IsStartOf g v) (sym (get_or_push starts row 0 v (long ∙ sym last))) (subst (λ (w : ℕ). IsStartOf g w row) (sym last) here))
-    (λ (other : v ≡ n → ⊥). subst (IsStartOf g v) (sym (get_or_append_left starts (row ∷ []) 0 v (omega (arith, l, long)))) (before v (omega (arith, l))))
-    (cases_eq v n)
+starts_push g starts row n long before here v l = search (rules, get_or_push, get_or_append_left, cases_eq)
 
 -- the first row that isn't above the one before it
 pub first_unordered : (g : Graph) (k : ℕ) → 1 ≤ k → k < length g.rows → ((j : ℕ) → suc j < k → IsInOrder g j) → (row_cmp (row_at g (k - 1)) (row_at g k) ≡ Less → ⊥) → IsFirstUnordered g k
 first_unordered g zero low within before wrong = absurd (omega (arith, low))
-first_unordered g (suc j) low within before wrong =
-    let e : suc j - 1 ≡ j = omega arith in
-    record {
-      previous = j;
-      next = refl;
-      within = within;
-      wrong = λ h. wrong (ap (λ (q : ℕ). row_cmp (row_at g q) (row_at g (suc j))) e ∙ h);
-      before = before;
-    }
+first_unordered g (suc j) low within before wrong = search rules
 
 not_less : (o : Ordering) → not (eqb (ordering_index o) 0) ≡ true → o ≡ Less → ⊥
 not_less Less h e = absurd (both_ways false refl h)

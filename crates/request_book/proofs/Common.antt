@@ -25,8 +25,8 @@ pub use Rattle.request_book.specs.Consistent.{AreConsistent, IsConsistent, IsNod
 unfoldable pub use Rattle.request_book.specs.Keyed.{AllAbove, KeysDiffer, KeysRise, by_key, changed_at, look_up, placed}
 unfoldable pub use Rattle.request_book.specs.lemmas.Keyed.{without}
 unfoldable pub use Rattle.request_book.specs.Replay.{RepliesAreSteps, state_after}
-pub use Rattle.request_book.specs.Rider.{is_active, passenger_of, pool_promise, vehicle_of, with_status}
-pub use Rattle.request_book.specs.lemmas.Named.{shown, pool_count, asking, in_batch, lets_out, planned_status, stands_at, takes_in}
+pub use Rattle.request_book.specs.Rider.{is_active, passenger_of, vehicle_of, with_status}
+pub use Rattle.request_book.specs.lemmas.Named.{pool_count, asking, in_batch, lets_out, planned_status, stands_at, takes_in}
 unfoldable pub use Rattle.request_book.specs.Sealing.{batch_of}
 unfoldable pub use Rattle.request_book.specs.lemmas.Named.{sealed_state}
 pub use Rattle.request_book.specs.Sealing.{after_seal, is_over}

@@ -1,6 +1,6 @@
 -- Weak duality: a leaf value is at most the cost of each lawful plan of usable rows.
-use Rattle.std.proofs.Common.{◌≡◌, ◌==◌, ℕ, suc, ◌*◌, ◌<◌, ◌≤◌, true, ◌||◌, ltb, List, [], ◌∷◌, length, get_or, Option, Some, None, MatchOption, ℤ, pos, ◌+ℤ◌, ◌-ℤ◌, ◌≤ℤ◌, sym, ap, ◌∙◌, arith, eq-eqb, eqb-true, unwrap_or}
-use Rattle.plan_rules.proofs.Common.{nat_tests, and_parts, false_from_ne_true, IsStrictlyIncreasing, ints, int_min_is, and_from, sum_below, count_below, int_sum_below, Graph, row_at, riders_at, row_vehicle, IsRowOf, HasNoRow, choice_at, is_in, IsGraphRow, IsGoodGraph, IsLawful, choice_cost, cost_of, times_chosen, left_out, Usable, multiplier_at, multiplier_sum, reduced_cost, is_usable_by, vehicle_term, rider_term, leaf_value, is_choice_usable, is_within}
+use Rattle.std.proofs.Common.{◌≡◌, ◌==◌, ℕ, suc, ◌*◌, ◌<◌, ◌≤◌, true, ◌||◌, ltb, List, [], ◌∷◌, length, get_or, Option, Some, None, MatchOption, ℤ, pos, ◌+ℤ◌, ◌-ℤ◌, ◌≤ℤ◌, sym, ap, ◌∙◌, arith, eq-eqb, unwrap_or, rules}
+use Rattle.plan_rules.proofs.Common.{nat_tests, IsStrictlyIncreasing, ints, int_min_is, and_from, sum_below, count_below, int_sum_below, Graph, row_at, riders_at, row_vehicle, IsRowOf, HasNoRow, choice_at, is_in, IsGraphRow, IsGoodGraph, IsLawful, choice_cost, cost_of, times_chosen, left_out, Usable, multiplier_at, multiplier_sum, reduced_cost, is_usable_by, vehicle_term, rider_term, leaf_value, is_choice_usable, is_within}
 use Rattle.plan_rules.proofs.lemmas.SumLemmas.{flag, sum_below_scale, int_sum_same, int_sum_le, int_sum_plus, int_sum_minus, int_sum_pos, int_sum_zero, int_sum_swap, part, part-or, int_sum_single, int_sum_once, least_below_some, least_below_none, all_below_at}
 use Rattle.plan_rules.proofs.lemmas.GraphLemmas.{has, tail_rises, head_apart, times_served_as_count}
 
@@ -45,24 +45,14 @@ choices_sum g ms chosen few =
 -- what served riders give, and the penalties of those who are left out
 pub prices_sum : (g : Graph) (ms : List ℤ) (chosen : List (Option ℕ))
     → int_sum_below g.riders (λ r. part (ltb 0 (times_chosen g chosen r)) (multiplier_at ms r) +ℤ pos (1024 * (g.penalty * flag (times_chosen g chosen r == 0)))) ≡ served_give g ms chosen +ℤ pos (1024 * (g.penalty * left_out g chosen))
-prices_sum g ms chosen =
-    let apart = int_sum_plus g.riders (λ r. part (ltb 0 (times_chosen g chosen r)) (multiplier_at ms r)) (λ r. pos (1024 * (g.penalty * flag (times_chosen g chosen r == 0)))) in
-    let prices = int_sum_pos g.riders (λ r. 1024 * (g.penalty * flag (times_chosen g chosen r == 0))) in
-    let scaled = sum_below_scale g.riders 1024 (λ r. g.penalty * flag (times_chosen g chosen r == 0)) in
-    let counted = sum_below_scale g.riders g.penalty (λ r. flag (times_chosen g chosen r == 0)) in
-    let whole : pos (sum_below g.riders (λ r. 1024 * (g.penalty * flag (times_chosen g chosen r == 0)))) ≡ pos (1024 * (g.penalty * left_out g chosen)) =
-    ap pos (scaled ∙ ap (λ (n : ℕ). 1024 * n) counted) in
-    omega (arith, ints)
+prices_sum g ms chosen = grind (arith, nat_tests, (int_sum_plus g.riders), (times_chosen g chosen), (int_sum_pos g.riders), (sum_below_scale g.riders 1024), (sum_below_scale g.riders g.penalty), (left_out g chosen))
 
 at_some : (o : Option ℤ) (z d : ℤ) → o ≡ Some z → unwrap_or o d ≡ z
 at_some o z d e = ap (λ (p : Option ℤ). unwrap_or p d) e
 
 -- a vehicle's term is at most what its usable choice costs, less its riders' multipliers
 vehicle_term_le : (g : Graph) (usable : Usable) (ms : List ℤ) (v : ℕ) (c : Option ℕ) → ((k : ℕ) → k < length g.rows → IsGraphRow g.vehicles g.riders (row_at g k)) → MatchOption c (HasNoRow g v) (IsRowOf g v) → is_choice_usable usable c ≡ true → vehicle_term g usable ms v ≤ℤ (pos (1024 * choice_cost g c) -ℤ riders_give g ms c)
-vehicle_term_le g usable ms v None rows own may =
-    let none = least_below_none (length g.rows) (is_usable_by g usable v) (reduced_cost g ms)
-    (λ k l. false_from_ne_true (is_usable_by g usable v k) (λ e. own k (record { within = l; own = eqb-true (row_vehicle g k) v (and_parts (row_vehicle g k == v) (usable k) e).0 }))) in
-    omega (arith, ints, ap (λ (p : Option ℤ). unwrap_or p (pos 0)) none, int_sum_zero g.riders)
+vehicle_term_le g usable ms v None rows own may = grind (arith, nat_tests, (least_below_none (length g.rows)), (int_sum_zero g.riders))
 vehicle_term_le g usable ms v (Some k) rows own may =
     let w = least_below_some (length g.rows) (is_usable_by g usable v) (reduced_cost g ms) k own.within (and_from (row_vehicle g k == v) (usable k) (eq-eqb (row_vehicle g k) v own.own) may) in
     let row = rows k own.within in
@@ -71,8 +61,7 @@ vehicle_term_le g usable ms v (Some k) rows own may =
 
 -- a rider's term is at most her multiplier where she is served, and the penalty where she is left out
 rider_term_le : (g : Graph) (ms : List ℤ) (chosen : List (Option ℕ)) (r : ℕ) → IsLawful g chosen → rider_term g ms r ≤ℤ (part (ltb 0 (times_chosen g chosen r)) (multiplier_at ms r) +ℤ pos (1024 * (g.penalty * flag (times_chosen g chosen r == 0))))
-rider_term_le g ms chosen r lawful =
-    grind (arith, ints, nat_tests, int_min_is (multiplier_at ms r) (pos (1024 * g.penalty)), lawful.kept r)
+rider_term_le g ms chosen r lawful = search (rules, ints, nat_tests, int_min_is)
 
 -- the vehicles' terms together
 vehicles_le : (g : Graph) (usable : Usable) (ms : List ℤ) (chosen : List (Option ℕ)) → IsGoodGraph g → IsLawful g chosen → is_within g usable chosen ≡ true
@@ -86,9 +75,7 @@ vehicles_le g usable ms chosen good lawful within =
 -- the riders' terms together
 riders_le : (g : Graph) (ms : List ℤ) (chosen : List (Option ℕ)) → IsLawful g chosen
     → int_sum_below g.riders (rider_term g ms) ≤ℤ (served_give g ms chosen +ℤ pos (1024 * (g.penalty * left_out g chosen)))
-riders_le g ms chosen lawful =
-    let each = int_sum_le g.riders (rider_term g ms) (λ r. part (ltb 0 (times_chosen g chosen r)) (multiplier_at ms r) +ℤ pos (1024 * (g.penalty * flag (times_chosen g chosen r == 0)))) (λ r l. rider_term_le g ms chosen r lawful) in
-    omega (arith, ints, prices_sum g ms chosen)
+riders_le g ms chosen lawful = grind (arith, nat_tests, (int_sum_le g.riders), (times_chosen g chosen), (rider_term_le g ms chosen), (prices_sum g ms chosen))
 
 -- weak duality
 pub leaf_value_le : (g : Graph) (usable : Usable) (ms : List ℤ) (chosen : List (Option ℕ)) → IsGoodGraph g → IsLawful g chosen → is_within g usable chosen ≡ true → leaf_value g usable ms ≤ℤ pos (1024 * cost_of g chosen)

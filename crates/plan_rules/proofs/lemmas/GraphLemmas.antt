@@ -1,6 +1,6 @@
 -- Riders of rows, and how often riders are served.
-use Rattle.std.proofs.Common.{◌≡◌, ◌==◌, ℕ, zero, suc, ◌+◌, ◌<◌, ◌≤◌, Bool, true, false, IsTrue, List, [], ◌∷◌, length, get_or, Option, Some, None, MatchOption, refl, sym, ap, ◌∙◌, subst, arith, add-one, eq-eqb}
-use Rattle.plan_rules.proofs.Common.{list_any, IsStrictlyIncreasing, both_ways, list_any_at, get_or_read, count_below, TripRow, Graph, no_row, row_at, riders_at, row_vehicle, has_rider, IsRowOf, HasNoRow, choice_at, is_in, times_served, IsGraphRow, HoldsRightly, IsStartOf, nat_tests, false_from_ne_true}
+use Rattle.std.proofs.Common.{◌≡◌, ◌==◌, ℕ, zero, suc, ◌+◌, ◌<◌, ◌≤◌, Bool, true, false, List, [], ◌∷◌, length, get_or, Option, Some, None, refl, ap, ◌∙◌, subst, arith, add-one, eq-eqb, rules}
+use Rattle.plan_rules.proofs.Common.{list_any, IsStrictlyIncreasing, both_ways, list_any_at, get_or_read, count_below, TripRow, Graph, no_row, row_at, riders_at, has_rider, IsRowOf, HasNoRow, choice_at, is_in, times_served, IsGraphRow, HoldsRightly, IsStartOf, nat_tests, false_from_ne_true}
 use Rattle.plan_rules.proofs.lemmas.SumLemmas.{flag, count_below_more, count_below_none, count_below_some, count_below_found}
 
 -- ---- lists of riders
@@ -72,45 +72,30 @@ in_choice g (Some k) r e = (k, refl, e)
 -- no trip has a rider whom the graph hasn't
 pub times_served_outside : (g : Graph) (chosen : List (Option ℕ)) (n r : ℕ) → ((k : ℕ) → k < length g.rows → IsGraphRow g.vehicles g.riders (row_at g k)) → ((v k : ℕ) → v < n → choice_at chosen v ≡ Some k → k < length g.rows) → g.riders ≤ r → times_served g chosen n r ≡ 0
 unfolding times_served
-times_served_outside g chosen n r rows fits out =
-    count_below_none n (λ v. is_in g (choice_at chosen v) r)
-    (λ v l. false_from_ne_true (is_in g (choice_at chosen v) r)
-    (λ e. let w = in_choice g (choice_at chosen v) r e in let low = rider_below g (w.0) r (rows (w.0) (fits v (w.0) l (w.1))) (w.2) in omega (arith, low, out)))
+times_served_outside g chosen n r rows fits out = search (rules, count_below_none, is_in, false_from_ne_true, in_choice, rider_below)
 
 -- ---- rows of vehicles
 
 -- between two starts stand the rows of one vehicle
 pub row_between : (g : Graph) (v k start next : ℕ) → IsStartOf g v start → IsStartOf g (v + 1) next → start ≤ k → k < next → IsRowOf g v k
-row_between g v k start next first second low high =
-    let above : v ≤ row_vehicle g k = first.above k low (omega (arith, second.within)) in
-    let below : row_vehicle g k < v + 1 = second.below k high in
-    record { within = omega (arith, second.within); own = omega arith }
+row_between g v k start next first second low high = search rules
 
 pub between_row : (g : Graph) (v k start next : ℕ) → IsStartOf g v start → IsStartOf g (v + 1) next → IsRowOf g v k → (start ≤ k) × (k < next)
 between_row g v k start next first second row = (grind (arith, first.below k, row.own), grind (arith, second.above k, row.own, row.within))
 
 pub no_row_between : (g : Graph) (v start : ℕ) → IsStartOf g v start → IsStartOf g (v + 1) start → HasNoRow g v
-no_row_between g v start first second k row =
-    let w = between_row g v k start start first second row in
-    omega (arith, w.0, w.1)
+no_row_between g v start first second k row = search (rules, between_row)
 
 -- where a vehicle has no row, its rows start where they end
 pub starts_meet : (g : Graph) (v start next : ℕ) → IsStartOf g v start → IsStartOf g (v + 1) next → HasNoRow g v → start ≡ next
-starts_meet g v start next first second none =
-    grind (arith, λ (some : start < next). none start (row_between g v start start next first second (omega arith) some), first.below next, second.above next, first.within)
+starts_meet g v start next first second none = search (rules, row_between)
 
 -- ---- held rows
 
 -- the first n vehicles hold a rider at most once
 pub held_once : (g : Graph) (n r : ℕ) → n ≤ g.vehicles → ((v : ℕ) → v < n → HoldsRightly g v) → times_served g g.held n r ≤ 1
 held_once g zero r low holds = omega (arith, times_served_none g g.held r)
-held_once g (suc n) r low holds =
-    let more : times_served g g.held (suc n) r ≡ times_served g g.held n r + flag (is_in g (choice_at g.held n) r) = ap (λ (m : ℕ). times_served g g.held m r) (sym (add-one n)) ∙ times_served_more g g.held n r in
-    grind (arith, more, held_once g n r (omega arith) (λ v l. holds v (omega arith)), alone_at (choice_at g.held n) (holds n (omega arith)))
-  where
-    alone_at : (c : Option ℕ) → MatchOption c (HasNoRow g n) (λ k. IsRowOf g n k × ((r : ℕ) → IsTrue (has_rider g k r) → times_served g g.held n r ≡ 0)) → is_in g c r ≡ true → times_served g g.held n r ≡ 0
-    alone_at None h e = absurd (both_ways false refl e)
-    alone_at (Some k) h e = h.1 r e
+held_once g (suc n) r low holds = grind (arith, nat_tests, (is_in g), (add-one n), (times_served_more g g.held n r), (HasNoRow g n), (both_ways false), (held_once g n r))
 
 -- ---- reads
 

@@ -1,5 +1,5 @@
 -- Greedy plans: ranks, and what taking a row keeps.
-use Rattle.std.proofs.Common.{All, ◌≡◌, ◌⊎◌, ◌||◌, ℕ, ◌+◌, ◌-◌, ◌*◌, ◌<◌, ◌≤◌, Bool, true, false, List, length, get_or, set, Option, Some, None, refl, sym, ap, ◌∙◌, subst, inl, inr, ⊎_elim, arith}
+use Rattle.std.proofs.Common.{All, ◌≡◌, ◌⊎◌, ◌||◌, ℕ, ◌-◌, ◌<◌, ◌≤◌, Bool, true, false, List, length, get_or, set, Option, Some, None, refl, sym, ap, ◌∙◌, subst, inl, inr, ⊎_elim, arith, rules}
 use Rattle.plan_rules.proofs.Common.{same_Some, none-some, list_any, ordering_then, nat_tests, cases_eq, cases_lt, or_cases, or_left, or_right, both_ways, get_or_past, Graph, riders_at, cost_at, row_vehicle, has_rider, choice_at, IsGoodGraph, IsTaken, IsApart, IsTriedBefore, IsGreedy, rank_value, rank_of, parts_of, AreRanks, IsSelection, IsInTheWay}
 use Rattle.std.specs.Ordering.{nat_cmp, is_lt}
 use Rattle.std.proofs.lemmas.List.{get_or-set_same, get_or-set_other, length-set}
@@ -13,11 +13,7 @@ unfolding rank_value
 rank_order a b x y j k la lb lx ly lj lk ne low = grind arith
 
 pub rank_before : (g : Graph) (j k : ℕ) → IsGoodGraph g → j < length g.rows → k < length g.rows → (j ≡ k → ⊥) → rank_of g j ≤ rank_of g k → IsTriedBefore g j k
-rank_before g j k good lj lk ne low =
-    let few = good.few in
-    rank_order (length (riders_at g j)) (length (riders_at g k)) (cost_at g j) (cost_at g k) j k
-    (good.rows j lj).few (good.rows k lk).few (good.rows j lj).cheap (good.rows k lk).cheap
-    (omega (arith, few, lj)) (omega (arith, few, lk)) ne low
+rank_before g j k good lj lk ne low = search (rules, rank_order)
 
 -- of two triples in order the first isn't the greater
 not_above : (a x j b y k : ℕ) → is_lt (ordering_then (ordering_then (nat_cmp b a) (nat_cmp y x)) (nat_cmp k j)) ≡ false → (a < b) ⊎ ((a ≡ b) × ((x < y) ⊎ ((x ≡ y) × (j ≤ k))))
@@ -30,33 +26,16 @@ IsOfRow g rank = (rank.2 < length g.rows) × (rank ≡ parts_of g rank.2)
 -- what rows are sorted by stands in the order of their ranks
 pub in_order : (g : Graph) (s t : ℕ × ℕ × ℕ) → IsGoodGraph g → IsOfRow g s → IsOfRow g t → is_lt (ordering_then (ordering_then (nat_cmp t.0 s.0) (nat_cmp t.1 s.1)) (nat_cmp t.2 s.2)) ≡ false → rank_of g s.2 ≤ rank_of g t.2
 unfolding rank_value
-in_order g s t good first second e =
-    let few = good.few in
-    let cheap : cost_at g s.2 ≤ 1000000000 = (good.rows s.2 first.0).cheap in
-    let a : s.0 ≡ 6 - length (riders_at g s.2) = ap (λ (p : ℕ × ℕ × ℕ). p.0) first.1 in
-    let x : s.1 ≡ cost_at g s.2 = ap (λ (p : ℕ × ℕ × ℕ). p.1) first.1 in
-    let b : t.0 ≡ 6 - length (riders_at g t.2) = ap (λ (p : ℕ × ℕ × ℕ). p.0) second.1 in
-    let y : t.1 ≡ cost_at g t.2 = ap (λ (p : ℕ × ℕ × ℕ). p.1) second.1 in
-    let low = ordered s.0 s.1 s.2 t.0 t.1 t.2 (omega arith) (omega (arith, first.0)) (not_above s.0 s.1 s.2 t.0 t.1 t.2 e) in
-    omega arith
-  where
-    ordered : (a x j b y k : ℕ) → x ≤ 1000000000 → j < 2000000 → ((a < b) ⊎ ((a ≡ b) × ((x < y) ⊎ ((x ≡ y) × (j ≤ k))))) → (a * 1000000001 + x) * 2000000 + j ≤ (b * 1000000001 + y) * 2000000 + k
-    ordered a x j b y k lx lj h = omega (arith, h)
+in_order g s t good first second e = search (rules, not_above)
 
 pub of_rows : (g : Graph) (ranks : List (ℕ × ℕ × ℕ)) → AreRanks g ranks → All (IsOfRow g) ranks
-of_rows g ranks are k d l =
-    let within : k < length g.rows = omega (arith, l, are.each) in
-    let is : get_or ranks k d ≡ parts_of g k = are.parts k within d in
-    subst (IsOfRow g) (sym is) (within, refl)
+of_rows g ranks are k d l = search rules
 
 -- ---- taking a row
 
 module _ (g : Graph) (chosen : List (Option ℕ)) (served : List Bool) (row : ℕ) (good : IsGoodGraph g) (within : row < length g.rows) (selection : IsSelection g chosen served) (free : choice_at chosen (row_vehicle g row) ≡ None) where
   inside : row_vehicle g row < length chosen
-  inside =
-      let low : row_vehicle g row < g.vehicles = (good.rows row within).vehicle in
-      let sized : length chosen ≡ g.vehicles = selection.sized in
-      omega arith
+  inside = search rules
 
   -- who is taken has another vehicle
   other_vehicle : (j : ℕ) → IsTaken g chosen j → row_vehicle g j ≡ row_vehicle g row → ⊥
@@ -69,13 +48,7 @@ module _ (g : Graph) (chosen : List (Option ℕ)) (served : List Bool) (row : �
   row_taken = get_or-set_same chosen (row_vehicle g row) (Some row) None inside
 
   pub taken_before : (j : ℕ) → IsTaken g (set chosen (row_vehicle g row) (Some row)) j → IsTaken g chosen j ⊎ (j ≡ row)
-  taken_before j taken =
-      ⊎_elim
-      (λ (here : row_vehicle g j ≡ row_vehicle g row).
-      inr (same_Some j row (sym taken ∙ ap (choice_at (set chosen (row_vehicle g row) (Some row))) here ∙ row_taken)))
-      (λ (other : row_vehicle g j ≡ row_vehicle g row → ⊥).
-      inl (sym (get_or-set_other chosen (row_vehicle g row) (row_vehicle g j) (Some row) None other) ∙ taken))
-      (cases_eq (row_vehicle g j) (row_vehicle g row))
+  taken_before j taken = search (rules, same_Some, row_taken, get_or-set_other, cases_eq)
 
   -- a row that is taken is apart from one with no marked rider
   pub new_apart : (list_any (λ r. get_or served r false) (riders_at g row) ≡ false) → (j : ℕ) → j < length g.rows → IsTaken g chosen j → IsApart g j row
@@ -146,10 +119,7 @@ way_by_vehicle g chosen served row k good within selection e =
     }
 
 pub way_by_rider : (g : Graph) (chosen : List (Option ℕ)) (served : List Bool) (row : ℕ) → IsSelection g chosen served → list_any (λ r. get_or served r false) (riders_at g row) ≡ true → IsInTheWay g chosen row
-way_by_rider g chosen served row selection e =
-    let r = marked_one served (riders_at g row) e in
-    let j = selection.served_by (r.0) (r.2) in
-    record { other = j.0; within = j.1; taken = j.2; conflict = λ apart. apart.1 (r.0) (j.3) (r.1) }
+way_by_rider g chosen served row selection e = search (rules, marked_one)
 
 -- ---- the whole ranking
 
@@ -175,10 +145,4 @@ pub settled_more : (g : Graph) (old new : List (Option ℕ)) (row : ℕ) → IsG
     → IsTaken g new row ⊎ IsInTheWay g old row
     → ((j : ℕ) → j < length g.rows → IsTriedBefore g j row → IsTaken g new j → IsApart g j row) → IsTaken g new row
 settled_more g old new row good within earlier keeps (inl taken) apart = taken
-settled_more g old new row good within earlier keeps (inr way) apart =
-    ⊎_elim
-    (λ (same : way.other ≡ row). subst (IsTaken g new) same (keeps way.other way.taken))
-    (λ (differs : way.other ≡ row → ⊥).
-    let before : IsTriedBefore g way.other row = rank_before g way.other row good way.within within differs (earlier way.other way.within way.taken) in
-    absurd (way.conflict (apart way.other way.within before (keeps way.other way.taken))))
-    (cases_eq way.other row)
+settled_more g old new row good within earlier keeps (inr way) apart = search (rules, rank_before, cases_eq)

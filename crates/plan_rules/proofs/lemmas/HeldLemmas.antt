@@ -1,30 +1,23 @@
 -- Marks of the riders whom vehicles hold.
-use Rattle.std.proofs.Common.{◌≡◌, ◌||◌, ℕ, ◌+◌, ◌<◌, Bool, true, false, IsTrue, List, get_or, nat_lt, Option, MatchOption, sym, subst, ⊎_elim, arith}
+use Rattle.std.proofs.Common.{◌≡◌, ◌||◌, ℕ, ◌+◌, ◌<◌, Bool, true, false, IsTrue, List, get_or, nat_lt, Option, MatchOption, sym, subst, arith, rules}
 use Rattle.plan_rules.proofs.Common.{list_any, cases_eq, both_ways, Graph, row_at, riders_at, has_rider, IsRowOf, HasNoRow, choice_at, times_served, IsGraphRow, HoldsRightly, MarksServed, nat_tests}
 use Rattle.plan_rules.proofs.lemmas.SumLemmas.{flag}
 use Rattle.plan_rules.proofs.lemmas.GraphLemmas.{rider_below}
 use Rattle.plan_rules.proofs.lemmas.MarkLemmas.{any_marked, marked_one}
 
 pub holds_more : (g : Graph) (n : ℕ) → ((v : ℕ) → v < n → HoldsRightly g v) → HoldsRightly g n → (v : ℕ) → v < n + 1 → HoldsRightly g v
-holds_more g n before here v l =
-    ⊎_elim
-    (λ (same : v ≡ n). subst (HoldsRightly g) (sym same) here)
-    (λ (other : v ≡ n → ⊥). before v (omega (arith, l)))
-    (cases_eq v n)
+holds_more g n before here v l = search (rules, cases_eq)
 
 pub or_flag : (n : ℕ) (b : Bool) → (nat_lt 0 n || b) ≡ nat_lt 0 (n + flag b)
 or_flag n b = grind (arith, nat_tests)
 
 -- no rider of the row is in an earlier vehicle's, where none is marked
 pub unmarked_apart : (g : Graph) (chosen : List (Option ℕ)) (n k : ℕ) (marks : List Bool) → MarksServed g chosen n marks → IsGraphRow g.vehicles g.riders (row_at g k) → list_any (λ q. get_or marks q false) (riders_at g k) ≡ false → (r : ℕ) → has_rider g k r ≡ true → times_served g chosen n r ≡ 0
-unmarked_apart g chosen n k marks before row none r e =
-    grind (arith, nat_tests, before.marks r (rider_below g k r row e), λ (m : get_or marks r false ≡ true). both_ways _ none (any_marked marks (riders_at g k) r e m))
+unmarked_apart g chosen n k marks before row none r e = search (rules, nat_tests, rider_below, both_ways, any_marked)
 
 -- where one is marked, an earlier vehicle's row has a rider of the row
 pub marked_held : (g : Graph) (chosen : List (Option ℕ)) (n k : ℕ) (marks : List Bool) → MarksServed g chosen n marks → IsGraphRow g.vehicles g.riders (row_at g k) → list_any (λ q. get_or marks q false) (riders_at g k) ≡ true → ((r : ℕ) → has_rider g k r ≡ true → times_served g chosen n r ≡ 0) → ⊥
-marked_held g chosen n k marks before row some apart =
-    let w = marked_one marks (riders_at g k) some in
-    grind (arith, nat_tests, apart (w.0) (w.1), w.2, before.marks (w.0) (rider_below g k (w.0) row (w.1)))
+marked_held g chosen n k marks before row some apart = search (rules, marked_one, nat_tests, rider_below)
 
 -- what a vehicle holds, seen from its choice
 pub holds_at : (g : Graph) (n : ℕ) (c : Option ℕ) → choice_at g.held n ≡ c → MatchOption c (HasNoRow g n) (λ k. IsRowOf g n k × ((r : ℕ) → IsTrue (has_rider g k r) → times_served g g.held n r ≡ 0)) → HoldsRightly g n

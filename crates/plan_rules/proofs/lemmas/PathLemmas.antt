@@ -1,6 +1,6 @@
 -- Decisions along a tree.
-use Rattle.std.proofs.Common.{◌≡◌, ◌==◌, ◌&&◌, ◌||◌, not, ℕ, zero, suc, ◌+◌, ◌-◌, ◌<◌, ◌≤◌, Bool, true, false, List, [], ◌∷◌, ◌++◌, length, get_or, take, set, refl, sym, ap, ◌∙◌, subst, arith}
-use Rattle.plan_rules.proofs.Common.{nat_tests, cond-true, take_more, set_at, get_or_default, fold_more, fold_push, Graph, row_vehicle, IsRowOf, every_row, only_row, without_row, coming_after, Standing, root, decided, standing_of, Decision, Branch}
+use Rattle.std.proofs.Common.{◌≡◌, ◌==◌, ◌&&◌, ◌||◌, not, ℕ, zero, suc, ◌+◌, ◌-◌, ◌<◌, ◌≤◌, Bool, true, false, List, [], ◌∷◌, ◌++◌, length, get_or, take, set, refl, sym, ap, ◌∙◌, subst, arith, rules}
+use Rattle.plan_rules.proofs.Common.{nat_tests, cond-true, take_more, set_at, get_or_default, fold_more, fold_push, Graph, row_vehicle, IsRowOf, every_row, coming_after, Standing, root, decided, standing_of, Decision, Branch}
 use Rattle.plan_rules.specs.Path.{IsPathOf}
 use Rattle.std.proofs.lemmas.List.Elements.{All-push}
 use Rattle.std.proofs.lemmas.List.{take_all, length-take-le, get_or-take, get_or-set_same, get_or-set_other}
@@ -40,9 +40,7 @@ usable_without g s d k e = rw e refl
 
 -- what is to come at the first subtree of a branch
 pub coming_entered : (g : Graph) (old new : List Decision) (v k : ℕ) → new ≡ old ++ record { vehicle = v; row = k; alone = true } ∷ [] → (standing_of g new).usable ∷ (standing_of g new).coming ≡ coming_after g (standing_of g old).usable (Branch v k) (standing_of g old).coming
-coming_entered g old new v k e =
-    ap (λ (p : List Decision). (standing_of g p).usable ∷ (standing_of g p).coming) e
-    ∙ ap (λ (s : Standing). s.usable ∷ s.coming) (standing_push g old (record { vehicle = v; row = k; alone = true }))
+coming_entered g old new v k e = search (rules, standing_push)
 
 pub coming_start : (g : Graph) (path : List Decision) → path ≡ [] → (every_row ∷ []) ≡ (standing_of g path).usable ∷ (standing_of g path).coming
 coming_start g path e = sym (ap (λ (p : List Decision). (standing_of g p).usable ∷ (standing_of g p).coming) e ∙ ap (λ (s : Standing). s.usable ∷ s.coming) (standing_start g))
@@ -54,32 +52,19 @@ pub path_push : (g : Graph) (path : List Decision) (e : Decision) → IsPathOf g
 path_push g path e before here = All-push (λ (d : Decision). (d.vehicle < g.vehicles) × IsRowOf g d.vehicle d.row) path e before here
 
 pub coming_left : (g : Graph) (path : List Decision) (depth : ℕ) → depth ≤ length path → ((k : ℕ) (d : Decision) → depth ≤ k → k < length path → (get_or path k d).alone ≡ false) → (standing_of g path).coming ≡ (standing_of g (take depth path)).coming
-coming_left g path depth l h =
-    let n : depth + (length path - depth) ≡ length path = omega (arith, l) in
-    ap (λ (p : List Decision). (standing_of g p).coming) (sym (take_all (length path) path (omega arith)))
-    ∙ ap (λ (m : ℕ). (standing_of g (take m path)).coming) (sym n)
-    ∙ coming_kept g path depth (length path - depth) (omega (arith, n)) h
+coming_left g path depth l h = grind (arith, nat_tests, (take_all (length path) path), (coming_kept g path depth (length path - depth)))
 
 -- the last decision turns from the row alone to all but the row
 pub coming_next : (g : Graph) (path : List Decision) (d : Decision) → d.alone ≡ true
     → (standing_of g (path ++ d ∷ [])).coming ≡ (standing_of g (path ++ record { vehicle = d.vehicle; row = d.row; alone = false } ∷ [])).usable ∷ (standing_of g (path ++ record { vehicle = d.vehicle; row = d.row; alone = false } ∷ [])).coming
-coming_next g path d e =
-    let s = standing_of g path in
-    let first : Standing = record { usable = only_row g s.usable d.vehicle d.row; coming = without_row s.usable d.row ∷ s.coming } in
-    let second : Standing = record { usable = without_row s.usable d.row; coming = s.coming } in
-    ap (λ (t : Standing). t.coming) (standing_push g path d ∙ cond-true d.alone first second e)
-    ∙ sym (ap (λ (t : Standing). t.usable ∷ t.coming) (standing_push g path (record { vehicle = d.vehicle; row = d.row; alone = false })))
+coming_next g path d e = search (rules, standing_push, cond-true)
 
 -- what the marks say one decision on
 pub along_alone : (g : Graph) (path : List Decision) (i n : ℕ) (d : Decision) (old new : List Bool) → i < length path → (get_or path i d).alone ≡ true
     → ((k : ℕ) → k < n → get_or old k false ≡ (standing_of g (take i path)).usable k)
     → ((k : ℕ) → k < n → get_or new k false ≡ (get_or old k false && (not (row_vehicle g k == (get_or path i d).vehicle) || k == (get_or path i d).row)))
     → (k : ℕ) → k < n → get_or new k false ≡ (standing_of g (take (i + 1) path)).usable k
-along_alone g path i n d old new l e before now k low =
-    now k low
-    ∙ ap (λ (b : Bool). b && (not (row_vehicle g k == (get_or path i d).vehicle) || k == (get_or path i d).row)) (before k low)
-    ∙ sym (usable_alone g (standing_of g (take i path)) (get_or path i d) k e)
-    ∙ sym (ap (λ (s : Standing). s.usable k) (standing_more g path i d l))
+along_alone g path i n d old new l e before now k low = grind (arith, nat_tests, (usable_alone g), (standing_more g path i d l))
 
 pub along_without : (g : Graph) (path : List Decision) (i n : ℕ) (d : Decision) (old : List Bool) → i < length path → (get_or path i d).alone ≡ false → (get_or path i d).row < length old
     → ((k : ℕ) → k < n → get_or old k false ≡ (standing_of g (take i path)).usable k)
@@ -99,20 +84,4 @@ pub leave_next : (g : Graph) (path : List Decision) (depth : ℕ) (x last : Deci
     → ((k : ℕ) (d : Decision) → depth ≤ k → k < length path → (get_or path k d).alone ≡ false)
     → (standing_of g path).coming ≡ (standing_of g (set (take depth path) (depth - 1) (record { vehicle = last.vehicle; row = last.row; alone = false }))).usable ∷ (standing_of g (set (take depth path) (depth - 1) (record { vehicle = last.vehicle; row = last.row; alone = false }))).coming
 leave_next g path zero x last low high at alone is dropped = absurd (omega (arith, low))
-leave_next g path (suc n) x last low high at alone is dropped =
-    let e : suc n - 1 ≡ n = omega arith in
-    let front : length (take n path) ≡ n = length-take-le n path (omega (arith, high)) in
-    let off : Decision = record { vehicle = last.vehicle; row = last.row; alone = false } in
-    let read : last ≡ get_or path n last = is ∙ ap (λ (j : ℕ). get_or (take (suc n) path) j last) e ∙ get_or-take (suc n) path n last (omega arith) in
-    let first : x ≡ get_or path n x = at ∙ ap (λ (j : ℕ). get_or path j x) e in
-    let same : last ≡ x = read ∙ get_or_default path n last x (omega (arith, high)) ∙ sym first in
-    let yes : last.alone ≡ true = ap (λ (d : Decision). d.alone) same ∙ alone in
-    let plus : suc n ≡ n + 1 = omega arith in
-    let more : take (suc n) path ≡ take n path ++ last ∷ [] =
-    ap (λ (m : ℕ). take m path) plus ∙ take_more path n last (omega (arith, high)) ∙ ap (λ (d : Decision). take n path ++ d ∷ []) (sym read) in
-    let turned : set (take (suc n) path) (suc n - 1) off ≡ take n path ++ off ∷ [] =
-    ap (λ (p : List Decision). set p (suc n - 1) off) more ∙ ap (λ (j : ℕ). set (take n path ++ last ∷ []) j off) e ∙ set_at (take n path) last [] off n front in
-    coming_left g path (suc n) high dropped
-    ∙ ap (λ (p : List Decision). (standing_of g p).coming) more
-    ∙ coming_next g (take n path) last yes
-    ∙ sym (ap (λ (p : List Decision). (standing_of g p).usable ∷ (standing_of g p).coming) turned)
+leave_next g path (suc n) x last low high at alone is dropped = grind (arith, nat_tests, (length-take-le n path), (get_or-take (suc n) path n last), (get_or_default path n last x), (take_more path n last), (set_at (take n path) last), (coming_left g path (suc n) high dropped), (coming_next g (take n path) last))

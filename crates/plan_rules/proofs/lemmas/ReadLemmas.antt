@@ -1,5 +1,5 @@
 -- Trees read node by node, and the places that they have.
-use Rattle.std.proofs.Common.{◌≡◌, List, [], ◌∷◌, ◌++◌, Option, Some, None, ℤ, refl, sym, ap, ◌∙◌, subst, arith}
+use Rattle.std.proofs.Common.{◌≡◌, List, [], ◌∷◌, ◌++◌, Option, Some, None, ℤ, refl, sym, ap, subst, arith, rules}
 use Rattle.plan_rules.proofs.Common.{ints, int_min_is, int_min, lesser, Graph, Usable, leaf_value, Place, rounded_up, with_leaf, least_leaf, IsSoundNode, coming_after, ReadsTo, places_from, Node, Branch, Leaf, Dead}
 
 -- two parts, one after the other
@@ -15,8 +15,7 @@ reads_push g xs n a u us first sound = reads_append g xs (n ∷ []) a (u ∷ us)
 pub places_append : (g : Graph) (xs ys : List Node) (a b : List Usable) → ReadsTo g a xs b → places_from g a (xs ++ ys) ≡ places_from g a xs ++ places_from g b ys
 places_append g [] ys a b first = ap (λ (c : List Usable). places_from g c ys) first
 places_append g (n ∷ xs) ys [] b first = absurd first
-places_append g (n ∷ xs) ys (u ∷ us) b first =
-    ap (λ (ps : List Place). record { node = n; usable = u } ∷ ps) (places_append g xs ys (coming_after g u n us) b (first.1))
+places_append g (n ∷ xs) ys (u ∷ us) b first = search (rules, (places_append g xs ys))
 
 pub places_push : (g : Graph) (xs : List Node) (n : Node) (a : List Usable) (u : Usable) (us : List Usable) → ReadsTo g a xs (u ∷ us) → places_from g a (xs ++ n ∷ []) ≡ places_from g a xs ++ record { node = n; usable = u } ∷ []
 places_push g xs n a u us first = places_append g xs (n ∷ []) a (u ∷ us) first
@@ -36,5 +35,4 @@ with_leaf_swap g (Branch v k) n u w o = refl
 
 pub least_leaf_push : (g : Graph) (ps : List Place) (p : Place) → least_leaf g (ps ++ p ∷ []) ≡ with_leaf g p.usable p.node (least_leaf g ps)
 least_leaf_push g [] p = refl
-least_leaf_push g (q ∷ ps) p =
-    ap (with_leaf g q.usable q.node) (least_leaf_push g ps p) ∙ with_leaf_swap g q.node p.node q.usable p.usable (least_leaf g ps)
+least_leaf_push g (q ∷ ps) p = search (rules, with_leaf_swap, (least_leaf_push g ps p))

@@ -1,5 +1,5 @@
 -- What is read node by node is a tree.
-use Rattle.std.proofs.Common.{◌≡◌, ℕ, count_by, zero, suc, ◌+◌, ◌≤◌, List, [], ◌∷◌, ◌++◌, length, map, refl, sym, ap, ap₂, ◌∙◌, subst, arith, pos, Option, unwrap_or}
+use Rattle.std.proofs.Common.{◌≡◌, ℕ, count_by, zero, suc, ◌+◌, ◌≤◌, List, [], ◌∷◌, ◌++◌, length, map, refl, sym, ap, ◌∙◌, subst, arith, pos, Option, unwrap_or, rules}
 use Rattle.plan_rules.proofs.Common.{map-append, Graph, IsGoodGraph, Usable, every_row, only_row, without_row, SearchTree, Parted, Bounded, Closed, IsSoundTree, IsTreeOf, IsTreeOfValue, Place, places_within, least_leaf, tree_value, belongs_to_end, belongs_to_dead_end, preorder, places, IsWholeTree, places_read, value_read, ReadsTo, places_from, IsPlan, IsLawful, IsBound, Node, Branch, Leaf, Dead}
 use Rattle.std.proofs.lemmas.List.{length-append, append_assoc, append-nil}
 use Rattle.plan_rules.proofs.lemmas.TreeLemmas.{each_plan_at_one_end, no_plan_at_dead_ends, tree_value_bounds}
@@ -8,10 +8,7 @@ use Rattle.plan_rules.proofs.lemmas.TreeLemmas.{each_plan_at_one_end, no_plan_at
 nodes_of_places : (g : Graph) (t : SearchTree) (usable : Usable) → map (λ (p : Place). p.node) (places_within g usable t) ≡ preorder t
 nodes_of_places g (Bounded ms) usable = refl
 nodes_of_places g Closed usable = refl
-nodes_of_places g (Parted v k first second) usable =
-    ap (λ (xs : List Node). Branch v k ∷ xs)
-    (map-append (λ (p : Place). p.node) (places_within g (only_row g usable v k) first) (places_within g (without_row usable k) second)
-    ∙ ap₂ ◌++◌ (nodes_of_places g first (only_row g usable v k)) (nodes_of_places g second (without_row usable k)))
+nodes_of_places g (Parted v k first second) usable = search (rules, map-append, (nodes_of_places g first), (nodes_of_places g second))
 
 pub nodes_are : (g : Graph) (nodes : List Node) (t : SearchTree) → IsTreeOf g nodes t → nodes ≡ preorder t
 nodes_are g nodes t tree = tree.listed ∙ nodes_of_places g t every_row
@@ -26,9 +23,7 @@ record IsFirst (g : Graph) (usable : Usable) (coming rest : List Usable) (nodes 
 
 first_subtree : (g : Graph) (size : ℕ) (usable : Usable) (coming rest : List Usable) (nodes : List Node) → length nodes ≤ size → length rest ≤ length coming
     → ReadsTo g (usable ∷ coming) nodes rest → IsFirst g usable coming rest nodes
-first_subtree g size usable coming rest [] small few reads =
-    let same : suc (length coming) ≡ length rest = ap length reads in
-    absurd (omega (arith, same))
+first_subtree g size usable coming rest [] small few reads = search rules
 first_subtree g zero usable coming rest (n ∷ nodes) small few reads = absurd (omega (arith, small))
 first_subtree g (suc size) usable coming rest (Leaf ms ∷ nodes) small few reads =
     record { tree = Bounded ms; behind = nodes; listed = refl; sound = reads.0; reads = reads.1 }
@@ -54,29 +49,14 @@ nothing_behind g (n ∷ nodes) reads = absurd reads
 
 -- a tree that is read node by node
 pub tree_of_reads : (g : Graph) (nodes : List Node) → IsWholeTree g nodes → (t : SearchTree) × IsTreeOf g nodes t
-tree_of_reads g nodes reads =
-    let found = first_subtree g (length nodes) every_row [] [] nodes (omega arith) (omega arith) reads in (
-      found.tree,
-      record {
-        listed =
-            found.listed ∙ ap (λ (xs : List Node). preorder found.tree ++ xs) (nothing_behind g found.behind found.reads) ∙ append-nil (preorder found.tree)
-            ∙ sym (nodes_of_places g found.tree every_row);
-        sound = found.sound;
-      },
-    )
+tree_of_reads g nodes reads = search (rules, (first_subtree g (length nodes)), (nothing_behind g), (nodes_of_places g))
 
 -- the places_read of a tree, and of what comes behind it
 places_of_tree : (g : Graph) (t : SearchTree) (usable : Usable) (coming : List Usable) (behind : List Node)
     → places_from g (usable ∷ coming) (preorder t ++ behind) ≡ places_within g usable t ++ places_from g coming behind
 places_of_tree g (Bounded ms) usable coming behind = refl
 places_of_tree g Closed usable coming behind = refl
-places_of_tree g (Parted v k first second) usable coming behind =
-    let after = only_row g usable v k ∷ without_row usable k ∷ coming in
-    ap (λ (ps : List Place). record { node = Branch v k; usable = usable } ∷ ps)
-    (ap (places_from g after) (append_assoc (preorder first) (preorder second) behind)
-    ∙ places_of_tree g first (only_row g usable v k) (without_row usable k ∷ coming) (preorder second ++ behind)
-    ∙ ap (λ (ps : List Place). places_within g (only_row g usable v k) first ++ ps) (places_of_tree g second (without_row usable k) coming behind)
-    ∙ sym (append_assoc (places_within g (only_row g usable v k) first) (places_within g (without_row usable k) second) (places_from g coming behind)))
+places_of_tree g (Parted v k first second) usable coming behind = search (rules, append_assoc, preorder, (places_of_tree g first), (places_of_tree g second))
 
 pub places_are : (g : Graph) (nodes : List Node) (t : SearchTree) → IsTreeOf g nodes t → places_read g nodes ≡ places g t
 places_are g nodes t tree =
@@ -89,12 +69,7 @@ reads_of_sound : (g : Graph) (t : SearchTree) (usable : Usable) (coming rest : L
     → ReadsTo g (usable ∷ coming) (preorder t ++ behind) rest
 reads_of_sound g (Bounded ms) usable coming rest behind sound reads = (sound, reads)
 reads_of_sound g Closed usable coming rest behind sound reads = (sound, reads)
-reads_of_sound g (Parted v k first second) usable coming rest behind sound reads = (
-  sound.0,
-  subst (λ (xs : List Node). ReadsTo g (only_row g usable v k ∷ without_row usable k ∷ coming) xs rest) (sym (append_assoc (preorder first) (preorder second) behind))
-      (reads_of_sound g first (only_row g usable v k) (without_row usable k ∷ coming) rest (preorder second ++ behind) (sound.1)
-      (reads_of_sound g second (without_row usable k) coming rest behind (sound.2) reads)),
-)
+reads_of_sound g (Parted v k first second) usable coming rest behind sound reads = search (rules, append_assoc, preorder, (reads_of_sound g first), (reads_of_sound g second))
 
 pub reads_of_tree : (g : Graph) (nodes : List Node) (t : SearchTree) → IsTreeOf g nodes t → IsWholeTree g nodes
 reads_of_tree g nodes t tree =
@@ -130,6 +105,4 @@ value_bounds g t good sound =
 
 -- what is read whole is a tree of the value that is read
 pub tree_of_value : (g : Graph) (nodes : List Node) → IsWholeTree g nodes → IsTreeOfValue g nodes (value_read g nodes)
-tree_of_value g nodes reads =
-    let t = tree_of_reads g nodes reads in
-    (t.0, t.1, value_is_read g nodes (t.0) (t.1))
+tree_of_value g nodes reads = search (rules, tree_of_reads, value_is_read)

@@ -1,5 +1,5 @@
 -- The riders whom chosen rows serve: their marks, and how many they are.
-use Rattle.std.proofs.Common.{◌≡◌, ◌==◌, ◌||◌, ℕ, zero, suc, ◌+◌, ◌<◌, ◌≤◌, Bool, true, false, List, [], ◌∷◌, length, get_or, replicate, nat_lt, Option, Some, None, refl, sym, ap, ◌∙◌, arith, ltb-true, le-ltb}
+use Rattle.std.proofs.Common.{◌≡◌, ◌==◌, ◌||◌, ℕ, zero, suc, ◌+◌, ◌<◌, ◌≤◌, Bool, true, false, List, [], ◌∷◌, length, get_or, replicate, nat_lt, Option, Some, None, refl, sym, ap, ◌∙◌, arith, ltb-true, le-ltb, rules}
 use Rattle.plan_rules.proofs.Common.{list_any, IsStrictlyIncreasing, both_ways, get_or-replicate, length-replicate, sum_below, count_below, Graph, row_at, riders_at, choice_at, is_in, times_served, IsGraphRow, IsGoodGraph, IsLawful, times_chosen, left_out, choice_size, IsServedOnce, MarksServed, nat_tests}
 use Rattle.plan_rules.proofs.lemmas.SumLemmas.{flag, flag-or, sum_below_same, sum_below_plus, sum_below_zero, sum_below_swap, count_below_single, count_below_two}
 use Rattle.plan_rules.proofs.lemmas.GraphLemmas.{has, tail_rises, head_apart, rider_below, times_served_more, times_served_none, times_served_found, times_served_as_count}
@@ -11,12 +11,7 @@ use Rattle.plan_rules.proofs.lemmas.PlanLemmas.{plan_rows}
 
 -- at first nobody is marked
 pub served_at_first : (g : Graph) (chosen : List (Option ℕ)) (size : ℕ) → g.riders ≤ size → MarksServed g chosen 0 (replicate size false)
-served_at_first g chosen size fits = record {
-  sized = omega (arith, length-replicate size false);
-  marks = λ r l.
-      let none : times_served g chosen 0 r ≡ 0 = times_served_none g chosen r in
-      get_or-replicate size r false false (omega arith) ∙ sym (le-ltb 0 (times_served g chosen 0 r) (omega arith));
-}
+served_at_first g chosen size fits = search (rules, length-replicate, times_served_none, get_or-replicate, le-ltb)
 
 pub once_at_first : (g : Graph) (chosen : List (Option ℕ)) → IsServedOnce g chosen 0
 once_at_first g chosen r = omega (arith, times_served_none g chosen r)
@@ -24,40 +19,22 @@ once_at_first g chosen r = omega (arith, times_served_none g chosen r)
 -- one more vehicle's riders are marked
 pub served_more : (g : Graph) (chosen : List (Option ℕ)) (n : ℕ) (old new : List Bool) → MarksServed g chosen n old → length new ≡ length old
     → ((r : ℕ) → r < length old → get_or new r false ≡ (get_or old r false || is_in g (choice_at chosen n) r)) → MarksServed g chosen (n + 1) new
-served_more g chosen n old new before len marked = record {
-  sized = omega (arith, before.sized);
-  marks = λ r l.
-      let fits : g.riders ≤ length old = before.sized in
-      let more : times_served g chosen (n + 1) r ≡ times_served g chosen n r + flag (is_in g (choice_at chosen n) r) = times_served_more g chosen n r in
-      marked r (omega arith)
-      ∙ ap (λ (b : Bool). b || is_in g (choice_at chosen n) r) (before.marks r l)
-      ∙ or_flag (times_served g chosen n r) (is_in g (choice_at chosen n) r)
-      ∙ ap (nat_lt 0) (sym more);
-}
+served_more g chosen n old new before len marked = search (rules, flag, is_in, times_served_more, or_flag, nat_lt)
 
 -- nobody new is marked where a vehicle is given no row
 pub served_kept : (g : Graph) (chosen : List (Option ℕ)) (n : ℕ) (marks : List Bool) → MarksServed g chosen n marks → choice_at chosen n ≡ None → MarksServed g chosen (n + 1) marks
-served_kept g chosen n marks before none =
-    served_more g chosen n marks marks before refl
-    (λ r l. same (get_or marks r false) ∙ ap (λ (o : Option ℕ). get_or marks r false || is_in g o r) (sym none))
-  where
-    same : (a : Bool) → a ≡ (a || false)
-    same true = refl
-    same false = refl
+served_kept g chosen n marks before none = grind (arith, nat_tests, (served_more g chosen n marks marks before), (is_in g))
 
 -- where the next vehicle's riders are served by none before it, still nobody is served twice
 pub once_more : (g : Graph) (chosen : List (Option ℕ)) (n : ℕ) → IsServedOnce g chosen n → ((r : ℕ) → is_in g (choice_at chosen n) r ≡ true → times_served g chosen n r ≡ 0) → IsServedOnce g chosen (n + 1)
 once_more g chosen n before apart r = grind (arith, times_served_more g chosen n r, before r, apart r)
 
 pub once_kept : (g : Graph) (chosen : List (Option ℕ)) (n : ℕ) → IsServedOnce g chosen n → choice_at chosen n ≡ None → IsServedOnce g chosen (n + 1)
-once_kept g chosen n before none =
-    once_more g chosen n before
-    (λ r e. absurd (both_ways false refl (ap (λ (o : Option ℕ). is_in g o r) (sym none) ∙ e)))
+once_kept g chosen n before none = search (rules, once_more, both_ways, is_in)
 
 -- a row none of whose riders is marked
 pub once_apart : (g : Graph) (chosen : List (Option ℕ)) (n k : ℕ) (marks : List Bool) → MarksServed g chosen n marks → IsServedOnce g chosen n → choice_at chosen n ≡ Some k → IsGraphRow g.vehicles g.riders (row_at g k) → list_any (λ q. get_or marks q false) (riders_at g k) ≡ false → IsServedOnce g chosen (n + 1)
-once_apart g chosen n k marks marked before choice row none =
-    once_more g chosen n before (λ r e. unmarked_apart g chosen n k marks marked row none r (ap (λ (o : Option ℕ). is_in g o r) (sym choice) ∙ e))
+once_apart g chosen n k marks marked before choice row none = search (rules, once_more, unmarked_apart, is_in)
 
 -- where one of a row's riders is marked, she is served twice
 pub served_twice : (g : Graph) (chosen : List (Option ℕ)) (n k : ℕ) (marks : List Bool) → MarksServed g chosen n marks → n < g.vehicles → choice_at chosen n ≡ Some k → IsGraphRow g.vehicles g.riders (row_at g k) → list_any (λ q. get_or marks q false) (riders_at g k) ≡ true → IsServedOnce g chosen g.vehicles → ⊥
@@ -86,9 +63,7 @@ rising_counted n (x ∷ xs) rises low =
 -- a choice has as many riders as are in it
 choice_counted : (g : Graph) (c : Option ℕ) → IsGoodGraph g → ((k : ℕ) → c ≡ Some k → k < length g.rows) → choice_size g c ≡ count_below g.riders (is_in g c)
 choice_counted g None good fits = sym (sum_below_zero g.riders)
-choice_counted g (Some k) good fits =
-    let row = good.rows k (fits k refl) in
-    rising_counted g.riders (riders_at g k) row.rising row.below
+choice_counted g (Some k) good fits = grind (arith, nat_tests, (rising_counted g.riders))
 
 -- whoever is served at most once is served once or left out
 once_or_left : (n : ℕ) → n ≤ 1 → n + flag (n == 0) ≡ 1

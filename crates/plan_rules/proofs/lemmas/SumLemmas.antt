@@ -1,5 +1,5 @@
 -- Sums, counts and least values over the numbers below n.
-use Rattle.std.proofs.Common.{◌≡◌, ◌==◌, ◌⊎◌, ℕ, zero, suc, ◌+◌, ◌*◌, ◌<◌, ◌≤◌, Bool, true, false, cond, ◌||◌, ◌&&◌, if◌then◌else◌, ltb, ℤ, pos, ◌+ℤ◌, ◌-ℤ◌, ◌≤ℤ◌, Option, Some, None, refl, sym, ap, ◌∙◌, subst, inl, inr, arith, add-one, ne_eqb, int_lt}
+use Rattle.std.proofs.Common.{◌≡◌, ◌==◌, ◌⊎◌, ℕ, zero, suc, ◌+◌, ◌*◌, ◌<◌, ◌≤◌, Bool, true, false, cond, ◌||◌, ◌&&◌, if◌then◌else◌, ltb, ℤ, pos, ◌+ℤ◌, ◌-ℤ◌, ◌≤ℤ◌, Option, Some, None, refl, sym, ◌∙◌, subst, inl, inr, arith, add-one, ne_eqb, int_lt, rules}
 use Rattle.plan_rules.proofs.Common.{same_Some, none-some, int_min, ints, int_min_is, nat_tests, cases_eq, cases_Bool, cond_both, cond-true, cond-false, and_from, sum_below, count_below, all_below, int_sum_below, lesser, least_below}
 
 -- ---- sums of naturals
@@ -49,8 +49,7 @@ pub count_below_more : (n : ℕ) (p : ℕ → Bool) → count_below (n + 1) p �
 count_below_more n p = sum_below_more n (λ k. flag (p k))
 
 pub count_below_same : (n : ℕ) (p q : ℕ → Bool) → ((k : ℕ) → k < n → p k ≡ q k) → count_below n p ≡ count_below n q
-count_below_same n p q e =
-    sum_below_same n (λ k. flag (p k)) (λ k. flag (q k)) (λ k l. ap flag (e k l))
+count_below_same n p q e = search (rules, sum_below_same)
 
 -- where none passes, none is counted
 pub count_below_none : (n : ℕ) (p : ℕ → Bool) → ((k : ℕ) → k < n → p k ≡ false) → count_below n p ≡ 0
@@ -60,8 +59,7 @@ count_below_none (suc n) p e = omega (arith, count_below_none n p (λ k l. e k (
 -- a number below n is counted once
 pub count_below_single : (n x : ℕ) → x < n → count_below n (λ r. x == r) ≡ 1
 count_below_single zero x l = absurd (omega arith)
-count_below_single (suc n) x l =
-    grind (arith, nat_tests, count_below_single n x, λ (here : x ≡ n). count_below_none n (λ r. x == r) (λ k low. ne_eqb x k (λ e. omega arith)))
+count_below_single (suc n) x l = search (rules, nat_tests, count_below_none, ne_eqb, (count_below_single n x))
 
 -- one that passes is counted
 pub count_below_some : (n : ℕ) (p : ℕ → Bool) (k : ℕ) → k < n → p k ≡ true → 1 ≤ count_below n p
@@ -76,10 +74,7 @@ count_below_two (suc n) p j k a b d e f = grind (arith, count_below_two n p j k,
 -- where something is counted, something passes
 pub count_below_found : (n : ℕ) (p : ℕ → Bool) → 1 ≤ count_below n p → (k : ℕ) × (k < n) × (p k ≡ true)
 count_below_found zero p h = absurd (omega arith)
-count_below_found (suc n) p h = elim (cases_Bool (p n)) [
-  | inl passes ↦ (n, omega arith, passes)
-  | inr fails ↦ let w = count_below_found n p (omega (arith, h, flag-false (p n) fails)) in (w.0, omega (arith, w.1), w.2)
-]
+count_below_found (suc n) p h = search (rules, cases_Bool, flag-false, (count_below_found n p))
 
 -- ---- all
 
@@ -89,8 +84,7 @@ all_below_at (suc n) p k e l = grind (arith, all_below_at n p k)
 
 pub all_below_from : (n : ℕ) (p : ℕ → Bool) → ((k : ℕ) → k < n → p k ≡ true) → all_below n p ≡ true
 all_below_from zero p e = refl
-all_below_from (suc n) p e =
-    and_from (all_below n p) (p n) (all_below_from n p (λ k l. e k (omega arith))) (e n (omega arith))
+all_below_from (suc n) p e = search (rules, and_from, (all_below_from n p))
 
 pub all_below_fails : (n : ℕ) (p : ℕ → Bool) (k : ℕ) → k < n → p k ≡ false → all_below n p ≡ false
 all_below_fails zero p k l e = absurd (omega arith)
@@ -150,8 +144,7 @@ int_sum_past (suc n) x f l = grind (arith, ints, nat_tests, int_sum_past n x f)
 
 pub int_sum_single : (n x : ℕ) (f : ℕ → ℤ) → x < n → int_sum_below n (λ r. part (x == r) (f r)) ≡ f x
 int_sum_single zero x f l = absurd (omega arith)
-int_sum_single (suc n) x f l =
-    grind (arith, ints, nat_tests, int_sum_single n x f, λ (here : x ≡ n). int_sum_past n x f, λ (here : x ≡ n). ap f here)
+int_sum_single (suc n) x f l = search (rules, ints, nat_tests, int_sum_past, (int_sum_single n x f))
 
 -- what is counted at most once counts once where it is counted
 pub int_sum_once : (n : ℕ) (p : ℕ → Bool) (z : ℤ) → count_below n p ≤ 1 → int_sum_below n (λ v. part (p v) z) ≡ part (ltb 0 (count_below n p)) z
@@ -187,9 +180,7 @@ least_below_some (suc n) p f k l e = elim (cases_eq k n) [
 -- none passes, none is least
 pub least_below_none : (n : ℕ) (p : ℕ → Bool) (f : ℕ → ℤ) → ((k : ℕ) → k < n → p k ≡ false) → least_below n p f ≡ None
 least_below_none zero p f e = refl
-least_below_none (suc n) p f e =
-    cond-false (p n) (Some (lesser (least_below n p f) (f n))) (least_below n p f) (e n (omega arith))
-    ∙ least_below_none n p f (λ k l. e k (omega arith))
+least_below_none (suc n) p f e = search (rules, cond-false, (least_below_none n p f))
 
 pub int_min_cases : (x y : ℤ) → (int_min x y ≡ x) ⊎ (int_min x y ≡ y)
 int_min_cases x y = cond_both (int_lt y x) y x (λ (m : ℤ). (m ≡ x) ⊎ (m ≡ y)) (λ e. inr refl) (λ e. inl refl)

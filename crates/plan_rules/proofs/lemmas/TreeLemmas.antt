@@ -1,6 +1,6 @@
 -- The leaves and dead ends of a sound tree part the plans, and its value is a bound.
-use Rattle.std.proofs.Common.{◌≡◌, ℕ, ◌+◌, ◌*◌, ◌<◌, ◌≤◌, Bool, true, false, cond, List, [], ◌∷◌, length, Option, Some, None, count_by, ℤ, pos, negsuc, ◌≤ℤ◌, refl, sym, ap, ◌∙◌, inl, inr, ⊎_elim, arith, unwrap_or}
-use Rattle.plan_rules.proofs.Common.{same_Some, ints, sum_by-cons, cases_eq, cases_Bool, both_ways, false_from_ne_true, all_below, lesser, Graph, row_at, row_vehicle, has_rider, IsRowOf, choice_at, is_in, IsGraphRow, IsGoodGraph, IsPlan, IsLawful, cost_of, IsBound, Usable, leaf_value, every_row, only_row, without_row, CanBranch, IsSoleRow, IsDeadEnd, Clash, Stranded, Place, rounded_up, least_leaf, is_choice_usable, is_within, belongs_to_end, belongs_to_dead_end, ReadsTo, places_from, IsWholeTree, places_read, value_read, Node, Branch, Leaf, Dead, nat_tests, coming_after}
+use Rattle.std.proofs.Common.{◌≡◌, ℕ, ◌+◌, ◌*◌, ◌<◌, ◌≤◌, Bool, true, false, cond, List, [], ◌∷◌, length, Option, Some, None, count_by, ℤ, pos, negsuc, ◌≤ℤ◌, refl, sym, ap, ◌∙◌, inl, inr, ⊎_elim, arith, unwrap_or, rules}
+use Rattle.plan_rules.proofs.Common.{same_Some, ints, sum_by-cons, cases_eq, cases_Bool, both_ways, false_from_ne_true, all_below, lesser, Graph, row_at, has_rider, IsRowOf, choice_at, is_in, IsGraphRow, IsGoodGraph, IsPlan, IsLawful, cost_of, IsBound, Usable, leaf_value, every_row, only_row, without_row, CanBranch, IsSoleRow, IsDeadEnd, Clash, Stranded, Place, rounded_up, least_leaf, is_choice_usable, is_within, belongs_to_end, belongs_to_dead_end, ReadsTo, places_from, IsWholeTree, places_read, value_read, Node, Branch, Leaf, Dead, nat_tests}
 use Rattle.plan_rules.proofs.lemmas.SumLemmas.{flag, flag-true, flag-false, all_below_at, all_below_from, all_below_fails, all_below_same, count_below_two, lesser-le_left, lesser-le_right}
 use Rattle.plan_rules.proofs.lemmas.GraphLemmas.{vehicle_below, times_served_as_count, times_served_found, in_choice}
 use Rattle.plan_rules.proofs.lemmas.PlanLemmas.{has_choice, plan_choice}
@@ -14,11 +14,7 @@ within_at g usable chosen v k within l e =
 
 pub within_every_row : (g : Graph) (chosen : List (Option ℕ)) → is_within g every_row chosen ≡ true
 unfolding is_within
-within_every_row g chosen = all_below_from g.vehicles (λ v. is_choice_usable every_row (choice_at chosen v)) (λ v l. usable (choice_at chosen v))
-  where
-    usable : (c : Option ℕ) → is_choice_usable every_row c ≡ true
-    usable None = refl
-    usable (Some k) = refl
+within_every_row g chosen = search (rules, all_below_from)
 
 -- ---- a branch parts the plans that were within its usable rows
 
@@ -26,19 +22,12 @@ module _ (g : Graph) (usable : Usable) (chosen : List (Option ℕ)) (plan : IsPl
   -- the choice of each vehicle stays as usable as it was, where the vehicle chooses the row
   only_same : choice_at chosen v ≡ Some k → (w : ℕ) → w < g.vehicles → (c : Option ℕ) → choice_at chosen w ≡ c → is_choice_usable (only_row g usable v k) c ≡ is_choice_usable usable c
   only_same e w l None is = refl
-  only_same e w l (Some j) is =
-      let own : IsRowOf g w j = plan_choice g chosen w j plan l is in
-      grind (arith, nat_tests, own.own, λ (here : w ≡ v). same_Some j k (sym is ∙ ap (choice_at chosen) here ∙ e))
+  only_same e w l (Some j) is = search (rules, plan_choice, nat_tests, same_Some)
 
   -- the same without the row, where the vehicle chooses another
   without_same : (j : ℕ) → choice_at chosen v ≡ Some j → (j ≡ k → ⊥) → (w : ℕ) → w < g.vehicles → (c : Option ℕ) → choice_at chosen w ≡ c → is_choice_usable (without_row usable k) c ≡ is_choice_usable usable c
   without_same j e differs w l None is = refl
-  without_same j e differs w l (Some i) is =
-      let own : IsRowOf g w i = plan_choice g chosen w i plan l is in
-      let apart : i ≡ k → ⊥ = λ q.
-      let here : w ≡ v = sym own.own ∙ ap (row_vehicle g) q ∙ row.own in
-      differs (sym (same_Some i j (sym is ∙ ap (choice_at chosen) here ∙ e)) ∙ q) in
-      grind (arith, nat_tests, apart)
+  without_same j e differs w l (Some i) is = search (rules, plan_choice, same_Some, nat_tests)
 
   only_fails : (j : ℕ) → IsRowOf g v j → (j ≡ k → ⊥) → only_row g usable v k j ≡ false
   only_fails j own differs = grind (arith, nat_tests, own.own, differs)
@@ -84,30 +73,13 @@ count-cons p x xs = sum_by-cons (λ y. cond (p y) 1 0) x xs
 -- the ends that a plan belongs to, and the subtrees still to come that it belongs to, are as many as those at first
 ends_count : (g : Graph) (chosen : List (Option ℕ)) → ((k : ℕ) → k < length g.rows → IsGraphRow g.vehicles g.riders (row_at g k)) → IsPlan g chosen → (nodes : List Node) (coming rest : List Usable) → ReadsTo g coming nodes rest
     → count_by (belongs_to_end g chosen) (places_from g coming nodes) + count_by (λ u. is_within g u chosen) rest ≡ count_by (λ u. is_within g u chosen) coming
-ends_count g chosen rows plan [] coming rest e =
-    let same = ap (count_by (λ u. is_within g u chosen)) (sym e) in
-    omega (arith, same)
+ends_count g chosen rows plan [] coming rest e = search rules
 ends_count g chosen rows plan (n ∷ nodes) [] rest e = absurd e
-ends_count g chosen rows plan (Branch v k ∷ nodes) (u ∷ us) rest e =
-    let after = only_row g u v k ∷ without_row u k ∷ us in
-    let first = count-cons (belongs_to_end g chosen) (record { node = Branch v k; usable = u }) (places_from g after nodes) in
-    let second = count-cons (λ w. is_within g w chosen) u us in
-    let third = count-cons (λ w. is_within g w chosen) (only_row g u v k) (without_row u k ∷ us) in
-    let fourth = count-cons (λ w. is_within g w chosen) (without_row u k) us in
-    let parted = (parts g u v k chosen plan (vehicle_below g v k rows e.0.row.row) (e.0)).together in
-    let later = ends_count g chosen rows plan nodes after rest (e.1) in
-    omega (arith, first, second, third, fourth, parted, later)
-ends_count g chosen rows plan (n ∷ nodes) (u ∷ us) rest e =
-    let first = count-cons (belongs_to_end g chosen) (record { node = n; usable = u }) (places_from g us nodes) in
-    let second = count-cons (λ w. is_within g w chosen) u us in
-    omega (arith, first, second, ends_count g chosen rows plan nodes us rest (e.1))
+ends_count g chosen rows plan (Branch v k ∷ nodes) (u ∷ us) rest e = search (rules, count-cons, parts, vehicle_below, (ends_count g chosen rows plan nodes))
+ends_count g chosen rows plan (n ∷ nodes) (u ∷ us) rest e = search (rules, count-cons, (ends_count g chosen rows plan nodes us rest (e.1)))
 
 pub each_plan_at_one_end : (g : Graph) (nodes : List Node) (chosen : List (Option ℕ)) → IsGoodGraph g → IsWholeTree g nodes → IsPlan g chosen → count_by (belongs_to_end g chosen) (places_read g nodes) ≡ 1
-each_plan_at_one_end g nodes chosen good sound plan =
-    let all = ends_count g chosen good.rows plan nodes (every_row ∷ []) [] sound in
-    let root = count-cons (λ u. is_within g u chosen) every_row [] in
-    let yes : flag (is_within g every_row chosen) ≡ 1 = flag-true _ (within_every_row g chosen) in
-    omega (arith, all, root, yes)
+each_plan_at_one_end g nodes chosen good sound plan = search (rules, ends_count, count-cons, flag, flag-true, within_every_row)
 
 -- ---- no lawful plan at a dead end
 
@@ -137,14 +109,8 @@ dead_end_holds_none g usable chosen good lawful dead = false_from_ne_true (is_wi
 dead_count : (g : Graph) (chosen : List (Option ℕ)) → IsGoodGraph g → IsLawful g chosen → (nodes : List Node) (coming rest : List Usable) → ReadsTo g coming nodes rest → count_by (belongs_to_dead_end g chosen) (places_from g coming nodes) ≡ 0
 dead_count g chosen good lawful [] coming rest e = refl
 dead_count g chosen good lawful (n ∷ nodes) [] rest e = absurd e
-dead_count g chosen good lawful (Dead ∷ nodes) (u ∷ us) rest e =
-    let first = count-cons (belongs_to_dead_end g chosen) (record { node = Dead; usable = u }) (places_from g us nodes) in
-    let none : flag (is_within g u chosen) ≡ 0 = flag-false _ (dead_end_holds_none g u chosen good lawful (e.0)) in
-    omega (arith, first, none, dead_count g chosen good lawful nodes us rest (e.1))
-dead_count g chosen good lawful (n ∷ nodes) (u ∷ us) rest e =
-    let after = coming_after g u n us in
-    let first = count-cons (belongs_to_dead_end g chosen) (record { node = n; usable = u }) (places_from g after nodes) in
-    omega (arith, first, dead_count g chosen good lawful nodes after rest (e.1))
+dead_count g chosen good lawful (Dead ∷ nodes) (u ∷ us) rest e = search (rules, count-cons, flag, flag-false, dead_end_holds_none, (dead_count g chosen good lawful nodes us rest (e.1)))
+dead_count g chosen good lawful (n ∷ nodes) (u ∷ us) rest e = search (rules, count-cons, (dead_count g chosen good lawful nodes))
 
 pub no_plan_at_dead_ends : (g : Graph) (nodes : List Node) (chosen : List (Option ℕ)) → IsGoodGraph g → IsWholeTree g nodes → IsLawful g chosen → count_by (belongs_to_dead_end g chosen) (places_read g nodes) ≡ 0
 no_plan_at_dead_ends g nodes chosen good sound lawful = dead_count g chosen good lawful nodes (every_row ∷ []) [] sound

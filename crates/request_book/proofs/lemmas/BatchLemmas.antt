@@ -1,10 +1,8 @@
 -- The batch of a seal: what it shows, and what it keeps.
-use Rattle.std.proofs.Common.{◌≡◌, ◌≢◌, ℕ, zero, suc, ◌+◌, ◌<◌, ◌≤◌, Bool, true, false, cond, leb, List, [], ◌∷◌, ◌++◌, length, map, Option, Some, None, refl, sym, ap, subst, ◌∙◌, arith, is_some, option_map, option_and_then, count_by}
-use Rattle.request_book.proofs.Common.{cons_option, nat_tests, IsStrictlyIncreasing, length-map, sum_by-cons, IsKept, riders_aboard, Passenger, Rider, Vehicle, BookRider, Expired, State, IsConsistent, seat_in, look_up, by_key, KeysRise, KeysDiffer, changed_in_turn, pool_id, is_active, pool_promise, shown, with_status, is_over, after_seal, batch_of, asking, over_id, find_rider, find_vehicle, find_passenger}
+use Rattle.std.proofs.Common.{◌≡◌, ◌≢◌, ℕ, zero, suc, ◌+◌, ◌≤◌, Bool, true, false, cond, List, [], ◌∷◌, ◌++◌, length, map, Option, Some, None, refl, sym, ap, subst, ◌∙◌, arith, is_some, option_map, option_and_then, count_by, rules}
+use Rattle.request_book.proofs.Common.{cons_option, nat_tests, IsStrictlyIncreasing, length-map, sum_by-cons, IsKept, riders_aboard, Passenger, Rider, Vehicle, BookRider, Expired, State, IsConsistent, seat_in, look_up, by_key, KeysRise, KeysDiffer, changed_in_turn, pool_id, is_active, with_status, is_over, after_seal, batch_of, asking, over_id, find_rider, find_vehicle, find_passenger}
 use Rattle.std.specs.List.{filter_map, All, AllPairs}
-use Rattle.std.proofs.lemmas.Bool.{leb-true}
 use Rattle.std.proofs.lemmas.List.{map-id, get_or-map}
-use Rattle.batch_snapshot.specs.declared.promise.Promise.{Promise}
 use Rattle.request_book.proofs.lemmas.IndexLemmas.{IsPool, pool_id-keeps}
 use Rattle.request_book.proofs.lemmas.SealLemmas.{changed_in_turn-marked, marked, map-agree}
 use Rattle.request_book.proofs.lemmas.KeyedLemmas.{IsOrderOf, look_up-here, look_up-later, look_up-nil, look_up-key, look_up-at, pairs_from_rise, look_up-keys, differ-keys, look_up-filter_map, KeysDiffer-filter_map, KeysDiffer-from_rise, by_key-order, filter_map-by_key, made-rise, made-found, look_up-map, length-by_key, length-filter_map, All-from_look_up, All-look_up}
@@ -28,21 +26,7 @@ module _ (wait now : ℕ) where
     pub destination : y.destination ≡ r.destination
 
   pub shown-is : (r : BookRider) (y : Rider) → shows r ≡ Some y → IsShown r y
-  shown-is r y e = by (is_over wait now r) refl e
-    where
-      in_pool : (o : Option (Option Promise)) → is_over wait now r ≡ false → pool_promise r.status ≡ o → r.time ≤ now → option_map (shown r) o ≡ Some y → IsShown r y
-      in_pool None w p t f = absurd cc
-      in_pool (Some q) w p t f =
-          let is : shown r q ≡ y = cc in
-          subst (IsShown r) is (record { id = refl; active = ap is_some p; asked = t; waits = w; origin = refl; destination = refl })
-
-      by : (o : Bool) → is_over wait now r ≡ o → asking now (cond o (with_status Expired r) r) ≡ Some y → IsShown r y
-      by true w f = grind arith
-      by false w f = by_time (leb r.time now) refl f
-        where
-          by_time : (t : Bool) → leb r.time now ≡ t → cond t (option_map (shown r) (pool_promise r.status)) None ≡ Some y → IsShown r y
-          by_time true t g = in_pool (pool_promise r.status) w refl (leb-true r.time now t) g
-          by_time false t g = absurd cc
+  shown-is r y e = search rules
 
   -- whose wait is over is active
   pub over-is : (r : BookRider) (n : ℕ) → over_id wait now r ≡ Some n → (n ≡ r.id) × (is_active r.status ≡ true)
@@ -50,8 +34,7 @@ module _ (wait now : ℕ) where
 
   module _ (pool : List ℕ) (riders : List BookRider) (up : KeysRise (λ id. id) pool) (differ : KeysDiffer (λ r. r.id) riders) (is : IsPool pool riders) where
     pub active-listed : (k : ℕ) (r : BookRider) → find_rider k riders ≡ Some r → is_active r.status ≡ true → look_up (λ id. id) k pool ≡ Some k
-    active-listed k r found on =
-        is k ∙ ap (option_and_then pool_id) found ∙ rw on (ap Some (look_up-key (λ r. r.id) k riders r found))
+    active-listed k r found on = search (rules, option_and_then, look_up-key)
 
     pub batch-riders : filter_map (λ id. option_and_then (λ r. asking now (after_seal wait now r)) (find_rider id riders)) pool ≡ by_key (λ r. r.id) (filter_map (asking now) (map (after_seal wait now) riders))
     batch-riders =
@@ -73,9 +56,7 @@ count_by-le p q more (x ∷ xs) =
 -- keys that rise are numbers that rise
 pub increasing_from_rise : {X : Type 0} (key : X → ℕ) (xs : List X) → KeysRise key xs → IsStrictlyIncreasing (map key xs)
 increasing_from_rise key [] up k in' = absurd (omega arith)
-increasing_from_rise key (x ∷ xs) up k in' =
-    let within : k + 1 < length (x ∷ xs) = omega (arith, length-map (x ∷ xs) key) in
-    omega (arith, pairs_from_rise key (x ∷ xs) up k (k + 1) x (omega arith) within, get_or-map key (x ∷ xs) k x 0 (omega arith), get_or-map key (x ∷ xs) (k + 1) x 0 within)
+increasing_from_rise key (x ∷ xs) up k in' = grind (arith, nat_tests, (length-map (x ∷ xs) key), (pairs_from_rise key (x ∷ xs) up k (k + 1) x), (get_or-map key (x ∷ xs) k x 0), (get_or-map key (x ∷ xs) (k + 1) x 0))
 
 -- numbers of which none is found twice
 once_from_differ : (ids : List ℕ) → KeysDiffer (λ n. n) ids → AllPairs (λ id other. id ≢ other) ids
@@ -174,16 +155,13 @@ module _ (wait now : ℕ) (s : State) (kept : IsConsistent s) where
   batch-rise = subst (KeysRise (λ r. r.id)) (sym batch-list-is) (by_key-order (λ (y : Rider). y.id) shown-list shown-differ).rise
 
   batch-found : (k : ℕ) (y : Rider) → look_up (λ r. r.id) k batch-list ≡ Some y → (r : BookRider) × (find_rider k s.riders ≡ Some r) × IsShown wait now r y
-  batch-found k y found =
-      shown-found k y (sym ((by_key-order (λ (y : Rider). y.id) shown-list shown-differ).found k) ∙ ap (look_up (λ (y : Rider). y.id) k) (sym batch-list-is) ∙ found)
+  batch-found k y found = search (rules, shown-found, by_key-order, shown-differ, batch-list-is)
 
   pub batch-each : (P : Rider → Type 0) → ((k : ℕ) (r : BookRider) (y : Rider) → find_rider k s.riders ≡ Some r → IsShown wait now r y → P y) → All P batch-list
   batch-each P each = All-from_look_up (λ (y : Rider). y.id) P batch-list (KeysDiffer-from_rise (λ (y : Rider). y.id) batch-list batch-rise) (λ k y found. let at = batch-found k y found in each k at.0 y at.1 at.2)
 
   few : length batch-list ≤ 1000
-  few =
-      let count = count_by-le (λ r. is_some (shows wait now r)) (λ r. is_active r.status) (λ r on. grind arith) s.riders in
-      omega (arith, kept.pool, count, ap length batch-list-is, length-by_key (λ (y : Rider). y.id) (filter_map (shows wait now) s.riders), length-filter_map (shows wait now) s.riders)
+  few = search (rules, count_by-le, is_some, batch-list-is, length-by_key, length-filter_map)
 
   abbrev expired-list : List ℕ
   expired-list = by_key (λ n. n) (filter_map (over_id wait now) s.riders)
@@ -196,14 +174,7 @@ module _ (wait now : ℕ) (s : State) (kept : IsConsistent s) where
 
   -- whose wait is over doesn't wait in the batch
   unlisted : (k : ℕ) → look_up (λ n. n) k expired-list ≡ Some k → look_up (λ n. n) k (map (λ r. r.id) batch-list) ≡ None
-  unlisted k listed = look_up-keys (λ (y : Rider). y.id) k batch-list ∙ ap (option_map (λ (y : Rider). y.id)) (by (look_up (λ (y : Rider). y.id) k batch-list) refl)
-    where
-      by : (o : Option Rider) → look_up (λ r. r.id) k batch-list ≡ o → o ≡ None
-      by None e = refl
-      by (Some y) e =
-          let at = batch-found k y e in
-          let none : look_up (λ n. n) k expired-list ≡ None = expired-found k ∙ ap (option_and_then (over_id wait now)) at.1 ∙ ap (λ b. cond b (Some at.0.id) None) at.2.waits in
-          absurd cc
+  unlisted k listed = search (rules, look_up-keys, option_map, batch-found, expired-list, expired-found, option_and_then)
 
   vehicles-differ : KeysDiffer (λ v. v.id) s.vehicles
   vehicles-differ = KeysDiffer-from_rise (λ (v : Vehicle). v.id) s.vehicles kept.vehicles_rise
@@ -225,11 +196,7 @@ module _ (wait now : ℕ) (s : State) (kept : IsConsistent s) where
 
   -- whose wait is over was in the pool, and so is aboard of no vehicle
   over-seatless : (k : ℕ) → look_up (λ n. n) k expired-list ≡ Some k → (x : ℕ) → option_and_then (seat_in x) (find_rider k s.riders) ≡ None
-  over-seatless k listed x = by (find_rider k s.riders) (sym (expired-found k) ∙ listed)
-    where
-      by : (o : Option BookRider) → option_and_then (over_id wait now) o ≡ Some k → option_and_then (seat_in x) o ≡ None
-      by None e = absurd cc
-      by (Some r) e = seatless r x (over-is wait now r k e).1
+  over-seatless k listed x = search (rules, expired-found, option_and_then, seatless, over-is)
 
   batch-once : AllPairs (λ id other. id ≢ other) (expired-list ++ (map (λ r. r.id) batch-list ++ riders_aboard s.vehicles))
   batch-once =

@@ -1,6 +1,7 @@
 -- What every book keeps is kept by each command.
-use Rattle.std.proofs.Common.{◌≡◌, ℕ, zero, suc, ◌≤◌, ◌<◌, Bool, false, List, [], ◌∷◌, ◌++◌, length, get_or, take, Option, Some, None, refl, sym, ap, subst, ◌∙◌, arith, option_and_then}
-use Rattle.request_book.proofs.Common.{Register, HasRoom, IsIndexed, state_of, list_any, All-nil, All-weaker, IsFleet, Passenger, Vehicle, Command, Entry, Reply, State, BookView, IsBook, opening, IsConsistent, IsNode, NamesNodes, look_up, KeysRise, KeysDiffer, state_after, RepliesAreSteps, find_vehicle, find_passenger, step}
+use Rattle.std.proofs.lemmas.Bool.Decides.{nat_tests}
+use Rattle.std.proofs.Common.{◌≡◌, ℕ, zero, suc, ◌≤◌, ◌<◌, Bool, false, List, [], ◌∷◌, ◌++◌, length, get_or, take, Option, Some, None, refl, arith, option_and_then, rules}
+use Rattle.request_book.proofs.Common.{Register, HasRoom, IsIndexed, state_of, list_any, All-nil, All-weaker, IsFleet, Passenger, Vehicle, Command, Entry, Reply, State, BookView, IsBook, opening, IsConsistent, IsNode, look_up, KeysRise, KeysDiffer, state_after, RepliesAreSteps, find_vehicle, find_passenger, step}
 use Rattle.std.specs.List.{All}
 use Rattle.request_book.specs.work.Stored.{IsStored}
 use Rattle.request_book.proofs.lemmas.ConsistentLemmas.{step-consistent}
@@ -22,40 +23,16 @@ module _ (nodes : List ℕ) (wait : ℕ) where
 -- a command that was taken leaves a book
 pub applied-book : (old : BookView) (lane : ℕ) (command : Command) (reply : Reply) (next : State) (spare : ℕ) → IsBook old → (next, reply) ≡ step old.nodes old.wait old.state command
     → IsBook (record { nodes = old.nodes; wait = old.wait; first = old.first; base = old.base; entries = old.entries ++ (record { lane = lane; command = command; reply = reply }) ∷ []; state = next; spare = spare })
-applied-book old lane command reply next spare book stepped =
-    let e : Entry = record { lane = lane; command = command; reply = reply } in
-    let after = state_after old.nodes old.wait old.base old.entries in
-    let made : (next, reply) ≡ step old.nodes old.wait after command = stepped ∙ ap (λ s. step old.nodes old.wait s command) book.state in
-    let is : next ≡ (step old.nodes old.wait old.state command).0 = ap (λ p. p.0) stepped in
-    record {
-      replies = replies-push old.nodes old.wait old.base old.entries e book.replies (ap (λ p. p.1) made);
-      state = ap (λ p. p.0) made ∙ sym (state_after-push old.nodes old.wait old.base old.entries e);
-      base_consistent = book.base_consistent;
-      consistent = subst IsConsistent (sym is) (step-consistent old.nodes old.wait old.state command book.consistent);
-      base_named = book.base_named;
-      named = subst (NamesNodes old.nodes) (sym is) (step-named old.nodes old.wait old.state command book.consistent book.named);
-    }
+applied-book old lane command reply next spare book stepped = grind (arith, nat_tests, (replies-push old.nodes old.wait old.base old.entries), (state_after-push old.nodes old.wait old.base old.entries), (step-consistent old.nodes old.wait old.state command book.consistent), (step-named old.nodes old.wait old.state command book.consistent book.named))
 
 -- a book whose lists have as much room or more
 pub stored-roomier : (b : BookView) (es : List Entry) (len capacity len' capacity' : ℕ) (g g' : Register) → IsStored b len capacity g → es ≡ b.entries → state_of g' ≡ b.state → len' ≡ len → capacity ≤ capacity' → IsIndexed g' → HasRoom b.spare g' → IsStored (record b { entries = es; state = state_of g' }) len' capacity' g'
-stored-roomier b es len capacity len' capacity' g g' h entries state long wide indexed room = record {
-  book = subst (λ s. IsBook (record b { entries = es; state = s })) (sym state) (subst (λ l. IsBook (record b { entries = l })) (sym entries) h.book);
-  indexed = indexed;
-  room = room;
-  entries = omega (arith, h.entries, long, wide);
-}
+stored-roomier b es len capacity len' capacity' g g' h entries state long wide indexed room = search rules
 
 -- a new journal begins
 pub round-book : (old : BookView) (first : ℕ) → IsBook old → IsBook (record { nodes = old.nodes; wait = old.wait; first = first; base = old.state; entries = []; state = old.state; spare = 0 })
 unfolding state_after RepliesAreSteps
-round-book old first book = record {
-  replies = tt;
-  state = refl;
-  base_consistent = book.consistent;
-  consistent = book.consistent;
-  base_named = book.named;
-  named = book.named;
-}
+round-book old first book = assumption
 
 -- the first book of a run
 module _ (nodes : List ℕ) (vehicles : List Vehicle) (fleet : IsFleet vehicles) where
@@ -90,16 +67,7 @@ module _ (nodes : List ℕ) (vehicles : List Vehicle) (fleet : IsFleet vehicles)
 
   pub opening-book : (wait : ℕ) → All (λ v. IsNode nodes v.node) vehicles → IsBook (record { nodes = nodes; wait = wait; first = 0; base = opening vehicles; entries = []; state = opening vehicles; spare = 0 })
   unfolding state_after RepliesAreSteps
-  opening-book wait named =
-      let names : NamesNodes nodes (opening vehicles) = record { riders = All-nil _; vehicles = named; sealed = λ b e. absurd cc } in
-      record {
-        replies = tt;
-        state = refl;
-        base_consistent = opening-consistent;
-        consistent = opening-consistent;
-        base_named = names;
-        named = names;
-      }
+  opening-book wait named = search (rules, All-nil, opening-consistent)
 
 -- what none of the first passes
 pub list_any-take : (p : ℕ → Bool) (xs : List ℕ) (i d : ℕ) → ((k : ℕ) → k < i → p (get_or xs k d) ≡ false) → i ≤ length xs → list_any p (take i xs) ≡ false

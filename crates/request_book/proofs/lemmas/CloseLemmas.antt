@@ -1,5 +1,5 @@
 -- What a close makes of the riders.
-use Rattle.std.proofs.Common.{◌≡◌, ℕ, ◌+◌, ◌<◌, ◌≤◌, true, false, cond, eqb, List, [], ◌∷◌, ◌++◌, length, get_or, drop, map, Some, None, Result, Ok, Err, refl, sym, ap, subst, ◌∙◌, inl, inr, arith, is_some, is_ok}
+use Rattle.std.proofs.Common.{◌≡◌, ℕ, ◌+◌, ◌<◌, ◌≤◌, true, false, cond, eqb, List, [], ◌∷◌, ◌++◌, length, get_or, drop, map, Some, None, Result, Ok, Err, refl, sym, ap, ◌∙◌, inl, inr, arith, is_some, is_ok, rules}
 use Rattle.request_book.proofs.Common.{cons_option, nat_tests, IsBinarySearchResult, IsSearchInRange, cases_lt, at_drop_more, drop_all, searchable_from_sorted, Rider, ChosenTrip, PlannedStop, BookRider, Pick, picks, trip_picks, after_plan, after_answer, waits_again, takes_promise, promised_in_turn, Answer, Overflow, pool_id, look_up, changed_at, KeysRise, KeysDiffer, changed_in_turn, is_active}
 use Rattle.std.specs.List.Sorted.{IsSortedBy}
 use Rattle.std.specs.Ordering.{nat_cmp, is_lt}
@@ -13,11 +13,7 @@ use Rattle.request_book.proofs.lemmas.SealLemmas.{changed_in_turn-marked, marked
 -- a binary search by rising keys finds what a look-up finds
 pub keyed_sought : {X : Type 0} (key : X → ℕ) (k : ℕ) (xs : List X) (r : Result ℕ ℕ) → KeysRise key xs → IsSearchInRange r (length xs) → IsBinarySearchResult (λ y. nat_cmp (key y) k) xs r → is_ok r ≡ is_some (look_up key k xs)
 keyed_sought key k [] (Ok i) up in' at = absurd (omega (arith, in'))
-keyed_sought key k (x ∷ xs) (Ok i) up in' at =
-    let here = at x in
-    let named : key (get_or (x ∷ xs) i x) ≡ k = grind (arith, nat_tests) in
-    let found = look_up-at key i (x ∷ xs) x (KeysDiffer-from_rise key (x ∷ xs) up) in' in
-    sym (ap is_some (subst (λ j. look_up key j (x ∷ xs) ≡ Some (get_or (x ∷ xs) i x)) named found))
+keyed_sought key k (x ∷ xs) (Ok i) up in' at = grind (arith, nat_tests, (look_up-at key i (x ∷ xs) x), (KeysDiffer-from_rise key (x ∷ xs) up))
 keyed_sought key k xs (Err i) up in' at =
     let sorted : IsSortedBy (λ a c. is_lt (nat_cmp (key a) (key c))) xs = λ j d low high. let lt = pairs_from_rise key xs up j (j + 1) d (omega arith) high in grind (arith, nat_tests) in
     let parts = at (searchable_from_sorted nat_cmp_total key xs k sorted) in
@@ -40,10 +36,7 @@ takes_promise-id batch p r = grind arith
 -- the riders of a batch who wait again have what a plan without pick stops gives them
 pub released : (batch : List Rider) (riders : List BookRider) → changed_in_turn (λ r. r.id) waits_again (map (λ r. r.id) batch) riders ≡ map (after_plan batch []) riders
 unfolding marked
-released batch riders = changed_in_turn-marked (λ r. r.id) waits_again waits_again-id waits_again-once (map (λ r. r.id) batch) riders ∙ ap (λ f. map f riders) (λ i r. same r i)
-  where
-    same : (r : BookRider) → cond (is_some (look_up (λ n. n) r.id (map (λ q. q.id) batch))) (waits_again r) r ≡ after_plan batch [] r
-    same r = grind (arith, look_up-keys (λ (q : Rider). q.id) r.id batch, look_up-nil (λ (p : Pick). p.rider) r.id)
+released batch riders = search (rules, changed_in_turn-marked, waits_again-id, waits_again-once, is_some, look_up-keys, look_up-nil)
 
 -- one more pick stop
 module _ (batch : List Rider) (ps : List Pick) (p : Pick) where
@@ -122,10 +115,4 @@ pub record IsSettled (pool : List ℕ) (riders settled : List BookRider) : Type 
 pub answer-settled : (batch : List Rider) (answer : Answer) (pool : List ℕ) (riders : List BookRider) → KeysDiffer (λ r. r.id) riders → IsPool pool riders → IsSettled pool riders (after_answer batch answer riders)
 unfolding after_answer
 answer-settled batch Overflow pool riders differ is = record { ids = refl; differ = differ; listed = is }
-answer-settled batch (Plan plan) pool riders differ is =
-    let ps = picks plan.chosen in
-    record {
-      ids = map-keys (λ (r : BookRider). r.id) (after_plan batch ps) (after_plan-id batch ps) riders;
-      differ = KeysDiffer-map (λ (r : BookRider). r.id) (after_plan batch ps) (after_plan-id batch ps) riders differ;
-      listed = IsPool-map (after_plan batch ps) (after_plan-id batch ps) (after_plan-pool batch ps) pool riders is;
-    }
+answer-settled batch (Plan plan) pool riders differ is = search (rules, map-keys, after_plan-id, KeysDiffer-map, IsPool-map, after_plan-pool)

@@ -1,37 +1,27 @@
 -- What a register finds after a change.
-use Rattle.std.proofs.Common.{Vec, Global, ◌≡◌, ℕ, ◌+◌, ◌<◌, Bool, true, false, cond, List, [], ◌∷◌, ◌++◌, length, get_or, set, map, Option, Some, None, refl, sym, ap, subst, ◌∙◌, arith, vec_capacity, is_some, option_map, option_and_then, count_by}
+use Rattle.std.proofs.Common.{Vec, Global, ◌≡◌, ℕ, ◌+◌, ◌<◌, Bool, true, false, cond, List, [], ◌∷◌, ◌++◌, length, get_or, set, map, Some, None, refl, sym, ap, ◌∙◌, arith, vec_capacity, is_some, option_map, option_and_then, count_by, rules}
 use Rattle.request_book.proofs.Common.{cond_both, BookRider, Status, look_up, changed_at, without, placed, by_key, KeysRise, KeysDiffer, Register, pool_id, HasRoom, IsIndexed, is_active, with_status, find_rider, find_vehicle, pool_count, Vehicle}
 use Rattle.std.specs.List.{filter_map}
-use Rattle.request_book.proofs.lemmas.KeyedLemmas.{at_each, set-changed_at, look_up-changed_here, look_up-changed_there, look_up-without_here, look_up-without_there, look_up-placed_here, look_up-placed_there, look_up-push_here, look_up-push_there, look_up-map, look_up-key, look_up-filter_map, KeysDiffer-filter_map, KeysDiffer-from_rise, KeysRise-placed, KeysRise-changed_at, KeysDiffer-changed_at, KeysRise-without, map-changed_at, by_key-order, same_from_look_up, length-by_key, length-filter_map}
+use Rattle.request_book.proofs.lemmas.KeyedLemmas.{set-changed_at, look_up-changed_here, look_up-changed_there, look_up-without_here, look_up-without_there, look_up-placed_here, look_up-placed_there, look_up-push_here, look_up-push_there, look_up-map, look_up-key, look_up-filter_map, KeysDiffer-filter_map, KeysDiffer-from_rise, KeysRise-placed, KeysRise-changed_at, KeysDiffer-changed_at, KeysRise-without, map-changed_at, by_key-order, same_from_look_up, length-by_key, length-filter_map}
 
 -- the pool is the ids of the active riders
 abbrev pub IsPool : List ℕ → List BookRider → Type 0
 IsPool pool riders = (id : ℕ) → look_up (λ id. id) id pool ≡ option_and_then pool_id (find_rider id riders)
 
 pub IsPool-same : (pool pool' : List ℕ) (riders riders' : List BookRider) → pool' ≡ pool → riders' ≡ riders → IsPool pool riders → IsPool pool' riders'
-IsPool-same pool pool' riders riders' e f is =
-    subst (λ ids. IsPool ids riders') (sym e) (subst (IsPool pool) (sym f) is)
+IsPool-same pool pool' riders riders' e f is = search rules
 
 -- a pool in which one id alone stands otherwise
 IsPool-but : (k : ℕ) (pool pool' : List ℕ) (riders riders' : List BookRider) → look_up (λ n. n) k pool' ≡ option_and_then pool_id (find_rider k riders')
     → ((j : ℕ) → (k ≡ j → ⊥) → (look_up (λ n. n) j pool' ≡ look_up (λ n. n) j pool) × (find_rider j riders' ≡ find_rider j riders)) → IsPool pool riders → IsPool pool' riders'
-IsPool-but k pool pool' riders riders' here there is =
-    at_each (λ id. look_up (λ n. n) id pool' ≡ option_and_then pool_id (find_rider id riders')) k here
-    (λ id ne. let same = there id ne in same.0 ∙ is id ∙ ap (option_and_then pool_id) (sym same.1))
+IsPool-but k pool pool' riders riders' here there is = search rules
 
 pub pool_id-inactive : (r : BookRider) → is_active r.status ≡ false → pool_id r ≡ None
 pool_id-inactive r e = rw e refl
 
 -- a rider who leaves the pool
 pub IsPool-without : (pool : List ℕ) (riders : List BookRider) (rider : ℕ) (status : Status) → is_active status ≡ false → IsPool pool riders → IsPool (without (λ id. id) rider pool) (changed_at (λ r. r.id) rider (with_status status) riders)
-IsPool-without pool riders rider status off is =
-    IsPool-but rider pool (without (λ n. n) rider pool) riders (changed_at (λ r. r.id) rider (with_status status) riders)
-    (look_up-without_here (λ n. n) rider pool ∙ sym (ap (option_and_then pool_id) (look_up-changed_here (λ (r : BookRider). r.id) rider (with_status status) (λ r. refl) riders) ∙ out (find_rider rider riders)))
-    (λ j ne. (look_up-without_there (λ n. n) rider j pool ne, look_up-changed_there (λ (r : BookRider). r.id) rider j (with_status status) (λ r. refl) riders ne)) is
-  where
-    out : (o : Option BookRider) → option_and_then pool_id (option_map (with_status status) o) ≡ None
-    out None = refl
-    out (Some r) = pool_id-inactive (with_status status r) off
+IsPool-without pool riders rider status off is = search (rules, IsPool-but, without, look_up-without_here, option_and_then, look_up-changed_here, look_up-without_there, look_up-changed_there, option_map, pool_id-inactive)
 
 -- a new rider
 module _ (pool : List ℕ) (riders : List BookRider) (new : BookRider) (none : find_rider new.id riders ≡ None) (is : IsPool pool riders) where
@@ -43,17 +33,11 @@ module _ (pool : List ℕ) (riders : List BookRider) (new : BookRider) (none : f
 
   -- who waits
   pub IsPool-placed : is_active new.status ≡ true → IsPool (placed (λ id. id) new.id pool) (riders ++ new ∷ [])
-  IsPool-placed on =
-      IsPool-but new.id pool (placed (λ n. n) new.id pool) riders (riders ++ new ∷ [])
-      (look_up-placed_here (λ n. n) new.id new.id pool refl (is new.id ∙ ap (option_and_then pool_id) none) ∙ sym (ap (option_and_then pool_id) last ∙ rw on refl))
-      (λ j ne. (look_up-placed_there (λ n. n) j new.id pool ne, earlier j ne)) is
+  IsPool-placed on = search (rules, IsPool-but, look_up-placed_here, option_and_then, last, look_up-placed_there, earlier)
 
   -- of any status
   pub IsPool-entered : IsPool (cond (is_active new.status) (placed (λ id. id) new.id pool) pool) (riders ++ new ∷ [])
-  IsPool-entered =
-      cond_both (is_active new.status) (placed (λ id. id) new.id pool) pool (λ p. IsPool p (riders ++ new ∷ [])) IsPool-placed (λ off.
-      IsPool-but new.id pool pool riders (riders ++ new ∷ [])
-      (is new.id ∙ ap (option_and_then pool_id) none ∙ sym (ap (option_and_then pool_id) last ∙ pool_id-inactive new off)) (λ j ne. (refl, earlier j ne)) is)
+  IsPool-entered = search (rules, cond_both, IsPool-placed, IsPool-but, option_and_then, last, pool_id-inactive, earlier)
 
 pub rise-entered : (b : Bool) (pool : List ℕ) (id : ℕ) → KeysRise (λ id. id) pool → look_up (λ id. id) id pool ≡ None → KeysRise (λ id. id) (cond b (placed (λ id. id) id pool) pool)
 rise-entered true pool id rise none = KeysRise-placed (λ id. id) id pool rise none
@@ -74,41 +58,20 @@ length-pool pool riders rise differ is =
 
 -- a write at the place of a vehicle changes that vehicle
 pub vehicle-set : (f : Vehicle → Vehicle) (k at : ℕ) (vs : List Vehicle) (d x : Vehicle) → KeysRise (λ v. v.id) vs → at < length vs → ((d : Vehicle) → find_vehicle k vs ≡ Some (get_or vs at d)) → d ≡ get_or vs at d → x ≡ f d → set vs at x ≡ changed_at (λ v. v.id) k f vs
-vehicle-set f k at vs d x rise in' found read wrote =
-    ap (set vs at) (wrote ∙ ap f read) ∙ set-changed_at (λ v. v.id) f k at vs d (KeysDiffer-from_rise (λ v. v.id) vs rise) in' (look_up-key (λ v. v.id) k vs (get_or vs at d) (found d))
+vehicle-set f k at vs d x rise in' found read wrote = search (rules, set-changed_at, KeysDiffer-from_rise, look_up-key)
 
 -- and what the register keeps
 pub IsIndexed-vehicle : (g : Register) (us : Vec Vehicle Global) (f : Vehicle → Vehicle) (k : ℕ) → ((v : Vehicle) → (f v).id ≡ v.id) → us.items ≡ changed_at (λ v. v.id) k f g.vehicles.items → IsIndexed g → IsIndexed (record g { vehicles = us })
-IsIndexed-vehicle g us f k keeps changed h = record {
-  ids = h.ids;
-  vehicle_ids = h.vehicle_ids ∙ sym (ap (map (λ (v : Vehicle). v.id)) changed ∙ map-changed_at (λ (v : Vehicle). v.id) k f keeps g.vehicles.items);
-  riders = h.riders;
-  vehicles = subst (KeysRise (λ (v : Vehicle). v.id)) (sym changed) (KeysRise-changed_at (λ (v : Vehicle). v.id) k f keeps g.vehicles.items h.vehicles);
-  pool_rise = h.pool_rise;
-  pool = h.pool;
-  pool_room = h.pool_room;
-}
+IsIndexed-vehicle g us f k keeps changed h = search (rules, map-changed_at, KeysRise-changed_at)
 
 -- what the register keeps where a rider leaves the pool
 pub IsIndexed-leaves : (g : Register) (rs : Vec BookRider Global) (pool : Vec ℕ Global) (k : ℕ) (status : Status) → is_active status ≡ false → rs.items ≡ changed_at (λ r. r.id) k (with_status status) g.riders.items → pool.items ≡ without (λ id. id) k g.pool.items
     → vec_capacity pool ≡ vec_capacity g.pool → IsIndexed g → IsIndexed (record g { riders = rs; pool = pool })
-IsIndexed-leaves g rs pool k status off riders left room h = record {
-  ids = h.ids ∙ sym (ap (map (λ (r : BookRider). r.id)) riders ∙ map-changed_at (λ (r : BookRider). r.id) k (with_status status) (λ r. refl) g.riders.items);
-  vehicle_ids = h.vehicle_ids;
-  riders = subst (KeysDiffer (λ (r : BookRider). r.id)) (sym riders) (KeysDiffer-changed_at (λ (r : BookRider). r.id) k (with_status status) (λ r. refl) g.riders.items h.riders);
-  vehicles = h.vehicles;
-  pool_rise = subst (KeysRise (λ (n : ℕ). n)) (sym left) (KeysRise-without (λ n. n) k g.pool.items h.pool_rise);
-  pool = IsPool-same _ pool.items _ rs.items left riders (IsPool-without g.pool.items g.riders.items k status off h.pool);
-  pool_room = omega (arith, h.pool_room, room);
-}
+IsIndexed-leaves g rs pool k status off riders left room h = search (rules, map-changed_at, KeysDiffer-changed_at, KeysRise-without, IsPool-same, IsPool-without)
 
 -- riders whose place in the pool stays
 pub IsPool-map : (f : BookRider → BookRider) → ((r : BookRider) → (f r).id ≡ r.id) → ((r : BookRider) → pool_id (f r) ≡ pool_id r) → (pool : List ℕ) (riders : List BookRider) → IsPool pool riders → IsPool pool (map f riders)
-IsPool-map f keeps stays pool riders is id = is id ∙ sym (ap (option_and_then pool_id) (look_up-map (λ r. r.id) f keeps id riders) ∙ by (find_rider id riders))
-  where
-    by : (o : Option BookRider) → option_and_then pool_id (option_map f o) ≡ option_and_then pool_id o
-    by None = refl
-    by (Some r) = stays r
+IsPool-map f keeps stays pool riders is id = search (rules, option_and_then, look_up-map, option_map)
 
 -- room
 pub less-room : (n : ℕ) (g : Register) → HasRoom (n + 1) g → HasRoom n g

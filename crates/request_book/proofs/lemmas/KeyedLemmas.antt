@@ -1,5 +1,5 @@
 -- What the words on lists with keys come to.
-use Rattle.std.proofs.Common.{◌≡◌, ℕ, zero, suc, ◌+◌, ◌<◌, ◌≤◌, Bool, cond, not, eqb, ltb, List, [], ◌∷◌, ◌++◌, length, get_or, set, map, take, Option, None, Some, refl, sym, ap, subst, ◌∙◌, inl, inr, arith, option_map, option_and_then, position, is_some, count_by}
+use Rattle.std.proofs.Common.{◌≡◌, ℕ, zero, suc, ◌+◌, ◌<◌, ◌≤◌, Bool, cond, eqb, ltb, List, [], ◌∷◌, ◌++◌, length, get_or, set, map, take, Option, None, Some, refl, sym, ap, subst, ◌∙◌, inl, inr, arith, option_map, option_and_then, position, is_some, count_by, rules}
 use Rattle.request_book.proofs.Common.{cons_option, list_any, IsStrictlyIncreasing, length-map, position-Some, sum_by-cons, All-nil, All-cons, All-head, All-tail, cases_eq, cond_both, nat_tests, look_up, changed_at, without, AllAbove, KeysRise, KeysDiffer, placed, by_key}
 use Rattle.std.specs.List.{filter_map, All, AllPairs, insert, remove}
 use Rattle.std.proofs.lemmas.Bool.{eqb-true}
@@ -88,10 +88,7 @@ module _ {X : Type 0} (key : X → ℕ) where
   pub KeysRise-placed : (x : X) (xs : List X) → KeysRise key xs → look_up key (key x) xs ≡ None → KeysRise key (placed key x xs)
   unfolding KeysRise AllAbove look_up placed
   KeysRise-placed x [] up none = (tt, tt)
-  KeysRise-placed x (y ∷ ys) up none =
-      cond_both (ltb (key x) (key y)) (x ∷ y ∷ ys) (y ∷ placed key x ys) (KeysRise key)
-      (λ b. let lt : key x < key y = grind (arith, nat_tests) in ((lt, AllAbove-lower (key x) (key y) ys (omega arith) up.0), up))
-      (λ b. (AllAbove-placed (key y) x ys (grind (arith, nat_tests)) up.0, KeysRise-placed x ys up.1 (grind (arith, nat_tests))))
+  KeysRise-placed x (y ∷ ys) up none = search (rules, cond_both, nat_tests, AllAbove-lower, AllAbove-placed, (KeysRise-placed x ys up.1))
 
   -- ys is xs by rising key: it rises, and the same is found in it
   pub record IsOrderOf (xs ys : List X) : Type 0 where
@@ -101,13 +98,7 @@ module _ {X : Type 0} (key : X → ℕ) where
   pub by_key-order : (xs : List X) → KeysDiffer key xs → IsOrderOf xs (by_key key xs)
   unfolding KeysDiffer by_key KeysRise look_up
   by_key-order [] d = record { rise = tt; found = λ k. refl }
-  by_key-order (x ∷ xs) d =
-      let rest = by_key-order xs d.1 in
-      let none = rest.found (key x) ∙ d.0 in
-      record {
-        rise = KeysRise-placed x (by_key key xs) rest.rise none;
-        found = λ k. let same = rest.found k in grind (arith, nat_tests, none, look_up-placed_here k x (by_key key xs), look_up-placed_there k x (by_key key xs));
-      }
+  by_key-order (x ∷ xs) d = search (rules, KeysRise-placed, nat_tests, look_up-placed_here, look_up-placed_there, (by_key-order xs d.1))
 
   length-placed : (x : X) (xs : List X) → length (placed key x xs) ≡ length xs + 1
   unfolding placed
@@ -148,8 +139,7 @@ module _ {X : Type 0} (key : X → ℕ) where
   pub KeysDiffer-map : (f : X → X) (keeps : (x : X) → key (f x) ≡ key x) (xs : List X) → KeysDiffer key xs → KeysDiffer key (map f xs)
   unfolding KeysDiffer
   KeysDiffer-map f keeps [] d = tt
-  KeysDiffer-map f keeps (x ∷ xs) d =
-      (rw (keeps x) (look_up-map f keeps (key x) xs ∙ ap (option_map f) d.0), KeysDiffer-map f keeps xs d.1)
+  KeysDiffer-map f keeps (x ∷ xs) d = search (rules, look_up-map, option_map, (KeysDiffer-map f keeps xs d.1))
 
   AllAbove-map : (f : X → X) (keeps : (x : X) → key (f x) ≡ key x) (k : ℕ) (xs : List X) → AllAbove key k xs → AllAbove key k (map f xs)
   unfolding AllAbove
@@ -184,22 +174,17 @@ module _ {X : Type 0} (key : X → ℕ) where
   AllAbove-without : (k j : ℕ) (xs : List X) → AllAbove key k xs → AllAbove key k (without key j xs)
   unfolding AllAbove without
   AllAbove-without k j [] all = tt
-  AllAbove-without k j (x ∷ xs) all =
-      let rest = AllAbove-without k j xs all.1 in cond_both (not (eqb (key x) j)) (x ∷ without key j xs) (without key j xs) (AllAbove key k) (λ b. (all.0, rest)) (λ b. rest)
+  AllAbove-without k j (x ∷ xs) all = search (rules, cond_both, without, (AllAbove-without k j xs all.1))
 
   pub KeysRise-without : (j : ℕ) (xs : List X) → KeysRise key xs → KeysRise key (without key j xs)
   unfolding KeysRise without
   KeysRise-without j [] up = tt
-  KeysRise-without j (x ∷ xs) up =
-      let rest = KeysRise-without j xs up.1 in
-      cond_both (not (eqb (key x) j)) (x ∷ without key j xs) (without key j xs) (KeysRise key) (λ b. (AllAbove-without (key x) j xs up.0, rest)) (λ b. rest)
+  KeysRise-without j (x ∷ xs) up = search (rules, cond_both, without, AllAbove-without, (KeysRise-without j xs up.1))
 
   pub KeysDiffer-without : (j : ℕ) (xs : List X) → KeysDiffer key xs → KeysDiffer key (without key j xs)
   unfolding KeysDiffer without
   KeysDiffer-without j [] d = tt
-  KeysDiffer-without j (x ∷ xs) d =
-      let rest = KeysDiffer-without j xs d.1 in
-      cond_both (not (eqb (key x) j)) (x ∷ without key j xs) (without key j xs) (KeysDiffer key) (λ b. (look_up-without_there j (key x) xs (grind (arith, nat_tests)) ∙ d.0, rest)) (λ b. rest)
+  KeysDiffer-without j (x ∷ xs) d = search (rules, cond_both, without, look_up-without_there, nat_tests, (KeysDiffer-without j xs d.1))
 
   -- whether something is found, as a test of the keys
   pub look_up-list_any : (k : ℕ) (t : ℕ → Bool) (tests : (j : ℕ) → t j ≡ eqb j k) (xs : List X) → list_any t (map key xs) ≡ is_some (look_up key k xs)
@@ -219,8 +204,7 @@ module _ {X : Type 0} (key : X → ℕ) where
   unfolding KeysDiffer look_up
   look_up-take i [] d differ in' = absurd (omega arith)
   look_up-take zero (x ∷ xs) d differ in' = refl
-  look_up-take (suc i) (x ∷ xs) d differ in' =
-      grind (arith, nat_tests, differ.0, look_up-at i xs d differ.1, look_up-take i xs d differ.1)
+  look_up-take (suc i) (x ∷ xs) d differ in' = search (rules, nat_tests, look_up-at, (look_up-take i xs d differ.1))
 
   -- where the first of the keys that is k stands, there stands the element of the key k
   pub look_up-position : (k : ℕ) (t : ℕ → Bool) (tests : (j : ℕ) → t j ≡ eqb j k) (xs : List X) (i : ℕ) → KeysDiffer key xs → position t (map key xs) ≡ Some i → (i < length xs) × ((d : X) → look_up key k xs ≡ Some (get_or xs i d)) × ((d : X) → key (get_or xs i d) ≡ k)
@@ -242,16 +226,14 @@ module _ {X : Type 0} (key : X → ℕ) where
   unfolding KeysDiffer changed_at
   set-changed_at f k i [] d differ in' e = absurd (omega arith)
   set-changed_at f k zero (x ∷ xs) d differ in' e = grind (arith, nat_tests, differ.0, changed_at-absent k f xs)
-  set-changed_at f k (suc i) (x ∷ xs) d differ in' e =
-      grind (arith, nat_tests, differ.0, look_up-at i xs d differ.1, set-changed_at f k i xs d differ.1)
+  set-changed_at f k (suc i) (x ∷ xs) d differ in' e = search (rules, nat_tests, look_up-at, (set-changed_at f k i xs d differ.1))
 
   -- taking out at a place is taking out the key that stands there
   pub remove-without_key : (i k : ℕ) (xs : List X) (d : X) → KeysDiffer key xs → i < length xs → key (get_or xs i d) ≡ k → remove xs i ≡ without key k xs
   unfolding KeysDiffer without
   remove-without_key i k [] d differ in' e = absurd (omega arith)
   remove-without_key zero k (x ∷ xs) d differ in' e = grind (arith, nat_tests, differ.0, without_key-absent k xs)
-  remove-without_key (suc i) k (x ∷ xs) d differ in' e =
-      grind (arith, nat_tests, differ.0, look_up-at i xs d differ.1, remove-without_key i k xs d differ.1)
+  remove-without_key (suc i) k (x ∷ xs) d differ in' e = search (rules, nat_tests, look_up-at, (remove-without_key i k xs d differ.1))
 
   pub change : (k : ℕ) → (X → X) → X → X
   change k f x = cond (eqb (key x) k) (f x) x
@@ -289,11 +271,7 @@ module _ {X : Type 0} (key : X → ℕ) where
   -- what holds of each element holds of the one that is found, and the other way round
   pub All-look_up : (P : X → Type 0) (k : ℕ) (xs : List X) (x : X) → All P xs → look_up key k xs ≡ Some x → P x
   All-look_up P k [] x all found = let none = look_up-nil k in absurd cc
-  All-look_up P k (y ∷ ys) x all found =
-      elim (cases_eq (key y) k) [
-        | inl e ↦ let here = look_up-here k y ys e in let is : y ≡ x = cc in subst P is (All-head P y ys all)
-        | inr ne ↦ All-look_up P k ys x (All-tail P y ys all) (sym (look_up-there k y ys ne) ∙ found)
-      ]
+  All-look_up P k (y ∷ ys) x all found = grind (arith, nat_tests, (look_up-here k y ys), (All-head P y ys all), (All-tail P y ys all), (look_up-there k y ys), (All-look_up P k ys x))
 
   pub All-from_look_up : (P : X → Type 0) (xs : List X) → KeysDiffer key xs → ((k : ℕ) (x : X) → look_up key k xs ≡ Some x → P x) → All P xs
   unfolding KeysDiffer
@@ -326,16 +304,12 @@ module _ {X Y : Type 0} (key : X → ℕ) (name : Y → ℕ) (h : X → Option Y
   AllAbove-filter_map : (k : ℕ) (xs : List X) → AllAbove key k xs → AllAbove name k (filter_map h xs)
   unfolding AllAbove
   AllAbove-filter_map k [] all = tt
-  AllAbove-filter_map k (x ∷ xs) all =
-      let rest = AllAbove-filter_map k xs all.1 in
-      cons_option_both (AllAbove name k) (h x) (filter_map h xs) rest (λ y e. (omega (arith, all.0, keeps x y e), rest))
+  AllAbove-filter_map k (x ∷ xs) all = search (rules, cons_option_both, (AllAbove-filter_map k xs all.1))
 
   pub KeysRise-filter_map : (xs : List X) → KeysRise key xs → KeysRise name (filter_map h xs)
   unfolding KeysRise
   KeysRise-filter_map [] up = tt
-  KeysRise-filter_map (x ∷ xs) up =
-      let rest = KeysRise-filter_map xs up.1 in
-      cons_option_both (KeysRise name) (h x) (filter_map h xs) rest (λ y e. (rw (keeps x y e) (AllAbove-filter_map (key x) xs up.0), rest))
+  KeysRise-filter_map (x ∷ xs) up = search (rules, cons_option_both, AllAbove-filter_map, (KeysRise-filter_map xs up.1))
 
   pub look_up-filter_map : (k : ℕ) (xs : List X) → KeysDiffer key xs → look_up name k (filter_map h xs) ≡ option_and_then h (look_up key k xs)
   unfolding KeysDiffer look_up
@@ -345,9 +319,7 @@ module _ {X Y : Type 0} (key : X → ℕ) (name : Y → ℕ) (h : X → Option Y
   pub KeysDiffer-filter_map : (xs : List X) → KeysDiffer key xs → KeysDiffer name (filter_map h xs)
   unfolding KeysDiffer
   KeysDiffer-filter_map [] d = tt
-  KeysDiffer-filter_map (x ∷ xs) d =
-      let rest = KeysDiffer-filter_map xs d.1 in
-      cons_option_both (KeysDiffer name) (h x) (filter_map h xs) rest (λ y e. (rw (keeps x y e) (look_up-filter_map (key x) xs d.1 ∙ ap (option_and_then h) d.0), rest))
+  KeysDiffer-filter_map (x ∷ xs) d = search (rules, cons_option_both, look_up-filter_map, option_and_then, (KeysDiffer-filter_map xs d.1))
 
 -- what is made of the elements of keys that rise is what is made of all, put by rising key
 module _ {X Y : Type 0} (key : X → ℕ) (name : Y → ℕ) (h : X → Option Y) (keeps : (x : X) (y : Y) → h x ≡ Some y → name y ≡ key x)
@@ -357,11 +329,7 @@ module _ {X Y : Type 0} (key : X → ℕ) (name : Y → ℕ) (h : X → Option Y
   made k = option_and_then h (look_up key k xs)
 
   made-named : (k : ℕ) (y : Y) → made k ≡ Some y → name y ≡ k
-  made-named k y e = by (look_up key k xs) refl e
-    where
-      by : (o : Option X) → look_up key k xs ≡ o → option_and_then h o ≡ Some y → name y ≡ k
-      by None f g = absurd cc
-      by (Some x) f g = keeps x y g ∙ look_up-key key k xs x f
+  made-named k y e = search (rules, option_and_then, look_up-key)
 
   made-listed : (k : ℕ) → option_and_then made (look_up (λ id. id) k ids) ≡ made k
   made-listed k = grind (arith, listed k, look_up-key (λ id. id) k ids)

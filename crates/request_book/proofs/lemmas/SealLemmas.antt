@@ -1,20 +1,17 @@
 -- What a seal makes of the riders and the pool.
-use Rattle.std.proofs.Common.{◌≡◌, ℕ, ◌+◌, ◌<◌, ◌≤◌, cond, List, [], ◌∷◌, ◌++◌, length, get_or, take, drop, map, Option, Some, refl, sym, ap, ◌∙◌, is_some, arith}
-use Rattle.request_book.proofs.Common.{cons_option, take_more, at_drop_more, drop_all, filter_map-append, nat_tests, look_up, changed_at, KeysDiffer, changed_in_turn}
+use Rattle.std.proofs.Common.{◌≡◌, ℕ, ◌+◌, ◌<◌, ◌≤◌, cond, List, [], ◌∷◌, ◌++◌, length, get_or, take, drop, map, Option, Some, refl, sym, ap, ◌∙◌, is_some, arith, rules}
+use Rattle.request_book.proofs.Common.{take_more, at_drop_more, drop_all, filter_map-append, nat_tests, look_up, changed_at, KeysDiffer, changed_in_turn}
 use Rattle.std.specs.List.{filter_map}
 use Rattle.std.specs.Option.{option_to_list}
 use Rattle.std.proofs.lemmas.List.{map-id}
 use Rattle.request_book.proofs.lemmas.KeyedLemmas.{look_up-here, look_up-later}
 
 pub filter_map-more : {X Y : Type 0} (h : X → Option Y) (xs : List X) (i : ℕ) (d : X) → i < length xs → filter_map h (take (i + 1) xs) ≡ filter_map h (take i xs) ++ option_to_list (h (get_or xs i d))
-filter_map-more h xs i d in' =
-    let one : cons_option (h (get_or xs i d)) [] ≡ option_to_list (h (get_or xs i d)) = grind arith in
-    ap (filter_map h) (take_more xs i d in') ∙ filter_map-append h (take i xs) (get_or xs i d ∷ []) ∙ ap (λ ys. filter_map h (take i xs) ++ ys) one
+filter_map-more h xs i d in' = grind (arith, nat_tests, (take_more xs i d in'), (filter_map-append h (take i xs)))
 
 -- a list that a loop makes, one element after the other
 pub made-more : {X Y : Type 0} (h : X → Option Y) (xs : List X) (i : ℕ) (x : X) (o : Option Y) (old new : List Y) → i < length xs → x ≡ get_or xs i x → o ≡ h x → old ≡ filter_map h (take i xs) → new ≡ old ++ option_to_list o → new ≡ filter_map h (take (i + 1) xs)
-made-more h xs i x o old new within read told was is =
-    is ∙ ap (λ ys. ys ++ option_to_list o) was ∙ ap (λ p. filter_map h (take i xs) ++ option_to_list p) (told ∙ ap h read) ∙ sym (filter_map-more h xs i x within)
+made-more h xs i x o old new within read told was is = search (rules, filter_map-more)
 
 module _ {X : Type 0} (key : X → ℕ) (f : X → X) where
   pub changed_in_turn-more : (ks : List ℕ) (i d : ℕ) (xs : List X) → i < length ks → changed_in_turn key f (drop i ks) xs ≡ changed_in_turn key f (drop (i + 1) ks) (changed_at key (get_or ks i d) f xs)
