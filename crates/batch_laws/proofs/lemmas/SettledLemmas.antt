@@ -12,7 +12,8 @@ use Rattle.stop_orders.specs.declared.settled_vehicle.SettledVehicle.{SettledVeh
 use Rattle.stop_orders.specs.declared.settled.Settled.{Settled}
 use Rattle.stop_orders.specs.declared.task.Task.{Task}
 use Rattle.stop_orders.specs.Task.{IsServable, leg_at, no_leg}
-use Rattle.stop_orders.specs.Settled.{vehicle_at, rider_at, vehicle_task, no_vehicle, no_rider}
+use Rattle.stop_orders.specs.Settled.{vehicle_at, rider_at, vehicle_task, no_rider}
+use Rattle.stop_orders.specs.lemmas.Named.{no_vehicle}
 use Rattle.rider_limits.specs.declared.settings.Settings.{Settings}
 use Rattle.promise_check.specs.Requests.{IsLegOf, request_at}
 use Rattle.promise_check.specs.Promised.{promised_limit, promised_to, IsLive}
