@@ -24,7 +24,8 @@ pub use Rattle.request_book.specs.declared.outcome.MoveLine.{MoveLine}
 pub use Rattle.request_book.specs.declared.outcome.PlannedStop.{PlannedStop}
 pub use Rattle.rider_limits.specs.declared.settings.Settings.{Settings}
 pub use Rattle.stop_orders.proofs.lemmas.VisitLemmas.{visit_place}
-pub use Rattle.stop_orders.specs.Settled.{IsTrip, no_vehicle, rider_at, trip_task, vehicle_at}
+pub use Rattle.stop_orders.specs.Settled.{IsTrip, rider_at, trip_task, vehicle_at}
+pub use Rattle.stop_orders.specs.lemmas.Named.{no_vehicle}
 pub use Rattle.stop_orders.specs.Sound.{IsSound}
 pub use Rattle.stop_orders.specs.Task.{IsLeastDelay, IsOrderOf, IsTask, ReachesAll, Serves, no_leg, order_delay, seconds_of, visit_at, visits_of}
 pub use Rattle.stop_orders.specs.Visit.{place_of, seconds_from}

@@ -9,7 +9,7 @@ use Rattle.request_book.specs.declared.outcome.Planned.{Planned}
 use Rattle.rider_limits.specs.declared.settings.Settings.{Settings}
 use Rattle.stop_orders.specs.Settled.{vehicle_at}
 use Rattle.stop_orders.specs.declared.settled.Settled.{Settled}
-use Rattle.batch_solver.specs.Told.{rider_id, row_line, left_riders}
+use Rattle.batch_solver.specs.Told.{rider_id, left_riders}
 use Rattle.batch_solver.specs.Trips.{IsTripOf, IsLate}
 use Rattle.batch_solver.specs.Moves.{AreMoves, idle_vehicles}
 use Rattle.batch_solver.specs.declared.point.Point.{Point}
@@ -38,7 +38,7 @@ Holds settings point.Graphs planned p =
     (planned.lapsed ≡ map (λ r. r.id) (filter (λ r. r.lapsed) p.settled.riders))
     × (planned.rv ≡ map (λ edge. ((vehicle_at p.settled edge.vehicle).id, rider_id p.settled edge.rider)) p.edges)
     × (planned.rr ≡ map (λ (pair : ℕ × ℕ). (rider_id p.settled pair.0, rider_id p.settled pair.1)) p.pairs)
-    × (planned.rows ≡ map (row_line p.settled) p.graph.rows)
+    × (planned.rows ≡ map (λ row. record { vehicle = (vehicle_at p.settled row.vehicle).id; riders = record { items = map (rider_id p.settled) row.riders.items }; cost = row.cost }) p.graph.rows)
 Holds settings point.Late planned p =
     AllZip (IsLate p.points p.tau p.settled) (filter (λ v. (vehicle_at p.settled v).late) (range_with_len 0 (length p.settled.vehicles))) planned.late
 Holds settings point.Trips planned p = GivesPlanWith p planned (λ chosen. Unit {0})

@@ -1,4 +1,4 @@
-use Rattle.std.specs.Prelude.{◌≡◌, ℕ, List, [], ◌∷◌, None, fold}
+use Rattle.std.specs.Prelude.{◌≡◌, ◌==◌, ℕ, List, [], ◌∷◌, None, filter, fold}
 use Rattle.request_book.specs.Book.{BookView, next_position}
 use Rattle.request_book.specs.Replay.{state_after, RepliesAreSteps}
 use Rattle.request_book.specs.declared.journal.Journal.{Journal}
@@ -6,14 +6,14 @@ use Rattle.request_book.specs.declared.state.State.{State}
 use Rattle.rider_limits.specs.declared.settings.Settings.{Settings}
 use Rattle.road_network.specs.Roads.{Roads}
 use Rattle.script_rows.specs.Round.{NumberedLanes, lane_at}
-use Rattle.dispatch_engine.specs.Lane.{of_lane, IsLaneRun, ClosesAreGood}
+use Rattle.dispatch_engine.specs.Lane.{IsLaneRunFrom, ClosesAreGood}
 
 -- a journal is a run of a round: each reply is the step's, each close has a good outcome for the batch that stands
 -- sealed before it, and each lane's entries are a run of its commands
 pub record IsRoundRun (settings : Settings) (roads : Roads) (round : NumberedLanes) (journal : Journal) : Type 0 where
   pub replies : RepliesAreSteps roads.nodes settings.wait journal.base journal.entries
   pub closes : ClosesAreGood settings roads journal.base journal.entries
-  pub lanes : (lane : ℕ) → IsLaneRun (lane_at round lane) (of_lane lane journal.entries)
+  pub lanes : (lane : ℕ) → IsLaneRunFrom None (lane_at round lane) (filter (λ e. e.lane == lane) journal.entries)
 
 -- journals are a run of rounds, one after the other, from a state and a position
 abbrev pub IsRun : Settings → Roads → State → ℕ → List NumberedLanes → List Journal → Type 0

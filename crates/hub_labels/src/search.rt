@@ -12,26 +12,32 @@ use crate::via::is_told;
 use pool_base::{OutOfMemory, Times};
 use travel_times::{Ring, next_near, relax};
 
+/// What a search knows: by node the arcs, the labels so far, and the seconds of the start's own hub there.
+#[derive(Drop)]
+pub(crate) struct Known<'a> {
+    pub hops: &'a [NodeHops],
+    pub labels: &'a [ShortLabel],
+    pub via: &'a [u32],
+}
+
 /// Finds the least seconds from a node to every node that no common hub of lower rank joins to it, and notes each node
 /// that it takes.
 pub(crate) fn search(
-    hops: &[NodeHops],
-    labels: &[ShortLabel],
-    via: &[u32],
+    known: &Known<'_>,
     start: usize,
     seconds: &mut [u32],
     waiting: &mut [bool],
     taken: &mut Vec<u32>,
     ring: &mut Ring,
 ) -> Result<(), OutOfMemory>
-    requires hops { (arcs : _) × All (IsArcAmong (length hops.now)) arcs × AreNodeHops arcs (length hops.now) hops.now }
-    requires few { length hops.now ≤ 100000 }
-    requires labels { length labels.now ≡ length hops.now }
-    requires hubs { All (λ label. All (λ hub. hub.node < length via.now) label) labels.now }
-    requires start { start < length hops.now }
-    requires seconds { (length seconds.old ≡ length hops.now) × All (λ s. s ≡ never) seconds.old }
-    requires waiting { (length waiting.old ≡ length hops.now) × ((node : ℕ) → waits waiting.old node ≡ false) }
-    ensures found { OnOk result ((arcs : _) → All (IsArcAmong (length hops.entry.now)) arcs → AreNodeHops arcs (length hops.entry.now) hops.entry.now → IsPruned arcs (length hops.entry.now) start labels.entry.now via.entry.now seconds.new) }
+    requires hops { (arcs : _) × All (IsArcAmong (length known.now.hops.now)) arcs × AreNodeHops arcs (length known.now.hops.now) known.now.hops.now }
+    requires few { length known.now.hops.now ≤ 100000 }
+    requires labels { length known.now.labels.now ≡ length known.now.hops.now }
+    requires hubs { All (λ label. All (λ hub. hub.node < length known.now.via.now) label) known.now.labels.now }
+    requires start { start < length known.now.hops.now }
+    requires seconds { (length seconds.old ≡ length known.now.hops.now) × All (λ s. s ≡ never) seconds.old }
+    requires waiting { (length waiting.old ≡ length known.now.hops.now) × ((node : ℕ) → waits waiting.old node ≡ false) }
+    ensures found { OnOk result ((arcs : _) → All (IsArcAmong (length known.entry.now.hops.now)) arcs → AreNodeHops arcs (length known.entry.now.hops.now) known.entry.now.hops.now → IsPruned arcs (length known.entry.now.hops.now) start known.entry.now.labels.now known.entry.now.via.now seconds.new) }
     ensures none { OnOk result ((node : ℕ) → waits waiting.new node ≡ false) }
     ensures noted { OnOk result ((node : ℕ) → node < length seconds.new → slice_index seconds.new node < never → Contains taken.new.items node) }
     ensures taken { OnOk result (All (λ node. node < length seconds.new) taken.old.items → All (λ node. node < length seconds.new) taken.new.items) }
@@ -42,10 +48,10 @@ pub(crate) fn search(
     while let Some(node) = next_near(ring, waiting, seconds, Times::NEVER) {
         let here = seconds[node];
         taken.push(node as u32)?;
-        if is_told(labels[node].as_slice(), via, here) {
+        if is_told(known.labels[node].as_slice(), known.via, here) {
             continue;
         }
-        relax(hops[node].as_slice(), here, seconds, waiting, ring)?;
+        relax(known.hops[node].as_slice(), here, seconds, waiting, ring)?;
     }
     Ok(())
 }

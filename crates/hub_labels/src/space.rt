@@ -7,7 +7,7 @@ ghost use Rattle.hub_labels.specs.work.Hops.{AreNodeHops};
 use crate::draft::hand_over;
 use crate::hops::NodeHops;
 use crate::label::ShortLabel;
-use crate::search::search;
+use crate::search::{Known, search};
 use crate::via::{clear, spread};
 use pool_base::{OutOfMemory, Times};
 use std::alloc::Global;
@@ -61,10 +61,13 @@ pub(crate) fn add_hub(
     ensures added { OnOk result (AddsHub (length hops.entry.now) hops.entry.now own.entry.now start labels.old labels.new) }
 {
     spread(own[start].as_slice(), &mut space.via);
-    search(
+    let known = Known {
         hops,
         labels,
-        &space.via,
+        via: &space.via,
+    };
+    search(
+        &known,
         start,
         &mut space.seconds,
         &mut space.waiting,

@@ -51,7 +51,8 @@ pub use Rattle.request_book.specs.declared.outcome.PlannedStop.{PlannedStop}
 pub use Rattle.rider_limits.specs.declared.settings.Settings.{Settings}
 pub use Rattle.road_network.specs.Roads.{Roads, index_in}
 pub use Rattle.stop_orders.specs.Order.{IsKnown, is_of_rider}
-pub use Rattle.stop_orders.specs.Settled.{IsTrip, no_rider, no_vehicle, rider_at, trip_task, vehicle_at}
+pub use Rattle.stop_orders.specs.Settled.{IsTrip, no_rider, rider_at, trip_task, vehicle_at}
+pub use Rattle.stop_orders.specs.lemmas.Named.{no_vehicle}
 pub use Rattle.stop_orders.specs.Sound.{IsSound}
 pub use Rattle.stop_orders.specs.Task.{IsOrderOf, ReachesAll, Serves, order_delay, seconds_of, visit_at, visits_of}
 pub use Rattle.stop_orders.specs.declared.settled.Settled.{Settled}

@@ -100,12 +100,13 @@ fn is_edge<L: Ledger>(
         return Ok(false);
     }
     set_second(task, settled, first, second);
+    let pair = (first, second);
     let one = settled.riders.as_slice()[first].leg.origin;
-    if starts_at(workspace, settled, times, task, one, first, second, steps)? {
+    if starts_at(workspace, settled, times, task, one, pair, steps)? {
         return Ok(true);
     }
     let other = settled.riders.as_slice()[second].leg.origin;
-    starts_at(workspace, settled, times, task, other, first, second, steps)
+    starts_at(workspace, settled, times, task, other, pair, steps)
 }
 
 /// How many persons the smaller party of two riders has.
@@ -127,15 +128,14 @@ fn starts_at<L: Ledger>(
     times: &Times,
     task: &mut Task,
     place: usize,
-    first: usize,
-    second: usize,
+    pair: (usize, usize),
     steps: &mut Steps<L>,
 ) -> Result<bool, OutOfMemory>
-    requires valid { IsTask (point_count times.now) (pair_task settled.now place first second) }
-    requires task { IsTaskOfPair settled.now first second task.old }
-    ensures serves { IfOk result (λ serves. MatchBool serves (IsServable (travel_time times.entry.now) (pair_task settled.entry.now place first second))
-        (IsServable (travel_time times.entry.now) (pair_task settled.entry.now place first second) → ⊥)) }
-    ensures task { OnOk result (IsTaskOfPair settled.entry.now first second task.new) }
+    requires valid { IsTask (point_count times.now) (pair_task settled.now place pair.0 pair.1) }
+    requires task { IsTaskOfPair settled.now pair.0 pair.1 task.old }
+    ensures serves { IfOk result (λ serves. MatchBool serves (IsServable (travel_time times.entry.now) (pair_task settled.entry.now place pair.0 pair.1))
+        (IsServable (travel_time times.entry.now) (pair_task settled.entry.now place pair.0 pair.1) → ⊥)) }
+    ensures task { OnOk result (IsTaskOfPair settled.entry.now pair.0 pair.1 task.new) }
 {
     task.start = place;
     let cost = least_cost_with(workspace, task, times, steps)?;

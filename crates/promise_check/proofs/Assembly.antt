@@ -1,17 +1,12 @@
-use Rattle.std.proofs.Common.{◌≡◌, ℕ, zero, suc, ◌+◌, ◌<◌, ◌≤◌, inl, inr, true, false, eqb, List, [], ◌∷◌, length, map, get_or, Some, None, Option, ◌⊎◌, Bool, MatchBool, refl, sym, ap, ◌∙◌, subst, arith, ⊎_elim}
+use Rattle.std.proofs.Common.{◌≡◌, ℕ, suc, ◌+◌, ◌<◌, ◌≤◌, inl, inr, true, false, eqb, List, [], ◌∷◌, length, map, get_or, Some, None, Option, ◌⊎◌, Bool, MatchBool, refl, sym, ap, ◌∙◌, subst, arith, ⊎_elim}
 use Rattle.promise_check.proofs.Common.{range_with_len, option_map_or, length-map, get_or-map, get_or_default, filter_passes, slice_get-get_or, Promise, Rider, Vehicle, Batch, Leg, SettledRider, SettledVehicle, IsLeg, IsServable, no_rider, no_vehicle, greatest, IsTrip, vehicle_task, IsShort, IsSound, IsSoundVehicle, Settings, request_at, no_request, kept_leg, ArePlain, is_promised_to, promised_to, kept_legs, IsLive, kept_rider, IsHeld, AreKept, HoldsPromised, HasRightLimit, IsLegOf, IsSettled, IsSettledVehicle, AreSettledVehicles, slice_get_within}
 use Rattle.std.specs.List.{All, Contains, slice_get}
 use Rattle.std.proofs.lemmas.Bool.Decides.{Decides-eqb}
 use Rattle.pool_base.specs.TravelTime.{longest}
 use Rattle.batch_snapshot.specs.Kept.{IsKept}
 use Rattle.stop_orders.specs.declared.settled.Settled.{Settled}
-use Rattle.promise_check.proofs.lemmas.Promises.{rising_once, promised_trip}
+use Rattle.promise_check.proofs.lemmas.Promises.{some_at, rising_once, promised_trip}
 use Rattle.promise_check.proofs.Seats.{kept_leg_valid, legs_valid, task_with_legs, plain_can_be_kept}
-
-pub some_at : {X : Type 0} (xs : List X) (k : ℕ) → k < length xs → (x : X) × (slice_get xs k ≡ Some x)
-some_at [] k h = absurd (omega arith)
-some_at (x ∷ xs) zero h = (x, refl)
-some_at (x ∷ xs) (suc k) h = some_at xs k (omega arith)
 
 maps_same : {X Y : Type 0} (f : X → ℕ) (g : Y → ℕ) (d : Y) (xs : List X) (ys : List Y) → length ys ≡ length xs
     → ((k : ℕ) (x : X) → slice_get xs k ≡ Some x → g (get_or ys k d) ≡ f x) → map g ys ≡ map f xs

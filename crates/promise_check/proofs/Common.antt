@@ -21,7 +21,8 @@ pub use Rattle.promise_check.specs.work.Promised.{AreKept, kept_rider}
 pub use Rattle.promise_check.specs.work.Requests.{ArePlain, CanBeKept, IsBetweenPlaces, IsPlain}
 pub use Rattle.promise_check.specs.work.Settling.{AreSettledVehicles, HasVehiclePlaces, IsSettledVehicle}
 pub use Rattle.rider_limits.specs.declared.settings.Settings.{Settings}
-pub use Rattle.stop_orders.specs.Settled.{IsTrip, greatest, no_rider, no_vehicle, vehicle_task}
+pub use Rattle.stop_orders.specs.Settled.{IsTrip, greatest, no_rider, vehicle_task}
+pub use Rattle.stop_orders.specs.lemmas.Named.{no_vehicle}
 pub use Rattle.stop_orders.specs.Sound.{IsShort, IsSound, IsSoundVehicle}
 pub use Rattle.stop_orders.specs.Task.{IsLeg, IsServable, IsTask, Serves, leg_at, no_leg, persons}
 pub use Rattle.stop_orders.specs.declared.leg.Leg.{Leg}

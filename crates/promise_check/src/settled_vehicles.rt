@@ -22,28 +22,32 @@ use rider_limits::Settings;
 use std::alloc::Global;
 use stop_orders::{Leg, SettledRider, SettledVehicle, Task};
 
+/// What the vehicles' limits follow from: the batch's second, and its riders as they asked and before promises are looked at.
+#[derive(Drop)]
+pub(crate) struct Basis<'a> {
+    pub settings: &'a Settings,
+    pub points: &'a Points,
+    pub times: &'a Times,
+    pub sealed_at: Second,
+    pub requests: &'a [Rider],
+    pub plain: &'a [SettledRider],
+    pub ghost table: { point_count times.now ≡ length points.now },
+    pub ghost right: { ArePlain settings.now points.now (travel_time times.now) requests.now plain.now },
+}
+
 /// The vehicles of a batch, each with its place, whether it is late, and the riders that it keeps.
 pub(crate) fn settled_vehicles(
     alloc: Global,
-    settings: &Settings,
-    points: &Points,
-    times: &Times,
-    now: Second,
-    requests: &[Rider],
-    plain: &[SettledRider],
+    basis: &Basis<'_>,
     vehicles: &[Vehicle],
 ) -> Result<Vec<SettledVehicle>, OutOfMemory>
-    requires table { point_count times.now ≡ length points.now }
-    requires plain { ArePlain settings.now points.now (travel_time times.now) requests.now plain.now }
-    requires places { All (HasVehiclePlaces points.now) vehicles.now }
+    requires places { All (HasVehiclePlaces basis.now.points.now) vehicles.now }
     requires seats { All HasSeats vehicles.now }
-    ensures { IfOk result (λ settled. AreSettledVehicles settings.now points.now (travel_time times.now) now requests.now plain.now vehicles.now settled.items) }
+    ensures { IfOk result (λ settled. AreSettledVehicles basis.now.settings.now basis.now.points.now (travel_time basis.now.times.now) basis.now.sealed_at basis.now.requests.now basis.now.plain.now vehicles.now settled.items) }
 {
     let mut settled = Vec::with_capacity(alloc, vehicles.len())?;
     for vehicle in vehicles {
-        let one = settled_vehicle(
-            alloc, settings, points, times, now, requests, plain, vehicle,
-        )?;
+        let one = settled_vehicle(alloc, basis, vehicle)?;
         settled.push(one)?;
     }
     Ok(settled)
@@ -51,23 +55,18 @@ pub(crate) fn settled_vehicles(
 
 fn settled_vehicle(
     alloc: Global,
-    settings: &Settings,
-    points: &Points,
-    times: &Times,
-    now: Second,
-    requests: &[Rider],
-    plain: &[SettledRider],
+    basis: &Basis<'_>,
     vehicle: &Vehicle,
 ) -> Result<SettledVehicle, OutOfMemory>
-    requires table { point_count times.now ≡ length points.now }
-    requires plain { ArePlain settings.now points.now (travel_time times.now) requests.now plain.now }
-    requires places { HasVehiclePlaces points.now vehicle.now }
+    requires places { HasVehiclePlaces basis.now.points.now vehicle.now }
     requires seats { HasSeats vehicle.now }
-    ensures { IfOk result (IsSettledVehicle settings.now points.now (travel_time times.now) now requests.now plain.now vehicle.now) }
+    ensures { IfOk result (IsSettledVehicle basis.now.settings.now basis.now.points.now (travel_time basis.now.times.now) basis.now.sealed_at basis.now.requests.now basis.now.plain.now vehicle.now) }
 {
-    let placed = placed_vehicle(settings, points, times, now, vehicle);
+    let settings = basis.settings;
+    let times = basis.times;
+    let placed = placed_vehicle(settings, basis.points, times, basis.sealed_at, vehicle);
     let late = is_late(alloc, settings.dwell, times, &placed)?;
-    let held = held_riders(alloc, settings, times, requests, plain, &placed)?;
+    let held = held_riders(alloc, settings, times, basis.requests, basis.plain, &placed)?;
     Ok(SettledVehicle {
         id: placed.id,
         start: placed.start,

@@ -7,7 +7,7 @@ ghost use Rattle.promise_check.specs.Settling.{IsSettled};
 
 use crate::kept_riders::riders_as_promised;
 use crate::requests::plain_riders;
-use crate::settled_vehicles::settled_vehicles;
+use crate::settled_vehicles::{Basis, settled_vehicles};
 use batch_snapshot::{Points, Snapshot, Vehicle};
 use pool_base::{OutOfMemory, Times};
 use rider_limits::Settings;
@@ -32,16 +32,15 @@ pub fn settle(
 {
     let requests = snapshot.riders.as_slice();
     let plain = plain_riders(alloc, settings, points, times, requests)?;
-    let vehicles = settled_vehicles(
-        alloc,
+    let basis = Basis {
         settings,
         points,
         times,
-        snapshot.now,
+        sealed_at: snapshot.now,
         requests,
-        &plain,
-        snapshot.vehicles.as_slice(),
-    )?;
+        plain: &plain,
+    };
+    let vehicles = settled_vehicles(alloc, &basis, snapshot.vehicles.as_slice())?;
     let riders = riders_as_promised(alloc, settings.wait, requests, &plain, &vehicles)?;
     Ok(Settled {
         now: u64::from(snapshot.now.get()),

@@ -121,8 +121,9 @@ pub use Rattle.script_rows.specs.Round.{IsRound, MayStand, NumberedLanes, empty_
 pub use Rattle.shared_book.specs.Locked.{sealed_by}
 pub use Rattle.stop_orders.proofs.lemmas.ClockLemmas.{AtLeastAsSoon, soon_over, soon_there}
 pub use Rattle.stop_orders.specs.Order.{IsKnown, IsOrder, is_of_passenger, is_of_rider}
-pub use Rattle.stop_orders.specs.Settled.{IsTrip, greatest, no_rider, no_vehicle, rider_at, trip_task, vehicle_at, vehicle_task}
-pub use Rattle.stop_orders.specs.Task.{IsLeg, IsOrderOf, IsServable, IsTask, Serves, free_seats, leg_at, no_leg, persons, seconds_of, visit_at, visits_of}
+pub use Rattle.stop_orders.specs.Settled.{IsTrip, greatest, no_rider, rider_at, trip_task, vehicle_at, vehicle_task}
+pub use Rattle.stop_orders.specs.lemmas.Named.{free_seats, no_vehicle}
+pub use Rattle.stop_orders.specs.Task.{IsLeg, IsOrderOf, IsServable, IsTask, Serves, leg_at, no_leg, persons, seconds_of, visit_at, visits_of}
 pub use Rattle.stop_orders.specs.Visit.{ServesFrom, boarding_of, latest_of, place_of, room_after, seconds_from}
 pub use Rattle.stop_orders.specs.declared.leg.Leg.{Leg}
 pub use Rattle.stop_orders.specs.declared.settled.Settled.{Settled}

@@ -18,7 +18,8 @@ pub use Rattle.stop_orders.proofs.lemmas.DoneLemmas.{Completes-front, Completes-
 pub use Rattle.stop_orders.proofs.lemmas.PlainLemmas.{IsAllDone-at, IsAllDone-not_at, MakesOrders-all, MakesOrders-next, MakesOrders-none, append_one, path_back, rest_of_all}
 pub use Rattle.stop_orders.specs.Done.{IsAllDone, IsNextStop, has, with_stop}
 pub use Rattle.stop_orders.specs.Order.{IsKnown, IsOrder}
-pub use Rattle.stop_orders.specs.Task.{IsLeastDelay, IsLeg, IsOrderOf, IsServable, IsTask, ReachesAll, Serves, free_seats, leg_at, no_leg, order_delay, persons, visit_at, visits_of}
+pub use Rattle.stop_orders.specs.Task.{IsLeastDelay, IsLeg, IsOrderOf, IsServable, IsTask, ReachesAll, Serves, leg_at, no_leg, order_delay, persons, visit_at, visits_of}
+pub use Rattle.stop_orders.specs.lemmas.Named.{free_seats}
 pub use Rattle.stop_orders.specs.Visit.{Reaches, ServesFrom, boarding_of, delay_from, lateness, latest_of, place_of, room_after}
 pub use Rattle.stop_orders.specs.declared.leg.Leg.{Leg}
 pub use Rattle.stop_orders.specs.declared.route.Route.{Route}

@@ -12,8 +12,9 @@ pub use Rattle.stop_orders.specs.Done.{IsAllDone, IsNextStop, bit_of, with_stop}
 pub use Rattle.stop_orders.specs.Laws.{StillServes, number_without, stop_without_passenger, stop_without_rider, stops_without_passenger, stops_without_rider, without_passenger, without_rider}
 pub use Rattle.stop_orders.specs.Order.{IsKnown, IsOrder, is_of_passenger, is_of_rider}
 pub use Rattle.stop_orders.specs.PairList.{ArePairs, IsBefore}
-pub use Rattle.stop_orders.specs.Settled.{IsRrEdge, IsTrip, greatest, no_rider, no_vehicle, pair_task, rider_at, trip_task, vehicle_at}
-pub use Rattle.stop_orders.specs.Task.{IsLeastDelay, IsLeg, IsOrderOf, IsServable, IsTask, ReachesAll, Serves, free_seats, leg_at, no_leg, order_delay, persons, seconds_of, visit_at, visits_of}
+pub use Rattle.stop_orders.specs.Settled.{IsRrEdge, IsTrip, greatest, no_rider, pair_task, rider_at, trip_task, vehicle_at}
+pub use Rattle.stop_orders.specs.lemmas.Named.{free_seats, no_vehicle}
+pub use Rattle.stop_orders.specs.Task.{IsLeastDelay, IsLeg, IsOrderOf, IsServable, IsTask, ReachesAll, Serves, leg_at, no_leg, order_delay, persons, seconds_of, visit_at, visits_of}
 pub use Rattle.stop_orders.specs.Visit.{Reaches, ServesFrom, boarding_of, delay_from, lateness, latest_of, place_of, room_after, seconds_from}
 pub use Rattle.stop_orders.specs.declared.route.Route.{Route}
 pub use Rattle.stop_orders.specs.declared.stop.Stop.{Stop}

@@ -7,17 +7,13 @@ use Rattle.stop_orders.specs.declared.settled_vehicle.SettledVehicle.{SettledVeh
 use Rattle.stop_orders.specs.declared.settled.Settled.{Settled}
 use Rattle.stop_orders.specs.Task.{no_leg, IsServable, IsLeastDelay}
 
--- what is read where there is no such vehicle
-abbrev pub no_vehicle : SettledVehicle
-no_vehicle = record { id = 0; start = 0; ready = 0; seats = 0; aboard = record { items = [] }; aboard_ids = record { items = [] }; late = false; held = record { items = [] } }
-
 -- what is read where there is no such rider
 abbrev pub no_rider : SettledRider
 no_rider = record { id = 0; leg = no_leg; lapsed = false }
 
--- the vehicle of a number
+-- the vehicle of a number; where there is none, one without seats at place 0
 abbrev pub vehicle_at : Settled → ℕ → SettledVehicle
-vehicle_at settled v = slice_index_or settled.vehicles v no_vehicle
+vehicle_at settled v = slice_index_or settled.vehicles v (record { id = 0; start = 0; ready = 0; seats = 0; aboard = record { items = [] }; aboard_ids = record { items = [] }; late = false; held = record { items = [] } })
 
 -- the rider of a number
 abbrev pub rider_at : Settled → ℕ → SettledRider
@@ -35,14 +31,8 @@ vehicle_task dwell vehicle legs =
 
 -- the task of two riders with an empty vehicle that is ready now at a place, with the most seats of the fleet
 abbrev pub pair_task : Settled → ℕ → ℕ → ℕ → Task
-pair_task settled place a b = record {
-  start = place;
-  ready = settled.now;
-  dwell = settled.dwell;
-  seats = settled.most_seats;
-  aboard = record { items = [] };
-  riders = record { items = (rider_at settled a).leg ∷ (rider_at settled b).leg ∷ [] };
-}
+pair_task settled place a b =
+    record { start = place; ready = settled.now; dwell = settled.dwell; seats = settled.most_seats; aboard = record { items = [] }; riders = record { items = (rider_at settled a).leg ∷ (rider_at settled b).leg ∷ [] } }
 
 -- a trip: numbers of riders, rising
 pub record IsTrip (riders : ℕ) (trip : List ℕ) : Type 0 where
@@ -64,10 +54,6 @@ pub record CanServe (k : ℕ) (tau : ℕ → ℕ → ℕ) (settled : Settled) (v
 pub record IsRow (k : ℕ) (tau : ℕ → ℕ → ℕ) (settled : Settled) (v : ℕ) (trip : List ℕ) (cost : ℕ) : Type 0 where
   pub served : CanServe k tau settled v trip
   pub least : IsLeastDelay tau (trip_task settled v trip) cost
-
--- the vehicle can serve the rider alone
-abbrev pub IsRvEdge : (ℕ → ℕ → ℕ) → Settled → ℕ → ℕ → Type 0
-IsRvEdge tau settled v r = CanServe 1 tau settled v (r ∷ [])
 
 -- an empty vehicle that is ready now at the origin of one of the two serves both
 pub record IsRrEdge (tau : ℕ → ℕ → ℕ) (settled : Settled) (a b : ℕ) : Type 0 where

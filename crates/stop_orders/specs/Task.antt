@@ -53,10 +53,6 @@ visit_at task (Alight j) = let leg = leg_at task.aboard.items j in Dropoff leg.d
 abbrev pub visits_of : Task → List Stop → List Visit
 visits_of task stops = map (visit_at task) stops
 
--- the free seats of the vehicle before its first stop
-abbrev pub free_seats : Task → ℕ
-free_seats task = task.seats - persons task.aboard.items
-
 -- the stops are an order for the passengers and the riders of the task
 abbrev pub IsOrderOf : Task → List Stop → Type 0
 IsOrderOf task stops = IsOrder (length task.riders.items) (length task.aboard.items) stops
@@ -76,7 +72,7 @@ order_delay tau task stops = delay_from tau task.dwell task.start task.ready (vi
 -- the stops are an order that serves the task: all are reached in time, with a seat for each person
 pub record Serves (tau : ℕ → ℕ → ℕ) (task : Task) (stops : List Stop) : Type 0 where
   pub order : IsOrderOf task stops
-  pub in_time : ServesFrom tau task.dwell task.start task.ready (free_seats task) (visits_of task stops)
+  pub in_time : ServesFrom tau task.dwell task.start task.ready (task.seats - sum_by (λ leg. leg.party) task.aboard.items) (visits_of task stops)
 
 -- some order serves the task
 abbrev pub IsServable : (ℕ → ℕ → ℕ) → Task → Type 0

@@ -1,8 +1,8 @@
-ghost use Rattle.std.specs.Prelude.{◌≡◌, ◌+◌, ◌^◌, ◌<◌, ◌≤◌, MatchOption, length};
+ghost use Rattle.std.specs.Prelude.{◌≡◌, ◌+◌, ◌-◌, ◌^◌, ◌<◌, ◌≤◌, MatchOption, length};
 ghost use Rattle.pool_base.specs.Times.{point_count, travel_time};
 ghost use Rattle.pool_base.specs.TravelTime.{never, longest};
 ghost use Rattle.stop_orders.specs.Visit.{place_of, latest_of, boarding_of};
-ghost use Rattle.stop_orders.specs.Task.{free_seats, persons};
+ghost use Rattle.stop_orders.specs.Task.{persons};
 ghost use Rattle.stop_orders.specs.work.Position.{first_position, position_after, CanVisitFrom};
 
 use crate::validity::persons_of;
@@ -21,7 +21,7 @@ pub struct Position {
 pub fn free_seats_of(task: &Task) -> u32
     requires few { length task.now.aboard.items ≤ 10 }
     requires seated { persons task.now.aboard.items ≤ task.now.seats }
-    ensures { result ≡ free_seats task.now }
+    ensures { result ≡ task.now.seats - persons task.now.aboard.items }
 {
     task.seats as u32 - persons_of(&task.aboard)
 }

@@ -5,7 +5,8 @@ pub use Rattle.std.proofs.lemmas.List.Concat.{flat_map-cons, get_or-flat_map}
 pub use Rattle.std.proofs.lemmas.List.Elements.{All-append, All-nil}
 pub use Rattle.std.proofs.lemmas.List.Sums.{sum_by-cons, sum_by-take-le, sum_by_push}
 pub use Rattle.std.specs.List.{list_any}
-pub use Rattle.pair_graph.specs.RvGraph.{IsRvGraph, no_edge}
+pub use Rattle.pair_graph.specs.RvGraph.{IsRvGraph}
+pub use Rattle.pair_graph.specs.lemmas.Edge.{no_edge}
 pub use Rattle.pair_graph.specs.declared.rv_edge.RvEdge.{RvEdge}
 pub use Rattle.plan_rules.specs.Graph.{Graph, choice_at, has_rider, no_row, riders_at, row_cmp, times_served}
 pub use Rattle.plan_rules.specs.GraphFault.{HoldsRightly}
@@ -14,12 +15,14 @@ pub use Rattle.plan_rules.specs.declared.row.TripRow.{TripRow}
 pub use Rattle.pool_base.specs.Times.{point_count, travel_time}
 pub use Rattle.pool_base.specs.TravelTime.{IsTravelTime}
 pub use Rattle.stop_orders.specs.Laws.{DelaysAreSmall, SubTripsAreServable}
-pub use Rattle.stop_orders.specs.Settled.{CanServe, IsRow, IsRvEdge, IsTrip, no_vehicle, trip_task, vehicle_at}
+pub use Rattle.stop_orders.specs.Settled.{CanServe, IsRow, IsTrip, trip_task, vehicle_at}
+pub use Rattle.stop_orders.specs.lemmas.Named.{IsRvEdge, no_vehicle}
 pub use Rattle.stop_orders.specs.Sound.{IsSound, IsSoundVehicle}
 pub use Rattle.stop_orders.specs.Task.{IsServable}
 pub use Rattle.stop_orders.specs.declared.settled.Settled.{Settled}
 pub use Rattle.stop_orders.specs.declared.settled_vehicle.SettledVehicle.{SettledVehicle}
-pub use Rattle.trip_graph.specs.Answer.{HasMoreRows, HoldRows, IsRowWith, IsTripGraphOf}
+pub use Rattle.trip_graph.specs.Answer.{HasMoreRows, IsRowWith, IsTripGraphOf}
+pub use Rattle.trip_graph.specs.lemmas.Rows.{HoldRows}
 pub use Rattle.trip_graph.specs.work.Edges.{HasOneRider, edges_upto, single_edge}
 pub use Rattle.trip_graph.specs.work.Growth.{batch_of, tau_of}
 pub use Rattle.trip_graph.specs.work.Levels.{AreLevels, AreLevelsUpTo, AreRowsUpTo, AreSomeLevels, HasMoreOfSize, level_total, row_total, total_upto}

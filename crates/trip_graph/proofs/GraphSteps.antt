@@ -263,7 +263,7 @@ graph_right settings tau settled graph vehicles riders rows held value good a b 
       left_out = ap (λ (g : Graph). g.penalty) value;
       right = all.right;
       whole = all.whole;
-      hold = subst (λ (y : List (Option ℕ)). HoldRows settled (length settled.vehicles) graph.rows y) h (subst (λ (x : List TripRow). HoldRows settled (length settled.vehicles) x held) r hold);
+      hold = (subst (λ (y : List (Option ℕ)). HoldRows settled (length settled.vehicles) graph.rows y) h (subst (λ (x : List TripRow). HoldRows settled (length settled.vehicles) x held) r hold)).each;
       few = subst (λ (x : List TripRow). length x ≤ settings.pairs) r few;
       good = good;
     }

@@ -1,4 +1,4 @@
-use Rattle.std.specs.Prelude.{◌≡◌, ℕ, suc, ◌<◌, ◌≤◌, List, All, MatchBool, None, Some, Option, length, slice_index_or}
+use Rattle.std.specs.Prelude.{◌≡◌, ℕ, suc, ◌<◌, ◌≤◌, List, All, MatchBool, None, Some, length, slice_index_or}
 use Rattle.std.specs.declared.cmp.Ordering.TheVariants.{Less}
 use Rattle.stop_orders.specs.declared.settled.Settled.{Settled}
 use Rattle.stop_orders.specs.Settled.{CanServe, IsRow, vehicle_at}
@@ -17,21 +17,17 @@ pub record IsRowWith (rows : List TripRow) (vehicle : ℕ) (riders : List ℕ) (
   pub own : (slice_index_or rows k no_row).vehicle ≡ vehicle
   pub trip : (slice_index_or rows k no_row).riders.items ≡ riders
 
--- a late vehicle holds no row, another one the row of the riders that it keeps
-pub record HoldRows (settled : Settled) (vehicles : ℕ) (rows : List TripRow) (held : List (Option ℕ)) : Type 0 where
-  pub count : length held ≡ vehicles
-  pub each : (v : ℕ) → v < vehicles → MatchBool (vehicle_at settled v).late (choice_at held v ≡ None)
-      ((k : ℕ) × (choice_at held v ≡ Some k) × IsRowWith rows v (vehicle_at settled v).held.items k)
-
 -- the trip graph of the batch: each row is a vehicle with a trip of at most so many riders that it can serve, at the least
--- delay, and none is missing; rows stand in order, and those that are held are told
+-- delay, and none is missing; rows stand in order
 pub record IsTripGraphOf (settings : Settings) (tau : ℕ → ℕ → ℕ) (settled : Settled) (graph : Graph) : Type 0 where
   pub vehicle_total : graph.vehicles ≡ length settled.vehicles
   pub rider_total : graph.riders ≡ length settled.riders
   pub left_out : graph.penalty ≡ settings.penalty
   pub right : All (λ row. IsRow settings.trip tau settled row.vehicle row.riders.items row.cost) graph.rows
   pub whole : (v : ℕ) (trip : List ℕ) → CanServe settings.trip tau settled v trip → (k : ℕ) × IsRowWith graph.rows v trip k
-  pub hold : HoldRows settled (length settled.vehicles) graph.rows graph.held
+  -- a late vehicle holds no row, another one the row of the riders that it keeps
+  pub hold : (v : ℕ) → v < length settled.vehicles → MatchBool (vehicle_at settled v).late (choice_at graph.held v ≡ None)
+      ((k : ℕ) × (choice_at graph.held v ≡ Some k) × IsRowWith graph.rows v (vehicle_at settled v).held.items k)
   pub few : length graph.rows ≤ settings.pairs
   pub good : IsGoodGraph graph
 

@@ -3,7 +3,7 @@ ghost use Rattle.plan_rules.specs.declared.fault.GraphFault.TheVariants.{OutOfMe
 ghost use Rattle.pool_base.specs.Times.{point_count, travel_time};
 ghost use Rattle.stop_orders.specs.Sound.{IsSound};
 ghost use Rattle.trip_graph.specs.work.Levels.{AreLevels, level_total, AreRowsUpTo};
-ghost use Rattle.trip_graph.specs.Answer.{IsAnswer, IsTripGraphOf, HoldRows};
+ghost use Rattle.trip_graph.specs.Answer.{IsAnswer, IsTripGraphOf};
 
 use crate::all_levels::all_levels;
 use crate::answer::GraphAnswer;

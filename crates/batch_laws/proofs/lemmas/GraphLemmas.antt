@@ -13,8 +13,8 @@ use Rattle.stop_orders.specs.Task.{IsLeastDelay}
 use Rattle.plan_rules.specs.declared.row.TripRow.{TripRow}
 use Rattle.plan_rules.specs.Graph.{Graph, no_row, choice_at, row_cmp}
 use Rattle.rider_limits.specs.declared.settings.Settings.{Settings}
-use Rattle.trip_graph.specs.Answer.{IsRowWith, HoldRows, IsTripGraphOf, HasMoreRows}
-use Rattle.trip_graph.specs.lemmas.Rows.{AreRowsOf}
+use Rattle.trip_graph.specs.Answer.{IsRowWith, IsTripGraphOf, HasMoreRows}
+use Rattle.trip_graph.specs.lemmas.Rows.{HoldRows, AreRowsOf}
 use Rattle.batch_laws.proofs.lemmas.SortedLemmas.{IsStrict, AreInOrder, in_order, same_members, no_longer}
 
 abbrev pub RowBefore : TripRow → TripRow → Type 0
@@ -103,8 +103,8 @@ module _ (settings : Settings) (tau : ℕ → ℕ → ℕ) (settled : Settled) w
   one_trip_graph a b are also =
       let up = graph_in_order a are in let vp = graph_in_order b also in
       let rows : a.rows ≡ b.rows = one_list_of_rows tau settled settings.trip a.rows b.rows up vp (rows_of a are) (rows_of b also) in
-      let hold : HoldRows settled (length settled.vehicles) b.rows a.held = subst (λ (r : List TripRow). HoldRows settled (length settled.vehicles) r a.held) rows are.hold in
-      let held : a.held ≡ b.held = one_held settled (length settled.vehicles) b.rows vp a.held b.held hold also.hold in
+      let hold : HoldRows settled (length settled.vehicles) b.rows a.held = subst (λ (r : List TripRow). HoldRows settled (length settled.vehicles) r a.held) rows (record { count = are.good.held.plan.sized ∙ are.vehicle_total; each = are.hold }) in
+      let held : a.held ≡ b.held = one_held settled (length settled.vehicles) b.rows vp a.held b.held hold (record { count = also.good.held.plan.sized ∙ also.vehicle_total; each = also.hold }) in
       λ k. record {
         vehicles = (are.vehicle_total ∙ sym also.vehicle_total) k;
         riders = (are.rider_total ∙ sym also.rider_total) k;

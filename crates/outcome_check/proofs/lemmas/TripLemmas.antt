@@ -135,7 +135,7 @@ module _ (points : List ℕ) (settings : Settings) (tau : ℕ → ℕ → ℕ) (
 
   no_row_of_late : (v : ℕ) → v < length settled.vehicles → (vehicle_at settled v).late ≡ true → HasNoRow graph v
   no_row_of_late v h late =
-      let none : choice_at graph.held v ≡ None = rw late at (exact.hold.each v h) in
+      let none : choice_at graph.held v ≡ None = rw late at (exact.hold v h) in
       rw none at (exact.good.held.plan.own v (let n = exact.vehicle_total in omega (arith, n, h)))
 
   tells_of : (chosen : List (Option ℕ)) (v : ℕ) (trip : ChosenTrip) (of : IsTripOf points tau settled graph chosen v trip) → TellsRow points tau settled graph v of.row trip

@@ -1,9 +1,8 @@
 use Rattle.std.specs.Prelude.{ℕ, List}
 use Rattle.stop_orders.specs.declared.settled.Settled.{Settled}
-use Rattle.stop_orders.specs.Settled.{IsRvEdge}
+use Rattle.stop_orders.specs.lemmas.Named.{IsRvEdge}
 use Rattle.pair_graph.specs.declared.rv_edge.RvEdge.{RvEdge}
-use Rattle.pair_graph.specs.RvGraph.{no_edge}
-use Rattle.pair_graph.specs.lemmas.Edge.{pair_of}
+use Rattle.pair_graph.specs.lemmas.Edge.{no_edge, pair_of}
 use Rattle.pair_graph.specs.work.Listing.{ListsBefore}
 
 -- the edges that stand before a vehicle and a rider

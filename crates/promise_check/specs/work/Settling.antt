@@ -4,7 +4,8 @@ use Rattle.batch_snapshot.specs.declared.vehicle.Vehicle.{Vehicle}
 use Rattle.stop_orders.specs.declared.settled_rider.SettledRider.{SettledRider}
 use Rattle.stop_orders.specs.declared.settled_vehicle.SettledVehicle.{SettledVehicle}
 use Rattle.stop_orders.specs.Task.{IsTask, IsServable}
-use Rattle.stop_orders.specs.Settled.{no_vehicle, vehicle_task}
+use Rattle.stop_orders.specs.Settled.{vehicle_task}
+use Rattle.stop_orders.specs.lemmas.Named.{no_vehicle}
 use Rattle.stop_orders.specs.Sound.{IsShort}
 use Rattle.rider_limits.specs.declared.settings.Settings.{Settings}
 use Rattle.promise_check.specs.Settling.{IsPlaced}

@@ -511,7 +511,7 @@ module _ (settings : Settings) (roads : Roads) (s : State) (stops : ℕ → List
       let within : v < length settled.vehicles = keeper.1 in
       let listed : Contains (vehicle_at settled v).held.items n = keeper.2 in
       let row = MatchBool-at_false (choice_at good.graph.held v ≡ None) ((m : ℕ) × (choice_at good.graph.held v ≡ Some m) × IsRowWith good.graph.rows v (vehicle_at settled v).held.items m)
-      (not_late settings roads s stops b settled points times kept shows early limits table v within) (good.exact.hold.each v within) in
+      (not_late settings roads s stops b settled points times kept shows early limits table v within) (good.exact.hold v within) in
       let at : get_or (vehicle_at settled v).held.items listed.0 0 ≡ n = get_or_default (vehicle_at settled v).held.items listed.0 0 n listed.1 ∙ listed.2 in
       let has : has_node (riders_at good.graph row.0) n ≡ true =
       subst (λ xs. has_node xs n ≡ true) (sym row.2.trip) (subst (λ m. has_node (vehicle_at settled v).held.items m ≡ true) at (is_node_at (vehicle_at settled v).held.items listed.0 listed.1)) in

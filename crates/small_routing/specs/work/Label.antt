@@ -4,7 +4,8 @@ use Rattle.stop_orders.specs.declared.leg.Leg.{Leg}
 use Rattle.stop_orders.specs.declared.task.Task.{Task}
 use Rattle.stop_orders.specs.declared.stop.Stop.{Stop}
 use Rattle.stop_orders.specs.Visit.{place_of, latest_of, boarding_of, room_after, lateness, ServesFrom, delay_from}
-use Rattle.stop_orders.specs.Task.{persons, visit_at, visits_of, free_seats}
+use Rattle.stop_orders.specs.Task.{persons, visit_at, visits_of}
+use Rattle.stop_orders.specs.lemmas.Named.{free_seats}
 use Rattle.stop_orders.specs.Done.{with_stop}
 use Rattle.stop_orders.specs.lemmas.Rest.{Completes}
 use Rattle.small_routing.specs.declared.label.Label.{Label}

@@ -4,7 +4,8 @@ use Rattle.stop_orders.specs.declared.route.Route.{Route}
 use Rattle.stop_orders.specs.declared.task.Task.{Task}
 use Rattle.stop_orders.specs.declared.stop.Stop.{Stop}
 use Rattle.stop_orders.specs.Visit.{ServesFrom}
-use Rattle.stop_orders.specs.Task.{visits_of, free_seats, order_delay}
+use Rattle.stop_orders.specs.Task.{visits_of, order_delay}
+use Rattle.stop_orders.specs.lemmas.Named.{free_seats}
 use Rattle.stop_orders.specs.Order.{IsKnown}
 use Rattle.stop_orders.specs.Done.{IsNextStop}
 use Rattle.stop_orders.specs.lemmas.Plain.{IsFound, NoneBetter, StaysGood, MakesOrders}

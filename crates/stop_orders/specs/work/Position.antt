@@ -4,7 +4,7 @@ use Rattle.stop_orders.specs.declared.position.Position.{Position}
 use Rattle.stop_orders.specs.declared.visit.Visit.{Visit}
 use Rattle.stop_orders.specs.declared.task.Task.{Task}
 use Rattle.stop_orders.specs.Visit.{place_of, latest_of, boarding_of, room_after, ServesFrom}
-use Rattle.stop_orders.specs.Task.{free_seats}
+use Rattle.stop_orders.specs.lemmas.Named.{free_seats}
 
 -- the position of the vehicle before its first stop
 abbrev pub first_position : Task → Position

@@ -1,7 +1,6 @@
 use Rattle.std.proofs.Common.{◌<◌, ◌≤◌, ℕ, List, length, map, All, sym, ap, ◌∙◌, subst, arith}
-use Rattle.batch_solver.proofs.Common.{TripRow, travel_time, ChosenTrip, MoveLine, rider_id, row_line, left_riders, AreTrips, AreLate, AreMoves, idle_vehicles}
+use Rattle.batch_solver.proofs.Common.{get_or_default, no_row, TripRow, travel_time, ChosenTrip, MoveLine, rider_id, row_line, left_riders, AreTrips, AreLate, AreMoves, idle_vehicles}
 use Rattle.request_book.specs.declared.outcome.LateVehicle.{LateVehicle}
-use Rattle.batch_solver.proofs.GraphLemmas.{rows_of_riders, rows_are_few}
 use Rattle.batch_solver.proofs.solving.list_all.Goals as goal
 
 pub rv_lines-requires-clause-riders : goal.rv_lines-requires-clause-riders
@@ -10,12 +9,12 @@ rv_lines-requires-clause-riders c = λ k d l. (c.requires.exact.edges_exact.righ
 pub row_lines-requires-clause-riders : goal.row_lines-requires-clause-riders
 row_lines-requires-clause-riders c =
     subst (λ (rows : List TripRow). All (λ row. All (λ r. r < length c.args.graphs.now.instance.now.settled.now.riders) row.riders.items) rows) (sym c.rows.ensures.value)
-    (rows_of_riders c.args.graphs.now.graph.now (length c.args.graphs.now.instance.now.settled.now.riders) c.requires.exact.exact.good c.requires.exact.exact.rider_total)
+    (λ k d below. (c.requires.exact.exact.right k d below).served.riders.within)
 
 pub row_lines-requires-clause-few : goal.row_lines-requires-clause-few
 row_lines-requires-clause-few c =
     subst (λ (rows : List TripRow). All (λ row. length row.riders.items ≤ 6) rows) (sym c.rows.ensures.value)
-    (rows_are_few c.args.graphs.now.graph.now c.requires.exact.exact.good)
+    (λ k d below. subst (λ (row : TripRow). length row.riders.items ≤ 6) (get_or_default c.args.graphs.now.graph.now.rows k no_row d below) (c.requires.exact.exact.good.rows k below).few)
 
 pub returns-clause-lists : goal.returns-clause-lists
 returns-clause-lists c =

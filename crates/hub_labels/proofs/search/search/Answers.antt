@@ -1,4 +1,4 @@
-use Rattle.std.proofs.Common.{◌≡◌, ℕ, ◌<◌, [], List, length, get_or, slice_index, subst, ◌∙◌, arith}
+use Rattle.std.proofs.Common.{◌≡◌, ℕ, ◌<◌, [], List, length, get_or, slice_index, sym, subst, ◌∙◌, arith}
 use Rattle.hub_labels.proofs.Cited.{get_or_read, All-push, IsNextTaken, RelaxesHops, Hub, IsTold, none_waits_near}
 use Rattle.hub_labels.proofs.Searching.{hops_within, prune_step, relax_step}
 use Rattle.hub_labels.proofs.search.search.Goals as goal
@@ -8,14 +8,14 @@ loop-node-preserved-then-is_told c =
     let inv = c.loop-node.invariant in
     let node = c.in-Some.node in
     let next : IsNextTaken c.loop-node.waiting c.next_near.new.waiting node = c.in-Some.ensures.some in
-    let below : c.in-Some.node < length c.args.hops.now = let l : c.in-Some.node < length c.loop-node.waiting = next.within in omega (arith, l, inv.waiting) in
-    let label : c.as_slice.result.now ≡ get_or c.args.labels.now node [] = c.as_slice.ensures ∙ get_or_read c.args.labels.now node c.index-labels-node.result (omega (arith, below, c.requires.labels)) c.index-labels-node.is [] in
-    let told = subst (λ (l : List Hub). IsTold l c.args.via.now (slice_index c.loop-node.seconds node)) label (c.is_told.ensures.0 c.if-is_told.true) in
+    let below : c.in-Some.node < length c.args.known.now.hops.now = let l : c.in-Some.node < length c.loop-node.waiting = next.within in omega (arith, l, inv.waiting) in
+    let label : c.as_slice.result.now ≡ get_or c.args.known.now.labels.now node [] = c.as_slice.ensures ∙ sym c.index-known-node.is ∙ get_or_read c.args.known.now.labels.now node c.index-known-node.result (omega (arith, below, c.requires.labels)) c.index-known-node.is [] in
+    let told = subst (λ (l : List Hub). IsTold l c.args.known.now.via.now (slice_index c.loop-node.seconds node)) label (c.is_told.ensures.0 c.if-is_told.true) in
     record {
       seconds = inv.seconds;
       waiting = next.same_length ∙ inv.waiting;
       pruning = λ arcs among are. rw c.in_ok-push-2.ensures.items (prune_step (inv.pruning arcs among are) next told);
-      taken = λ old. rw c.in_ok-push-2.ensures.items (All-push (λ (v : ℕ). v < length c.args.hops.now) c.loop-node.taken.items node (inv.taken old) below);
+      taken = λ old. rw c.in_ok-push-2.ensures.items (All-push (λ (v : ℕ). v < length c.args.known.now.hops.now) c.loop-node.taken.items node (inv.taken old) below);
     }
 
 pub relax-requires-clause-hops : goal.relax-requires-clause-hops
@@ -23,23 +23,23 @@ relax-requires-clause-hops c =
     let inv = c.loop-node.invariant in
     let node = c.in-Some.node in
     let next : IsNextTaken c.loop-node.waiting c.next_near.new.waiting node = c.in-Some.ensures.some in
-    let below : c.in-Some.node < length c.args.hops.now = let l : c.in-Some.node < length c.loop-node.waiting = next.within in omega (arith, l, inv.waiting) in
-    let hops : c.as_slice-in-Some.result.now ≡ get_or c.args.hops.now node [] = c.as_slice-in-Some.ensures ∙ get_or_read c.args.hops.now node c.index-hops-node.result below c.index-hops-node.is [] in
-    rw (hops, inv.seconds) (hops_within c.requires.hops.0 (length c.args.hops.now) node (get_or c.args.hops.now node []) c.requires.hops.1 (c.requires.hops.2.placed node below))
+    let below : c.in-Some.node < length c.args.known.now.hops.now = let l : c.in-Some.node < length c.loop-node.waiting = next.within in omega (arith, l, inv.waiting) in
+    let hops : c.as_slice-in-Some.result.now ≡ get_or c.args.known.now.hops.now node [] = c.as_slice-in-Some.ensures ∙ sym c.index-known-node-in-Some.is ∙ get_or_read c.args.known.now.hops.now node c.index-known-node-in-Some.result below c.index-known-node-in-Some.is [] in
+    rw (hops, inv.seconds) (hops_within c.requires.hops.0 (length c.args.known.now.hops.now) node (get_or c.args.known.now.hops.now node []) c.requires.hops.1 (c.requires.hops.2.placed node below))
 
 pub loop-node-preserved : goal.loop-node-preserved
 loop-node-preserved c =
     let inv = c.loop-node.invariant in
     let node = c.in-Some.node in
     let next : IsNextTaken c.loop-node.waiting c.next_near.new.waiting node = c.in-Some.ensures.some in
-    let below : c.in-Some.node < length c.args.hops.now = let l : c.in-Some.node < length c.loop-node.waiting = next.within in omega (arith, l, inv.waiting) in
-    let hops : c.as_slice-in-Some.result.now ≡ get_or c.args.hops.now node [] = c.as_slice-in-Some.ensures ∙ get_or_read c.args.hops.now node c.index-hops-node.result below c.index-hops-node.is [] in
-    let relaxes : RelaxesHops (get_or c.args.hops.now node []) (length (get_or c.args.hops.now node [])) (slice_index c.loop-node.seconds node) c.loop-node.seconds c.next_near.new.waiting c.relax.new.seconds c.relax.new.waiting = rw hops at c.in_ok-relax.ensures.relaxes in
+    let below : c.in-Some.node < length c.args.known.now.hops.now = let l : c.in-Some.node < length c.loop-node.waiting = next.within in omega (arith, l, inv.waiting) in
+    let hops : c.as_slice-in-Some.result.now ≡ get_or c.args.known.now.hops.now node [] = c.as_slice-in-Some.ensures ∙ sym c.index-known-node-in-Some.is ∙ get_or_read c.args.known.now.hops.now node c.index-known-node-in-Some.result below c.index-known-node-in-Some.is [] in
+    let relaxes : RelaxesHops (get_or c.args.known.now.hops.now node []) (length (get_or c.args.known.now.hops.now node [])) (slice_index c.loop-node.seconds node) c.loop-node.seconds c.next_near.new.waiting c.relax.new.seconds c.relax.new.waiting = rw hops at c.in_ok-relax.ensures.relaxes in
     record {
       seconds = relaxes.seconds_length ∙ inv.seconds;
       waiting = relaxes.waiting_length ∙ next.same_length ∙ inv.waiting;
       pruning = λ arcs among are. rw c.in_ok-push-2.ensures.items (relax_step (inv.pruning arcs among are) next (are.placed node below) relaxes);
-      taken = λ old. rw c.in_ok-push-2.ensures.items (All-push (λ (v : ℕ). v < length c.args.hops.now) c.loop-node.taken.items node (inv.taken old) below);
+      taken = λ old. rw c.in_ok-push-2.ensures.items (All-push (λ (v : ℕ). v < length c.args.known.now.hops.now) c.loop-node.taken.items node (inv.taken old) below);
     }
 
 pub returns-clause-none : goal.returns-clause-none

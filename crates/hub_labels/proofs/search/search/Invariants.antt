@@ -4,10 +4,10 @@ use Rattle.hub_labels.proofs.search.search.Given as goal
 
 abbrev pub invariant-loop-node : goal.invariant-loop-node
 invariant-loop-node l = record {
-  seconds : length l.seconds ≡ length l.hops;
-  waiting : length l.waiting ≡ length l.hops;
-  pruning : (arcs : List Arc) → All (IsArcAmong (length l.hops)) arcs → AreNodeHops arcs (length l.hops) l.hops → IsPruning arcs (length l.hops) l.start l.labels l.via l.seconds l.waiting l.taken.items;
-  taken : All (λ node. node < length l.hops) l.initial.taken.items → All (λ node. node < length l.hops) l.taken.items;
+  seconds : length l.seconds ≡ length l.known.hops.now;
+  waiting : length l.waiting ≡ length l.known.hops.now;
+  pruning : (arcs : List Arc) → All (IsArcAmong (length l.known.hops.now)) arcs → AreNodeHops arcs (length l.known.hops.now) l.known.hops.now → IsPruning arcs (length l.known.hops.now) l.start l.known.labels.now l.known.via.now l.seconds l.waiting l.taken.items;
+  taken : All (λ node. node < length l.known.hops.now) l.initial.taken.items → All (λ node. node < length l.known.hops.now) l.taken.items;
 }
 
 abbrev pub decreases-loop-node : goal.decreases-loop-node

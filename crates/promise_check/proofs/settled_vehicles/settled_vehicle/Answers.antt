@@ -6,14 +6,14 @@ use Rattle.promise_check.proofs.settled_vehicles.settled_vehicle.Goals as goal
 
 pub held_riders-requires-clause-legs : goal.held_riders-requires-clause-legs
 held_riders-requires-clause-legs c =
-    subst (λ (n : ℕ). (k : ℕ) → k < length c.args.requests.now → CanBeKept n c.args.settings.now.wait (request_at c.args.requests.now k) (slice_index_or c.args.plain.now k no_rider).leg)
-    (sym c.requires.table)
-    (plain_can_be_kept c.args.settings.now c.args.points.now (travel_time c.args.times.now) c.args.requests.now c.args.plain.now c.requires.plain)
+    subst (λ (n : ℕ). (k : ℕ) → k < length c.args.basis.now.requests.now → CanBeKept n c.args.basis.now.settings.now.wait (request_at c.args.basis.now.requests.now k) (slice_index_or c.args.basis.now.plain.now k no_rider).leg)
+    (sym c.args.basis.now.table)
+    (plain_can_be_kept c.args.basis.now.settings.now c.args.basis.now.points.now (travel_time c.args.basis.now.times.now) c.args.basis.now.requests.now c.args.basis.now.plain.now c.args.basis.now.right)
 
 -- a vehicle to which nobody is promised is live where it isn't late
 pub returns : goal.returns
 returns c =
-    let settings = c.args.settings.now in let tau = travel_time c.args.times.now in let requests = c.args.requests.now in let plain = c.args.plain.now in
+    let settings = c.args.basis.now.settings.now in let tau = travel_time c.args.basis.now.times.now in let requests = c.args.basis.now.requests.now in let plain = c.args.basis.now.plain.now in
     let v = c.placed_vehicle-placed.result in let placed = c.placed_vehicle-placed.ensures.placed in
     record {
       placed = record { id = placed.id; start = placed.start; ready = placed.ready; seats = placed.seats; aboard_count = placed.aboard_count; aboard_legs = placed.aboard_legs; aboard_ids = placed.aboard_ids };

@@ -8,9 +8,6 @@ pub plain_riders-requires-clause-places : goal.plain_riders-requires-clause-plac
 plain_riders-requires-clause-places c =
     rw c.as_slice-requests.ensures (rider_places _ c.args.points.now (subst (λ (b : Batch). ArePoints b c.args.points.now) (sym c.snapshot.view_is) c.requires.points))
 
-pub settled_vehicles-requires-clause-plain : goal.settled_vehicles-requires-clause-plain
-settled_vehicles-requires-clause-plain c = rw c.deref.ensures.value c.in_ok-plain.ensures
-
 pub settled_vehicles-requires-clause-places : goal.settled_vehicles-requires-clause-places
 settled_vehicles-requires-clause-places c =
     rw c.as_slice.ensures (vehicle_places _ c.args.points.now (subst (λ (b : Batch). ArePoints b c.args.points.now) (sym c.snapshot.view_is) c.requires.points))
