@@ -1,5 +1,6 @@
-use Rattle.std.proofs.Common.{◌≡◌, ℕ, zero, suc, ◌+◌, ◌-◌, ◌<◌, ◌≤◌, Bool, true, false, List, [], ◌∷◌, refl, sym, ◌∙◌, subst, arith, inl, inr}
-use Rattle.small_routing.proofs.Common.{cases_eq, never, IsTravelTime, Leg, Task, Stop, Pick, Drop, Alight, place_of, lateness, leg_at, visit_at, has, IsNextStop, sum_below, has-with_same, has-with_other, Completes-front, IsAllDone-from_nil, sum_below-le, AtLeastAsSoon, two_hops, Label, task_riders, task_passengers, CanVisit, next_label, second_at, GoesOn, rest_delay, CanStill, late_at_once, RiderCan, rider_late, PassengerCan, passenger_late, least_ahead}
+use Rattle.std.proofs.lemmas.Bool.Decides.{nat_tests}
+use Rattle.std.proofs.Common.{◌≡◌, ℕ, zero, suc, ◌+◌, ◌-◌, ◌<◌, ◌≤◌, Bool, true, false, List, [], ◌∷◌, refl, sym, ◌∙◌, subst, arith, inl, inr, rules}
+use Rattle.small_routing.proofs.Common.{cases_eq, never, IsTravelTime, Leg, Task, Stop, Pick, Drop, Alight, place_of, lateness, leg_at, visit_at, has, IsNextStop, sum_below, has-with_same, has-with_other, Completes-front, IsAllDone-from_nil, sum_below-le, AtLeastAsSoon, Label, task_riders, task_passengers, CanVisit, next_label, second_at, GoesOn, rest_delay, CanStill, late_at_once, RiderCan, rider_late, PassengerCan, passenger_late, least_ahead}
 
 sum_below-zero : (f : ℕ → ℕ) (n : ℕ) → ((k : ℕ) → k < n → f k ≤ 0) → sum_below f n ≤ 0
 sum_below-zero f zero h = omega arith
@@ -8,39 +9,25 @@ sum_below-zero f (suc n) h = omega (arith, sum_below-zero f n (λ k b. h k (omeg
 -- where one term grows by x at most and no other grows, the sum does
 sum_below-le_one : (f g : ℕ → ℕ) (n i x : ℕ) → i < n → ((k : ℕ) → k < n → (k ≡ i → ⊥) → f k ≤ g k) → f i ≤ g i + x → sum_below f n ≤ sum_below g n + x
 sum_below-le_one f g zero i x b h one = absurd (omega arith)
-sum_below-le_one f g (suc n) i x b h one = elim (cases_eq i n) [
-  | inl e ↦
-      let last : f n ≤ g n + x = subst (λ k. f k ≤ g k + x) e one in
-      omega (arith, last, sum_below-le g f n (λ k q. h k (omega arith) (λ s. omega arith)))
-  | inr ne ↦ omega (arith, sum_below-le_one f g n i x (omega arith) (λ k q r. h k (omega arith) r) one, h n (omega arith) (λ s. ne (sym s)))
-]
+sum_below-le_one f g (suc n) i x b h one = search (rules, cases_eq, sum_below-le, (sum_below-le_one f g n i x))
 
 -- who is sooner can still serve whom the other can, with no more delay
 pub still_soon : (tau : ℕ → ℕ → ℕ) (dwell : ℕ) (leg : Leg) (picked dropped : Bool) (p f q g : ℕ) → AtLeastAsSoon tau p f q g → CanStill tau dwell leg picked dropped q g
     → CanStill tau dwell leg picked dropped p f × (late_at_once tau dwell leg picked dropped p f ≤ late_at_once tau dwell leg picked dropped q g)
 still_soon tau dwell leg picked true p f q g soon can = (tt, omega arith)
-still_soon tau dwell leg true false p f q g soon can =
-    let hop = soon.soon leg.destination can.0 in
-    ((hop.0, omega (arith, hop.1, can.1)), omega (arith, hop.1))
-still_soon tau dwell leg false false p f q g soon can =
-    let hop = soon.soon leg.origin can.0 in
-    ((hop.0, omega (arith, hop.1, can.1), can.2, omega (arith, hop.1, can.3)), omega (arith, hop.1))
+still_soon tau dwell leg true false p f q g soon can = search rules
+still_soon tau dwell leg false false p f q g soon can = search rules
 
 -- .. and where the stops of the rider that are done are the same
 still_same : (tau : ℕ → ℕ → ℕ) (dwell : ℕ) (leg : Leg) (picked dropped picked' dropped' : Bool) (p f q g : ℕ) → picked' ≡ picked → dropped' ≡ dropped → AtLeastAsSoon tau p f q g → CanStill tau dwell leg picked' dropped' q g
     → CanStill tau dwell leg picked dropped p f × (late_at_once tau dwell leg picked dropped p f ≤ late_at_once tau dwell leg picked' dropped' q g)
-still_same tau dwell leg picked dropped picked' dropped' p f q g e h soon can =
-    let there = subst (λ b. CanStill tau dwell leg picked b q g) h (subst (λ b. CanStill tau dwell leg b dropped' q g) e can) in
-    let here = still_soon tau dwell leg picked dropped p f q g soon there in
-    (here.0, subst (λ b. late_at_once tau dwell leg picked dropped p f ≤ late_at_once tau dwell leg b dropped' q g) (sym e) (subst (λ b. late_at_once tau dwell leg picked dropped p f ≤ late_at_once tau dwell leg picked b q g) (sym h) here.1))
+still_same tau dwell leg picked dropped picked' dropped' p f q g e h soon can = search rules
 
 -- before the pickup it is as after it
 still_picked : (tau : ℕ → ℕ → ℕ) (dwell : ℕ) (leg : Leg) (picked dropped picked' dropped' : Bool) (p f : ℕ) → picked ≡ false → dropped ≡ false → picked' ≡ true → dropped' ≡ false
     → tau p leg.origin < never → f + tau p leg.origin ≤ leg.latest_pickup → CanStill tau dwell leg picked' dropped' leg.origin (f + tau p leg.origin + dwell)
     → CanStill tau dwell leg picked dropped p f × (late_at_once tau dwell leg picked dropped p f ≤ late_at_once tau dwell leg picked' dropped' leg.origin (f + tau p leg.origin + dwell))
-still_picked tau dwell leg picked dropped picked' dropped' p f e h e' h' reach in_time can =
-    let there = subst (λ b. CanStill tau dwell leg true b leg.origin (f + tau p leg.origin + dwell)) h' (subst (λ b. CanStill tau dwell leg b dropped' leg.origin (f + tau p leg.origin + dwell)) e' can) in
-    rw (e, h, e', h') ((reach, in_time, there.0, there.1), omega arith)
+still_picked tau dwell leg picked dropped picked' dropped' p f e h e' h' reach in_time can = search rules
 
 -- the delay at the drop-off
 still_dropped : (tau : ℕ → ℕ → ℕ) (dwell : ℕ) (leg : Leg) (picked dropped picked' dropped' : Bool) (p f q g : ℕ) → picked ≡ true → dropped ≡ false → dropped' ≡ true
@@ -59,9 +46,7 @@ pub record IsAhead (tau : ℕ → ℕ → ℕ) (task : Task) (label : Label) (re
 
 module _ (points : ℕ) (tau : ℕ → ℕ → ℕ) (t : IsTravelTime points tau) (task : Task) (few : task_riders task ≤ 6) where
   pub soon_next : (label : Label) (s : Stop) → tau label.place (place_of (visit_at task s)) < never → AtLeastAsSoon tau label.place label.free (next_label tau task label s).place (next_label tau task label s).free
-  soon_next label s reach = record {
-    soon = λ x there. let hops = two_hops points tau t label.place (place_of (visit_at task s)) x reach there in (hops.0, omega (arith, hops.1));
-  }
+  soon_next label s reach = search rules
 
   -- one stop earlier
   ahead_step : (label : Label) (s : Stop) → IsNextStop (task_riders task) (task_passengers task) label.done s → CanVisit tau task label s
@@ -125,23 +110,5 @@ module _ (points : ℕ) (tau : ℕ → ℕ → ℕ) (t : IsTravelTime points tau
       (front.0, (way.serves.0, way.serves.1, way.serves.2), record { completes = front.1; serves = way.serves.3 })
 
   pub is_ahead : (rest : List Stop) (label : Label) → GoesOn tau task label rest → IsAhead tau task label rest
-  is_ahead [] label way =
-      let all = IsAllDone-from_nil (task_riders task) (task_passengers task) label.done way.completes in
-      let rider : (i : ℕ) → i < task_riders task → RiderCan tau task label i × (rider_late tau task label i ≤ 0) = λ i h.
-      still_out tau task.dwell (leg_at task.riders.items i) (has label.done i) (has label.done (6 + i)) label.place label.free (all.riders_out i h) in
-      let passenger : (j : ℕ) → j < task_passengers task → PassengerCan tau task label j × (passenger_late tau task label j ≤ 0) = λ j h.
-      still_out tau task.dwell (leg_at task.aboard.items j) true (has label.done (12 + j)) label.place label.free (all.passengers_out j h) in
-      record {
-        riders = λ i h. (rider i h).0;
-        passengers = λ j h. (passenger j h).0;
-        least = omega (arith, sum_below-zero (rider_late tau task label) (task_riders task) (λ i h. (rider i h).1), sum_below-zero (passenger_late tau task label) (task_passengers task) (λ j h. (passenger j h).1));
-      }
-  is_ahead (s ∷ rest) label way =
-      let on = goes_on_next label s rest way in
-      let later = is_ahead rest (next_label tau task label s) on.2 in
-      let step = ahead_step label s on.0 on.1 later.riders later.passengers in
-      record {
-        riders = step.0;
-        passengers = step.1;
-        least = omega (arith, step.2, later.least);
-      }
+  is_ahead [] label way = search (rules, IsAllDone-from_nil, still_out, sum_below-zero)
+  is_ahead (s ∷ rest) label way = grind (arith, nat_tests, (goes_on_next label s rest way), (ahead_step label s), (is_ahead rest))

@@ -1,7 +1,6 @@
-use Rattle.std.proofs.Common.{◌≡◌, ℕ, ◌+◌, ◌<◌, ◌≤◌, List, [], ◌∷◌, ◌++◌, Option, None, Some, refl, sym, ap, ◌∙◌, subst, inl, inr, arith, All, IfSome, IfNone}
-use Rattle.small_routing.proofs.Common.{cases_lt, IsTravelTime, Route, Task, Stop, Pick, Drop, Alight, ServesFrom, visits_of, free_seats, order_delay, IsServable, IsLeastDelay, with_stop, IsNextStop, IsAllDone, left_count, NoneBetter, StaysGood, IsAllDone-from_nil, left_count-falls, MakesOrders-all, Label, IsRoutable, task_riders, task_passengers, first_label, CanVisit, second_at, label_at, next_label, rest_delay, IsSmallLabel, RiderCan, PassengerCan, LeadsTo, IsExhausted, IsTried, IsLabelDone, route_of, IsCostFound, person_of, IsOnlyStop, IsPersonTried, IsNextOf, Priced}
+use Rattle.std.proofs.Common.{◌≡◌, ℕ, ◌+◌, ◌<◌, ◌≤◌, List, [], ◌∷◌, ◌++◌, Option, None, Some, refl, sym, ap, ◌∙◌, subst, inl, inr, arith, All, IfSome, IfNone, rules}
+use Rattle.small_routing.proofs.Common.{cases_lt, IsTravelTime, Route, Task, Stop, Pick, ServesFrom, visits_of, free_seats, order_delay, IsServable, IsLeastDelay, IsNextStop, IsAllDone, left_count, NoneBetter, StaysGood, IsAllDone-from_nil, left_count-falls, MakesOrders-all, Label, IsRoutable, task_riders, task_passengers, first_label, CanVisit, second_at, label_at, next_label, rest_delay, IsSmallLabel, RiderCan, PassengerCan, LeadsTo, IsExhausted, IsTried, IsLabelDone, route_of, IsCostFound, person_of, IsOnlyStop, IsPersonTried, IsNextOf, Priced}
 use Rattle.std.proofs.lemmas.List.{append-nil}
-use Rattle.small_routing.proofs.AheadLemmas.{goes_on_next}
 use Rattle.small_routing.proofs.LabelLemmas.{leads_first, leads_next, small_next}
 use Rattle.small_routing.proofs.SearchLemmas.{good_better, settled_good, exhausted_all, exhausted_none, tried_exhausted, least_none}
 
@@ -31,10 +30,7 @@ module _ (points : ℕ) (tau : ℕ → ℕ → ℕ) (t : IsTravelTime points tau
   pub next_small : (label next : Label) (s : Stop) → IsSmallLabel points (left_count (task_riders task) (task_passengers task) label.done) label → IsNextStop (task_riders task) (task_passengers task) label.done s → CanVisit tau task label s
       → next ≡ next_label tau task label s
       → IsSmallLabel points (left_count (task_riders task) (task_passengers task) next.done) next × (left_count (task_riders task) (task_passengers task) next.done + 1 ≤ left_count (task_riders task) (task_passengers task) label.done)
-  next_small label next s small is can e =
-      let fall = left_count-falls (task_riders task) (task_passengers task) label.done valid.rider_count s is in
-      let there = small_next points tau t task valid label s (left_count (task_riders task) (task_passengers task) label.done) (left_count (task_riders task) (task_passengers task) (with_stop label.done s)) small fall is can in
-      subst (λ n. IsSmallLabel points (left_count (task_riders task) (task_passengers task) n.done) n × (left_count (task_riders task) (task_passengers task) n.done + 1 ≤ left_count (task_riders task) (task_passengers task) label.done)) (sym e) (there, fall)
+  next_small label next s small is can e = search (rules, left_count-falls, small_next, left_count)
 
   -- somebody more was tried, so no way on by her stop is better
   pub prices_more : (label : Label) (person : ℕ) (first best : Option ℕ) (labels : List Label) → IsPersonTried tau task (route_of best) label person → PricesAll points tau task label person first best labels
@@ -64,9 +60,7 @@ module _ (points : ℕ) (tau : ℕ → ℕ → ℕ) (t : IsTravelTime points tau
   pub exhausted_persons : (label : Label) (persons : ℕ) (best : Option Route) → (IsAllDone (task_riders task) (task_passengers task) label.done → ⊥) → task_riders task + task_passengers task ≤ persons
       → ((k : ℕ) → k < persons → IsPersonTried tau task best label k) → IsExhausted tau task best label
   exhausted_persons label persons best more all tried [] way = absurd (more (IsAllDone-from_nil (task_riders task) (task_passengers task) label.done way.completes))
-  exhausted_persons label persons best more all tried (s ∷ rest) way =
-      let next = (goes_on_next points tau t task valid.rider_count label s rest way).0 in
-      tried (person_of (task_riders task) s) (omega (arith, person_below (task_riders task) (task_passengers task) label.done s next, all)) s next refl rest way
+  exhausted_persons label persons best more all tried (s ∷ rest) way = search rules
 
   -- all are dropped, with less delay than what was found
   pub priced_better : (label : Label) (old : Option ℕ) (labels : List Label) → IsAllDone (task_riders task) (task_passengers task) label.done → (NoneBetter (route_of old) label.delay → ⊥)

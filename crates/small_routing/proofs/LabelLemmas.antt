@@ -1,5 +1,5 @@
-use Rattle.std.proofs.Common.{◌≡◌, ℕ, ◌+◌, ◌<◌, ◌≤◌, List, [], ◌∷◌, ◌++◌, length, sym, ap, ◌∙◌, subst, arith}
-use Rattle.small_routing.proofs.Common.{All-weaker, longest, IsTravelTime, Leg, Task, Stop, Pick, Drop, Alight, IsKnown, place_of, room_after, lateness, ServesFrom, no_leg, IsLeg, IsTask, visit_at, visits_of, free_seats, order_delay, IsNextStop, left_count, left_count-most, MakesOrders-next, MakesOrders-none, append_one, Label, IsRoutable, IsRoutableLeg, task_riders, task_passengers, first_label, second_at, CanVisit, next_label, rest_delay, IsSmallLabel, LeadsTo}
+use Rattle.std.proofs.Common.{◌≡◌, ℕ, ◌+◌, ◌<◌, ◌≤◌, List, [], ◌∷◌, ◌++◌, length, ap, arith, rules}
+use Rattle.small_routing.proofs.Common.{IsTravelTime, Leg, Task, Stop, Pick, Drop, Alight, IsKnown, place_of, room_after, lateness, no_leg, IsLeg, IsTask, visit_at, free_seats, IsNextStop, left_count, left_count-most, MakesOrders-next, MakesOrders-none, append_one, Label, IsRoutable, IsRoutableLeg, task_riders, task_passengers, first_label, second_at, CanVisit, next_label, IsSmallLabel, LeadsTo}
 use Rattle.stop_orders.specs.declared.visit.Visit.{Visit}
 use Rattle.stop_orders.specs.declared.visit.Visit.TheVariants.{Pickup, Dropoff}
 
@@ -9,17 +9,7 @@ routable_leg points leg h = record { origin = h.origin; destination = h.destinat
 
 -- a valid task can be searched
 pub routable : (points : ℕ) (task : Task) → IsTask points task → IsRoutable points task
-routable points task valid = record {
-  start = valid.start;
-  ready = valid.ready;
-  dwell = valid.dwell;
-  seats = valid.seats;
-  seated = valid.seated;
-  passenger_count = valid.passenger_count;
-  rider_count = valid.rider_count;
-  passengers = All-weaker (IsLeg points) (IsRoutableLeg points) (routable_leg points) task.aboard.items valid.passengers;
-  riders = All-weaker (IsLeg points) (IsRoutableLeg points) (routable_leg points) task.riders.items valid.riders;
-}
+routable points task valid = search rules
 
 -- who may come next is known
 pub known_next : (riders passengers done : ℕ) (s : Stop) → IsNextStop riders passengers done s → IsKnown riders passengers s
@@ -48,51 +38,22 @@ module _ (points : ℕ) (tau : ℕ → ℕ → ℕ) (t : IsTravelTime points tau
   -- the numbers stay small
   pub small_next : (label : Label) (s : Stop) (left less : ℕ) → IsSmallLabel points left label → less + 1 ≤ left → IsNextStop (task_riders task) (task_passengers task) label.done s → CanVisit tau task label s
       → IsSmallLabel points less (next_label tau task label s)
-  small_next label s left less small fall next can =
-      let known = known_next (task_riders task) (task_passengers task) label.done s next in
-      let hop : tau label.place (place_of (visit_at task s)) ≤ longest = t.range label.place (place_of (visit_at task s)) can.0 in
-      record {
-        place = place_in s known;
-        free = omega (arith, small.free, fall, hop, valid.dwell);
-        room = omega (arith, small.room, fall, room_most s known label.room);
-        delay = omega (arith, small.delay, small.free, fall, hop, lateness-most (visit_at task s) (second_at tau task label s));
-      }
+  small_next label s left less small fall next can = search rules
 
   -- one more stop leads to the next label
   pub leads_next : (label : Label) (path : List Stop) (s : Stop) → LeadsTo tau task path label → IsNextStop (task_riders task) (task_passengers task) label.done s → CanVisit tau task label s
       → LeadsTo tau task (path ++ s ∷ []) (next_label tau task label s)
-  leads_next label path s leads next can = record {
-    orders = MakesOrders-next task valid.rider_count label.done path s next leads.orders;
-    serves = λ rest h. subst (λ stops. ServesFrom tau task.dwell task.start task.ready (free_seats task) (visits_of task stops)) (sym (append_one path s rest)) (leads.serves (s ∷ rest) (can.0, can.1, can.2, h));
-    delays = λ rest.
-        let whole : order_delay tau task (path ++ s ∷ rest) ≡ label.delay + rest_delay tau task label (s ∷ rest) = leads.delays (s ∷ rest) in
-        let same : label.delay + rest_delay tau task label (s ∷ rest) ≡ (next_label tau task label s).delay + rest_delay tau task (next_label tau task label s) rest = omega arith in
-        ap (λ stops. order_delay tau task stops) (append_one path s rest) ∙ whole ∙ same;
-  }
+  leads_next label path s leads next can = search (rules, MakesOrders-next, append_one)
 
   -- the first label
   pub small_first : (done room : ℕ) → done ≡ 0 → room ≡ free_seats task → IsSmallLabel points (left_count (task_riders task) (task_passengers task) done) (record { done = done; place = task.start; free = task.ready; room = room; delay = 0 })
-  small_first done room e f =
-      let most = left_count-most (task_riders task) (task_passengers task) done in
-      record {
-        place = valid.start;
-        free = omega (arith, most, valid.ready, valid.rider_count, valid.passenger_count);
-        room = omega (arith, most, f, valid.seats, valid.rider_count, valid.passenger_count);
-        delay = omega (arith, most, valid.rider_count, valid.passenger_count);
-      }
+  small_first done room e f = search (rules, left_count-most)
 
   pub left_first : (done : ℕ) (path : List Stop) → path ≡ [] → length path + left_count (task_riders task) (task_passengers task) done ≤ 22
   left_first done path e = omega (arith, left_count-most (task_riders task) (task_passengers task) done, ap length e, valid.rider_count, valid.passenger_count)
 
   leads_from_none : LeadsTo tau task [] (first_label task)
-  leads_from_none = record {
-    orders = MakesOrders-none task;
-    serves = λ rest h. h;
-    delays = λ rest. omega arith;
-  }
+  leads_from_none = search (rules, MakesOrders-none)
 
   pub leads_first : (done room : ℕ) (path : List Stop) → done ≡ 0 → room ≡ free_seats task → path ≡ [] → LeadsTo tau task path (record { done = done; place = task.start; free = task.ready; room = room; delay = 0 })
-  leads_first done room path e f p =
-      subst (λ xs. LeadsTo tau task xs (record { done = done; place = task.start; free = task.ready; room = room; delay = 0 })) (sym p)
-      (subst (λ n. LeadsTo tau task [] (record { done = n; place = task.start; free = task.ready; room = room; delay = 0 })) (sym e)
-      (subst (λ n. LeadsTo tau task [] (record { done = 0; place = task.start; free = task.ready; room = n; delay = 0 })) (sym f) leads_from_none))
+  leads_first done room path e f p = search (rules, leads_from_none)

@@ -1,5 +1,5 @@
-use Rattle.std.proofs.Common.{◌≡◌, ℕ, ◌+◌, ◌<◌, ◌≤◌, List, [], ◌∷◌, length, map, get_or, take, Option, Some, None, Result, Ok, Err, OnOk, sym, ap, ◌∙◌, subst, arith, inl, inr, All}
-use Rattle.small_routing.proofs.Common.{cases_lt, All-weaker, All-more, All-map, All-contains, IsTravelTime, Route, Task, Stop, ServesFrom, visits_of, free_seats, order_delay, Serves, IsAllDone, Completes, IsFound, NoneBetter, StaysGood, soon_over, ServesFrom-soon, IsAllDone-from_nil, Completes-none, MakesOrders-all, rest_of_all, Label, Candidate, IsRoutable, task_riders, task_passengers, CanVisit, next_label, GoesOn, rest_delay, RiderCan, PassengerCan, least_ahead, no_label, IsDominated, LeadsTo, IsExhausted, IsTried, IsLabelDone, AreCandidates, Searched}
+use Rattle.std.proofs.Common.{◌≡◌, ℕ, ◌+◌, ◌<◌, ◌≤◌, List, [], ◌∷◌, length, map, get_or, take, Option, Some, None, Result, Ok, Err, OnOk, sym, ap, ◌∙◌, subst, arith, inl, inr, All, rules}
+use Rattle.small_routing.proofs.Common.{cases_lt, All-weaker, All-more, All-map, All-contains, IsTravelTime, Route, Task, Stop, ServesFrom, visits_of, free_seats, order_delay, Serves, IsAllDone, Completes, IsFound, NoneBetter, StaysGood, soon_over, ServesFrom-soon, IsAllDone-from_nil, Completes-none, MakesOrders-all, Label, Candidate, IsRoutable, task_riders, task_passengers, CanVisit, next_label, GoesOn, rest_delay, RiderCan, PassengerCan, least_ahead, IsDominated, LeadsTo, IsExhausted, IsTried, IsLabelDone, AreCandidates, Searched}
 use Rattle.std.proofs.lemmas.List.{append-nil}
 use Rattle.small_routing.proofs.AheadLemmas.{is_ahead, goes_on_next}
 use Rattle.small_routing.proofs.LabelLemmas.{known_next}
@@ -29,10 +29,7 @@ settled_good points tau task old new labels good = All-weaker (IsLabelDone point
 module _ (points : ℕ) (tau : ℕ → ℕ → ℕ) (t : IsTravelTime points tau) (task : Task) (valid : IsRoutable points task) where
   -- where all are dropped, the delay is that of the label
   pub exhausted_all : (label : Label) (best : Option Route) → IsAllDone (task_riders task) (task_passengers task) label.done → NoneBetter best label.delay → IsExhausted tau task best label
-  exhausted_all label best all none = λ rest way.
-      let e : rest ≡ [] = rest_of_all (task_riders task) (task_passengers task) label.done valid.rider_count all rest way.completes in
-      let same : label.delay ≡ label.delay + rest_delay tau task label [] = omega arith in
-      subst (λ stops. NoneBetter best (label.delay + rest_delay tau task label stops)) (sym e) (subst (λ d. NoneBetter best d) same none)
+  exhausted_all label best all none = search rules
 
   -- a better order was found
   pub searched_better : (path stops : List Stop) (label : Label) (old : Option Route) (route : Route) (labels : List Label) → LeadsTo tau task path label → IsAllDone (task_riders task) (task_passengers task) label.done
@@ -66,13 +63,7 @@ module _ (points : ℕ) (tau : ℕ → ℕ → ℕ) (t : IsTravelTime points tau
 
   -- where a settled label dominates
   pub exhausted_dominated : (label : Label) (best : Option Route) (labels : List Label) → IsDominated tau labels label → All (IsLabelDone points tau task best) labels → IsExhausted tau task best label
-  exhausted_dominated label best labels dominated settled = λ rest way.
-      let kept = get_or labels dominated.0 no_label in
-      let d = dominated.2 in
-      let soon = soon_over points tau t kept.place kept.free label.place label.free d.reach d.soon in
-      let same = ServesFrom-soon tau task.dwell (visits_of task rest) kept.place kept.free kept.room label.place label.free label.room soon d.room way.serves in
-      let there : GoesOn tau task kept rest = record { completes = subst (λ n. Completes (task_riders task) (task_passengers task) n rest) (sym d.done) way.completes; serves = same.0 } in
-      NoneBetter-more best (kept.delay + rest_delay tau task kept rest) (label.delay + rest_delay tau task label rest) (omega (arith, same.1, d.delay)) ((settled dominated.0 no_label dominated.1).exhausted rest there)
+  exhausted_dominated label best labels dominated settled = search (rules, soon_over, ServesFrom-soon, Completes, NoneBetter-more)
 
   -- a stop was tried where no way on from its next label is better
   pub tried_exhausted : (label next : Label) (s : Stop) (best : Option Route) → next ≡ next_label tau task label s → IsExhausted tau task best next → IsTried tau task best label s

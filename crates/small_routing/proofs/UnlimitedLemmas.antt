@@ -1,5 +1,5 @@
-use Rattle.std.proofs.Common.{◌≡◌, ℕ, ◌+◌, ◌-◌, ◌*◌, ◌<◌, ◌≤◌, List, [], ◌∷◌, length, map, Option, None, Some, Result, Ok, Err, refl, sym, ap, ◌∙◌, subst, arith, IfOk, IfSome, IfNone, fold}
-use Rattle.small_routing.proofs.Common.{get_or-map, length-map, All-map, All-weaker, never, longest, IsTravelTime, Leg, Route, Task, Stop, Pick, Drop, Alight, IsKnown, IsOrder, place_of, latest_of, boarding_of, room_after, lateness, Reaches, ServesFrom, delay_from, no_leg, IsTask, persons, leg_at, visit_at, visits_of, free_seats, IsOrderOf, ReachesAll, order_delay, Serves, IsRoutable, IsRoutableLeg, without_latest, without_limits}
+use Rattle.std.proofs.Common.{◌≡◌, ℕ, ◌+◌, ◌-◌, ◌*◌, ◌<◌, ◌≤◌, List, [], ◌∷◌, length, map, Option, None, Some, Result, Ok, Err, refl, sym, ap, ◌∙◌, subst, arith, IfOk, IfSome, IfNone, fold, rules}
+use Rattle.small_routing.proofs.Common.{get_or-map, length-map, All-map, All-weaker, IsTravelTime, Leg, Route, Task, Stop, Alight, IsKnown, IsOrder, place_of, latest_of, boarding_of, lateness, Reaches, ServesFrom, delay_from, no_leg, IsTask, persons, leg_at, visit_at, visits_of, free_seats, IsOrderOf, ReachesAll, order_delay, Serves, IsRoutable, IsRoutableLeg, without_latest, without_limits}
 use Rattle.pool_base.specs.declared.memory.OutOfMemory.{OutOfMemory}
 use Rattle.std.specs.List.{AllByRecursion}
 use Rattle.stop_orders.proofs.lemmas.ScanLemmas.{order_short}
@@ -53,33 +53,16 @@ module _ (points : ℕ) (tau : ℕ → ℕ → ℕ) (t : IsTravelTime points tau
   reaches_unlimited : (stops : List Stop) (place free room : ℕ) → AllByRecursion (IsKnown (length task.riders.items) (length task.aboard.items)) stops → ServesFrom tau task.dwell place free room (visits_of (without_limits task) stops)
       → Reaches tau place (visits_of task stops)
   reaches_unlimited [] place free room known serves = tt
-  reaches_unlimited (s ∷ stops) place free room known serves =
-      let v = visit_at (without_limits task) s in
-      let e = place_same s known.0 in
-      let rest = reaches_unlimited stops (place_of v) (free + tau place (place_of v) + task.dwell) (room_after v room) known.1 serves.3 in
-      (subst (λ x. tau place x < never) e serves.0, subst (λ x. Reaches tau x (visits_of task stops)) e rest)
+  reaches_unlimited (s ∷ stops) place free room known serves = search (rules, place_same, (reaches_unlimited stops))
 
   serves_unlimited : (stops : List Stop) (place free room : ℕ) → AllByRecursion (IsKnown (length task.riders.items) (length task.aboard.items)) stops → free + length stops * 1000000600 ≤ 30000000000 → Reaches tau place (visits_of task stops)
       → ServesFrom tau task.dwell place free room (visits_of (without_limits task) stops)
   serves_unlimited [] place free room known early reach = tt
-  serves_unlimited (s ∷ stops) place free room known early reach =
-      let v = visit_at (without_limits task) s in
-      let e = place_same s known.0 in
-      let here : tau place (place_of v) < never = subst (λ x. tau place x < never) (sym e) reach.0 in
-      let hop : tau place (place_of v) ≤ longest = t.range place (place_of v) here in
-      let rest = serves_unlimited stops (place_of v) (free + tau place (place_of v) + task.dwell) (room_after v room) known.1 (omega (arith, early, hop, valid.dwell)) (subst (λ x. Reaches tau x (visits_of task stops)) (sym e) reach.1) in
-      (here, omega (arith, early, hop, latest_far s known.0), omega (arith, nobody_boards s known.0), rest)
+  serves_unlimited (s ∷ stops) place free room known early reach = search (rules, place_same, latest_far, nobody_boards, (serves_unlimited stops))
 
   delay_unlimited : (stops : List Stop) (place free : ℕ) → AllByRecursion (IsKnown (length task.riders.items) (length task.aboard.items)) stops → delay_from tau task.dwell place free (visits_of (without_limits task) stops) ≡ delay_from tau task.dwell place free (visits_of task stops)
   delay_unlimited [] place free known = refl
-  delay_unlimited (s ∷ stops) place free known =
-      let v = visit_at (without_limits task) s in
-      let e = place_same s known.0 in
-      let late = late_same s known.0 (free + tau place (place_of v)) in
-      let rest = delay_unlimited stops (place_of v) (free + tau place (place_of v) + task.dwell) known.1 in
-      ap (λ n. n + delay_from tau task.dwell (place_of v) (free + tau place (place_of v) + task.dwell) (visits_of (without_limits task) stops)) late
-      ∙ ap (λ n. lateness (visit_at task s) (free + tau place (place_of v)) + n) rest
-      ∙ ap (λ x. lateness (visit_at task s) (free + tau place x) + delay_from tau task.dwell x (free + tau place x + task.dwell) (visits_of task stops)) e
+  delay_unlimited (s ∷ stops) place free known = search (rules, place_same, late_same, (delay_unlimited stops))
 
   order_unlimited : (stops : List Stop) → IsOrderOf (without_limits task) stops → IsOrderOf task stops
   order_unlimited stops order = subst (λ n. IsOrder (length task.riders.items) n stops) (length-map task.aboard.items without_latest) order
@@ -92,9 +75,7 @@ module _ (points : ℕ) (tau : ℕ → ℕ → ℕ) (t : IsTravelTime points tau
 
   -- to serve without the limits is to reach all places
   reaches_from_serves : (stops : List Stop) → Serves tau (without_limits task) stops → IsOrderOf task stops × ReachesAll tau task stops
-  reaches_from_serves stops serves =
-      let order = order_unlimited stops serves.order in
-      (order, reaches_unlimited stops task.start task.ready (free_seats (without_limits task)) order.known serves.in_time)
+  reaches_from_serves stops serves = search (rules, (order_unlimited stops serves.order), (reaches_unlimited stops))
 
   serves_from_reaches : (stops : List Stop) → IsOrderOf task stops → ReachesAll tau task stops → Serves tau (without_limits task) stops
   serves_from_reaches stops order reach = record {

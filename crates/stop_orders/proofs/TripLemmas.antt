@@ -1,5 +1,6 @@
-use Rattle.std.proofs.Common.{◌≡◌, ℕ, zero, suc, ◌+◌, ◌-◌, ◌*◌, ◌<◌, ◌≤◌, List, [], ◌∷◌, ◌++◌, length, map, get_or, take, drop, refl, sym, ap, ◌∙◌, subst, arith, inl, inr, ◌⊎◌, All, remove}
-use Rattle.stop_orders.proofs.Common.{AllByRecursion, false≢true, map-append, take-map, drop-map, length-map, get_or-map, nil_from_length, length-remove, never, IsTravelTime, Task, Stop, Pick, Drop, Alight, Visit, Pickup, Dropoff, IsKnown, IsOrder, place_of, latest_of, room_after, lateness, ServesFrom, delay_from, no_leg, leg_at, IsTask, IsServable, IsLeastDelay, visit_at, visits_of, free_seats, Serves, order_delay, IsNextStop, no_vehicle, no_rider, vehicle_at, rider_at, trip_task, pair_task, greatest, IsTrip, IsRrEdge, without_rider, without_passenger, stops_without_rider, stops_without_passenger, StillServes}
+use Rattle.std.proofs.lemmas.Bool.Decides.{nat_tests}
+use Rattle.std.proofs.Common.{◌≡◌, ℕ, zero, suc, ◌+◌, ◌-◌, ◌*◌, ◌<◌, ◌≤◌, List, [], ◌∷◌, ◌++◌, length, map, get_or, take, drop, refl, sym, ap, ◌∙◌, subst, arith, inl, inr, ◌⊎◌, All, remove, rules}
+use Rattle.stop_orders.proofs.Common.{AllByRecursion, false≢true, map-append, take-map, drop-map, length-map, get_or-map, nil_from_length, length-remove, never, IsTravelTime, Task, Stop, Pick, Drop, Alight, Visit, Pickup, Dropoff, IsKnown, IsOrder, latest_of, lateness, ServesFrom, delay_from, no_leg, leg_at, IsTask, IsServable, IsLeastDelay, visit_at, visits_of, free_seats, Serves, order_delay, IsNextStop, no_vehicle, no_rider, vehicle_at, rider_at, trip_task, pair_task, greatest, IsTrip, IsRrEdge, without_rider, without_passenger, stops_without_rider, stops_without_passenger, StillServes}
 use Rattle.stop_orders.specs.declared.settled.Settled.{Settled}
 use Rattle.stop_orders.specs.declared.settled_vehicle.SettledVehicle.{SettledVehicle}
 use Rattle.stop_orders.specs.Sound.{IsShort, IsSound}
@@ -28,9 +29,7 @@ module _ (k points : ℕ) (tau : ℕ → ℕ → ℕ) (settled : Settled) (t : I
     sub_trip_servable served = (stops_without_rider i served.0, (sub_trip served.0 served.1).serves)
 
     pub sub_trip_no_dearer : (cost less : ℕ) → IsLeastDelay tau (trip_task settled v trip) cost → IsLeastDelay tau (trip_task settled v (remove trip i)) less → less ≤ cost
-    sub_trip_no_dearer cost less all part =
-        let there = sub_trip all.stops all.serves in
-        omega (arith, part.least (stops_without_rider i all.stops) there.serves, there.delay, all.has_delay)
+    sub_trip_no_dearer cost less all part = grind (arith, nat_tests, (sub_trip all.stops all.serves))
 
 -- the ideal second of a drop-off; of a pickup the latest one
 ideal_of : Visit → ℕ
@@ -51,11 +50,7 @@ short_visit task riders aboard (Alight j) h = aboard j no_leg h
 delay_short : (tau : ℕ → ℕ → ℕ) (dwell : ℕ) (task : Task) → All IsShort task.riders.items → All IsShort task.aboard.items → (stops : List Stop) (place free room : ℕ)
     → AllByRecursion (IsKnown (length task.riders.items) (length task.aboard.items)) stops → ServesFrom tau dwell place free room (visits_of task stops) → delay_from tau dwell place free (visits_of task stops) ≤ length stops * 7200
 delay_short tau dwell task riders aboard [] place free room known serves = omega arith
-delay_short tau dwell task riders aboard (s ∷ stops) place free room known serves =
-    let v = visit_at task s in
-    let here = short_late v (free + tau place (place_of v)) (short_visit task riders aboard s known.0) serves.1 in
-    let rest = delay_short tau dwell task riders aboard stops (place_of v) (free + tau place (place_of v) + dwell) (room_after v room) known.1 serves.3 in
-    omega (arith, here, rest)
+delay_short tau dwell task riders aboard (s ∷ stops) place free room known serves = search (rules, short_late, short_visit, (delay_short tau dwell task riders aboard stops))
 
 trip_short : (settled : Settled) (trip : List ℕ) → All (λ r. IsShort r.leg) settled.riders → All (λ r. r < length settled.riders) trip → All IsShort (map (λ r. (rider_at settled r).leg) trip)
 trip_short settled trip short within = λ n d h.
@@ -78,10 +73,7 @@ alone task = record task { aboard = record { items = [] } }
 -- where a task is served, its riders are served without the passengers
 pub served_alone : (points : ℕ) (tau : ℕ → ℕ → ℕ) → IsTravelTime points tau → (n : ℕ) (task : Task) → length task.aboard.items ≡ n → IsTask points task → IsServable tau task → IsServable tau (alone task) × IsTask points (alone task)
 unfolding alone
-served_alone points tau t zero task e valid served =
-    let none : task.aboard.items ≡ [] = nil_from_length task.aboard.items e in
-    let same : task ≡ record task { aboard = record { items = [] } } = ap (λ xs. record task { aboard = record { items = xs } }) none in
-    (subst (λ u. IsServable tau u) same served, subst (λ u. IsTask points u) same valid)
+served_alone points tau t zero task e valid served = search (rules, nil_from_length)
 served_alone points tau t (suc n) task e valid served =
     let within : 0 < length task.aboard.items = omega arith in
     let rest = passenger_left_out points task valid 0 within tau t served.0 served.1 in
@@ -115,9 +107,7 @@ pick_of (Alight j) next = absurd (omega (arith, next.0))
 -- an order of two riders and nobody else begins with a pickup
 first_pick : (stops : List Stop) → IsOrder 2 0 stops → (i : ℕ) × (rest : List Stop) × (i < 2) × (stops ≡ Pick i ∷ rest)
 first_pick [] order = let none : [] ≡ Pick 0 ∷ Drop 0 ∷ [] = order.rides 0 (omega arith) in absurd (no_pick 0 (Drop 0 ∷ []) none)
-first_pick (s ∷ rest) order =
-    let pick = pick_of s (Completes-front 2 0 0 (omega arith) s rest (Completes-none 2 0 (s ∷ rest) order)).0 in
-    (pick.0, rest, pick.1, ap (λ x. x ∷ rest) pick.2)
+first_pick (s ∷ rest) order = grind (arith, nat_tests, (pick_of s), (Completes-front 2 0 0), (Completes-none 2 0 (s ∷ rest) order))
 
 module _ (k points : ℕ) (tau : ℕ → ℕ → ℕ) (settled : Settled) (t : IsTravelTime points tau) (sound : IsSound k points tau settled) (v : ℕ) (vehicle : v < length settled.vehicles) (a b : ℕ) where
   pub pair_alone : Task

@@ -3,7 +3,7 @@ pub use Rattle.std.proofs.lemmas.Bool.{cases_lt, cases_order}
 pub use Rattle.std.proofs.lemmas.List.{get_or-append_right, get_or-map, get_or_append_left, get_or_default, get_or_past, get_or_push, length-map, length_push, map-append, map_push, nil_from_length, take_more}
 pub use Rattle.std.proofs.lemmas.List.Elements.{All-append, All-cons, All-nil, All-push, Contains-append_left, Contains-append_right, Contains-push}
 pub use Rattle.pool_base.specs.Times.{point_count, travel_time}
-pub use Rattle.stop_orders.specs.Settled.{CanServe, IsRow, IsRrEdge, IsTrip, no_rider, rider_at, trip_task}
+pub use Rattle.stop_orders.specs.Settled.{CanServe, IsRrEdge, IsTrip, trip_task}
 pub use Rattle.stop_orders.specs.Task.{IsLeastDelay, IsServable, IsTask}
 pub use Rattle.stop_orders.specs.declared.settled.Settled.{Settled}
 pub use Rattle.stop_orders.specs.declared.task.Task.{Task}

@@ -1,21 +1,11 @@
-use Rattle.std.proofs.Common.{◌≡◌, ℕ, ◌+◌, ◌-◌, ◌<◌, ◌≤◌, inl, inr, List, [], ◌∷◌, ◌++◌, length, get_or, refl, sym, ap, ◌∙◌, arith}
-use Rattle.trip_growth.proofs.Common.{cases_lt, length-map, map-append, get_or_append_left, get_or-append_right, get_or-map, nil_from_length, All-append, All-nil, All-cons, Contains-append_left, Contains-append_right, ComesBefore, IsRising, trips_of, IsLevelRow, IsLevel, AreRowsWithin, HasMoreOfLevel, HasMoreWithin, TripOf}
+use Rattle.std.proofs.Common.{◌≡◌, ℕ, ◌+◌, ◌-◌, ◌<◌, ◌≤◌, inl, inr, List, [], ◌∷◌, ◌++◌, length, get_or, arith, rules}
+use Rattle.trip_growth.proofs.Common.{cases_lt, length-map, map-append, get_or_append_left, get_or-append_right, get_or-map, nil_from_length, All-append, All-nil, All-cons, Contains-append_left, Contains-append_right, IsRising, trips_of, IsLevelRow, IsLevel, AreRowsWithin, HasMoreOfLevel, HasMoreWithin, TripOf}
 use Rattle.std.specs.List.{All, Contains}
 use Rattle.std.proofs.lemmas.List.{length-append}
 
 rising_append : (ts us : List (List ℕ)) → IsRising ts → IsRising us
     → ((i j : ℕ) → i < length ts → j < length us → length (get_or ts i []) < length (get_or us j [])) → IsRising (ts ++ us)
-rising_append ts us left right apart i j h k =
-    let n = length-append ts us in
-    elim (cases_lt j (length ts)) as (λ _. ComesBefore (get_or (ts ++ us) i []) (get_or (ts ++ us) j [])) [
-      | inl lt ↦
-          let lower : i < length ts = omega arith in
-          rw (get_or_append_left ts us [] i lower, get_or_append_left ts us [] j lt) (left i j h lt)
-      | inr ge ↦ elim (cases_lt i (length ts)) as (λ _. ComesBefore (get_or (ts ++ us) i []) (get_or (ts ++ us) j [])) [
-        | inl lower ↦ rw (get_or_append_left ts us [] i lower, get_or-append_right ts us (length ts) j [] refl ge) (inl (apart i (j - length ts) lower (omega arith)))
-        | inr higher ↦ rw (get_or-append_right ts us (length ts) i [] refl higher, get_or-append_right ts us (length ts) j [] refl ge) (right (i - length ts) (j - length ts) (omega arith) (omega arith))
-      ]
-    ]
+rising_append ts us left right apart i j h k = search (rules, length-append, cases_lt, get_or_append_left, get_or-append_right)
 
 size_where : (P : ℕ → Type 0) (rows : List TripOf) → All (λ row. P (length row.riders.items)) rows → (i : ℕ) → i < length (trips_of rows) → P (length (get_or (trips_of rows) i []))
 size_where P [] h i k = absurd (omega arith)
@@ -43,13 +33,7 @@ module _ (Serves : List ℕ → Type 0) (Costs : List ℕ → ℕ → Type 0) wh
     pub whole : (trip : List ℕ) → length trip < size → Serves trip → Contains (trips_of rows) trip
 
   pub smaller_none : AreSmaller 0 []
-  smaller_none =
-      record {
-        right = All-nil (IsLevelRow Serves Costs);
-        sized = All-nil (λ r. length r.riders.items < 0);
-        rising = λ i j h k. absurd (omega arith);
-        whole = λ t h s. absurd (omega arith);
-      }
+  smaller_none = search rules
 
   pub smaller_joined : (size : ℕ) (xs ys : List TripOf) → AreSmaller size xs → IsLevel Serves Costs size ys → AreSmaller (size + 1) (xs ++ ys)
   smaller_joined size xs ys small level =
@@ -64,13 +48,7 @@ module _ (Serves : List ℕ → Type 0) (Costs : List ℕ → ℕ → Type 0) wh
       }
 
   pub smaller_all : (most : ℕ) (rows : List TripOf) → AreSmaller (most + 1) rows → AreRowsWithin Serves Costs most rows
-  smaller_all most rows small =
-      record {
-        right = small.right;
-        sized = λ k d lt. let s = small.sized k d lt in omega arith;
-        rising = small.rising;
-        whole = λ t h s. small.whole t (omega arith) s;
-      }
+  smaller_all most rows small = search rules
 
   -- more rows of one size than there is room left for
   pub more_joined : (size left room most : ℕ) (xs ys : List TripOf) → AreSmaller size xs → IsLevel Serves Costs size ys → HasMoreOfLevel Serves Costs (size + 1) left
@@ -87,10 +65,4 @@ module _ (Serves : List ℕ → Type 0) (Costs : List ℕ → ℕ → Type 0) wh
 
   -- the row of the empty trip
   pub level_of_empty : (row : TripOf) → row.riders.items ≡ [] → IsLevelRow Serves Costs row → IsLevel Serves Costs 0 (row ∷ [])
-  level_of_empty row is good =
-      record {
-        right = All-cons (IsLevelRow Serves Costs) row [] good (All-nil (IsLevelRow Serves Costs));
-        sized = All-cons (λ r. length r.riders.items ≡ 0) row [] (ap length is) (All-nil (λ r. length r.riders.items ≡ 0));
-        rising = λ i j h k. absurd (omega arith);
-        whole = λ t e s. (0, omega arith, is ∙ sym (nil_from_length t e));
-      }
+  level_of_empty row is good = search (rules, All-cons, All-nil, nil_from_length)

@@ -1,4 +1,4 @@
-use Rattle.std.proofs.Common.{◌≡◌, ℕ, ◌+◌, ◌<◌, ◌≤◌, ◌⊎◌, inl, inr, List, [], ◌∷◌, ◌++◌, length, take, refl, sym, ap, ◌∙◌, subst, arith, ⊎_elim, get_or}
+use Rattle.std.proofs.Common.{◌≡◌, ℕ, ◌+◌, ◌<◌, ◌≤◌, ◌⊎◌, inl, inr, List, [], ◌∷◌, ◌++◌, length, take, refl, sym, ap, ◌∙◌, subst, arith, ⊎_elim, get_or, rules}
 use Rattle.trip_growth.proofs.Common.{length-map, map_push, get_or-map, get_or_default, get_or_append_left, get_or_push, length_push, get_or_past, cases_lt, cases_order, All-push, All-nil, Contains-append_left, Contains-push, IsLower, ComesBefore, IsRising, trips_of, IsLevelRow, IsLevel, IsLevelUpTo, IsTripRule, TripOf}
 use Rattle.std.specs.List.{Contains, remove}
 use Rattle.std.proofs.lemmas.List.{append-nil, take_at, length-take-le}
@@ -41,26 +41,14 @@ front_of : (t q : List ℕ) (x m : ℕ) → t ≡ q ++ x ∷ [] → length q ≡
 front_of t q x m is e = ap (λ (v : List ℕ). take m v) is ∙ take_at q (x ∷ []) m e
 
 rising_push : (ts : List (List ℕ)) (t : List ℕ) → IsRising ts → ((i : ℕ) → i < length ts → ComesBefore (get_or ts i []) t) → IsRising (ts ++ t ∷ [])
-rising_push ts t up low i j h k =
-    let n : length (ts ++ t ∷ []) ≡ length ts + 1 = length_push ts t in
-    let left : i < length ts = omega arith in
-    elim (cases_lt j (length ts)) as (λ _. ComesBefore (get_or (ts ++ t ∷ []) i []) (get_or (ts ++ t ∷ []) j [])) [
-      | inl lt ↦ rw (get_or_append_left ts (t ∷ []) [] i left, get_or_append_left ts (t ∷ []) [] j lt) (up i j h lt)
-      | inr ge ↦ let last : length ts ≡ j = omega arith in rw (get_or_append_left ts (t ∷ []) [] i left, get_or_push ts t [] j last) (low i left)
-    ]
+rising_push ts t up low i j h k = search (rules, length_push, cases_lt, get_or_append_left, get_or_push)
 
 module _ (Serves : List ℕ → Type 0) (size : ℕ) (ts : List (List ℕ)) (b : AreBelow Serves size ts) where
   pub lower_from_order : (i j : ℕ) → i < j → j < length ts → IsLower (get_or ts i []) (get_or ts j [])
-  lower_from_order i j h k =
-      let e : length (get_or ts i []) ≡ length (get_or ts j []) = b.sizes i (omega arith) ∙ sym (b.sizes j k) in
-      same_size _ _ e (b.rising i j h k)
+  lower_from_order i j h k = search rules
 
   order_from_lower : (i j : ℕ) → i < length ts → j < length ts → IsLower (get_or ts i []) (get_or ts j []) → i < j
-  order_from_lower i j h k low =
-      elim (cases_order i j) as (λ _. i < j) [
-        | inl same ↦ absurd (lower_irrefl (get_or ts j []) (subst (λ (v : ℕ). IsLower (get_or ts v []) (get_or ts j [])) same low))
-        | inr w ↦ elim w as (λ _. i < j) [ inl lt ↦ lt | inr gt ↦ absurd (lower_asym _ _ low (lower_from_order j i gt h)) ]
-      ]
+  order_from_lower i j h k low = search (rules, cases_order, lower_irrefl, lower_asym, lower_from_order)
 
   -- where a trip of this size stands
   place_of : (t : List ℕ) → length t ≡ size → Serves t → (i : ℕ) × (i < length ts) × (get_or ts i [] ≡ t)
@@ -76,14 +64,7 @@ module _ (riders : ℕ) (Serves : List ℕ → Type 0) (Costs : List ℕ → ℕ
       → ((t : List ℕ) → length t ≡ size → Serves t → IsLower t limit → IsLower t limit')
       → ((t : List ℕ) → length t ≡ size → Serves t → IsLower t limit' → IsLower t limit)
       → IsLevelUpTo Serves Costs size limit rows → IsLevelUpTo Serves Costs size limit' rows
-  moved size limit limit' rows up down h =
-      record {
-        right = h.right;
-        sized = h.sized;
-        lower = λ k d lt. up _ (h.sized k d lt) (h.right k d lt).served (h.lower k d lt);
-        rising = h.rising;
-        whole = λ t e s low. h.whole t e s (down t e s low);
-      }
+  moved size limit limit' rows up down h = search rules
 
   -- the trip at the limit can be served: it goes to the end
   pub taken : (p : List ℕ) (b : ℕ) (rows : List TripOf) (row : TripOf)
@@ -118,19 +99,7 @@ module _ (riders : ℕ) (Serves : List ℕ → Type 0) (Costs : List ℕ → ℕ
   pub passed : (p : List ℕ) (b : ℕ) (rows : List TripOf) → (Serves (p ++ b ∷ []) → ⊥)
       → IsLevelUpTo Serves Costs (length p + 1) (p ++ b ∷ []) rows
       → IsLevelUpTo Serves Costs (length p + 1) (p ++ (b + 1) ∷ []) rows
-  passed p b rows never h =
-      moved (length p + 1) (p ++ b ∷ []) (p ++ (b + 1) ∷ []) rows
-      (λ t e s low. lower_raise p t b (b + 1) e (omega arith) low)
-      (λ t e s low. elim (lower_back p t (b + 1) e low) as (λ _. IsLower t (p ++ b ∷ [])) [
-        | inl w ↦ lower_longer t p (b ∷ []) w
-        | inr w ↦ elim (cases_lt w.0 b) as (λ _. IsLower t (p ++ b ∷ [])) [
-          | inl lt ↦ subst (λ (v : List ℕ). IsLower v (p ++ b ∷ [])) (sym w.1) (lower_last p w.0 b lt)
-          | inr ge ↦
-              let last : w.0 ≡ b = (let lt = w.2 in omega arith) in
-              absurd (never (subst Serves (w.1 ∙ ap (λ (v : ℕ). p ++ v ∷ []) last) s))
-        ]
-      ])
-      h
+  passed p b rows never h = search (rules, moved, lower_raise, lower_back, lower_longer, cases_lt, lower_last)
 
   -- no trip of one rider is lower than 0
   pub first_begun : IsLevelUpTo Serves Costs 1 (0 ∷ []) []
@@ -145,13 +114,7 @@ module _ (riders : ℕ) (Serves : List ℕ → Type 0) (Costs : List ℕ → ℕ
 
   -- where the limit is above every rider, the level is whole
   pub ended : (size : ℕ) (rows : List TripOf) → 0 < size → IsLevelUpTo Serves Costs size (riders ∷ []) rows → IsLevel Serves Costs size rows
-  ended size rows pos h =
-      record {
-        right = h.right;
-        sized = h.sized;
-        rising = h.rising;
-        whole = λ t e s. h.whole t e s (lower_top t s (omega arith));
-      }
+  ended size rows pos h = search (rules, lower_top)
 
   module _ (m : ℕ) (ts : List (List ℕ)) (b : AreBelow Serves (m + 1) ts) where
     pub limit_within : (i : ℕ) → i < length ts → get_or ts i (riders ∷ []) ≡ get_or ts i []
@@ -193,14 +156,7 @@ module _ (riders : ℕ) (Serves : List ℕ → Type 0) (Costs : List ℕ → ℕ
     pub opened : (q : List ℕ) (a : ℕ) (rows : List TripOf) → length q ≡ m
         → IsLevelUpTo Serves Costs (m + 2) (q ++ a ∷ []) rows
         → IsLevelUpTo Serves Costs (m + 2) ((q ++ a ∷ []) ++ (a + 1) ∷ []) rows
-    opened q a rows e h =
-        let n = length_push q a in
-        moved (m + 2) (q ++ a ∷ []) ((q ++ a ∷ []) ++ (a + 1) ∷ []) rows
-        (λ t l s low. lower_longer t (q ++ a ∷ []) ((a + 1) ∷ []) low)
-        (λ t l s low. ⊎_elim (λ w. w) (λ w.
-        let up = rule.rising q a w.0 (subst Serves w.1 s) in
-        absurd (let lt = w.2 in omega arith)) (lower_back (q ++ a ∷ []) t (a + 1) (omega arith) low))
-        h
+    opened q a rows e h = search (rules, length_push, moved, lower_longer, lower_back)
 
     -- from one sibling to the next there is no trip that can be served
     pub advanced : (q : List ℕ) (a j x z : ℕ) (rows : List TripOf) → length q ≡ m → j + 1 < length ts

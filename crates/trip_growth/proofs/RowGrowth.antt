@@ -1,8 +1,7 @@
-use Rattle.std.proofs.Common.{suc-mul, ◌≡◌, ℕ, ◌+◌, ◌<◌, ◌≤◌, inl, inr, suc, zero, ◌*◌, List, [], ◌∷◌, ◌++◌, length, map, get_or, take, refl, sym, ap, ◌∙◌, subst, arith}
-use Rattle.trip_growth.proofs.Common.{cases_lt, length-map, map_push, length_push, get_or_default, get_or_past, get_or_append_left, get_or_push, All-push, All-nil, Task, Settled, no_rider, rider_at, trip_task, IsTrip, task_with, IsLower, trips_of, IsLevelRow, IsLevel, IsLevelUpTo, IsTripRule, IsBelow, HasMoreOfLevel, TripOf}
+use Rattle.std.proofs.Common.{suc-mul, ◌≡◌, ℕ, ◌+◌, ◌<◌, ◌≤◌, suc, zero, ◌*◌, List, [], ◌∷◌, ◌++◌, length, get_or, take, refl, sym, ap, ◌∙◌, subst, arith, rules}
+use Rattle.trip_growth.proofs.Common.{cases_lt, length-map, map_push, length_push, get_or_default, get_or_past, get_or_append_left, get_or_push, All-push, All-nil, Task, Settled, trip_task, IsTrip, task_with, IsLower, trips_of, IsLevelRow, IsLevel, IsLevelUpTo, IsTripRule, IsBelow, HasMoreOfLevel, TripOf}
 use Rattle.std.specs.List.{All, remove}
 use Rattle.std.proofs.lemmas.List.{length-take-le}
-use Rattle.stop_orders.specs.declared.leg.Leg.{Leg}
 use Rattle.stop_orders.specs.declared.settled_rider.SettledRider.{SettledRider}
 use Rattle.trip_growth.proofs.lemmas.TripOrder.{front_and_last}
 use Rattle.trip_growth.proofs.lemmas.TripSearch.{size_of}
@@ -10,9 +9,7 @@ use Rattle.trip_growth.proofs.Levels.{AreBelow, trip_at, lower_last_back, opened
 
 -- the rows below, as a list of trips
 pub are_below : (Serves : List ℕ → Type 0) (size : ℕ) (rows : List TripOf) → IsBelow Serves size rows → AreBelow Serves size (trips_of rows)
-are_below Serves size rows b =
-    let n : length (trips_of rows) ≡ length rows = length-map rows (λ (r : TripOf). r.riders.items) in
-    record { sizes = λ i h. size_of size rows i b.sized (omega arith); rising = b.rising; whole = b.whole }
+are_below Serves size rows b = search (rules, length-map, size_of)
 
 -- the trip at a place can be served
 pub served_at : (Serves : List ℕ → Type 0) (rows : List TripOf) (i : ℕ) → All (λ row. Serves row.riders.items) rows → i < length rows → Serves (get_or (trips_of rows) i [])
@@ -21,21 +18,7 @@ served_at Serves (r ∷ rs) i s h = subst Serves (sym (trip_at (r ∷ rs) i r h)
 
 -- a trip with one more rider, above its last
 pub longer_trip : (riders m : ℕ) (t : List ℕ) (r : ℕ) → length t ≡ m + 1 → IsTrip riders t → get_or t m 0 < r → r < riders → IsTrip riders (t ++ r ∷ [])
-longer_trip riders m t r e trip above below =
-    let n = length_push t r in
-    record {
-      rising = λ k h. elim (cases_lt (k + 1) (length t)) as (λ _. get_or (t ++ r ∷ []) k 0 < get_or (t ++ r ∷ []) (k + 1) 0) [
-        | inl lt ↦
-            let low : k < length t = omega arith in
-            rw (get_or_append_left t (r ∷ []) 0 k low, get_or_append_left t (r ∷ []) 0 (k + 1) lt) (trip.rising k lt)
-        | inr ge ↦
-            let low : k < length t = omega arith in
-            let last : length t ≡ k + 1 = omega arith in
-            let same : k ≡ m = omega arith in
-            rw (get_or_append_left t (r ∷ []) 0 k low, get_or_push t r 0 (k + 1) last) (subst (λ (v : ℕ). get_or t v 0 < r) (sym same) above)
-      ];
-      within = All-push (λ v. v < riders) t r trip.within below;
-    }
+longer_trip riders m t r e trip above below = search (rules, length_push, cases_lt, get_or_append_left, get_or_push, All-push)
 
 module _ (riders : ℕ) (Serves : List ℕ → Type 0) (Costs : List ℕ → ℕ → Type 0) (rule : IsTripRule riders Serves) (m : ℕ) (rows : List TripOf) (b : IsBelow Serves (m + 1) rows) where
   split_at : (i : ℕ) → i < length rows → get_or (trips_of rows) i [] ≡ take m (get_or (trips_of rows) i []) ++ get_or (get_or (trips_of rows) i []) m 0 ∷ []
@@ -184,8 +167,7 @@ row_of Serves Costs t row is s c = record { served = subst Serves (sym is) s; le
 -- one row more than there is room for
 pub one_too_many : (Serves : List ℕ → Type 0) (Costs : List ℕ → ℕ → Type 0) (size room : ℕ) (limit : List ℕ) (found : List TripOf) (row : TripOf)
     → IsLevelUpTo Serves Costs size limit (found ++ row ∷ []) → room ≤ length found → HasMoreOfLevel Serves Costs size room
-one_too_many Serves Costs size room limit found row level h =
-    record { rows = found ++ row ∷ []; right = level.right; sized = level.sized; rising = level.rising; more = omega (arith, length_push found row) }
+one_too_many Serves Costs size room limit found row level h = search (rules, length_push)
 
 -- what is read as a slice is the trip at its place
 pub read_at : (rows : List TripOf) (i : ℕ) (row : TripOf) (s : List ℕ) → i < length rows → s ≡ (get_or rows i row).riders.items → s ≡ get_or (trips_of rows) i []
@@ -197,11 +179,4 @@ same_front m s d t u es ed e = ap (λ (v : List ℕ). take m v) (sym ed) ∙ sym
 -- the task of a row's trip with one more rider is that of the longer trip
 pub longer_task : (settled : Settled) (v : ℕ) (task : Task) (riders : List ℕ) (rider : ℕ) (all : List SettledRider) (d : SettledRider) → task ≡ trip_task settled v riders
     → all ≡ settled.riders → IsTrip (length settled.riders) (riders ++ rider ∷ []) → task_with task (get_or all rider d).leg ≡ trip_task settled v (riders ++ rider ∷ [])
-longer_task settled v task riders rider all d is same trip =
-    let n = length_push riders rider in
-    let within : rider < length settled.riders = subst (λ (r : ℕ). r < length settled.riders) (get_or_push riders rider 0 (length riders) refl) (trip.within (length riders) 0 (omega arith)) in
-    let leg_of : ℕ → Leg = λ r. (rider_at settled r).leg in
-    let here : get_or all rider d ≡ rider_at settled rider = ap (λ (xs : List SettledRider). get_or xs rider d) same ∙ get_or_default settled.riders rider d no_rider within in
-    ap (λ (t : Task). task_with t (get_or all rider d).leg) is
-    ∙ ap (λ (legs : List Leg). record (trip_task settled v riders) { riders = record { items = legs } })
-    (ap (λ (y : SettledRider). map leg_of riders ++ y.leg ∷ []) here ∙ sym (map_push leg_of riders rider))
+longer_task settled v task riders rider all d is same trip = search (rules, length_push, get_or_push, get_or_default, map_push)

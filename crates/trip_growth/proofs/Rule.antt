@@ -1,4 +1,4 @@
-use Rattle.std.proofs.Common.{◌≡◌, ℕ, ◌+◌, ◌<◌, inl, inr, List, [], ◌∷◌, ◌++◌, length, get_or, refl, arith}
+use Rattle.std.proofs.Common.{◌≡◌, ℕ, ◌+◌, ◌<◌, List, [], ◌∷◌, ◌++◌, length, refl, arith, rules}
 use Rattle.trip_growth.proofs.Common.{cases_lt, length_push, get_or_append_left, get_or_push, Settled, IsTrip, IsRrEdge, CanServe, IsTripRule}
 use Rattle.std.specs.List.{remove}
 use Rattle.std.specs.List.Sorted.{IsStrictlyIncreasing}
@@ -9,23 +9,7 @@ use Rattle.stop_orders.specs.Laws.{SubTripsAreServable, PairsAreEdges}
 
 -- a trip without one of its riders
 trip_without : (riders : ℕ) (t : List ℕ) (i : ℕ) → i < length t → IsTrip riders t → IsTrip riders (remove t i)
-trip_without riders t i h trip =
-    let n = length-remove t i h in
-    record {
-      rising = λ k lt. elim (cases_lt k i) as (λ _. get_or (remove t i) k 0 < get_or (remove t i) (k + 1) 0) [
-        | inl low ↦ elim (cases_lt (k + 1) i) as (λ _. get_or (remove t i) k 0 < get_or (remove t i) (k + 1) 0) [
-          | inl next ↦ rw (get_or-remove_below t i 0 k low h, get_or-remove_below t i 0 (k + 1) next h) (trip.rising k (omega arith))
-          | inr here ↦
-              let up = trip.rising k (omega arith) in let on = trip.rising (k + 1) (omega arith) in
-              rw (get_or-remove_below t i 0 k low h, get_or-remove_above t i 0 (k + 1) here h) (omega arith)
-        ]
-        | inr high ↦ rw (get_or-remove_above t i 0 k high h, get_or-remove_above t i 0 (k + 1) (omega arith) h) (trip.rising (k + 1) (omega arith))
-      ];
-      within = λ k d lt. elim (cases_lt k i) as (λ _. get_or (remove t i) k d < riders) [
-        | inl low ↦ rw (get_or-remove_below t i d k low h) (trip.within k d (omega arith))
-        | inr high ↦ rw (get_or-remove_above t i d k high h) (trip.within (k + 1) d (omega arith))
-      ];
-    }
+trip_without riders t i h trip = search (rules, length-remove, cases_lt, get_or-remove_below, get_or-remove_above)
 
 last_two_rise : (front : List ℕ) (a b : ℕ) → IsStrictlyIncreasing ((front ++ a ∷ []) ++ b ∷ []) → a < b
 last_two_rise front a b up =
@@ -53,5 +37,4 @@ rule_of law points tau settled v travel sound h =
 -- two riders that the vehicle can serve are an edge between riders
 pub edge_of : PairsAreEdges → (points : ℕ) (tau : ℕ → ℕ → ℕ) (settled : Settled) (v : ℕ) → IsTravelTime points tau → IsSound 6 points tau settled
     → v < length settled.vehicles → (a b : ℕ) → CanServe 6 tau settled v (a ∷ b ∷ []) → IsRrEdge tau settled a b
-edge_of law points tau settled v travel sound h a b s =
-    law 6 points tau settled v a b travel sound h s.riders s.servable
+edge_of law points tau settled v travel sound h a b s = search rules

@@ -1,3 +1,4 @@
+use Rattle.std.proofs.lemmas.Bool.Decides.{nat_tests}
 use Rattle.std.proofs.Common.{◌≡◌, ℕ, ◌+◌, ◌*◌, ◌≤◌, List, ◌++◌, length, subst, arith}
 use Rattle.trip_growth.proofs.Common.{Settled, CanServe, CostsLeast, AreAllRows, AreRowsOfSize, TakesSteps, TripOf}
 use Rattle.std.proofs.lemmas.List.{length-append}
@@ -26,12 +27,7 @@ module _ (tau : ℕ → ℕ → ℕ) (settled : Settled) (v : ℕ) (size : ℕ) 
   -- the steps of another level
   pub more_steps : (before after : ℕ) → after ≤ before + (length xs * length settled.riders + 1) + length ys * length settled.riders
       → after ≤ before + (length (xs ++ ys) * length settled.riders + 1)
-  more_steps before after h =
-      let n : length (xs ++ ys) ≡ length xs + length ys = length-append xs ys in
-      rw n (regrouped (length xs) (length ys) (length settled.riders) after before h)
-    where
-      regrouped : (x y n a b : ℕ) → a ≤ b + (x * n + 1) + y * n → a ≤ b + ((x + y) * n + 1)
-      regrouped x y n a b h = omega arith
+  more_steps before after h = grind (arith, nat_tests, length-append)
 
   -- all rows, where this size is the last
   pub rows_of_all : (most room : ℕ) (rows : List TripOf) → size ≡ most → rows ≡ xs ++ ys → length xs + length ys ≤ room

@@ -1,10 +1,10 @@
-use Rattle.std.proofs.Common.{◌≡◌, ℕ, suc, ◌+◌, ◌-◌, ◌<◌, ◌≤◌, Bool, true, false, cond, not, eqb, ltb, List, [], ◌∷◌, length, map, filter, take, drop, refl, sym, ap, ◌∙◌, subst, arith, inl, inr, All, remove}
+use Rattle.std.proofs.Common.{◌≡◌, ℕ, suc, ◌+◌, ◌-◌, ◌<◌, ◌≤◌, Bool, true, false, cond, not, eqb, ltb, List, [], ◌∷◌, length, map, filter, take, drop, refl, sym, ap, ◌∙◌, subst, arith, inl, inr, All, remove, rules}
 use Rattle.std.proofs.lemmas.Bool.Decides.{nat_tests}
-use Rattle.stop_orders.proofs.Common.{AllByRecursion, cases_Bool, cases_lt, cond-true, cond-false, not_from_true, not_from_false, false≢true, length-remove, get_or-remove_below, get_or-remove_above, All-append, All-take, All-drop, never, IsTravelTime, Task, Stop, Pick, Drop, Alight, Visit, Pickup, Dropoff, is_of_rider, is_of_passenger, IsKnown, place_of, latest_of, boarding_of, room_after, lateness, ServesFrom, delay_from, no_leg, leg_at, persons, IsLeg, IsTask, visit_at, free_seats, IsOrderOf, Serves, order_delay, number_without, stop_without_rider, stop_without_passenger, stops_without_rider, stops_without_passenger, without_rider, without_passenger, StillServes}
+use Rattle.stop_orders.proofs.Common.{AllByRecursion, cases_Bool, cases_lt, cond-true, cond-false, not_from_true, not_from_false, false≢true, length-remove, get_or-remove_below, get_or-remove_above, All-append, All-take, All-drop, never, IsTravelTime, Task, Stop, Pick, Drop, Alight, Visit, Pickup, Dropoff, is_of_rider, is_of_passenger, IsKnown, place_of, latest_of, boarding_of, room_after, lateness, ServesFrom, delay_from, no_leg, leg_at, persons, IsTask, visit_at, free_seats, IsOrderOf, Serves, order_delay, number_without, stop_without_rider, stop_without_passenger, stops_without_rider, stops_without_passenger, without_rider, without_passenger, StillServes}
 use Rattle.std.proofs.lemmas.Bool.{eq-eqb, eqb-true, lt-ltb, le-ltb}
 use Rattle.std.proofs.lemmas.List.Sums.{sum_by-remove}
 use Rattle.stop_orders.specs.declared.leg.Leg.{Leg}
-use Rattle.stop_orders.proofs.lemmas.ClockLemmas.{room_after-le, lateness-le, two_hops, AtLeastAsSoon, soon_there}
+use Rattle.stop_orders.proofs.lemmas.ClockLemmas.{room_after-le, lateness-le, AtLeastAsSoon, soon_there}
 
 -- how many persons get out
 pub leaving_of : Visit → ℕ
@@ -38,12 +38,7 @@ others mine s = not (mine s)
 module _ (points : ℕ) (tau : ℕ → ℕ → ℕ) (dwell : ℕ) (t : IsTravelTime points tau) where
   -- past a visit that is left out one is still as soon
   soon_past : (p f q g : ℕ) (v : Visit) → AtLeastAsSoon tau p f q g → tau q (place_of v) < never → AtLeastAsSoon tau p f (place_of v) (g + tau q (place_of v) + dwell)
-  soon_past p f q g v soon reach = record {
-    soon = λ x there.
-        let hops = two_hops points tau t q (place_of v) x reach there in
-        let direct = soon.soon x hops.0 in
-        (direct.0, omega (arith, direct.1, hops.1));
-  }
+  soon_past p f q g v soon reach = search rules
 
   -- without the stops of one, the others are served, with no more delay
   pub served_without : (vis : Stop → Visit) (mine : Stop → Bool) (stops : List Stop) (q g room p f more held : ℕ) → AtLeastAsSoon tau p f q g → room + held ≤ more → Holds vis held (filter mine stops)
@@ -76,28 +71,16 @@ module _ (points : ℕ) (tau : ℕ → ℕ → ℕ) (dwell : ℕ) (t : IsTravelT
 filter_renumbered : (p q : Stop → Bool) (g : Stop → Stop) (mine : Stop → Bool) → ((s : Stop) → mine s ≡ false → p (g s) ≡ q s) → ((s : Stop) → mine s ≡ true → q s ≡ false)
     → (stops : List Stop) → filter p (map g (filter (others mine) stops)) ≡ map g (filter q stops)
 filter_renumbered p q g mine same apart [] = refl
-filter_renumbered p q g mine same apart (s ∷ stops) = elim (cases_Bool (mine s)) [
-  | inl e ↦ rw (e, apart s e) (filter_renumbered p q g mine same apart stops)
-  | inr e ↦ elim (cases_Bool (q s)) [
-    | inl k ↦ rw (e, same s e, k) (ap (λ ss. g s ∷ ss) (filter_renumbered p q g mine same apart stops))
-    | inr k ↦ rw (e, same s e, k) (filter_renumbered p q g mine same apart stops)
-  ]
-]
+filter_renumbered p q g mine same apart (s ∷ stops) = search (rules, cases_Bool, (filter_renumbered p q g mine same apart stops))
 
 -- the others are seen as before
 pub visits_renumbered : (vis old : Stop → Visit) (g : Stop → Stop) (mine : Stop → Bool) → ((s : Stop) → mine s ≡ false → vis (g s) ≡ old s) → (stops : List Stop) → map vis (map g (filter (others mine) stops)) ≡ map old (filter (others mine) stops)
 visits_renumbered vis old g mine same [] = refl
-visits_renumbered vis old g mine same (s ∷ stops) = elim (cases_Bool (mine s)) [
-  | inl e ↦ rw e (visits_renumbered vis old g mine same stops)
-  | inr e ↦ rw (e, same s e) (ap (λ vs. old s ∷ vs) (visits_renumbered vis old g mine same stops))
-]
+visits_renumbered vis old g mine same (s ∷ stops) = search (rules, cases_Bool, (visits_renumbered vis old g mine same stops))
 
 known_renumbered : (P Q : Stop → Type 0) (g : Stop → Stop) (mine : Stop → Bool) → ((s : Stop) → mine s ≡ false → P s → Q (g s)) → (stops : List Stop) → AllByRecursion P stops → AllByRecursion Q (map g (filter (others mine) stops))
 known_renumbered P Q g mine move [] known = tt
-known_renumbered P Q g mine move (s ∷ stops) known = elim (cases_Bool (mine s)) [
-  | inl e ↦ rw e (known_renumbered P Q g mine move stops known.1)
-  | inr e ↦ rw e (move s e known.0, known_renumbered P Q g mine move stops known.1)
-]
+known_renumbered P Q g mine move (s ∷ stops) known = search (rules, cases_Bool, (known_renumbered P Q g mine move stops known.1))
 
 -- the number that has a new number
 pub old_number : ℕ → ℕ → ℕ
@@ -134,12 +117,7 @@ number_without-lt i k n m h e ne l = grind (arith, nat_tests, ne)
 
 -- the leg of a new number is that of the old one
 pub leg_without : (legs : List Leg) (i k : ℕ) → i < length legs → (k ≡ i → ⊥) → leg_at (remove legs i) (number_without i k) ≡ leg_at legs k
-leg_without legs i k h ne = elim (cases_lt i k) [
-  | inl above ↦
-      let e : k - 1 + 1 ≡ k = omega arith in
-      ap (λ n. leg_at (remove legs i) n) (number_above i k above) ∙ get_or-remove_above legs i no_leg (k - 1) (omega arith) h ∙ ap (λ n. leg_at legs n) e
-  | inr below ↦ ap (λ n. leg_at (remove legs i) n) (number_below i k below) ∙ get_or-remove_below legs i no_leg k (omega arith) h
-]
+leg_without legs i k h ne = search (rules, cases_lt, number_above, get_or-remove_above, number_below, get_or-remove_below)
 
 pub All-remove : {X : Type 0} (P : X → Type 0) (xs : List X) (i : ℕ) → All P xs → All P (remove xs i)
 All-remove P xs i all = All-append P (take i xs) (drop (suc i) xs) (All-take P i xs all) (All-drop P (suc i) xs all)
@@ -150,17 +128,7 @@ module _ (points : ℕ) (task : Task) (valid : IsTask points task) where
     fewer = length-remove task.riders.items i within
 
     valid_without_rider : IsTask points (without_rider i task)
-    valid_without_rider = record {
-      start = valid.start;
-      ready = valid.ready;
-      dwell = valid.dwell;
-      seats = valid.seats;
-      seated = valid.seated;
-      passenger_count = valid.passenger_count;
-      rider_count = omega (arith, fewer, valid.rider_count);
-      passengers = valid.passengers;
-      riders = All-remove (IsLeg points) task.riders.items i valid.riders;
-    }
+    valid_without_rider = search (rules, fewer, All-remove)
 
     visit_without_rider : (s : Stop) → is_of_rider i s ≡ false → visit_at (without_rider i task) (stop_without_rider i s) ≡ visit_at task s
     visit_without_rider (Pick k) e = ap (λ leg. Pickup leg.origin leg.latest_pickup leg.party) (leg_without task.riders.items i k within (not_same k i e))
@@ -227,17 +195,7 @@ module _ (points : ℕ) (task : Task) (valid : IsTask points task) where
     persons_without = sum_by-remove (λ leg. leg.party) task.aboard.items j no_leg within
 
     pub valid_without_passenger : IsTask points (without_passenger j task)
-    valid_without_passenger = record {
-      start = valid.start;
-      ready = valid.ready;
-      dwell = valid.dwell;
-      seats = valid.seats;
-      seated = omega (arith, persons_without, valid.seated);
-      passenger_count = omega (arith, fewer_aboard, valid.passenger_count);
-      rider_count = valid.rider_count;
-      passengers = All-remove (IsLeg points) task.aboard.items j valid.passengers;
-      riders = valid.riders;
-    }
+    valid_without_passenger = search (rules, persons_without, fewer_aboard, All-remove)
 
     pub visit_without_passenger : (s : Stop) → is_of_passenger j s ≡ false → visit_at (without_passenger j task) (stop_without_passenger j s) ≡ visit_at task s
     visit_without_passenger (Alight k) e = ap (λ leg. Dropoff leg.destination leg.latest_dropoff leg.ideal leg.party) (leg_without task.aboard.items j k within (not_same k j e))

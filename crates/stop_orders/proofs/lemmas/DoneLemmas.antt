@@ -1,8 +1,8 @@
-use Rattle.std.proofs.Common.{◌≡◌, ℕ, zero, suc, ◌+◌, ◌*◌, ◌^◌, ◌<◌, ◌≤◌, max, Bool, true, false, eqb, List, [], ◌∷◌, length, filter, refl, sym, ap, ◌∙◌, subst, arith, inl, inr, bit_or}
+use Rattle.std.proofs.lemmas.Bool.Decides.{nat_tests}
+use Rattle.std.proofs.Common.{◌≡◌, ℕ, zero, suc, ◌+◌, ◌*◌, ◌<◌, ◌≤◌, Bool, true, false, eqb, List, [], ◌∷◌, length, filter, refl, sym, ap, ◌∙◌, subst, arith, inl, inr, bit_or, rules}
 use Rattle.stop_orders.proofs.Common.{cases_eq, bit_at-zero, bit_at_or, bit_at-pow_same, bit_at-pow_other, bit_at-lt, Stop, Pick, Drop, Alight, is_of_rider, is_of_passenger, IsOrder, has, with_bit, with_stop, IsNextStop, IsAllDone, left_of_rider, left_of_passenger, Completes, sum_below, left_count}
 use Rattle.std.proofs.lemmas.Bool.{eq-eqb, ne_eqb}
 use Rattle.stop_orders.proofs.lemmas.DeletionLemmas.{skips, takes}
-use Rattle.std.specs.Int.{bit_at}
 
 -- nothing is in the empty set
 pub has-none : (k : ℕ) → has 0 k ≡ false
@@ -12,19 +12,12 @@ has-none k = rw (bit_at-zero k) refl
 -- a stop is in a set with it
 pub has-with_same : (done k : ℕ) → has (with_bit done k) k ≡ true
 unfolding has with_bit
-has-with_same done k =
-    let low : bit_at done k < 2 = bit_at-lt done k in
-    let is : bit_at (bit_or done (2 ^ k)) k ≡ max (bit_at done k) (bit_at (2 ^ k) k) = bit_at_or done (2 ^ k) k in
-    let one : bit_at (2 ^ k) k ≡ 1 = bit_at-pow_same k in
-    eq-eqb _ _ (is ∙ (rw one (omega arith)))
+has-with_same done k = search (rules, bit_at-lt, bit_or, bit_at_or, bit_at-pow_same, eq-eqb)
 
 -- the others stay as they are
 pub has-with_other : (done k l : ℕ) → (l ≡ k → ⊥) → has (with_bit done k) l ≡ has done l
 unfolding has with_bit
-has-with_other done k l ne =
-    let is : bit_at (bit_or done (2 ^ k)) l ≡ max (bit_at done l) (bit_at (2 ^ k) l) = bit_at_or done (2 ^ k) l in
-    let none : bit_at (2 ^ k) l ≡ 0 = bit_at-pow_other k l ne in
-    ap (λ n. eqb n 1) (is ∙ (rw none (omega arith)))
+has-with_other done k l ne = search (rules, bit_or, bit_at_or, bit_at-pow_other)
 
 -- a test of a number against itself
 same : (i : ℕ) → eqb i i ≡ true
@@ -143,17 +136,10 @@ passenger_out false j e = absurd cc
 
 -- nothing is left exactly where all were dropped
 pub IsAllDone-from_nil : (riders passengers done : ℕ) → Completes riders passengers done [] → IsAllDone riders passengers done
-IsAllDone-from_nil riders passengers done c = record {
-  riders_out = λ i h. rider_out (has done i) (has done (6 + i)) i (c.rides i h);
-  passengers_out = λ j h. passenger_out (has done (12 + j)) j (c.alights j h);
-}
+IsAllDone-from_nil riders passengers done c = search rules
 
 pub Completes-nil : (riders passengers done : ℕ) → IsAllDone riders passengers done → Completes riders passengers done []
-Completes-nil riders passengers done a = record {
-  rides = λ i h. sym (rw (a.riders_out i h) refl);
-  alights = λ j h. sym (rw (a.passengers_out j h) refl);
-  known = tt;
-}
+Completes-nil riders passengers done a = search rules
 
 -- where nothing is done, what completes it is an order
 pub Completes-none : (riders passengers : ℕ) (stops : List Stop) → IsOrder riders passengers stops → Completes riders passengers 0 stops
@@ -172,21 +158,16 @@ IsOrder-from_none riders passengers stops c = record {
 
 pub sum_below-le : (f g : ℕ → ℕ) (n : ℕ) → ((k : ℕ) → k < n → g k ≤ f k) → sum_below g n ≤ sum_below f n
 sum_below-le f g zero h = omega arith
-sum_below-le f g (suc n) h =
-    omega (arith, sum_below-le f g n (λ k b. h k (omega arith)), h n (omega arith))
+sum_below-le f g (suc n) h = search (rules, (sum_below-le f g n))
 
 -- where one term falls by one and no other rises, the sum falls
 sum_below-falls : (f g : ℕ → ℕ) (n i : ℕ) → i < n → ((k : ℕ) → k < n → (k ≡ i → ⊥) → g k ≤ f k) → g i + 1 ≤ f i → sum_below g n + 1 ≤ sum_below f n
 sum_below-falls f g zero i b h fall = absurd (omega arith)
-sum_below-falls f g (suc n) i b h fall = elim (cases_eq i n) [
-  | inl e ↦ omega (arith, sum_below-le f g n (λ k q. h k (omega arith) (λ s. omega arith)), subst (λ k. g k + 1 ≤ f k) e fall)
-  | inr ne ↦ omega (arith, sum_below-falls f g n i (omega arith) (λ k q. h k (omega arith)) fall, h n (omega arith) (λ s. ne (sym s)))
-]
+sum_below-falls f g (suc n) i b h fall = search (rules, cases_eq, sum_below-le, (sum_below-falls f g n i))
 
 sum_below-most : (f : ℕ → ℕ) (most n : ℕ) → ((k : ℕ) → f k ≤ most) → sum_below f n ≤ n * most
 sum_below-most f most zero h = omega arith
-sum_below-most f most (suc n) h =
-    omega (arith, sum_below-most f most n h, h n)
+sum_below-most f most (suc n) h = search (rules, (sum_below-most f most n h))
 
 -- a stop that is done is one less to do
 pub left_count-falls : (riders passengers done : ℕ) → riders ≤ 6 → (s : Stop) → IsNextStop riders passengers done s → left_count riders passengers (with_stop done s) + 1 ≤ left_count riders passengers done
@@ -242,7 +223,4 @@ left_count-most riders passengers done =
 
 -- an order has at most twice as many stops as riders, and one for each passenger
 pub length-IsOrder : (riders passengers : ℕ) (stops : List Stop) → riders ≤ 6 → IsOrder riders passengers stops → length stops ≤ riders * 2 + passengers
-length-IsOrder riders passengers stops few o =
-    let most = left_count-most riders passengers 0 in
-    let here = length-Completes riders passengers 0 few stops (Completes-none riders passengers stops o) in
-    omega (arith, most, here)
+length-IsOrder riders passengers stops few o = grind (arith, nat_tests, (left_count-most riders passengers 0), (length-Completes riders passengers 0 few stops), (Completes-none riders passengers stops o))

@@ -1,7 +1,7 @@
-use Rattle.std.proofs.Common.{◌≡◌, ℕ, ◌+◌, ◌-◌, ◌<◌, ◌≤◌, Bool, true, false, List, [], ◌∷◌, ◌++◌, length, take, Option, refl, sym, ap, ◌∙◌, subst, arith, append_assoc, length-append}
+use Rattle.std.proofs.Common.{◌≡◌, ℕ, ◌+◌, ◌-◌, ◌<◌, ◌≤◌, Bool, true, false, List, [], ◌∷◌, ◌++◌, length, take, Option, refl, sym, ap, ◌∙◌, subst, arith, append_assoc, length-append, rules}
 use Rattle.stop_orders.proofs.Common.{false≢true, Route, Task, Stop, Pick, Drop, Alight, Visit, place_of, room_after, Reaches, ServesFrom, IsOrderOf, Serves, ReachesAll, order_delay, free_seats, visits_of, bit_of, with_stop, IsNextStop, IsAllDone, Completes, stop_with, NoneBetter, StaysGood, MakesOrders, AllTried}
 use Rattle.std.proofs.lemmas.List.{append-nil, take_at}
-use Rattle.std.proofs.lemmas.Bool.{lt-ltb, le-ltb}
+use Rattle.std.proofs.lemmas.Bool.{lt-ltb}
 use Rattle.stop_orders.proofs.lemmas.DoneLemmas.{Completes-front, Completes-back, Completes-nil, IsAllDone-from_nil, IsOrder-from_none}
 
 -- what serves reaches all its places
@@ -26,12 +26,8 @@ rest_of_all riders passengers done few all (s ∷ rest) c = absurd (none_next ri
 -- a stop that may come next is the one with its bit
 pub stop_with-bit_of : (riders passengers done : ℕ) → riders ≤ 6 → passengers ≤ 10 → (s : Stop) → IsNextStop riders passengers done s → (stop_with (bit_of s) ≡ s) × (bit_of s < 22)
 stop_with-bit_of riders passengers done few seated (Pick i) next = (rw (lt-ltb i 6 (omega (arith, next.0))) refl, omega (arith, next.0))
-stop_with-bit_of riders passengers done few seated (Drop i) next =
-    let e : 6 + i - 6 ≡ i = omega arith in
-    (rw (le-ltb (6 + i) 6 (omega arith), lt-ltb (6 + i) 12 (omega (arith, next.0)), e) refl, omega (arith, next.0))
-stop_with-bit_of riders passengers done few seated (Alight j) next =
-    let e : 12 + j - 12 ≡ j = omega arith in
-    (rw (le-ltb (12 + j) 6 (omega arith), le-ltb (12 + j) 12 (omega arith), e) refl, omega (arith, next.0))
+stop_with-bit_of riders passengers done few seated (Drop i) next = search rules
+stop_with-bit_of riders passengers done few seated (Alight j) next = search rules
 
 pub append_one : (path : List Stop) (s : Stop) (rest : List Stop) → (path ++ s ∷ []) ++ rest ≡ path ++ s ∷ rest
 append_one path s rest = append_assoc path (s ∷ []) rest
@@ -39,8 +35,7 @@ append_one path s rest = append_assoc path (s ∷ []) rest
 module _ (task : Task) (few : length task.riders.items ≤ 6) where
   -- a stop that may come next is one more of an order
   pub MakesOrders-next : (done : ℕ) (path : List Stop) (s : Stop) → IsNextStop (length task.riders.items) (length task.aboard.items) done s → MakesOrders task done path → MakesOrders task (with_stop done s) (path ++ s ∷ [])
-  MakesOrders-next done path s next makes = λ rest c.
-      subst (λ stops. IsOrderOf task stops) (sym (append_one path s rest)) (makes (s ∷ rest) (Completes-back (length task.riders.items) (length task.aboard.items) done few s rest next c))
+  MakesOrders-next done path s next makes = search (rules, append_one, Completes-back)
 
   pub MakesOrders-all : (done : ℕ) (path : List Stop) → IsAllDone (length task.riders.items) (length task.aboard.items) done → MakesOrders task done path → IsOrderOf task path
   MakesOrders-all done path all makes = subst (λ stops. IsOrderOf task stops) (append-nil path) (makes [] (Completes-nil (length task.riders.items) (length task.aboard.items) done all))
@@ -83,7 +78,4 @@ IsAllDone-not_at b n m riders passengers done e f says is_not all = false≢true
 
 -- without the last stop
 pub path_back : (path now after : List Stop) (s : Stop) → now ≡ path ++ s ∷ [] → after ≡ take (length now - 1) now → after ≡ path
-path_back path now after s e f =
-    let longer : length now ≡ length path + 1 = ap length e ∙ length-append path (s ∷ []) in
-    let n : length path ≡ length now - 1 = omega arith in
-    f ∙ ap (λ xs. take (length now - 1) xs) e ∙ take_at path (s ∷ []) (length now - 1) n
+path_back path now after s e f = search (rules, length-append, take_at)

@@ -1,14 +1,12 @@
-use Rattle.std.proofs.Common.{◌≡◌, ℕ, zero, suc, ◌+◌, ◌*◌, ◌<◌, ◌≤◌, List, ◌∷◌, length, take, slice_index, refl, sym, ap, ◌∙◌, subst, arith}
+use Rattle.std.proofs.lemmas.Bool.Decides.{nat_tests}
+use Rattle.std.proofs.Common.{◌≡◌, ℕ, zero, suc, ◌+◌, ◌*◌, ◌<◌, ◌≤◌, List, ◌∷◌, length, take, slice_index, refl, sym, subst, arith, rules}
 use Rattle.stop_orders.proofs.Common.{AllByRecursion, never, longest, Task, Stop, IsKnown, place_of, Reaches, delay_from, seconds_from, IsTask, IsOrderOf, Serves, visit_at, visits_of, ReachesAll, order_delay, seconds_of, first_position, position_after, CanVisitFrom, ServesAt}
 use Rattle.stop_orders.specs.declared.position.Position.{Position}
 use Rattle.stop_orders.proofs.lemmas.DoneLemmas.{length-IsOrder}
-use Rattle.stop_orders.proofs.lemmas.VisitLemmas.{visit_place, visit_latest, visit_party}
 
 -- an order of a valid task has at most 22 stops
 pub order_short : (points : ℕ) (task : Task) (stops : List Stop) → IsTask points task → IsOrderOf task stops → length stops ≤ 22
-order_short points task stops valid order =
-    let short = length-IsOrder (length task.riders.items) (length task.aboard.items) stops valid.rider_count order in
-    omega (arith, short, valid.rider_count, valid.passenger_count)
+order_short points task stops valid order = grind (arith, nat_tests, (length-IsOrder (length task.riders.items) (length task.aboard.items) stops valid.rider_count order))
 
 -- all stops serve exactly where the rest serves from here
 pub record ServingScan (points : ℕ) (tau : ℕ → ℕ → ℕ) (task : Task) (stops rest : List Stop) (p : Position) : Type 0 where
@@ -36,18 +34,7 @@ module _ (points : ℕ) (tau : ℕ → ℕ → ℕ) (task : Task) (stops : List 
 
   pub serving_next : (s : Stop) (rest : List Stop) (p q : Position) → ServingScan points tau task stops (s ∷ rest) p → CanVisitFrom tau p (visit_at task s) → q ≡ position_after tau task.dwell p (visit_at task s)
       → ServingScan points tau task stops rest q
-  serving_next s rest p q scan can e =
-      let latest = visit_latest points task valid s scan.known.0 in
-      let grown = visit_party points task valid s scan.known.0 p.room in
-      subst (λ r. ServingScan points tau task stops rest r) (sym e) (record {
-        order = scan.order;
-        known = scan.known.1;
-        place = visit_place points task valid s scan.known.0;
-        free = omega (arith, latest, can.1, valid.dwell);
-        room = omega (arith, grown, scan.room);
-        to = λ serves. (scan.to serves).3;
-        from = λ serves. scan.from (can.0, can.1, can.2, serves);
-      })
+  serving_next s rest p q scan can e = search rules
 
 -- the delay so far and that of the rest are the delay of all
 pub record DelayScan (points : ℕ) (tau : ℕ → ℕ → ℕ) (task : Task) (stops rest : List Stop) (place free delay : ℕ) : Type 0 where
@@ -98,30 +85,13 @@ module _ (points : ℕ) (tau : ℕ → ℕ → ℕ) (task : Task) (stops : List 
   pub second_next : (s : Stop) (rest : List Stop) (j place free to second : ℕ) → SecondScan points tau task stops (s ∷ rest) k (suc j) place free
       → to ≡ place_of (visit_at task s) → tau place to < never → second ≡ free + tau place to → second ≤ free + longest
       → SecondScan points tau task stops rest k j to (second + task.dwell)
-  second_next s rest j place free to second scan e reach is short =
-      let here : tau place (place_of (visit_at task s)) < never = subst (λ x. tau place x < never) e reach in
-      let arrives : second ≡ free + tau place (place_of (visit_at task s)) = is ∙ ap (λ x. free + tau place x) e in
-      subst (λ x. SecondScan points tau task stops rest k j x (second + task.dwell)) (sym e)
-      (subst (λ x. SecondScan points tau task stops rest k j (place_of (visit_at task s)) (x + task.dwell)) (sym arrives) (record {
-        known = scan.known.1;
-        within = visit_place points task valid s scan.known.0;
-        soon = omega (arith, scan.soon, arrives, short, valid.dwell);
-        to = λ r. (scan.to r).1;
-        from = λ r. scan.from (here, r);
-        second = scan.second;
-      }))
+  second_next s rest j place free to second scan e reach is short = search rules
 
   pub second_stuck : (s : Stop) (rest : List Stop) (j place free to : ℕ) → SecondScan points tau task stops (s ∷ rest) k j place free
       → to ≡ place_of (visit_at task s) → tau place to ≡ never → ReachesAll tau task (take (suc k) stops) → ⊥
-  second_stuck s rest j place free to scan e none all =
-      let here : tau place (place_of (visit_at task s)) < never = (scan.to all).0 in
-      let there : tau place (place_of (visit_at task s)) ≡ never = sym (ap (λ x. tau place x) e) ∙ none in
-      omega (arith, here, there)
+  second_stuck s rest j place free to scan e none all = search rules
 
   pub second_last : (s : Stop) (rest : List Stop) (place free to second : ℕ) → SecondScan points tau task stops (s ∷ rest) k zero place free
       → to ≡ place_of (visit_at task s) → tau place to < never → second ≡ free + tau place to
       → ReachesAll tau task (take (suc k) stops) × (second ≡ slice_index (seconds_of tau task stops) k)
-  second_last s rest place free to second scan e reach is =
-      let here : tau place (place_of (visit_at task s)) < never = subst (λ x. tau place x < never) e reach in
-      let arrives : second ≡ free + tau place (place_of (visit_at task s)) = is ∙ ap (λ x. free + tau place x) e in
-      (scan.from (here, tt), arrives ∙ sym scan.second)
+  second_last s rest place free to second scan e reach is = search rules

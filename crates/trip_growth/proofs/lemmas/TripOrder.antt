@@ -1,4 +1,4 @@
-use Rattle.std.proofs.Common.{◌≡◌, ℕ, suc, zero, ◌+◌, ◌<◌, ◌≤◌, ◌⊎◌, inl, inr, List, [], ◌∷◌, ◌++◌, length, take, refl, sym, ap, ◌∙◌, subst, arith, ⊎_elim, get_or}
+use Rattle.std.proofs.Common.{◌≡◌, ℕ, suc, zero, ◌+◌, ◌<◌, ◌≤◌, ◌⊎◌, inl, inr, List, [], ◌∷◌, ◌++◌, length, take, refl, sym, ◌∙◌, arith, get_or, rules}
 use Rattle.trip_growth.proofs.Common.{take_more, IsLower}
 use Rattle.std.proofs.lemmas.List.{append-nil, take_all}
 
@@ -23,22 +23,14 @@ nat_cases : (x y : ℕ) → (x < y) ⊎ ((x ≡ y) ⊎ (y < x))
 nat_cases zero zero = inr (inl refl)
 nat_cases zero (suc y) = inl (omega arith)
 nat_cases (suc x) zero = inr (inr (omega arith))
-nat_cases (suc x) (suc y) =
-    ⊎_elim (λ h. inl (omega arith)) (⊎_elim (λ h. inr (inl (ap suc h))) (λ h. inr (inr (omega arith)))) (nat_cases x y)
+nat_cases (suc x) (suc y) = search rules
 
 -- of two trips of one size, either one is lower, or they are the same
 pub lower_total : (a b : List ℕ) → length a ≡ length b → IsLower a b ⊎ ((a ≡ b) ⊎ IsLower b a)
 lower_total [] [] e = inr (inl refl)
 lower_total [] (y ∷ ys) e = absurd (omega arith)
 lower_total (x ∷ xs) [] e = absurd (omega arith)
-lower_total (x ∷ xs) (y ∷ ys) e =
-    elim (nat_cases x y) as (λ _. IsLower (x ∷ xs) (y ∷ ys) ⊎ ((x ∷ xs ≡ y ∷ ys) ⊎ IsLower (y ∷ ys) (x ∷ xs))) [
-      | inl h ↦ inl (inl h)
-      | inr h ↦ elim h as (λ _. IsLower (x ∷ xs) (y ∷ ys) ⊎ ((x ∷ xs ≡ y ∷ ys) ⊎ IsLower (y ∷ ys) (x ∷ xs))) [
-        | inr k ↦ inr (inr (inl k))
-        | inl k ↦ ⊎_elim (λ w. inl (inr (k, w))) (⊎_elim (λ w. inr (inl (cc (k, w)))) (λ w. inr (inr (inr (sym k, w))))) (lower_total xs ys (omega arith))
-      ]
-    ]
+lower_total (x ∷ xs) (y ∷ ys) e = search (rules, nat_cases, (lower_total xs ys))
 
 pub lower_append : (a b s t : List ℕ) → IsLower a b → IsLower (a ++ s) (b ++ t)
 lower_append [] b s t h = absurd h
@@ -62,8 +54,7 @@ lower_back [] (x ∷ []) c e (inr h) = absurd h.1
 lower_back [] (x ∷ (y ∷ ys)) c e h = absurd (omega arith)
 lower_back (z ∷ zs) [] c e h = absurd h
 lower_back (z ∷ zs) (x ∷ xs) c e (inl h) = inl (inl h)
-lower_back (z ∷ zs) (x ∷ xs) c e (inr h) =
-    ⊎_elim (λ w. inl (inr (h.0, w))) (λ w. inr (w.0, (cc (h.0, w.1)), w.2)) (lower_back zs xs c (omega arith) h.1)
+lower_back (z ∷ zs) (x ∷ xs) c e (inr h) = search (rules, (lower_back zs xs c))
 
 -- a trip after q and x, and not after q and z, begins with q
 pub squeeze : (q y : List ℕ) (x z : ℕ) → length y ≡ length q + 1 → IsLower (q ++ x ∷ []) y → IsLower y (q ++ z ∷ []) ⊎ (y ≡ q ++ z ∷ []) → (w : ℕ) × (y ≡ q ++ w ∷ [])
@@ -75,8 +66,7 @@ squeeze (p ∷ ps) [] x z e h (inl k) = absurd k
 squeeze (p ∷ ps) (v ∷ vs) x z e (inl h) (inl (inl k)) = absurd (omega arith)
 squeeze (p ∷ ps) (v ∷ vs) x z e (inl h) (inl (inr k)) = absurd (let g = k.0 in omega arith)
 squeeze (p ∷ ps) (v ∷ vs) x z e (inr h) (inl (inl k)) = absurd (let g = h.0 in omega arith)
-squeeze (p ∷ ps) (v ∷ vs) x z e (inr h) (inl (inr k)) =
-    let r = squeeze ps vs x z (omega arith) h.1 (inl k.1) in (r.0, cc (k.0, r.1))
+squeeze (p ∷ ps) (v ∷ vs) x z e (inr h) (inl (inr k)) = search (rules, (squeeze ps vs x z))
 
 -- a lower last rider makes the trip lower
 pub lower_last : (p : List ℕ) (d e : ℕ) → d < e → IsLower (p ++ d ∷ []) (p ++ e ∷ [])
@@ -88,8 +78,7 @@ pub lower_longer : (t p s : List ℕ) → IsLower t p → IsLower t (p ++ s)
 lower_longer t p s h = rw append-nil at (lower_append t p [] s h)
 
 pub lower_raise : (p t : List ℕ) (c d : ℕ) → length t ≡ length p + 1 → c ≤ d → IsLower t (p ++ c ∷ []) → IsLower t (p ++ d ∷ [])
-lower_raise p t c d e h k =
-    ⊎_elim (λ w. lower_longer t p (d ∷ []) w) (λ w. let below : w.0 < d = (let lt = w.2 in omega arith) in subst (λ (v : List ℕ). IsLower v (p ++ d ∷ [])) (sym w.1) (lower_last p w.0 d below)) (lower_back p t c e k)
+lower_raise p t c d e h k = search (rules, lower_longer, lower_last, lower_back)
 
 -- a trip is its front and its last rider
 pub front_and_last : (t : List ℕ) (m : ℕ) → length t ≡ m + 1 → t ≡ take m t ++ get_or t m 0 ∷ []

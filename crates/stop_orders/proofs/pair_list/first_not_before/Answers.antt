@@ -1,4 +1,4 @@
-use Rattle.std.proofs.Common.{◌+◌, ◌<◌, length, arith}
+use Rattle.std.proofs.Common.{arith}
 use Rattle.stop_orders.proofs.Common.{both_ways}
 use Rattle.stop_orders.proofs.PairLemmas.{before_up_to, not_before_from}
 use Rattle.stop_orders.proofs.pair_list.first_not_before.Goals as goal
