@@ -14,7 +14,7 @@ pub use Rattle.dispatch_report.specs.Head.{settings_line}
 unfoldable pub use Rattle.dispatch_report.specs.Lines.{lines_text}
 unfoldable pub use Rattle.dispatch_report.specs.Words.{numbered, signed}
 pub use Rattle.dispatch_report.specs.Words.{spaced}
-pub use Rattle.pool_base.specs.Number.{AllDigits, IsDigit, value_of}
+pub use Rattle.pool_base.specs.Number.{AllDigits, value_of}
 pub use Rattle.pool_base.specs.lemmas.Number.{value_after}
 pub use Rattle.report_lines.specs.Block.{BeginsBlock, BlockFails, IsBadBlock, IsBlock, IsCutBlock}
 pub use Rattle.report_lines.specs.BlockLine.{IsBlockLine}
@@ -36,10 +36,10 @@ pub use Rattle.dispatch_report.specs.declared.block_line.BlockLine.TheVariants.{
 pub use Rattle.report_lines.specs.declared.head_fault.HeadFault.{HeadFault}
 pub use Rattle.report_lines.specs.declared.head_lines.SettingsText.{SettingsText}
 pub use Rattle.report_lines.specs.lemmas.HeadLines.{IsShortNumber, dwell_text}
-pub use Rattle.report_lines.specs.work.Commands.{AreFour, AreThree, IsEnding, IsRide, IsSingle, IsSubmit, IsTold, ending_text, four_text, ride_text, single_text, submit_text, three_text, told_text}
+pub use Rattle.report_lines.specs.work.Commands.{AreFour, AreThree, IsEnding, IsSubmit, IsTold, ending_text, four_text, submit_text, three_text, told_text}
 pub use Rattle.report_lines.specs.work.Head.{HasHead, LinesThen, Passes, told_lines}
 pub use Rattle.report_lines.specs.work.Late.{IsOrder, order_text}
-pub use Rattle.report_lines.specs.work.Replies.{IsNotPromised, IsNotThisBatch, IsNumberRefusal, spaced_reply}
+pub use Rattle.report_lines.specs.work.Replies.{spaced_reply}
 pub use Rattle.report_lines.specs.work.Settings.{told_of}
 pub use Rattle.report_lines.specs.work.Stops.{IsVisit, visit_text}
 pub use Rattle.report_lines.specs.work.Told.{Told}

@@ -1,4 +1,4 @@
-use Rattle.std.specs.Prelude.{ℕ, List, ◌++◌, codes}
+use Rattle.std.specs.Prelude.{ℕ, List, ◌++◌, codes, None, Some}
 use Rattle.dispatch_report.specs.Entry.{reply_text}
 use Rattle.report_lines.specs.Reply.{IsRefusal}
 use Rattle.request_book.specs.declared.reply.BookRefusal.{BookRefusal}
@@ -18,6 +18,8 @@ IsWordRefusal UnknownRider = Unit {0}
 IsWordRefusal UnknownVehicle = Unit {0}
 IsWordRefusal VehicleFull = Unit {0}
 IsWordRefusal NotAboard = Unit {0}
+IsWordRefusal (NotPromised None) = Unit {0}
+IsWordRefusal (NotThisBatch None) = Unit {0}
 IsWordRefusal _ = ⊥
 
 abbrev pub IsNumberRefusal : BookRefusal → Type 0
@@ -25,19 +27,13 @@ IsNumberRefusal (IsAboard vehicle) = IsRefusal (IsAboard vehicle)
 IsNumberRefusal (TimeBack last) = IsRefusal (TimeBack last)
 IsNumberRefusal (BatchOpen batch) = IsRefusal (BatchOpen batch)
 IsNumberRefusal (ClockBack last) = IsRefusal (ClockBack last)
+IsNumberRefusal (NotPromised (Some vehicle)) = IsRefusal (NotPromised (Some vehicle))
+IsNumberRefusal (NotThisBatch (Some batch)) = IsRefusal (NotThisBatch (Some batch))
 IsNumberRefusal _ = ⊥
 
 abbrev pub IsEndedRefusal : BookRefusal → Type 0
 IsEndedRefusal (Ended status) = IsRefusal (Ended status)
 IsEndedRefusal _ = ⊥
-
-abbrev pub IsNotPromised : BookRefusal → Type 0
-IsNotPromised (NotPromised holder) = IsRefusal (NotPromised holder)
-IsNotPromised _ = ⊥
-
-abbrev pub IsNotThisBatch : BookRefusal → Type 0
-IsNotThisBatch (NotThisBatch current) = IsRefusal (NotThisBatch current)
-IsNotThisBatch _ = ⊥
 
 abbrev pub IsWordReply : Reply → Type 0
 IsWordReply Accepted = Unit {0}
