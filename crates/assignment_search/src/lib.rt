@@ -28,7 +28,6 @@ mod growth;
 mod guide;
 mod lookups;
 mod lowest_leaf;
-mod open_leaves;
 mod parting;
 mod plain_draft;
 mod root;

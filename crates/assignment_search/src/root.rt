@@ -5,7 +5,7 @@ ghost use Rattle.plan_rules.specs.Tree.{every_row, rounded_up};
 ghost use Rattle.assignment_search.specs.work.Lookups.{AreLookupsOf};
 ghost use Rattle.assignment_search.specs.work.Growth.{IsGoodLeaf};
 
-use crate::child::{Judged, best_of};
+use crate::child::{Judged, Parent, best_of};
 use crate::guide::Guide;
 use crate::lookups::Lookups;
 use plan_rules::{TripGraph, leaf_value};
@@ -27,6 +27,12 @@ pub fn root_leaf(
     let zeros = vec![in alloc; 0; graph.rider_count()]?;
     let suggested = guide.root_multipliers(alloc)?;
     let value = leaf_value(graph, &allowed, &zeros);
-    let best = best_of(alloc, graph, lookups, &allowed, &zeros, value, suggested)?;
+    let parent = Parent {
+        graph,
+        allowed: &allowed,
+        multipliers: &zeros,
+        value,
+    };
+    let best = best_of(alloc, lookups, &parent, suggested)?;
     Ok(best)
 }

@@ -15,4 +15,4 @@ returns-clause-leaf c =
     let fitted : first_fit_value g (usable_of allowed) ≤ℤ value = subst (λ (xs : List Bool). first_fit_value g (usable_of xs) ≤ℤ value) c.deref-3.ensures.value c.in_ok-best.ensures.first_fit in
     root_is_good g allowed ms value c.rows.ensures.good
     (λ k l. ap (λ (xs : List Bool). get_or xs k false) all ∙ get_or-replicate size k true false (omega (arith, l, ap length c.rows.ensures.value)))
-    judged.sized fitted judged.judged judged.small
+    judged fitted

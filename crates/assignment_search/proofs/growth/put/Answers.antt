@@ -1,7 +1,7 @@
 use Rattle.std.proofs.Common.{◌≡◌, ◌+◌, ℤ, [], ◌∷◌, ap, arith}
 use Rattle.assignment_search.proofs.Common.{Reverse, sum_by_pushed, Node, OpenLeaf, leaf_sum}
 use Rattle.assignment_search.proofs.AnswerLemmas.{small_back}
-use Rattle.assignment_search.proofs.open_leaves.put.Goals as goal
+use Rattle.assignment_search.proofs.growth.put.Goals as goal
 
 pub returns-in_ok-push-clause-sum : goal.returns-in_ok-push-clause-sum
 returns-in_ok-push-clause-sum c = λ f.

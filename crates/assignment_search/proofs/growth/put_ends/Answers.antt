@@ -3,7 +3,7 @@ use Rattle.assignment_search.proofs.Common.{Node, Branch}
 use Rattle.std.specs.List.{insert}
 use Rattle.assignment_search.proofs.AnswerLemmas.{small_back}
 use Rattle.assignment_search.proofs.EditLemmas.{edit_replace, edit_keep}
-use Rattle.assignment_search.proofs.growth.grow.Goals as goal
+use Rattle.assignment_search.proofs.growth.put_ends.Goals as goal
 
 pub returns-clause-nodes : goal.returns-clause-nodes
 returns-clause-nodes c =
