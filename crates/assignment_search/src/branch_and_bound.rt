@@ -8,15 +8,13 @@ ghost use Rattle.assignment_search.specs.work.Lookups.{AreLookupsOf};
 ghost use Rattle.assignment_search.specs.Found.{IsSearchAnswer};
 ghost use Rattle.assignment_search.specs.work.Growth.{IsGoodLeaf};
 
-use crate::child::Judged;
+use crate::child::{Judged, root_leaf};
 use crate::exchange::exchange;
 use crate::first_plan::first_plan;
 use crate::found::Found;
-use crate::growth::Growing;
+use crate::growth::{Growing, bound_at};
 use crate::guide::Guide;
 use crate::lookups::Lookups;
-use crate::lowest_leaf::bound_at;
-use crate::root::root_leaf;
 use crate::step::{Outcome, next};
 use plan_rules::{Node, Plan, Tree, TripGraph, cost_of};
 use pool_base::OutOfMemory;

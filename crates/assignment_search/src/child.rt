@@ -1,11 +1,14 @@
-//! The ends of a branch.
+//! The leaf at the root, and the ends of a branch.
 ghost use Rattle.std.specs.Prelude.{◌≡◌, ◌≤ℤ◌, ◌<◌, true, IfOk, length};
 ghost use Rattle.plan_rules.specs.Multipliers.{usable_of, leaf_value, first_fit_value};
+ghost use Rattle.plan_rules.specs.GoodGraph.{IsGoodGraph};
 ghost use Rattle.plan_rules.specs.Size.{IsSmallSum};
+ghost use Rattle.plan_rules.specs.Tree.{every_row, rounded_up};
 ghost use Rattle.assignment_search.specs.work.Lookups.{AreLookupsOf};
 ghost use Rattle.assignment_search.specs.work.Apart.{AgreeApart};
-ghost use Rattle.assignment_search.specs.work.Growth.{IsJudged, IsNewEnd, IsNewLeaf};
+ghost use Rattle.assignment_search.specs.work.Growth.{IsGoodLeaf, IsJudged, IsNewEnd, IsNewLeaf};
 
+use crate::guide::Guide;
 use crate::lookups::Lookups;
 use dual_bound::{first_fit_by, first_fit_ceiling, leaf_value, quick_ceiling};
 use plan_rules::{Multipliers, Node, TripGraph, is_dead_end, vehicle_part};
@@ -38,6 +41,31 @@ pub struct Parent<'a> {
 pub struct Judged {
     pub multipliers: Multipliers,
     pub value: i128,
+}
+
+/// A leaf at the root: the better of the first-fit multipliers and those that are suggested.
+pub fn root_leaf(
+    alloc: Global,
+    graph: &TripGraph,
+    lookups: &Lookups,
+    guide: &Guide,
+) -> Result<Judged, OutOfMemory>
+    requires { AreLookupsOf graph.now lookups.now }
+    ensures good { IsGoodGraph graph.now }
+    ensures leaf { IfOk result (λ leaf. IsGoodLeaf graph.now (rounded_up leaf.value) every_row leaf.multipliers leaf.value) }
+{
+    let allowed = vec![in alloc; true; graph.rows().len()]?;
+    let zeros = vec![in alloc; 0; graph.rider_count()]?;
+    let suggested = guide.root_multipliers(alloc)?;
+    let value = leaf_value(graph, &allowed, &zeros);
+    let parent = Parent {
+        graph,
+        allowed: &allowed,
+        multipliers: &zeros,
+        value,
+    };
+    let best = best_of(alloc, lookups, &parent, suggested)?;
+    Ok(best)
 }
 
 /// What the parent's multipliers are worth at these allowed rows, where only this vehicle's rows changed.

@@ -1,15 +1,16 @@
 //! A tree that grows, with its open leaves in a heap: the leaf of least value comes first.
-ghost use Rattle.std.specs.Prelude.{◌≡◌, ◌+◌, ◌<◌, ℕ, ℤ, suc, pos, [], ◌∷◌, ◌++◌, IfOk, OnOk, length, take, drop, slice_index_or};
+ghost use Rattle.std.specs.Prelude.{◌≡◌, ◌+◌, ◌<◌, ◌≤ℤ◌, ◌<ℤ◌, ℕ, ℤ, suc, pos, [], ◌∷◌, ◌++◌, IfOk, MatchBool, OnOk, length, take, drop, slice_index_or};
 ghost use Rattle.std.specs.List.{sum_by};
 ghost use Rattle.std.specs.BinaryHeap.{IsHeap, heap_items};
 ghost use Rattle.plan_rules.specs.Size.{IsSmallSum};
+ghost use Rattle.plan_rules.specs.Tree.{rounded_up};
 ghost use Rattle.plan_rules.specs.declared.node.Node.TheVariants.{Branch, Leaf};
 ghost use Rattle.assignment_search.specs.work.Growth.{IsLowest, HasLeaf};
 ghost use Rattle.assignment_search.specs.work.OpenLeaves.{AreOpen, IsFirst, leaf_cmp, leaf_sum};
 
 use crate::child::{End, Judged};
 use crate::parting::Ends;
-use plan_rules::Node;
+use plan_rules::{Node, rounded_up};
 use pool_base::OutOfMemory;
 use std::alloc::Global;
 use std::cmp::Reverse;
@@ -107,6 +108,24 @@ impl Growing {
         put_ends(&mut self.nodes, &mut self.values, place, ends)?;
         Ok(())
     }
+}
+
+/// The value at this place, in seconds.
+pub fn bound_at(tree: &Growing, place: usize) -> i128
+    requires place { place < length tree.now.values.items }
+    requires small { IsSmallSum 1500 (slice_index_or tree.now.values.items place (pos 0)) }
+    ensures { result ≡ rounded_up (slice_index_or tree.now.values.items place (pos 0)) }
+{
+    rounded_up(tree.values[place])
+}
+
+/// Whether the value at this place, in seconds, is at least this limit.
+pub fn is_met(tree: &Growing, place: usize, limit: u64) -> bool
+    requires place { place < length tree.now.values.items }
+    requires small { IsSmallSum 1500 (slice_index_or tree.now.values.items place (pos 0)) }
+    ensures { MatchBool result (pos limit ≤ℤ rounded_up (slice_index_or tree.now.values.items place (pos 0))) (rounded_up (slice_index_or tree.now.values.items place (pos 0)) <ℤ pos limit) }
+{
+    bound_at(tree, place) >= i128::from(limit)
 }
 
 /// The place of the node with this number.

@@ -8,10 +8,9 @@ ghost use Rattle.assignment_search.specs.work.Next.{IsNext};
 
 use crate::branching::branch_row;
 use crate::child::Parent;
-use crate::growth::Growing;
+use crate::growth::{Growing, is_met};
 use crate::guide::Guide;
 use crate::lookups::Lookups;
-use crate::lowest_leaf::is_met;
 use crate::parting::{Ends, allowed_at, part};
 use crate::sole_plan::sole_rows;
 use crate::standing::path_to;

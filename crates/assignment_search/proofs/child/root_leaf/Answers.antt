@@ -1,7 +1,7 @@
 use Rattle.std.proofs.Common.{◌≡◌, Bool, true, false, List, ℤ, ◌≤ℤ◌, length, get_or, replicate, ap, ◌∙◌, subst, arith}
 use Rattle.assignment_search.proofs.Common.{get_or-replicate, usable_of, first_fit_value, IsJudged}
 use Rattle.assignment_search.proofs.AnswerLemmas.{root_is_good}
-use Rattle.assignment_search.proofs.root.root_leaf.Goals as goal
+use Rattle.assignment_search.proofs.child.root_leaf.Goals as goal
 
 pub returns-clause-leaf : goal.returns-clause-leaf
 returns-clause-leaf c =
