@@ -43,11 +43,6 @@ new_end_agrees g w u parent (Leaf ms) z agree h =
 new_end_agrees g w u parent Dead z agree h = (dead_end_agrees g w u agree (h.0), h.1)
 new_end_agrees g w u parent (Branch v k) z agree h = absurd h
 
-pub new_end_small : (g : Graph) (u : Usable) (parent : List ℤ) (n : Node) (z : ℤ) → IsNewEnd g u parent n z → IsSmallSum 1500 z
-new_end_small g u parent (Leaf ms) z h = h.judged.small
-new_end_small g u parent Dead z h = subst (IsSmallSum 1500) (sym (h.1)) (record { low = omega (arith, ints); high = omega (arith, ints) })
-new_end_small g u parent (Branch v k) z h = absurd h
-
 pub root_is_good : (g : Graph) (allowed : List Bool) (ms : List ℤ) (value : ℤ) → IsGoodGraph g → ((k : ℕ) → k < length g.rows → usable_of allowed k ≡ true) → IsJudged g (usable_of allowed) ms value
     → first_fit_value g (usable_of allowed) ≤ℤ value → IsGoodLeaf g (rounded_up value) every_row ms value
 root_is_good g allowed ms value good all judged fitted =

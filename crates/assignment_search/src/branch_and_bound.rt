@@ -92,12 +92,8 @@ fn branch(
                 limit = cost_of(graph, &better);
                 plan = better;
             }
-            Outcome::Met => {
-                return Ok(found_of(graph, plan, bound, tree.nodes));
-            }
-            Outcome::Fixed(best) => {
-                return Ok(found_of(graph, best, bound, tree.nodes));
-            }
+            Outcome::Met => return Ok(found_of(graph, plan, bound, tree.nodes)),
+            Outcome::Fixed(best) => return Ok(found_of(graph, best, bound, tree.nodes)),
             Outcome::Full => {
                 let best = exchange(alloc, graph, plan)?;
                 return Ok(found_of(graph, best, bound, tree.nodes));

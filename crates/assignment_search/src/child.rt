@@ -23,6 +23,7 @@ const MOST_VALUE: i128 = 1500 * 147573952589676412928;
 pub struct End {
     pub node: Node,
     pub value: i128,
+    pub ghost small: { IsSmallSum 1500 value },
 }
 
 /// The multipliers of a leaf, with what they are worth where these rows may be chosen.

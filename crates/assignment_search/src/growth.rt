@@ -88,8 +88,6 @@ impl Growing {
     pub fn grow(&mut self, alloc: Global, place: usize, ends: Ends) -> Result<(), OutOfMemory>
         requires leaves { AreOpen self.old self.old.nodes.items self.old.values.items }
         requires first { IsFirst self.old place }
-        requires first_small { IsSmallSum 1500 ends.first.value }
-        requires second_small { IsSmallSum 1500 ends.second.value }
         ensures budget { OnOk result (self.new.budget ≡ self.old.budget) }
         ensures nodes { OnOk result (self.new.nodes.items ≡ take place self.old.nodes.items ++ (Branch ends.vehicle ends.row ∷ ends.first.node ∷ ends.second.node ∷ drop (suc place) self.old.nodes.items)) }
         ensures values { OnOk result (self.new.values.items ≡ take place self.old.values.items ++ (slice_index_or self.old.values.items place (pos 0) ∷ ends.first.value ∷ ends.second.value ∷ drop (suc place) self.old.values.items)) }
@@ -156,7 +154,6 @@ fn put(
     turns: Vec<bool>,
     number: usize,
 ) -> Result<(), OutOfMemory>
-    requires { IsSmallSum 1500 end.now.value }
     ensures sum { OnOk result ((f : ℕ → ℤ → ℕ) → sum_by (λ leaf. f leaf.0.number leaf.0.value) (heap_items heap.new) ≡ leaf_sum f (number ∷ []) (end.now.node ∷ []) (end.now.value ∷ []) + sum_by (λ leaf. f leaf.0.number leaf.0.value) (heap_items heap.old)) }
     ensures order { OnOk result (IsHeap (λ x y. leaf_cmp y.0 x.0) (heap_items heap.old) → IsHeap (λ x y. leaf_cmp y.0 x.0) (heap_items heap.new)) }
 {
@@ -179,8 +176,6 @@ fn put_ends(
 ) -> Result<(), OutOfMemory>
     requires place { place < length nodes.old.items }
     requires values { length values.old.items ≡ length nodes.old.items }
-    requires first { IsSmallSum 1500 ends.first.value }
-    requires second { IsSmallSum 1500 ends.second.value }
     ensures nodes { OnOk result (nodes.new.items ≡ take place nodes.old.items ++ (Branch ends.vehicle ends.row ∷ ends.first.node ∷ ends.second.node ∷ drop (suc place) nodes.old.items)) }
     ensures values { OnOk result (values.new.items ≡ take place values.old.items ++ (slice_index_or values.old.items place (pos 0) ∷ ends.first.value ∷ ends.second.value ∷ drop (suc place) values.old.items)) }
 {

@@ -28,7 +28,6 @@ mod growth;
 mod guide;
 mod lookups;
 mod parting;
-mod sole_plan;
 mod standing;
 mod step;
 

@@ -6,13 +6,12 @@ ghost use Rattle.assignment_search.specs.work.Lookups.{AreLookupsOf};
 ghost use Rattle.assignment_search.specs.work.Growth.{IsGrown, IsLowest};
 ghost use Rattle.assignment_search.specs.work.Next.{IsNext};
 
-use crate::branching::branch_row;
+use crate::branching::{branch_row, sole_rows};
 use crate::child::Parent;
 use crate::growth::{Growing, is_met};
 use crate::guide::Guide;
 use crate::lookups::Lookups;
 use crate::parting::{Ends, allowed_at, part};
-use crate::sole_plan::sole_rows;
 use crate::standing::path_to;
 use plan_rules::{Node, Plan, TripGraph};
 use pool_base::OutOfMemory;

@@ -2,7 +2,7 @@ use Rattle.std.proofs.Common.{ℕ, List, Option, length, ap, ◌∙◌, subst, a
 use Rattle.assignment_search.proofs.Common.{w128, ints, Node, Branch, IsBestNear, IsNext}
 use Rattle.std.proofs.lemmas.Int.{to_z-of_z}
 use Rattle.assignment_search.proofs.EditLemmas.{edit_length}
-use Rattle.assignment_search.proofs.AnswerLemmas.{new_end_small, so_far_start, so_far_leaf, so_far_raised, so_far_grow, lowest_small, answer_met, answer_full}
+use Rattle.assignment_search.proofs.AnswerLemmas.{so_far_start, so_far_leaf, so_far_raised, so_far_grow, lowest_small, answer_met, answer_full}
 use Rattle.assignment_search.proofs.branch_and_bound.branch.Goals as goal
 
 pub loop-tree-init : goal.loop-tree-init
@@ -32,18 +32,6 @@ next-requires-clause-grown c = (
   c.cost_of-limit.result,
   so_far_raised c.args.graph.now c.args.budget c.cost_of-limit.result c.loop-tree.tree.nodes.items c.loop-tree.tree.values.items c.first-place.result c.loop-tree.invariant.tree c.first-place.ensures.lowest,
 )
-
-pub grow-requires-clause-first_small : goal.grow-requires-clause-first_small
-grow-requires-clause-first_small c =
-    let ends = c.in-Parted.ends in
-    let said = subst (IsNext c.args.graph.now c.loop-tree.tree.nodes.items c.loop-tree.tree.values.items c.first-place.result c.loop-tree.limit c.loop-tree.tree.budget) c.in-Parted.is c.in_ok-ends.ensures in
-    new_end_small c.args.graph.now _ (said.0).parent ends.first.node ends.first.value (said.0).parting.first
-
-pub grow-requires-clause-second_small : goal.grow-requires-clause-second_small
-grow-requires-clause-second_small c =
-    let ends = c.in-Parted.ends in
-    let said = subst (IsNext c.args.graph.now c.loop-tree.tree.nodes.items c.loop-tree.tree.values.items c.first-place.result c.loop-tree.limit c.loop-tree.tree.budget) c.in-Parted.is c.in_ok-ends.ensures in
-    new_end_small c.args.graph.now _ (said.0).parent ends.second.node ends.second.value (said.0).parting.second
 
 pub loop-tree-smaller-in-Continue-branch-4 : goal.loop-tree-smaller-in-Continue-branch-4
 loop-tree-smaller-in-Continue-branch-4 c =
