@@ -40,7 +40,7 @@ new_end_agrees g w u parent (Leaf ms) z agree h =
       inherited = subst (λ (y : ℤ). y ≤ℤ z) value h.inherited;
       alive = λ dead. h.alive (dead_end_agrees g u w (agree_back g w u agree) dead);
     }
-new_end_agrees g w u parent Dead z agree h = (dead_end_agrees g w u agree (h.0), h.1)
+new_end_agrees g w u parent Dead z agree h = dead_end_agrees g w u agree h
 new_end_agrees g w u parent (Branch v k) z agree h = absurd h
 
 pub root_is_good : (g : Graph) (allowed : List Bool) (ms : List ℤ) (value : ℤ) → IsGoodGraph g → ((k : ℕ) → k < length g.rows → usable_of allowed k ≡ true) → IsJudged g (usable_of allowed) ms value

@@ -46,7 +46,7 @@ new_end_good : (g : Graph) (low : ℤ) (limit : ℕ) (u : Usable) (parent : List
 new_end_good g low limit u parent (Leaf ms) z floor mono h =
     let up : rounded_up (leaf_value g u parent) ≤ℤ rounded_up z = mono (leaf_value g u parent) z h.inherited in
     record { judged = h.judged; first_fit = h.first_fit; floor = omega (arith, ints); alive = h.alive }
-new_end_good g low limit u parent Dead z floor mono h = h.0
+new_end_good g low limit u parent Dead z floor mono h = h
 new_end_good g low limit u parent (Branch v k) z floor mono h = absurd h
 
 new_end_ends : (g : Graph) (u w : Usable) (parent : List ℤ) (n : Node) (z : ℤ) (c : List Usable) → IsNewEnd g w parent n z → coming_after g u n c ≡ c

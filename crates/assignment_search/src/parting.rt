@@ -30,7 +30,7 @@ pub struct Ends {
 pub fn part(
     alloc: Global,
     lookups: &Lookups,
-    path: Path,
+    mut path: Path,
     parent: &Parent<'_>,
     at: (usize, usize),
     suggested: Suggested,
@@ -48,7 +48,6 @@ pub fn part(
     let size = parent.graph.rows().len();
     prove!(row < size);
     let Suggested { taken, left } = suggested;
-    let mut path = path;
     path.enter(vehicle as u32, row as u32)?;
     let first = end_of(alloc, lookups, &path, parent, vehicle, taken)?;
     path.leave();

@@ -76,5 +76,5 @@ pub record IsNewLeaf (g : Graph) (usable : Usable) (parent : List ℤ) (ms : Lis
 
 abbrev pub IsNewEnd : Graph → Usable → List ℤ → Node → ℤ → Type 0
 IsNewEnd g usable parent (Leaf ms) value = IsNewLeaf g usable parent ms value
-IsNewEnd g usable parent Dead value = IsDeadEnd g usable × (value ≡ pos 0)
+IsNewEnd g usable parent Dead value = IsDeadEnd g usable
 IsNewEnd g usable parent (Branch v k) value = ⊥
