@@ -1,12 +1,11 @@
 -- What a search finds.
 use Rattle.std.proofs.Common.{◌≡◌, ℕ, suc, ◌+◌, ◌*◌, ◌<◌, ◌≤◌, Bool, true, List, [], ◌∷◌, ◌++◌, length, get_or, set, take, drop, Option, Result, Ok, Err, ℤ, pos, ◌≤ℤ◌, ◌<ℤ◌, to_z, of_z, All, refl, sym, ap, ◌∙◌, subst, arith}
-use Rattle.assignment_search.proofs.Common.{w128, ints, Graph, IsGoodGraph, IsBound, IsLawful, cost_of, IsGreedy, Usable, usable_of, leaf_value, first_fit_value, every_row, only_row, without_row, CanBranch, IsDeadEnd, Place, rounded_up, places, places_read, ReadsTo, Node, Branch, Leaf, Dead, within_every_row, dead_end_holds_none, tree_value_bounds, Agree, agree_back, leaf_value_agrees, first_fit_value_agrees, dead_end_agrees, may_use_agrees, can_branch_agrees, both_ways, IsSmallSum, IsWorthBranching, IsGoodLeaf, IsGoodNode, IsGrown, HasUsable, IsFixed, IsSolePlan, IsLowest, HasLeaf, IsNewEnd, IsJudged, choice_count, IsBestNear, IsFairNode, IsSearchAnswer, IsTreeSoFar, IsParting, IsPartedAt, IsNext}
+use Rattle.assignment_search.proofs.Common.{w128, ints, Graph, IsGoodGraph, IsBound, IsLawful, cost_of, IsGreedy, Usable, usable_of, leaf_value, first_fit_value, every_row, only_row, without_row, CanBranch, IsDeadEnd, Place, rounded_up, places, places_read, ReadsTo, Node, Branch, Leaf, Dead, within_every_row, dead_end_holds_none, tree_value_bounds, Agree, agree_back, leaf_value_agrees, first_fit_value_agrees, dead_end_agrees, may_use_agrees, can_branch_agrees, both_ways, IsSmallSum, IsWorthBranching, IsGoodLeaf, IsGoodNode, IsGrown, HasUsable, IsFixed, IsSolePlan, IsLowest, HasLeaf, IsNewEnd, IsJudged, choice_count, IsBestNear, IsFairNode, IsSearchAnswer, IsTreeSoFar, IsParting, IsPartedAt}
 use Rattle.std.specs.Result.{IfOk}
 use Rattle.std.proofs.lemmas.List.Elements.{All-from_recursion}
 use Rattle.plan_rules.proofs.lemmas.SearchTreeLemmas.{tree_of_reads, places_are, value_is_read}
 use Rattle.assignment_search.specs.declared.found.Found.{Found}
 use Rattle.assignment_search.specs.declared.parting.Ends.{Ends}
-use Rattle.assignment_search.specs.declared.step.Outcome.{Outcome}
 use Rattle.assignment_search.proofs.GrowthLemmas.{IsSplit, grown_split, grown_reads, branched, raised, lowest_above, lowest_floor, value_is, nodes_fair, usable_here, usable_only, usable_without, reads_unique}
 use Rattle.plan_rules.proofs.lemmas.TreeLemmas.{rounded_up_mono}
 use Rattle.assignment_search.proofs.ApartLemmas.{back}
@@ -28,42 +27,32 @@ small_back z h = back z (record { low = omega (arith, ints, h.low); high = omega
 
 -- ---- ends
 
+judged_agrees : (g : Graph) (w u : Usable) (ms : List ℤ) (z : ℤ) → Agree g w u → IsJudged g w ms z → IsJudged g u ms z
+judged_agrees g w u ms z agree h = record { sized = h.sized; judged = h.judged ∙ leaf_value_agrees g w u ms agree; small = h.small }
+
 pub new_end_agrees : (g : Graph) (w u : Usable) (parent : List ℤ) (n : Node) (z : ℤ) → Agree g w u → IsNewEnd g w parent n z → IsNewEnd g u parent n z
 new_end_agrees g w u parent (Leaf ms) z agree h =
     let fit = first_fit_value_agrees g w u agree in
     let value = leaf_value_agrees g w u parent agree in
     record {
-      sized = h.sized;
-      judged = h.judged ∙ leaf_value_agrees g w u ms agree;
+      judged = judged_agrees g w u ms z agree h.judged;
       first_fit = subst (λ (y : ℤ). y ≤ℤ z) fit h.first_fit;
       inherited = subst (λ (y : ℤ). y ≤ℤ z) value h.inherited;
       alive = λ dead. h.alive (dead_end_agrees g u w (agree_back g w u agree) dead);
-      small = h.small;
     }
-new_end_agrees g w u parent Dead z agree h = (dead_end_agrees g w u agree (h.0), h.1)
+new_end_agrees g w u parent Dead z agree h = dead_end_agrees g w u agree h
 new_end_agrees g w u parent (Branch v k) z agree h = absurd h
 
--- what is said of the leaf of least value, of the lists as they are elsewhere
-pub said_of : (g : Graph) (xs nodes : List Node) (zs values : List ℤ) (place limit budget : ℕ) (said : Outcome) → xs ≡ nodes → zs ≡ values → IsNext g xs zs place limit budget said → IsNext g nodes values place limit budget said
-said_of g xs nodes zs values place limit budget said e f h = subst (λ (ns : List Node). IsNext g ns values place limit budget said) e (subst (λ (ws : List ℤ). IsNext g xs ws place limit budget said) f h)
-
-pub new_end_small : (g : Graph) (u : Usable) (parent : List ℤ) (n : Node) (z : ℤ) → IsNewEnd g u parent n z → IsSmallSum 1500 z
-new_end_small g u parent (Leaf ms) z h = h.small
-new_end_small g u parent Dead z h = subst (IsSmallSum 1500) (sym (h.1)) (record { low = omega (arith, ints); high = omega (arith, ints) })
-new_end_small g u parent (Branch v k) z h = absurd h
-
-pub root_is_good : (g : Graph) (allowed : List Bool) (ms : List ℤ) (value : ℤ) → IsGoodGraph g → ((k : ℕ) → k < length g.rows → usable_of allowed k ≡ true) → length ms ≡ g.riders
-    → first_fit_value g (usable_of allowed) ≤ℤ value → value ≡ leaf_value g (usable_of allowed) ms → IsSmallSum 1500 value → IsGoodLeaf g (rounded_up value) every_row ms value
-root_is_good g allowed ms value good all sized fitted judged small =
+pub root_is_good : (g : Graph) (allowed : List Bool) (ms : List ℤ) (value : ℤ) → IsGoodGraph g → ((k : ℕ) → k < length g.rows → usable_of allowed k ≡ true) → IsJudged g (usable_of allowed) ms value
+    → first_fit_value g (usable_of allowed) ≤ℤ value → IsGoodLeaf g (rounded_up value) every_row ms value
+root_is_good g allowed ms value good all judged fitted =
     let agree : Agree g (usable_of allowed) every_row = all in
     let fit : first_fit_value g (usable_of allowed) ≡ first_fit_value g every_row = first_fit_value_agrees g (usable_of allowed) every_row agree in
     record {
-      sized = sized;
-      judged = judged ∙ leaf_value_agrees g (usable_of allowed) every_row ms agree;
+      judged = judged_agrees g (usable_of allowed) every_row ms value agree judged;
       first_fit = omega (arith, ints);
       floor = omega (arith, ints);
       alive = λ dead. both_ways _ (dead_end_holds_none g every_row g.held good good.held dead) (within_every_row g g.held);
-      small = small;
     }
 
 -- ---- a tree that grows
@@ -93,7 +82,7 @@ leaf_here g low limit nodes values place s lowest = subst (λ (n : Node). IsGood
 pub lowest_small : (g : Graph) (low : ℤ) (limit : ℕ) (nodes : List Node) (values : List ℤ) (place : ℕ) → IsGrown g low limit (every_row ∷ []) nodes values [] → IsLowest nodes values place → IsSmallSum 1500 (get_or values place (pos 0))
 lowest_small g low limit nodes values place grown lowest =
     let s = grown_split g low limit nodes values (every_row ∷ []) [] place grown lowest.within in
-    (leaf_here g low limit nodes values place s lowest).small
+    (leaf_here g low limit nodes values place s lowest).judged.small
 
 inner : (a b : List ℤ) → Leaf a ≡ Leaf b → a ≡ b
 inner a b e = cc
@@ -119,7 +108,7 @@ so_far_grow g budget limit nodes values place ends new news t lowest parted room
     let parting : IsParting g s.usable parted.parent ends = subst (λ (u : Usable). IsParting g u parted.parent ends) stands parted.parting in
     let can = parting.can in
     let has : HasUsable g s.usable = usable_here g (take place nodes) s.usable s.later (grown_reads g low limit (take place nodes) (take place values) (every_row ∷ []) (s.usable ∷ s.later) s.before) in
-    let judged : get_or values place (pos 0) ≡ leaf_value g s.usable parted.parent = here.judged ∙ ap (leaf_value g s.usable) (sym parent_is) in
+    let judged : get_or values place (pos 0) ≡ leaf_value g s.usable parted.parent = here.judged.judged ∙ ap (leaf_value g s.usable) (sym parent_is) in
     let only_up = value_rises g s.usable (only_row g s.usable ends.vehicle ends.row) parted.parent (λ k e. only_fewer g s.usable ends.vehicle ends.row k e) (usable_only g s.usable ends.vehicle ends.row can has) in
     let without_up = value_rises g s.usable (without_row s.usable ends.row) parted.parent (λ k e. without_fewer s.usable ends.row k e) (usable_without g s.usable ends.vehicle ends.row can has) in
     let floor_only = rounded_up_mono (get_or values place (pos 0)) (leaf_value g (only_row g s.usable ends.vehicle ends.row) parted.parent) (subst (λ (z : ℤ). z ≤ℤ leaf_value g (only_row g s.usable ends.vehicle ends.row) parted.parent) (sym judged) only_up) in
@@ -163,12 +152,8 @@ module _ (g : Graph) (limit place : ℕ) (nodes : List Node) (values : List ℤ)
 
   pub judged_here : (ms : List ℤ) → get_or nodes place Dead ≡ Leaf ms → IsJudged g (usable_of allowed) ms (get_or values place (pos 0))
   judged_here ms is =
-      let parent_is : ms ≡ lowest.multipliers = inner ms lowest.multipliers (sym is ∙ lowest.leaf) in
-      record {
-        sized = ap (λ (xs : List ℤ). length xs) parent_is ∙ here.sized;
-        judged = here.judged ∙ ap (leaf_value g s.usable) (sym parent_is) ∙ sym (leaf_value_agrees g (usable_of allowed) s.usable ms same);
-        small = here.small;
-      }
+      judged_agrees g s.usable (usable_of allowed) ms (get_or values place (pos 0)) (agree_back g (usable_of allowed) s.usable same)
+      (subst (λ (xs : List ℤ). IsJudged g s.usable xs (get_or values place (pos 0))) (sym (inner ms lowest.multipliers (sym is ∙ lowest.leaf))) here.judged)
 
   pub full_answer : (v k : ℕ) → v < g.vehicles → CanBranch g (usable_of allowed) v k → length nodes + 3 ≤ 2 * choice_count g every_row
   full_answer v k below can =

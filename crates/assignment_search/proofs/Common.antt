@@ -12,7 +12,7 @@ pub use Rattle.std.specs.declared.cmp.Reverse.{Reverse}
 pub use Rattle.assignment_search.specs.Found.{IsBestNear, IsFairNode, IsSearchAnswer}
 unfoldable pub use Rattle.assignment_search.specs.Growth.{choice_count}
 pub use Rattle.assignment_search.specs.Growth.{product_below}
-pub use Rattle.assignment_search.specs.declared.open_leaves.OpenLeaf.{OpenLeaf}
+pub use Rattle.assignment_search.specs.declared.growth.OpenLeaf.{OpenLeaf}
 pub use Rattle.assignment_search.specs.work.Change.{BettersNothing, IsShared}
 pub use Rattle.assignment_search.specs.work.Found.{IsTreeSoFar}
 pub use Rattle.assignment_search.specs.work.Growth.{HasLeaf, HasUsable, IsFixed, IsGoodLeaf, IsGoodNode, IsGrown, IsJudged, IsLowest, IsNewEnd, IsSolePlan, IsWorthBranching}

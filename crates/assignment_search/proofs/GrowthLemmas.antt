@@ -8,7 +8,7 @@ use Rattle.plan_rules.proofs.lemmas.TreeLemmas.{rounded_up_mono}
 -- ---- grown trees are sound
 
 good_sound : (g : Graph) (low : ℤ) (limit : ℕ) (u : Usable) (n : Node) (z : ℤ) → IsGoodNode g low limit u n z → IsSoundNode g u n
-good_sound g low limit u (Leaf ms) z h = h.sized
+good_sound g low limit u (Leaf ms) z h = h.judged.sized
 good_sound g low limit u Dead z h = h
 good_sound g low limit u (Branch v k) z h = h.0
 
@@ -16,11 +16,6 @@ pub grown_reads : (g : Graph) (low : ℤ) (limit : ℕ) (nodes : List Node) (val
 grown_reads g low limit [] [] coming rest h = h
 grown_reads g low limit (n ∷ nodes) (z ∷ values) (u ∷ us) rest h = (good_sound g low limit u n z (h.0), grown_reads g low limit nodes values (coming_after g u n us) rest (h.1))
 grown_reads g low limit nodes values coming rest h = absurd h
-
-pub grown_length : (g : Graph) (low : ℤ) (limit : ℕ) (nodes : List Node) (values : List ℤ) (coming rest : List Usable) → IsGrown g low limit coming nodes values rest → length values ≡ length nodes
-grown_length g low limit [] [] coming rest h = refl
-grown_length g low limit (n ∷ nodes) (z ∷ values) (u ∷ us) rest h = ap suc (grown_length g low limit nodes values (coming_after g u n us) rest (h.1))
-grown_length g low limit nodes values coming rest h = absurd h
 
 -- ---- a node of a grown tree, with what is before and after it
 
@@ -50,8 +45,8 @@ grown_join g low limit xs zs ys ws a b d first second = absurd first
 new_end_good : (g : Graph) (low : ℤ) (limit : ℕ) (u : Usable) (parent : List ℤ) (n : Node) (z : ℤ) → low ≤ℤ rounded_up (leaf_value g u parent) → ((a b : ℤ) → a ≤ℤ b → rounded_up a ≤ℤ rounded_up b) → IsNewEnd g u parent n z → IsGoodNode g low limit u n z
 new_end_good g low limit u parent (Leaf ms) z floor mono h =
     let up : rounded_up (leaf_value g u parent) ≤ℤ rounded_up z = mono (leaf_value g u parent) z h.inherited in
-    record { sized = h.sized; judged = h.judged; first_fit = h.first_fit; floor = omega (arith, ints); alive = h.alive; small = h.small }
-new_end_good g low limit u parent Dead z floor mono h = h.0
+    record { judged = h.judged; first_fit = h.first_fit; floor = omega (arith, ints); alive = h.alive }
+new_end_good g low limit u parent Dead z floor mono h = h
 new_end_good g low limit u parent (Branch v k) z floor mono h = absurd h
 
 new_end_ends : (g : Graph) (u w : Usable) (parent : List ℤ) (n : Node) (z : ℤ) (c : List Usable) → IsNewEnd g w parent n z → coming_after g u n c ≡ c
@@ -84,7 +79,7 @@ abbrev pub LeavesAbove : ℤ → List Node → List ℤ → Type 0
 LeavesAbove low nodes values = (k : ℕ) (ms : List ℤ) → k < length nodes → get_or nodes k Dead ≡ Leaf ms → low ≤ℤ rounded_up (get_or values k (pos 0))
 
 raise_node : (g : Graph) (low new : ℤ) (limit : ℕ) (u : Usable) (n : Node) (z : ℤ) → low ≤ℤ new → ((ms : List ℤ) → n ≡ Leaf ms → new ≤ℤ rounded_up z) → IsGoodNode g low limit u n z → IsGoodNode g new limit u n z
-raise_node g low new limit u (Leaf ms) z up floor h = record { sized = h.sized; judged = h.judged; first_fit = h.first_fit; floor = floor ms refl; alive = h.alive; small = h.small }
+raise_node g low new limit u (Leaf ms) z up floor h = record { judged = h.judged; first_fit = h.first_fit; floor = floor ms refl; alive = h.alive }
 raise_node g low new limit u Dead z up floor h = h
 raise_node g low new limit u (Branch v k) z up floor h =
     let w = h.1 in
@@ -115,7 +110,7 @@ least_low : (g : Graph) (low : ℤ) (limit : ℕ) (nodes : List Node) (values : 
 least_low g low limit [] [] coming rest h z e = absurd (none-some z e)
 least_low g low limit (Leaf ms ∷ nodes) (w ∷ values) (u ∷ us) rest h z e =
     let leaf = h.0 in
-    let floor : low ≤ℤ rounded_up (leaf_value g u ms) = subst (λ (y : ℤ). low ≤ℤ rounded_up y) leaf.judged leaf.floor in
+    let floor : low ≤ℤ rounded_up (leaf_value g u ms) = subst (λ (y : ℤ). low ≤ℤ rounded_up y) leaf.judged.judged leaf.floor in
     both (least_leaf g (places_from g us nodes)) (least_low g low limit nodes values us rest (h.1)) floor (same_Some _ _ e)
   where
     both : (o : Option ℤ) → ((y : ℤ) → o ≡ Some y → low ≤ℤ y) → low ≤ℤ rounded_up (leaf_value g u ms) → lesser o (rounded_up (leaf_value g u ms)) ≡ z → low ≤ℤ z
@@ -133,7 +128,7 @@ least_high g low limit (Leaf ns ∷ nodes) (w ∷ values) (u ∷ us) rest zero m
     let leaf = h.0 in
     let least = least_leaf g (places_from g us nodes) in
     let value = rounded_up (leaf_value g u ns) in
-    (lesser least value, refl, omega (arith, ints, ap rounded_up leaf.judged, lesser-le_right least value))
+    (lesser least value, refl, omega (arith, ints, ap rounded_up leaf.judged.judged, lesser-le_right least value))
 least_high g low limit (Leaf ns ∷ nodes) (w ∷ values) (u ∷ us) rest (suc i) ms h l e =
     let before = least_high g low limit nodes values us rest i ms (h.1) (omega (arith, l)) e in
     let least = least_leaf g (places_from g us nodes) in
@@ -162,7 +157,7 @@ nodes_fair g low limit held greedy [] [] coming rest h = tt
 nodes_fair g low limit held greedy (n ∷ nodes) (z ∷ values) (u ∷ us) rest h = (fair n (h.0), nodes_fair g low limit held greedy nodes values (coming_after g u n us) rest (h.1))
   where
     fair : (m : Node) → IsGoodNode g low limit u m z → IsFairNode g low u m
-    fair (Leaf ms) leaf = subst (λ (y : ℤ). first_fit_value g u ≤ℤ y) leaf.judged leaf.first_fit
+    fair (Leaf ms) leaf = subst (λ (y : ℤ). first_fit_value g u ≤ℤ y) leaf.judged.judged leaf.first_fit
     fair Dead h = tt
     fair (Branch v k) h =
         let worth = h.1 in

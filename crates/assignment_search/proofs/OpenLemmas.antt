@@ -1,13 +1,12 @@
 -- The heap of a tree's open leaves.
 use Rattle.std.proofs.Common.{◌≡◌, ◌==◌, ℕ, zero, suc, ◌+◌, ◌<◌, ◌≤◌, false, cond, List, [], ◌∷◌, ◌++◌, length, take, drop, get_or, ℤ, pos, ◌≤ℤ◌, refl, sym, ap, ◌∙◌, subst, ⊎_elim, arith, int_lt}
-use Rattle.assignment_search.proofs.Common.{AllByRecursion, IsHeap, Reverse, ints, cases_eq, sum_by-cons, sum_by_popped, Graph, IsGoodGraph, Node, Branch, Leaf, Dead, IsLowest, HasLeaf, IsTreeSoFar, OpenLeaf, leaf_cmp, leaf_sum, AreOpen, nat_tests}
+use Rattle.assignment_search.proofs.Common.{AllByRecursion, IsHeap, Reverse, ints, cases_eq, sum_by-cons, sum_by_popped, Node, Branch, Leaf, Dead, IsLowest, HasLeaf, OpenLeaf, leaf_cmp, leaf_sum, AreOpen, nat_tests}
 use Rattle.std.specs.List.{sum_by}
 use Rattle.std.specs.List.Sorted.{IsPermutation}
 use Rattle.std.specs.Ordering.{ordering_then, int_cmp, is_lt}
 use Rattle.std.specs.BinaryHeap.{heap_items}
 use Rattle.std.specs.declared.cmp.Ordering.{Ordering}
-use Rattle.assignment_search.proofs.AnswerLemmas.{so_far_leaf}
-use Rattle.assignment_search.specs.declared.open_leaves.OpenLeaves.{OpenLeaves}
+use Rattle.assignment_search.specs.declared.growth.Growing.{Growing}
 use Rattle.assignment_search.proofs.EditLemmas.{Origin, Old, First, Second, edit_length, edit_origin, moved}
 
 -- ---- sums over leaves
@@ -95,7 +94,7 @@ none_less x (y ∷ heap) h =
 
 -- ---- the leaf that comes first
 
-module _ (leaves : OpenLeaves) (nodes : List Node) (values : List ℤ) (are : AreOpen leaves nodes values) where
+module _ (leaves : Growing) (nodes : List Node) (values : List ℤ) (are : AreOpen leaves nodes values) where
   pub some_open : HasLeaf nodes → 1 ≤ length (heap_items leaves.heap)
   some_open h =
       let one = sum_at (λ q z. 1) leaves.numbers.items nodes values h.place h.multipliers h.within are.sized are.valued h.leaf in
@@ -170,7 +169,7 @@ module _ (numbers : List ℕ) (i : ℕ) (within : i < length numbers) (fresh : (
       by (Second ja isa) (First kb isb) = absurd (omega (arith, same, isa, isb))
       by (Second ja isa) (Second kb isb) = ja ∙ sym kb
 
-pub open_parted : (old new : OpenLeaves) (nodes : List Node) (values : List ℤ) (place v k : ℕ) (first second : Node) (a b : ℤ) (x : Reverse OpenLeaf) (rest : List (Reverse OpenLeaf)) → AreOpen old nodes values → place < length nodes
+pub open_parted : (old new : Growing) (nodes : List Node) (values : List ℤ) (place v k : ℕ) (first second : Node) (a b : ℤ) (x : Reverse OpenLeaf) (rest : List (Reverse OpenLeaf)) → AreOpen old nodes values → place < length nodes
     → get_or old.numbers.items place 0 ≡ x.0.number → 1 ≤ sum_by (λ leaf. equal x.0.number x.0.value leaf.0.number leaf.0.value) (heap_items old.heap) → IsPermutation (heap_items old.heap) (x ∷ rest)
     → new.numbers.items ≡ take place old.numbers.items ++ (get_or old.numbers.items place 0 ∷ length old.numbers.items ∷ (length old.numbers.items + 1) ∷ drop (suc place) old.numbers.items)
     → IsHeap (λ x y. leaf_cmp y.0 x.0) (heap_items new.heap)
@@ -201,7 +200,7 @@ open_parted old new nodes values place v k first second a b x rest are within he
           (sym (ap (λ (ns : List ℕ). get_or ns i 0) is) ∙ e ∙ ap (λ (ns : List ℕ). get_or ns j 0) is);
     }
 
-pub open_start : (leaves : OpenLeaves) (ms : List ℤ) (z : ℤ) → leaves.numbers.items ≡ 0 ∷ [] → IsHeap (λ x y. leaf_cmp y.0 x.0) (heap_items leaves.heap) → ((f : ℕ → ℤ → ℕ) → sum_by (λ leaf. f leaf.0.number leaf.0.value) (heap_items leaves.heap) ≡ f 0 z) → AreOpen leaves (Leaf ms ∷ []) (z ∷ [])
+pub open_start : (leaves : Growing) (ms : List ℤ) (z : ℤ) → leaves.numbers.items ≡ 0 ∷ [] → IsHeap (λ x y. leaf_cmp y.0 x.0) (heap_items leaves.heap) → ((f : ℕ → ℤ → ℕ) → sum_by (λ leaf. f leaf.0.number leaf.0.value) (heap_items leaves.heap) ≡ f 0 z) → AreOpen leaves (Leaf ms ∷ []) (z ∷ [])
 open_start leaves ms z is order sums = record {
   sized = ap (λ (ns : List ℕ). length ns) is;
   valued = refl;
@@ -212,8 +211,3 @@ open_start leaves ms z is order sums = record {
       omega (arith, is_at);
   apart = λ i j li lj e. omega (arith, li, lj);
 }
-
--- the leaf that comes first is lowest, since a tree has a leaf
-pub lowest_at : (g : Graph) (budget limit : ℕ) (leaves : OpenLeaves) (nodes : List Node) (values : List ℤ) (place : ℕ) → IsGoodGraph g → IsTreeSoFar g budget limit nodes values → AreOpen leaves nodes values
-    → ((ns : List Node) (zs : List ℤ) → AreOpen leaves ns zs → HasLeaf ns → IsLowest ns zs place) → IsLowest nodes values place
-lowest_at g budget limit leaves nodes values place good tree are lowest = lowest nodes values are (so_far_leaf g budget limit nodes values good tree)

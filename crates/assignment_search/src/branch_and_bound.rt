@@ -8,16 +8,13 @@ ghost use Rattle.assignment_search.specs.work.Lookups.{AreLookupsOf};
 ghost use Rattle.assignment_search.specs.Found.{IsSearchAnswer};
 ghost use Rattle.assignment_search.specs.work.Growth.{IsGoodLeaf};
 
-use crate::child::Judged;
+use crate::child::{Judged, root_leaf};
 use crate::exchange::exchange;
 use crate::first_plan::first_plan;
 use crate::found::Found;
-use crate::growth::grow;
+use crate::growth::{Growing, bound_at};
 use crate::guide::Guide;
 use crate::lookups::Lookups;
-use crate::lowest_leaf::bound_at;
-use crate::open_leaves::OpenLeaves;
-use crate::root::root_leaf;
 use crate::step::{Outcome, next};
 use plan_rules::{Node, Plan, Tree, TripGraph, cost_of};
 use pool_base::OutOfMemory;
@@ -85,44 +82,21 @@ fn branch(
 {
     let mut plan = first;
     let mut limit = cost_of(graph, &plan);
-    let mut leaves = OpenLeaves::new(alloc, root.value)?;
-    let mut nodes = Vec::new(alloc);
-    nodes.push(Node::Leaf {
-        multipliers: root.multipliers,
-    })?;
-    let mut values = Vec::new(alloc);
-    values.push(root.value)?;
+    let mut tree = Growing::new(alloc, budget as usize, root)?;
     loop {
-        let place = leaves.first();
-        let bound = bound_at(&values, place);
-        match next(
-            alloc,
-            graph,
-            lookups,
-            &nodes,
-            &values,
-            place,
-            limit,
-            budget as usize,
-            guide,
-        )? {
-            Outcome::Parted(ends) => {
-                leaves.part(alloc, place, &ends)?;
-                grow(&mut nodes, &mut values, place, ends)?;
-            }
+        let place = tree.first();
+        let bound = bound_at(&tree, place);
+        match next(alloc, graph, lookups, &tree, place, limit, guide)? {
+            Outcome::Parted(ends) => tree.grow(alloc, place, ends)?,
             Outcome::Better(better) => {
                 limit = cost_of(graph, &better);
                 plan = better;
             }
-            Outcome::Met => {
-                return Ok(found_of(graph, plan, bound, nodes));
-            }
-            Outcome::Fixed(best) => {
-                return Ok(found_of(graph, best, bound, nodes));
-            }
+            Outcome::Met => return Ok(found_of(graph, plan, bound, tree.nodes)),
+            Outcome::Fixed(best) => return Ok(found_of(graph, best, bound, tree.nodes)),
             Outcome::Full => {
                 let best = exchange(alloc, graph, plan)?;
-                return Ok(found_of(graph, best, bound, nodes));
+                return Ok(found_of(graph, best, bound, tree.nodes));
             }
         }
     }

@@ -2,12 +2,15 @@
 ghost use Rattle.std.specs.Prelude.{◌<◌, IfOk, IfSome};
 ghost use Rattle.plan_rules.specs.Plan.{IsLawful, cost_of};
 
-use crate::plain_draft::plain_draft;
+use dual_bound::ascend;
 use plan_rules::{Plan, TripGraph, cost_of, is_lawful};
 use pool_base::OutOfMemory;
-use row_tables::{Draft, Drafter, RowTable};
+use row_tables::{Draft, DraftNode, Drafter, RowTable};
 use std::alloc::Global;
 use std::thread::Threads;
+
+/// How many turns the ascent takes at most. A turn looks at each row once.
+const TURNS: u32 = 200;
 
 /// Multipliers for the two ends of a branch, or no multiplier at all.
 #[derive(Drop)]
@@ -137,4 +140,22 @@ impl Guide {
         let number = self.numbers.get(place).copied().flatten()?;
         self.draft.branch(number)
     }
+}
+
+/// The held plan, and a root with multipliers that an ascent from the first-fit ones reaches.
+fn plain_draft(alloc: Global, graph: &TripGraph) -> Result<Draft, OutOfMemory> {
+    let allowed = vec![in alloc; true; graph.rows().len()]?;
+    let multipliers = ascend(alloc, graph, &allowed, TURNS)?;
+    let mut nodes = Vec::new(alloc);
+    nodes.push(DraftNode {
+        decision: None,
+        branch: None,
+        multipliers: Vec::from_slice(alloc, multipliers.as_slice())?,
+    })?;
+    Ok(Draft {
+        plan: Vec::from_slice(alloc, graph.held())?,
+        cost: i64::MAX,
+        bound: 0,
+        nodes,
+    })
 }

@@ -27,12 +27,7 @@ mod found;
 mod growth;
 mod guide;
 mod lookups;
-mod lowest_leaf;
-mod open_leaves;
 mod parting;
-mod plain_draft;
-mod root;
-mod sole_plan;
 mod standing;
 mod step;
 

@@ -9,7 +9,7 @@ ghost use Rattle.assignment_search.specs.work.Apart.{AgreeApart};
 ghost use Rattle.assignment_search.specs.work.Growth.{IsJudged, IsNewEnd};
 ghost use Rattle.assignment_search.specs.work.Next.{IsParting};
 
-use crate::child::{End, inherited_value, new_end};
+use crate::child::{End, Parent, inherited_value, new_end};
 use crate::guide::Suggested;
 use crate::lookups::Lookups;
 use plan_rules::{Path, TripGraph};
@@ -25,43 +25,33 @@ pub struct Ends {
     pub second: End,
 }
 
-/// Parts the rows at the end of this path, where these are allowed and the parent's multipliers are worth
-/// this. Multipliers may be suggested for the two ends.
+/// Parts the rows at the end of this path, where the parent is, on a row of a vehicle. Multipliers may be suggested for
+/// the two ends.
 pub fn part(
     alloc: Global,
-    graph: &TripGraph,
     lookups: &Lookups,
-    path: Path,
-    before: &[bool],
-    parent: &[i64],
-    value: i128,
-    vehicle: usize,
-    row: usize,
+    mut path: Path,
+    parent: &Parent<'_>,
+    at: (usize, usize),
     suggested: Suggested,
 ) -> Result<Ends, OutOfMemory>
-    requires lookups { AreLookupsOf graph.now lookups.now }
-    requires path { IsPathOf graph.now path }
-    requires len { length before.now ≡ length graph.now.rows }
-    requires before { (j : ℕ) → j < length graph.now.rows → usable_of before.now j ≡ (standing_of graph.now path).usable j }
-    requires can { CanBranch graph.now (standing_of graph.now path).usable vehicle row }
-    requires vehicle { vehicle < graph.now.vehicles }
-    requires parent { IsJudged graph.now (usable_of before.now) parent.now value }
-    ensures { IfOk result (IsParting graph.now (standing_of graph.now path).usable parent.now) }
+    requires lookups { AreLookupsOf parent.now.graph.now lookups.now }
+    requires path { IsPathOf parent.now.graph.now path }
+    requires before { (j : ℕ) → j < length parent.now.graph.now.rows → usable_of parent.now.allowed.now j ≡ (standing_of parent.now.graph.now path).usable j }
+    requires can { CanBranch parent.now.graph.now (standing_of parent.now.graph.now path).usable at.0 at.1 }
+    requires vehicle { at.0 < parent.now.graph.now.vehicles }
+    ensures { IfOk result (IsParting parent.now.graph.now (standing_of parent.now.graph.now path).usable parent.now.multipliers.now) }
 {
-    let count = graph.vehicle_count();
+    let (vehicle, row) = at;
+    let count = parent.graph.vehicle_count();
     prove!(count <= 500);
-    let size = graph.rows().len();
+    let size = parent.graph.rows().len();
     prove!(row < size);
     let Suggested { taken, left } = suggested;
-    let mut path = path;
     path.enter(vehicle as u32, row as u32)?;
-    let first = end_of(
-        alloc, graph, lookups, &path, before, parent, value, vehicle, taken,
-    )?;
+    let first = end_of(alloc, lookups, &path, parent, vehicle, taken)?;
     path.leave();
-    let second = end_of(
-        alloc, graph, lookups, &path, before, parent, value, vehicle, left,
-    )?;
+    let second = end_of(alloc, lookups, &path, parent, vehicle, left)?;
     Ok(Ends {
         vehicle: vehicle as u32,
         row: row as u32,
@@ -73,26 +63,26 @@ pub fn part(
 /// The end where this path leads. Of vehicles but this one it allows the same rows as before.
 fn end_of(
     alloc: Global,
-    graph: &TripGraph,
     lookups: &Lookups,
     path: &Path,
-    before: &[bool],
-    parent: &[i64],
-    value: i128,
+    parent: &Parent<'_>,
     vehicle: usize,
     suggested: Vec<i64>,
 ) -> Result<End, OutOfMemory>
-    requires lookups { AreLookupsOf graph.now lookups.now }
-    requires path { IsPathOf graph.now path.now }
-    requires len { length before.now ≡ length graph.now.rows }
-    requires vehicle { vehicle < graph.now.vehicles }
-    requires parent { IsJudged graph.now (usable_of before.now) parent.now value }
-    requires apart { AgreeApart graph.now vehicle (usable_of before.now) (standing_of graph.now path.now).usable }
-    ensures { IfOk result (λ end. IsNewEnd graph.now (standing_of graph.now path.now).usable parent.now end.node end.value) }
+    requires lookups { AreLookupsOf parent.now.graph.now lookups.now }
+    requires path { IsPathOf parent.now.graph.now path.now }
+    requires vehicle { vehicle < parent.now.graph.now.vehicles }
+    requires apart { AgreeApart parent.now.graph.now vehicle (usable_of parent.now.allowed.now) (standing_of parent.now.graph.now path.now).usable }
+    ensures { IfOk result (λ end. IsNewEnd parent.now.graph.now (standing_of parent.now.graph.now path.now).usable parent.now.multipliers.now end.node end.value) }
 {
-    let allowed = allowed_at(alloc, graph, path)?;
-    let value = inherited_value(graph, before, &allowed, parent, value, vehicle);
-    new_end(alloc, graph, lookups, &allowed, parent, value, suggested)
+    let allowed = allowed_at(alloc, parent.graph, path)?;
+    let here = Parent {
+        graph: parent.graph,
+        allowed: &allowed,
+        multipliers: parent.multipliers,
+        value: inherited_value(parent, &allowed, vehicle),
+    };
+    new_end(alloc, lookups, &here, suggested)
 }
 
 /// The rows that may be chosen where this path leads.

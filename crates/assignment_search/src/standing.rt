@@ -8,6 +8,7 @@ ghost use Rattle.plan_rules.specs.lemmas.Tree.{IsWholeTree};
 ghost use Rattle.plan_rules.specs.Path.{standing_of, IsPathOf};
 ghost use Rattle.plan_rules.specs.Multipliers.{Usable};
 
+use crate::growth::Growing;
 use plan_rules::{Node, Path, TripGraph};
 use pool_base::OutOfMemory;
 use std::alloc::Global;
@@ -16,19 +17,19 @@ use std::alloc::Global;
 pub fn path_to(
     alloc: Global,
     graph: &TripGraph,
-    nodes: &[Node],
+    tree: &Growing,
     place: usize,
 ) -> Result<Path, OutOfMemory>
-    requires sound { IsWholeTree graph.now nodes.now }
-    requires place { place < length nodes.now }
+    requires sound { IsWholeTree graph.now tree.now.nodes.items }
+    requires place { place < length tree.now.nodes.items }
     ensures path { IfOk result (IsPathOf graph.now) }
-    ensures reads { IfOk result (λ path. ReadsTo graph.now (every_row ∷ []) (take place nodes.now) ((standing_of graph.now path).usable ∷ (standing_of graph.now path).coming)) }
+    ensures reads { IfOk result (λ path. ReadsTo graph.now (every_row ∷ []) (take place tree.now.nodes.items) ((standing_of graph.now path).usable ∷ (standing_of graph.now path).coming)) }
 {
     let count = graph.vehicle_count();
     prove!(count <= 500);
     let mut path = Path::new(alloc);
     for k in 0..place {
-        follow(&mut path, &nodes[k])?;
+        follow(&mut path, &tree.nodes[k])?;
     }
     Ok(path)
 }

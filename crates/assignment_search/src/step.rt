@@ -6,12 +6,12 @@ ghost use Rattle.assignment_search.specs.work.Lookups.{AreLookupsOf};
 ghost use Rattle.assignment_search.specs.work.Growth.{IsGrown, IsLowest};
 ghost use Rattle.assignment_search.specs.work.Next.{IsNext};
 
-use crate::branching::branch_row;
+use crate::branching::{branch_row, sole_rows};
+use crate::child::Parent;
+use crate::growth::{Growing, is_met};
 use crate::guide::Guide;
 use crate::lookups::Lookups;
-use crate::lowest_leaf::is_met;
 use crate::parting::{Ends, allowed_at, part};
-use crate::sole_plan::sole_rows;
 use crate::standing::path_to;
 use plan_rules::{Node, Plan, TripGraph};
 use pool_base::OutOfMemory;
@@ -37,24 +37,22 @@ pub fn next(
     alloc: Global,
     graph: &TripGraph,
     lookups: &Lookups,
-    nodes: &[Node],
-    values: &[i128],
+    tree: &Growing,
     place: usize,
     limit: u64,
-    budget: usize,
     guide: &mut Guide,
 ) -> Result<Outcome, OutOfMemory>
     requires lookups { AreLookupsOf graph.now lookups.now }
-    requires lowest { IsLowest nodes.now values.now place }
-    requires grown { (first : ℕ) × IsGrown graph.now (rounded_up (slice_index_or values.now place (pos 0))) first (every_row ∷ []) nodes.now values.now [] }
-    ensures { IfOk result (IsNext graph.now nodes.now values.now place limit budget) }
+    requires lowest { IsLowest tree.now.nodes.items tree.now.values.items place }
+    requires valued { length tree.now.values.items ≡ length tree.now.nodes.items }
+    requires grown { (first : ℕ) × IsGrown graph.now (rounded_up (slice_index_or tree.now.values.items place (pos 0))) first (every_row ∷ []) tree.now.nodes.items tree.now.values.items [] }
+    ensures { IfOk result (IsNext graph.now tree.now.nodes.items tree.now.values.items place limit tree.now.budget) }
 {
-    if is_met(values, place, limit) {
+    if is_met(tree, place, limit) {
         return Ok(Outcome::Met);
     }
-    let path = path_to(alloc, graph, nodes, place)?;
+    let path = path_to(alloc, graph, tree, place)?;
     let allowed = allowed_at(alloc, graph, &path)?;
-    let parent = multipliers_of(&nodes[place]);
     if let Some(better) = guide.cheaper_plan(alloc, graph, limit)? {
         return Ok(Outcome::Better(better));
     }
@@ -63,33 +61,29 @@ pub fn next(
             let chosen = sole_rows(alloc, graph, &allowed)?;
             Ok(Outcome::Fixed(Plan::of(chosen)))
         }
-        Some((vehicle, row)) => {
-            if is_full(nodes, budget) {
+        Some(at) => {
+            if is_full(tree) {
                 return Ok(Outcome::Full);
             }
-            let suggested = guide.grow(alloc, place, row)?;
-            let ends = part(
-                alloc,
+            let suggested = guide.grow(alloc, place, at.1)?;
+            let value = tree.values[place];
+            let parent = Parent {
                 graph,
-                lookups,
-                path,
-                &allowed,
-                parent,
-                values[place],
-                vehicle,
-                row,
-                suggested,
-            )?;
+                allowed: &allowed,
+                multipliers: multipliers_of(&tree.nodes[place]),
+                value,
+            };
+            let ends = part(alloc, lookups, path, &parent, at, suggested)?;
             Ok(Outcome::Parted(ends))
         }
     }
 }
 
 /// Whether the budget has no room for two more nodes.
-fn is_full(nodes: &[Node], budget: usize) -> bool
-    ensures { MatchBool result (budget < length nodes.now + 2) (length nodes.now + 2 ≤ budget) }
+fn is_full(tree: &Growing) -> bool
+    ensures { MatchBool result (tree.now.budget < length tree.now.nodes.items + 2) (length tree.now.nodes.items + 2 ≤ tree.now.budget) }
 {
-    budget.saturating_sub(nodes.len()) < 2
+    tree.budget.saturating_sub(tree.nodes.len()) < 2
 }
 
 /// A leaf's multipliers.

@@ -20,12 +20,10 @@ pub record IsJudged (g : Graph) (usable : Usable) (ms : List ℤ) (value : ℤ) 
 
 -- a leaf with its value, which is at least the first-fit one and, in seconds, at least `low`; it is no dead end
 pub record IsGoodLeaf (g : Graph) (low : ℤ) (usable : Usable) (ms : List ℤ) (value : ℤ) : Type 0 where
-  pub sized : length ms ≡ g.riders
-  pub judged : value ≡ leaf_value g usable ms
+  pub judged : IsJudged g usable ms value
   pub first_fit : first_fit_value g usable ≤ℤ value
   pub floor : low ≤ℤ rounded_up value
   pub alive : IsDeadEnd g usable → ⊥
-  pub small : IsSmallSum 1500 value
 
 -- a node of a tree that grows
 abbrev pub IsGoodNode : Graph → ℤ → ℕ → Usable → Node → ℤ → Type 0
@@ -71,14 +69,12 @@ IsSolePlan g usable chosen =
 
 -- what a new end must be: a dead end, or a leaf whose value is at least the first-fit one and that of its parent's multipliers
 pub record IsNewLeaf (g : Graph) (usable : Usable) (parent : List ℤ) (ms : List ℤ) (value : ℤ) : Type 0 where
-  pub sized : length ms ≡ g.riders
-  pub judged : value ≡ leaf_value g usable ms
+  pub judged : IsJudged g usable ms value
   pub first_fit : first_fit_value g usable ≤ℤ value
   pub inherited : leaf_value g usable parent ≤ℤ value
   pub alive : IsDeadEnd g usable → ⊥
-  pub small : IsSmallSum 1500 value
 
 abbrev pub IsNewEnd : Graph → Usable → List ℤ → Node → ℤ → Type 0
 IsNewEnd g usable parent (Leaf ms) value = IsNewLeaf g usable parent ms value
-IsNewEnd g usable parent Dead value = IsDeadEnd g usable × (value ≡ pos 0)
+IsNewEnd g usable parent Dead value = IsDeadEnd g usable
 IsNewEnd g usable parent (Branch v k) value = ⊥

@@ -8,8 +8,8 @@ use Rattle.std.specs.BinaryHeap.{IsHeap, heap_items, heap_len}
 use Rattle.std.specs.declared.cmp.Reverse.{Reverse}
 use Rattle.plan_rules.specs.declared.node.Node.{Node}
 use Rattle.plan_rules.specs.declared.node.Node.TheVariants.{Branch, Leaf, Dead}
-use Rattle.assignment_search.specs.declared.open_leaves.OpenLeaf.{OpenLeaf}
-use Rattle.assignment_search.specs.declared.open_leaves.OpenLeaves.{OpenLeaves}
+use Rattle.assignment_search.specs.declared.growth.OpenLeaf.{OpenLeaf}
+use Rattle.assignment_search.specs.declared.growth.Growing.{Growing}
 
 -- which of two leaves comes first: the one of less value, and of equal ones the first in preorder
 abbrev pub leaf_cmp : OpenLeaf → OpenLeaf → Ordering
@@ -25,7 +25,7 @@ leaf_sum f (q ∷ numbers) (Dead ∷ nodes) (z ∷ values) = leaf_sum f numbers 
 leaf_sum f (q ∷ numbers) (Branch v k ∷ nodes) (z ∷ values) = leaf_sum f numbers nodes values
 
 -- the heap has the leaves of these nodes, each with its number and value: all weights sum up to the same
-pub record AreOpen (leaves : OpenLeaves) (nodes : List Node) (values : List ℤ) : Type 0 where
+pub record AreOpen (leaves : Growing) (nodes : List Node) (values : List ℤ) : Type 0 where
   pub sized : length leaves.numbers.items ≡ length nodes
   pub valued : length values ≡ length nodes
   pub ordered : IsHeap (λ x y. leaf_cmp y.0 x.0) (heap_items leaves.heap)
@@ -34,7 +34,7 @@ pub record AreOpen (leaves : OpenLeaves) (nodes : List Node) (values : List ℤ)
   pub apart : (i j : ℕ) → i < length nodes → j < length nodes → slice_index_or leaves.numbers.items i 0 ≡ slice_index_or leaves.numbers.items j 0 → i ≡ j
 
 -- this is the place of the leaf that comes first
-pub record IsFirst (leaves : OpenLeaves) (place : ℕ) : Type 0 where
+pub record IsFirst (leaves : Growing) (place : ℕ) : Type 0 where
   pub within : place < length leaves.numbers.items
   pub some : 0 < heap_len leaves.heap
   pub number : (leaf : Reverse OpenLeaf) → leaf ≡ slice_index_or (heap_items leaves.heap) 0 leaf → slice_index_or leaves.numbers.items place 0 ≡ leaf.0.number

@@ -13,14 +13,14 @@ loop-k-init c = record {
 pub loop-k-preserved : goal.loop-k-preserved
 loop-k-preserved c =
     let g = c.args.graph.now in
-    let nodes : List Node = c.args.nodes.now in
+    let nodes : List Node = c.args.tree.now.nodes.items in
     let k = c.loop-k.k in
     let old = c.loop-k.path in
     let new = c.follow.new.path in
-    let node : Node = c.index-nodes-k.result in
+    let node : Node = c.index.result.now in
     let below : suc k < length nodes = omega (arith, c.loop-k-test.true, c.requires.place) in
     let low : k < length nodes = omega (arith, below) in
-    let here : node ≡ get_or nodes k Dead = get_or_read nodes k node low c.index-nodes-k.is Dead in
+    let here : node ≡ get_or nodes k Dead = get_or_read nodes k node low c.index.ensures Dead in
     let w = next_of g nodes (every_row ∷ []) [] ((standing_of g old).usable ∷ (standing_of g old).coming) k c.requires.sound low c.loop-k.invariant.reads in
     let u_is : (standing_of g old).usable ≡ w.usable = head_is (standing_of g old).usable w.usable (standing_of g old).coming w.later w.here in
     let l_is : (standing_of g old).coming ≡ w.later = tail_is (standing_of g old).usable w.usable (standing_of g old).coming w.later w.here in

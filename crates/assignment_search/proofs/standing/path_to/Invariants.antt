@@ -4,6 +4,6 @@ use Rattle.assignment_search.proofs.standing.path_to.Given as goal
 
 abbrev pub invariant-loop-k : goal.invariant-loop-k
 invariant-loop-k l = record {
-  reads : ReadsTo l.graph (every_row ∷ []) (take l.k l.nodes) ((standing_of l.graph l.path).usable ∷ (standing_of l.graph l.path).coming);
+  reads : ReadsTo l.graph (every_row ∷ []) (take l.k l.tree.nodes.items) ((standing_of l.graph l.path).usable ∷ (standing_of l.graph l.path).coming);
   path : IsPathOf l.graph l.path;
 }

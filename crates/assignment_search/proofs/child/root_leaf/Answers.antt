@@ -1,7 +1,7 @@
 use Rattle.std.proofs.Common.{◌≡◌, Bool, true, false, List, ℤ, ◌≤ℤ◌, length, get_or, replicate, ap, ◌∙◌, subst, arith}
 use Rattle.assignment_search.proofs.Common.{get_or-replicate, usable_of, first_fit_value, IsJudged}
 use Rattle.assignment_search.proofs.AnswerLemmas.{root_is_good}
-use Rattle.assignment_search.proofs.root.root_leaf.Goals as goal
+use Rattle.assignment_search.proofs.child.root_leaf.Goals as goal
 
 pub returns-clause-leaf : goal.returns-clause-leaf
 returns-clause-leaf c =
@@ -15,4 +15,4 @@ returns-clause-leaf c =
     let fitted : first_fit_value g (usable_of allowed) ≤ℤ value = subst (λ (xs : List Bool). first_fit_value g (usable_of xs) ≤ℤ value) c.deref-3.ensures.value c.in_ok-best.ensures.first_fit in
     root_is_good g allowed ms value c.rows.ensures.good
     (λ k l. ap (λ (xs : List Bool). get_or xs k false) all ∙ get_or-replicate size k true false (omega (arith, l, ap length c.rows.ensures.value)))
-    judged.sized fitted judged.judged judged.small
+    judged fitted

@@ -1,5 +1,5 @@
 use Rattle.std.proofs.Common.{arith}
-use Rattle.assignment_search.proofs.open_leaves.place_of.Goals as goal
+use Rattle.assignment_search.proofs.growth.place_of.Goals as goal
 
 pub unreachable-requires : goal.unreachable-requires
 unreachable-requires c =

@@ -1,6 +1,6 @@
 use Rattle.std.proofs.Common.{◌≡◌, ℕ, ◌<◌, None, MatchOption, vec_len, get_or}
 use Rattle.assignment_search.proofs.Common.{usable_of, MayUse}
-use Rattle.assignment_search.proofs.sole_plan.sole_rows.Given as goal
+use Rattle.assignment_search.proofs.branching.sole_rows.Given as goal
 
 abbrev pub invariant-loop-vehicle : goal.invariant-loop-vehicle
 invariant-loop-vehicle l = record {

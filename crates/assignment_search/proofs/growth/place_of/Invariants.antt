@@ -1,5 +1,5 @@
 use Rattle.std.proofs.Common.{◌≡◌, ◌<◌, ℕ, get_or}
-use Rattle.assignment_search.proofs.open_leaves.place_of.Given as goal
+use Rattle.assignment_search.proofs.growth.place_of.Given as goal
 
 abbrev pub invariant-loop-place : goal.invariant-loop-place
 invariant-loop-place l = (k : ℕ) → k < l.place → get_or l.numbers k 0 ≡ l.number → ⊥

@@ -3,7 +3,7 @@ use Rattle.assignment_search.proofs.Common.{Node, Branch}
 use Rattle.std.specs.List.{insert}
 use Rattle.assignment_search.proofs.AnswerLemmas.{small_back}
 use Rattle.assignment_search.proofs.EditLemmas.{edit_replace, edit_keep}
-use Rattle.assignment_search.proofs.growth.grow.Goals as goal
+use Rattle.assignment_search.proofs.growth.put_ends.Goals as goal
 
 pub returns-clause-nodes : goal.returns-clause-nodes
 returns-clause-nodes c =
@@ -26,6 +26,6 @@ returns-clause-values c =
     let b : ℤ = c.args.ends.second.value in
     let low : p < length values = omega (arith, c.requires.place, c.requires.values) in
     c.in_ok-insert-5.ensures.items
-    ∙ ap (λ (z : ℤ). insert c.insert-4.new.self.items (p + 2) z) (small_back b c.requires.second)
-    ∙ ap (λ (xs : List ℤ). insert xs (p + 2) b) (c.in_ok-insert-4.ensures.items ∙ ap (λ (z : ℤ). insert values (p + 1) z) (small_back a c.requires.first))
+    ∙ ap (λ (z : ℤ). insert c.insert-4.new.self.items (p + 2) z) (small_back b c.args.ends.second.small)
+    ∙ ap (λ (xs : List ℤ). insert xs (p + 2) b) (c.in_ok-insert-4.ensures.items ∙ ap (λ (z : ℤ). insert values (p + 1) z) (small_back a c.args.ends.first.small))
     ∙ edit_keep values p a b (pos 0) low
