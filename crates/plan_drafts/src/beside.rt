@@ -1,9 +1,8 @@
 //! Which rows of a vehicle have one rider less than a row, or one more.
 
-use pool_base::OutOfMemory;
-use row_tables::RowTable;
 use row_tables::fixed_point::{at, item, part};
 use row_tables::lists::Lists;
+use row_tables::{Made, RowTable};
 use std::alloc::Global;
 
 /// The rows beside each row.
@@ -21,7 +20,7 @@ pub struct Beside {
 }
 
 impl Beside {
-    pub fn new(alloc: Global, table: &RowTable) -> Result<Self, OutOfMemory> {
+    pub fn new(alloc: Global, table: &RowTable) -> Made<Self> {
         let mut beside = Beside {
             without: rows_without(alloc, table)?,
             added: Lists::new(alloc),
@@ -38,7 +37,7 @@ impl Beside {
     }
 
     /// Lists who is added: the wider rows of a row stand by rising riders, as the rows of a vehicle do.
-    fn list_added(&mut self, table: &RowTable) -> Result<(), OutOfMemory> {
+    fn list_added(&mut self, table: &RowTable) -> Made<()> {
         for row in 0..table.row_count() {
             let mut marks = 0;
             for wider in self.wider.list(row) {
@@ -99,7 +98,7 @@ impl Beside {
 
 /// For each row and each of its riders the row of the same vehicle without her, or one past the last row. A
 /// vehicle's rows stand by size, then riders.
-fn rows_without(alloc: Global, table: &RowTable) -> Result<Lists, OutOfMemory> {
+fn rows_without(alloc: Global, table: &RowTable) -> Made<Lists> {
     let mut without = Lists::new(alloc);
     let mut trip: Vec<u32> = Vec::new(alloc);
     for row in 0..table.row_count() {

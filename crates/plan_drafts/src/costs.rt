@@ -1,18 +1,13 @@
 //! What plans cost.
-use pool_base::OutOfMemory;
-use row_tables::RowTable;
 use row_tables::fixed_point::{item, set_at};
+use row_tables::{Made, RowTable};
 use std::alloc::Global;
 
 /// What a plan that isn't lawful counts as, in seconds.
 pub const UNLAWFUL: i64 = i64::MAX / 4096;
 
 /// What a plan costs, in seconds; very much where it isn't lawful.
-pub fn plan_cost(
-    alloc: Global,
-    table: &RowTable,
-    plan: &[Option<u32>],
-) -> Result<i64, OutOfMemory> {
+pub fn plan_cost(alloc: Global, table: &RowTable, plan: &[Option<u32>]) -> Made<i64> {
     let mut is_left = vec![in alloc; true; table.rider_count()]?;
     let mut cost: i64 = 0;
     for vehicle in 0..table.vehicle_count() {

@@ -1,11 +1,11 @@
 //! The parting of a node: it is branched on a row, and its two ends are solved.
+use crate::Plan;
 use crate::branching::{Branching, decision};
 use crate::decided::Decided;
 use crate::diving::whole_plan;
 use crate::tree::{DraftTree, Standing, standing_of};
 use linear_relaxation::{Allowance, Relaxation};
-use pool_base::OutOfMemory;
-use row_tables::{Decision, RowTable};
+use row_tables::{Decision, Made, RowTable};
 use std::alloc::Global;
 
 /// How many nodes are parted at once: a tree follows from this, and not from the number of workers.
@@ -23,7 +23,7 @@ pub struct End {
     pub decision: Decision,
     pub multipliers: Vec<i64>,
     pub standing: Standing,
-    pub plan: Option<Vec<Option<u32>>>,
+    pub plan: Option<Plan>,
 }
 
 /// Who parts nodes, with a relaxation of its own.
@@ -48,7 +48,7 @@ impl Parter {
         relaxation: &Relaxation,
         plan: &[Option<u32>],
         allowance: Allowance,
-    ) -> Result<Self, OutOfMemory> {
+    ) -> Made<Self> {
         let mut beside = relaxation.beside(alloc, table, plan, allowance)?;
         beside.hold(true);
         Ok(Parter {
@@ -76,7 +76,7 @@ impl Parter {
         table: &RowTable,
         tree: &DraftTree,
         number: usize,
-    ) -> Result<(), OutOfMemory> {
+    ) -> Made<()> {
         let Some(standing) = tree.standing(number) else {
             return Ok(());
         };
@@ -99,12 +99,7 @@ impl Parter {
     }
 
     /// Forbids what the decisions above the node forbid.
-    fn forbid_above(
-        &mut self,
-        table: &RowTable,
-        tree: &DraftTree,
-        number: usize,
-    ) -> Result<(), OutOfMemory> {
+    fn forbid_above(&mut self, table: &RowTable, tree: &DraftTree, number: usize) -> Made<()> {
         let mut number = number;
         self.decided.go_back(0);
         for _ in 0..tree.draft.nodes.len() {
@@ -126,7 +121,7 @@ impl Parter {
         table: &RowTable,
         tree: &DraftTree,
         decision: Decision,
-    ) -> Result<(), OutOfMemory> {
+    ) -> Made<()> {
         let count = self.decided.len();
         self.decided.decide(table, decision)?;
         let end = self.end(alloc, table, tree, decision)?;
@@ -143,7 +138,7 @@ impl Parter {
         table: &RowTable,
         tree: &DraftTree,
         decision: Decision,
-    ) -> Result<End, OutOfMemory> {
+    ) -> Made<End> {
         let most = tree.draft.cost.saturating_mul(1024).saturating_sub(1023);
         self.solve(table, most)?;
         let relaxation = &mut self.decided.relaxation;
@@ -170,7 +165,7 @@ impl Parter {
     }
 
     /// Solves the relaxation by the dual simplex, or where that fails from the node above.
-    fn solve(&mut self, table: &RowTable, most: i64) -> Result<(), OutOfMemory> {
+    fn solve(&mut self, table: &RowTable, most: i64) -> Made<()> {
         let relaxation = &mut self.decided.relaxation;
         if !relaxation.solve_dual(table, most, MOST_ROWS)? {
             relaxation.go_back(&self.branching.saved)?;

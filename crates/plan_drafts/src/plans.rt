@@ -9,8 +9,7 @@ use crate::neighbourhood::Neighbourhood;
 use crate::present::Present;
 use crate::regrets::Regrets;
 use linear_relaxation::Allowance;
-use pool_base::OutOfMemory;
-use row_tables::Share;
+use row_tables::{Made, Share};
 use std::alloc::Global;
 use std::cmp::Reverse;
 
@@ -28,7 +27,7 @@ pub struct Plans {
 
 impl Plans {
     /// A plan without rows. What is drawn follows from the number.
-    pub fn new(alloc: Global, regrets: &Regrets, number: u64) -> Result<Plans, OutOfMemory> {
+    pub fn new(alloc: Global, regrets: &Regrets, number: u64) -> Made<Plans> {
         Ok(Plans {
             alloc,
             present: Present::new(alloc, regrets.table)?,
@@ -49,7 +48,7 @@ impl Plans {
 
     /// Makes a plan of the relaxation's shares: the rows by falling share, then those of each vehicle by rising
     /// regret, where they still fit.
-    pub fn round(&mut self, regrets: &Regrets, shares: &[Share]) -> Result<(), OutOfMemory> {
+    pub fn round(&mut self, regrets: &Regrets, shares: &[Share]) -> Made<()> {
         let mut ranks = Vec::new(self.alloc);
         for share in shares {
             ranks.push((Reverse(share.part), share.row))?;
@@ -68,7 +67,7 @@ impl Plans {
     }
 
     /// Takes this plan as the present one.
-    pub fn adopt(&mut self, regrets: &Regrets, rows: &[Option<u32>]) -> Result<(), OutOfMemory> {
+    pub fn adopt(&mut self, regrets: &Regrets, rows: &[Option<u32>]) -> Made<()> {
         self.present.adopt(regrets.table, rows);
         self.count(regrets)
     }
@@ -83,7 +82,7 @@ impl Plans {
         most_idle: u32,
         most_steps: u32,
         allowance: &mut Allowance,
-    ) -> Result<(), OutOfMemory> {
+    ) -> Made<()> {
         let mut idle: u32 = 0;
         for attempt in 0..MOST_ATTEMPTS {
             if self.cost <= bound || idle > most_idle || allowance.is_gone() {
@@ -101,7 +100,7 @@ impl Plans {
         self.count(regrets)
     }
 
-    fn count(&mut self, regrets: &Regrets) -> Result<(), OutOfMemory> {
+    fn count(&mut self, regrets: &Regrets) -> Made<()> {
         self.cost = plan_cost(self.alloc, regrets.table, self.present.rows())?;
         Ok(())
     }

@@ -1,8 +1,7 @@
 //! A plan that changes.
-use pool_base::OutOfMemory;
-use row_tables::RowTable;
 use row_tables::fixed_point::{item, set_at};
 use row_tables::lists::short;
+use row_tables::{Made, RowTable};
 use std::alloc::Global;
 
 /// For each vehicle its row, and for each rider the vehicle that serves her.
@@ -14,7 +13,7 @@ pub struct Present {
 
 impl Present {
     /// No vehicle has a row.
-    pub fn new(alloc: Global, table: &RowTable) -> Result<Self, OutOfMemory> {
+    pub fn new(alloc: Global, table: &RowTable) -> Made<Self> {
         Ok(Present {
             rows: vec![in alloc; None; table.vehicle_count()]?,
             servers: vec![in alloc; None; table.rider_count()]?,
