@@ -9,7 +9,7 @@ use crate::beside::{Beside, mark_of};
 use crate::present::Present;
 use crate::regrets::Regrets;
 use linear_relaxation::Allowance;
-use row_tables::fixed_point::{item, set_at};
+use row_tables::fixed_point::{item, set_at, write_over};
 use row_tables::lists::short;
 use row_tables::{Draws, Made};
 use std::alloc::Global;
@@ -102,7 +102,7 @@ impl Annealing<'_> {
             self.make_moves((WARM * 1024).saturating_sub(cooled))?;
         }
         if self.least >= 0 {
-            self.note()?;
+            write_over(&mut self.found, &self.present.rows)?;
         }
         Ok(())
     }
@@ -148,7 +148,7 @@ impl Annealing<'_> {
                 rider = self.draws.below(riders);
             }
         }
-        let rows = self.regrets.rows_with(rider);
+        let rows = self.regrets.with.list(rider);
         let most = self.draws.below(rows.len()).saturating_add(1);
         rows.get(self.draws.below(most)).copied()
     }
@@ -263,8 +263,9 @@ impl Annealing<'_> {
         let row = self.present.row(vehicle)?;
         let mut least = 0;
         let mut best = None;
-        let wider = self.beside.wider(row);
-        for (rider, wider) in self.beside.added(row).iter().zip(wider) {
+        let added = self.beside.added.list(row as usize);
+        let wider = self.beside.wider.list(row as usize);
+        for (rider, wider) in added.iter().zip(wider) {
             if self.present.server(*rider).is_none() {
                 let cost = self.beside.change(row, *wider);
                 if cost < least {
@@ -291,7 +292,8 @@ impl Annealing<'_> {
         let old = self.present.row(vehicle);
         self.present.release(self.regrets.table, vehicle);
         self.present.give(self.regrets.table, row);
-        set_at(&mut self.marks, vehicle, self.beside.marks(row));
+        let marks = item(&self.beside.marks, row as usize, 0);
+        set_at(&mut self.marks, vehicle, marks);
         old
     }
 
@@ -299,15 +301,8 @@ impl Annealing<'_> {
         self.above = self.above.saturating_add(self.change);
         if self.above < self.least {
             self.least = self.above;
-            self.note()?;
+            write_over(&mut self.found, &self.present.rows)?;
         }
-        Ok(())
-    }
-
-    /// Notes the plan at hand.
-    fn note(&mut self) -> Made<()> {
-        self.found.clear();
-        self.found.extend_from_slice(self.present.rows())?;
         Ok(())
     }
 

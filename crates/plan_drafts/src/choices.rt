@@ -107,20 +107,16 @@ impl Choices {
     }
 
     fn add_fits(&mut self, regrets: &Regrets, present: &Present, vehicle: usize) -> Made<()> {
-        let rows = regrets.rows_of(vehicle);
-        self.count(rows.len());
+        let rows = regrets.rows.list(vehicle);
+        self.work = self
+            .work
+            .saturating_add((rows.len() as u64).saturating_mul(A_ROW));
         for row in rows {
             if present.is_free(regrets.table, *row) {
                 self.fits.push(*row)?;
             }
         }
         Ok(())
-    }
-
-    /// Counts looks at so many rows.
-    fn count(&mut self, rows: usize) {
-        let numbers = (rows as u64).saturating_mul(A_ROW);
-        self.work = self.work.saturating_add(numbers);
     }
 
     /// The turn of this number, an empty one behind the last.
@@ -187,17 +183,11 @@ impl Choices {
         let mut steps: u32 = 0;
         self.picks.clear();
         for _ in 0..u64::from(most_steps).saturating_mul(MOST_TRIES) {
-            match self.next_row(regrets, limit) {
-                None => {
-                    if !self.leave(regrets) {
-                        break;
-                    }
-                }
-                Some(row) => {
-                    if self.descend(regrets, row, &mut limit)? {
-                        steps = steps.saturating_add(1);
-                    }
-                }
+            if let Some(row) = self.next_row(regrets, limit) {
+                let is_open = self.descend(regrets, row, &mut limit)?;
+                steps = steps.saturating_add(u32::from(is_open));
+            } else if !self.leave(regrets) {
+                break;
             }
             if steps > most_steps {
                 break;
@@ -257,13 +247,11 @@ impl Choices {
 
     /// Takes the last choice back, if there is one. Whether there was.
     fn leave(&mut self, regrets: &Regrets) -> bool {
-        match self.picks.pop() {
-            None => false,
-            Some(row) => {
-                self.mark(regrets, row, false);
-                true
-            }
+        let pick = self.picks.pop();
+        if let Some(row) = pick {
+            self.mark(regrets, row, false);
         }
+        pick.is_some()
     }
 
     /// Has the row's riders be served or not.

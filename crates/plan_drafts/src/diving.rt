@@ -35,20 +35,8 @@ pub fn dive(
     basis: &[u32],
     number: u64,
 ) -> Made<Option<Plan>> {
-    decided.go_back(0);
     decided.relaxation.hold(false);
     decided.relaxation.go_to(table, basis)?;
-    let found = descend(alloc, table, decided, number);
-    decided.go_back(0);
-    found
-}
-
-fn descend(
-    alloc: Global,
-    table: &RowTable,
-    decided: &mut Decided,
-    number: u64,
-) -> Made<Option<Plan>> {
     let mut draws = Draws::new(number);
     let mut shares: Vec<Share> = Vec::new(alloc);
     let mut ranks: Vec<Rank> = Vec::new(alloc);

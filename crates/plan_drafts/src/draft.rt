@@ -176,6 +176,7 @@ impl<'a> Drafting<'a> {
         let decided = &mut self.decided;
         let basis = self.tree.root_basis();
         let plan = dive(self.alloc, self.regrets.table, decided, basis, 0)?;
+        self.decided.go_back(0);
         let left = self.decided.relaxation.allowance();
         self.tree.allowance.settle(share, left);
         Ok(plan)
@@ -186,7 +187,7 @@ impl<'a> Drafting<'a> {
         let bound = self.tree.draft.bound;
         let allowance = &mut self.tree.allowance;
         plans.better(&self.regrets, bound, IDLE, STEPS, allowance)?;
-        self.tree.offer(self.alloc, plans.rows(), plans.cost())
+        self.tree.offer(self.alloc, plans.rows(), plans.cost)
     }
 
     /// Grows the tree to so many nodes, at first without the rows whose reduced cost exceeds a part of the gap.
@@ -263,7 +264,7 @@ impl<'a> Drafting<'a> {
             }
             left = left.least(scout.left);
             self.tree
-                .offer(self.alloc, scout.plans.rows(), scout.plans.cost())?;
+                .offer(self.alloc, scout.plans.rows(), scout.plans.cost)?;
         }
         self.tree.allowance.settle(share, left);
         self.merge(rt, &scouts)

@@ -19,7 +19,7 @@ pub struct Neighbourhood {
     /// Riders from whom the walk goes on.
     frontier: Vec<u32>,
     draws: Draws,
-    choices: Choices,
+    pub choices: Choices,
 }
 
 impl Neighbourhood {
@@ -57,11 +57,6 @@ impl Neighbourhood {
             .choose(regrets, present, &self.vehicles, most_steps)
     }
 
-    /// How many numbers the last choice went through.
-    pub fn work(&self) -> u64 {
-        self.choices.work
-    }
-
     fn begin(&mut self, regrets: &Regrets, present: &Present) -> Made<()> {
         let left = self.left_rider(regrets, present);
         if let Some(rider) = left {
@@ -78,7 +73,7 @@ impl Neighbourhood {
     fn left_rider(&mut self, regrets: &Regrets, present: &Present) -> Option<u32> {
         for _ in 0..8 {
             let rider = self.draws.below(regrets.table.rider_count());
-            if present.server(short(rider)).is_none() && !regrets.rows_with(rider).is_empty() {
+            if present.server(short(rider)).is_none() && !regrets.with.list(rider).is_empty() {
                 return Some(short(rider));
             }
         }
@@ -106,7 +101,7 @@ impl Neighbourhood {
             return self.add(regrets, present, vehicle);
         }
         let rider = item(&self.frontier, self.draws.below(self.frontier.len()), 0);
-        let rows = regrets.rows_with(rider as usize);
+        let rows = regrets.with.list(rider as usize);
         if rows.is_empty() {
             return Ok(());
         }

@@ -22,7 +22,8 @@ pub struct Plans {
     alloc: Global,
     present: Present,
     neighbourhood: Neighbourhood,
-    cost: i64,
+    /// What the present plan costs, in seconds; very much where it isn't lawful.
+    pub cost: i64,
 }
 
 impl Plans {
@@ -38,12 +39,7 @@ impl Plans {
 
     /// The rows of the present plan.
     pub fn rows(&self) -> &[Option<u32>] {
-        self.present.rows()
-    }
-
-    /// What the present plan costs, in seconds; very much where it isn't lawful.
-    pub fn cost(&self) -> i64 {
-        self.cost
+        &self.present.rows
     }
 
     /// Makes a plan of the relaxation's shares: the rows by falling share, then those of each vehicle by rising
@@ -59,7 +55,7 @@ impl Plans {
             self.present.offer(regrets.table, rank.1);
         }
         for vehicle in 0..regrets.table.vehicle_count() {
-            for row in regrets.rows_of(vehicle) {
+            for row in regrets.rows.list(vehicle) {
                 self.present.offer(regrets.table, *row);
             }
         }
@@ -93,7 +89,7 @@ impl Plans {
             let saved = self
                 .neighbourhood
                 .attempt(regrets, present, size, most_steps)?;
-            allowance.spend(self.neighbourhood.work());
+            allowance.spend(self.neighbourhood.choices.work);
             self.cost = self.cost.saturating_sub(saved / 1024);
             idle = if saved > 0 { 0 } else { idle.saturating_add(1) };
         }
@@ -101,7 +97,7 @@ impl Plans {
     }
 
     fn count(&mut self, regrets: &Regrets) -> Made<()> {
-        self.cost = plan_cost(self.alloc, regrets.table, self.present.rows())?;
+        self.cost = plan_cost(self.alloc, regrets.table, &self.present.rows)?;
         Ok(())
     }
 }

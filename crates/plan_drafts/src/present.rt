@@ -7,7 +7,7 @@ use std::alloc::Global;
 /// For each vehicle its row, and for each rider the vehicle that serves her.
 #[derive(Drop)]
 pub struct Present {
-    rows: Vec<Option<u32>>,
+    pub rows: Vec<Option<u32>>,
     servers: Vec<Option<u32>>,
 }
 
@@ -34,11 +34,6 @@ impl Present {
                 self.give(table, row);
             }
         }
-    }
-
-    /// The rows.
-    pub fn rows(&self) -> &[Option<u32>] {
-        &self.rows
     }
 
     /// The vehicle's row.

@@ -25,8 +25,8 @@ pub struct Regrets<'a> {
     /// For each rider what it costs to leave her out above her multiplier.
     left: Vec<i64>,
     /// For each vehicle its rows that are looked at, and for each rider those that have her, by rising regret.
-    rows: Lists,
-    with: Lists,
+    pub rows: Lists,
+    pub with: Lists,
 }
 
 impl<'a> Regrets<'a> {
@@ -137,18 +137,6 @@ impl<'a> Regrets<'a> {
     #[inline]
     pub fn left(&self, rider: u32) -> i64 {
         at(&self.left, rider as usize)
-    }
-
-    /// The vehicle's rows that are looked at, by rising regret.
-    #[inline]
-    pub fn rows_of(&self, vehicle: usize) -> &[u32] {
-        self.rows.list(vehicle)
-    }
-
-    /// Those rows of all vehicles that have this rider, by rising regret.
-    #[inline]
-    pub fn rows_with(&self, rider: usize) -> &[u32] {
-        self.with.list(rider)
     }
 }
 

@@ -150,7 +150,7 @@ impl DraftTree {
             if left.is_gone() || !self.hand_out(&mut team, budget, left) {
                 break;
             }
-            self.part_all(rt, alloc, table, workers, &mut team);
+            self.part_all(rt, table, workers, &mut team);
             for parter in team.iter_mut() {
                 left = left.least(parter.decided.relaxation.allowance());
                 self.take_in(alloc, table, parter)?;
@@ -179,7 +179,6 @@ impl DraftTree {
     fn part_all<R: Threads + Sync>(
         &self,
         rt: &R,
-        alloc: Global,
         table: &RowTable,
         workers: u8,
         team: &mut [Parter],
@@ -190,7 +189,7 @@ impl DraftTree {
             team,
             workers,
             &|_: usize, parter: &mut Parter| {
-                parter.part(alloc, table, self);
+                parter.part(table, self);
             },
         );
     }
