@@ -92,11 +92,10 @@ impl Choices {
             let first = self.fits.len();
             self.add_fits(regrets, present, *vehicle as usize)?;
             let end = self.fits.len();
-            let next = first;
             self.turns.push(Turn {
                 first,
                 end,
-                next,
+                next: first,
                 ..Turn::default()
             })?;
         }
