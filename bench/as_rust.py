@@ -1,11 +1,12 @@
 """Turns the crates of the assignment search into a Rust program, to measure a change before it is proved.
 
     bench/as_rust.py FOLDER && cargo build --release --offline --manifest-path FOLDER/Cargo.toml
-    FOLDER/target/release/search GRAPH [BUDGET [WORKERS]]
+    FOLDER/target/release/search GRAPH [BUDGET [WORKERS [VEHICLE=ROW ..]]]
 
 Contracts, ghost items and tests are left out; what the crates use of Rattle's library and of others (vectors whose calls
 answer with an error, allocators, drawn numbers) is written here in Rust. The program reads a graph as search.py writes them
-and prints its rows, the bound, the cost, the nodes and the microseconds. Nothing is proved of it, and its seconds are near those of the proved program, not the
+and prints its rows, the bound, the cost, the nodes and the microseconds. Each vehicle keeps its first row unless a word names
+another among its rows, counted from 0: that is where a rider must be served, whom the last plan picks later. Nothing is proved of it, and its seconds are near those of the proved program, not the
 same: use it to compare two states of the sources.
 """
 
@@ -184,7 +185,9 @@ fn main() {
     let (mut rows, mut held) = (Vec::new(Global), Vec::new(Global));
     for vehicle in 0..vehicles {
         let first = number(40 + 4 * vehicle, 4);
-        held.push(Some(first as u32)).expect("memory");
+        let kept = words.iter().skip(4).filter_map(|word| word.split_once('='));
+        let kept = kept.filter(|(place, _)| place.parse() == Ok(vehicle)).map(|(_, row)| row.parse().expect("a row"));
+        held.push(Some(first as u32 + kept.last().unwrap_or(0u32))).expect("memory");
         for row in first..number(44 + 4 * vehicle, 4) {
             let mut trip: ArrayVec<usize, 6> = ArrayVec::new();
             for rider in number(ends + 4 * row, 4)..number(ends + 4 * row + 4, 4) {

@@ -20,9 +20,8 @@ use crate::relaxation::basis::Basis;
 use crate::relaxation::pool::Pool;
 use crate::relaxation::sparse::Sparse;
 pub use dual::Ended;
-use pool_base::OutOfMemory;
 use row_tables::fixed_point::{ONE, at, copy, item, reset, set_at, times, write_over};
-use row_tables::{RowTable, Share};
+use row_tables::{Made, RowTable, Share};
 use std::alloc::Global;
 use std::mem::replace;
 
@@ -107,7 +106,7 @@ impl Relaxation {
         table: &RowTable,
         start: &[Option<u32>],
         allowance: Allowance,
-    ) -> Result<Self, OutOfMemory> {
+    ) -> Made<Self> {
         let mut relaxation = Relaxation {
             basis: Basis::new(alloc),
             pool: Pool::new(alloc, table.column_count())?,
@@ -144,15 +143,15 @@ impl Relaxation {
         table: &RowTable,
         start: &[Option<u32>],
         allowance: Allowance,
-    ) -> Result<Self, OutOfMemory> {
+    ) -> Made<Self> {
         let mut relaxation = Relaxation::new(alloc, table, start, allowance)?;
-        for column in self.pool.columns() {
+        for column in &self.pool.columns {
             relaxation.add(table, *column as usize)?;
         }
         Ok(relaxation)
     }
 
-    fn make_space(&mut self, table: &RowTable) -> Result<(), OutOfMemory> {
+    fn make_space(&mut self, table: &RowTable) -> Made<()> {
         let conditions = table.condition_count();
         reset(&mut self.is_forbidden, table.row_count(), false)?;
         reset(&mut self.costs, table.column_count(), 0)?;
@@ -200,7 +199,7 @@ impl Relaxation {
         most_value: i64,
         most_rows: usize,
         most_passes: u32,
-    ) -> Result<(), OutOfMemory> {
+    ) -> Made<()> {
         self.value = i64::MIN;
         for pass in 0..most_passes.min(MOST_PASSES) {
             self.pivot_on(table)?;
@@ -223,8 +222,8 @@ impl Relaxation {
         table: &RowTable,
         most_value: i64,
         most_rows: usize,
-    ) -> Result<bool, OutOfMemory> {
-        let most = MOST_DUAL_PIVOTS.saturating_mul(self.basis.len() as u64);
+    ) -> Made<bool> {
+        let most = MOST_DUAL_PIVOTS.saturating_mul(self.basis.columns.len() as u64);
         let (ended, _) = self.pivot_dual(table, most, i64::MAX)?;
         if ended != Ended::Solved {
             return Ok(false);
@@ -239,7 +238,7 @@ impl Relaxation {
         table: &RowTable,
         multipliers: &[i64],
         most_rows: usize,
-    ) -> Result<(), OutOfMemory> {
+    ) -> Made<()> {
         copy(multipliers, &mut self.tried);
         for vehicle in 0..table.vehicle_count() {
             self.look_through(table, vehicle, i64::MAX, most_rows)?;
@@ -247,19 +246,14 @@ impl Relaxation {
         Ok(())
     }
 
-    fn add(&mut self, table: &RowTable, column: usize) -> Result<(), OutOfMemory> {
+    fn add(&mut self, table: &RowTable, column: usize) -> Made<()> {
         let cost = at(&self.costs, column);
         self.pool.add(table, column, cost)
     }
 
     /// Takes the rows out of the pool that aren't in the basis and whose reduced cost lies so much above their
     /// vehicle's least one, in 1/1024 second.
-    pub fn shrink_pool(
-        &mut self,
-        table: &RowTable,
-        multipliers: &[i64],
-        most: i64,
-    ) -> Result<(), OutOfMemory> {
+    pub fn shrink_pool(&mut self, table: &RowTable, multipliers: &[i64], most: i64) -> Made<()> {
         copy(multipliers, &mut self.tried);
         for vehicle in 0..table.vehicle_count() {
             let bar = self.look_through(table, vehicle, i64::MIN, 0)?;
@@ -275,7 +269,7 @@ impl Relaxation {
 
     /// The best multipliers of the last solution for so many riders, in 1/1024 second; 0 for one whom it
     /// doesn't know.
-    pub fn multipliers(&self, alloc: Global, riders: usize) -> Result<Vec<i64>, OutOfMemory>
+    pub fn multipliers(&self, alloc: Global, riders: usize) -> Made<Vec<i64>>
         ensures { IfOk result (λ ms. length ms.items ≡ riders) }
     {
         let mut multipliers = vec![in alloc; 0; riders]?;
@@ -339,11 +333,11 @@ impl Relaxation {
 
     /// The columns of the basis.
     pub fn columns(&self) -> &[u32] {
-        self.basis.columns()
+        &self.basis.columns
     }
 
     /// Goes to a basis that was one before.
-    pub fn go_to(&mut self, table: &RowTable, columns: &[u32]) -> Result<(), OutOfMemory> {
+    pub fn go_to(&mut self, table: &RowTable, columns: &[u32]) -> Made<()> {
         for column in columns {
             self.add(table, *column as usize)?;
         }
@@ -352,26 +346,26 @@ impl Relaxation {
     }
 
     /// Writes the basis there.
-    pub fn save(&self, saved: &mut Saved) -> Result<(), OutOfMemory> {
+    pub fn save(&self, saved: &mut Saved) -> Made<()> {
         write_over(&mut saved.prices, &self.prices)?;
         saved.basis.copy_from(&self.basis)
     }
 
     /// Goes back to the basis that was written there.
-    pub fn go_back(&mut self, saved: &Saved) -> Result<(), OutOfMemory> {
+    pub fn go_back(&mut self, saved: &Saved) -> Made<()> {
         copy(&saved.prices, &mut self.prices);
         self.basis.copy_from(&saved.basis)
     }
 
     /// What the solution costs, in units of 2^-32 of 2^scale seconds.
     pub fn cost(&self) -> i64 {
-        self.cost_of_all(self.basis.levels())
+        self.cost_of_all(&self.basis.levels)
     }
 
     /// What so much of each column of the basis costs.
     fn cost_of_all(&self, parts: &[i64]) -> i64 {
         let mut cost: i64 = 0;
-        for (column, part) in self.basis.columns().iter().zip(parts) {
+        for (column, part) in self.basis.columns.iter().zip(parts) {
             cost = cost.wrapping_add(times(self.cost_of(*column as usize), *part));
         }
         cost
@@ -383,14 +377,10 @@ impl Relaxation {
     }
 
     /// Lists the rows of which the solution chooses more than a hundredth.
-    pub fn find_shares(
-        &mut self,
-        table: &RowTable,
-        shares: &mut Vec<Share>,
-    ) -> Result<(), OutOfMemory> {
+    pub fn find_shares(&mut self, table: &RowTable, shares: &mut Vec<Share>) -> Made<()> {
         self.basis.find_parts(&mut self.parts);
         shares.clear();
-        for (column, part) in self.basis.columns().iter().zip(&self.parts) {
+        for (column, part) in self.basis.columns.iter().zip(&self.parts) {
             if (*column as usize) < table.row_count() && *part > ONE / 100 {
                 shares.push(Share {
                     row: *column,

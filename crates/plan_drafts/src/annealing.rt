@@ -4,14 +4,14 @@
 //! fall back to their rows without them, the riders whom the vehicle served before go where they are
 //! cheapest, and the vehicles that lost riders fill up. A move that isn't taken is undone by its log.
 
+use crate::Plan;
 use crate::beside::{Beside, mark_of};
 use crate::present::Present;
 use crate::regrets::Regrets;
 use linear_relaxation::Allowance;
-use pool_base::OutOfMemory;
-use row_tables::Draws;
-use row_tables::fixed_point::{item, set_at};
+use row_tables::fixed_point::{item, set_at, write_over};
 use row_tables::lists::short;
+use row_tables::{Draws, Made};
 use std::alloc::Global;
 
 /// How many moves there are at most, and at most for each row of the table; how many numbers one counts as, beside one
@@ -62,7 +62,7 @@ pub fn anneal<'a>(
     rows: &[Option<u32>],
     seed: u64,
     allowance: &mut Allowance,
-) -> Result<Vec<Option<u32>>, OutOfMemory> {
+) -> Made<Plan> {
     let mut annealing = Annealing {
         regrets,
         beside,
@@ -88,7 +88,7 @@ pub fn anneal<'a>(
 
 impl Annealing<'_> {
     /// Makes all moves while it cools.
-    fn run(&mut self, allowance: &mut Allowance) -> Result<(), OutOfMemory> {
+    fn run(&mut self, allowance: &mut Allowance) -> Made<()> {
         let most = (self.regrets.table.row_count() as u64).saturating_mul(MOVES_A_ROW);
         let vehicles = self.regrets.table.vehicle_count() as u64;
         let each = vehicles.saturating_add(A_MOVE);
@@ -102,13 +102,13 @@ impl Annealing<'_> {
             self.make_moves((WARM * 1024).saturating_sub(cooled))?;
         }
         if self.least >= 0 {
-            self.note()?;
+            write_over(&mut self.found, &self.present.rows)?;
         }
         Ok(())
     }
 
     /// Tries moves at this temperature, in 1/1024 second.
-    fn make_moves(&mut self, temperature: i64) -> Result<(), OutOfMemory> {
+    fn make_moves(&mut self, temperature: i64) -> Made<()> {
         for _ in 0..MOVES_EACH {
             self.attempt(temperature)?;
         }
@@ -116,7 +116,7 @@ impl Annealing<'_> {
     }
 
     /// Tries one move at this temperature, in 1/1024 second.
-    fn attempt(&mut self, temperature: i64) -> Result<(), OutOfMemory> {
+    fn attempt(&mut self, temperature: i64) -> Made<()> {
         self.change = 0;
         self.log.clear();
         self.dropped.clear();
@@ -148,7 +148,7 @@ impl Annealing<'_> {
                 rider = self.draws.below(riders);
             }
         }
-        let rows = self.regrets.rows_with(rider);
+        let rows = self.regrets.with.list(rider);
         let most = self.draws.below(rows.len()).saturating_add(1);
         rows.get(self.draws.below(most)).copied()
     }
@@ -171,7 +171,7 @@ impl Annealing<'_> {
     }
 
     /// Gives the row to its vehicle and mends the rest, where others have rows without its riders. Whether they do.
-    fn make(&mut self, row: u32) -> Result<bool, OutOfMemory> {
+    fn make(&mut self, row: u32) -> Made<bool> {
         let vehicle = self.regrets.table.vehicle(row as usize);
         let Some(old) = self.present.row(vehicle) else {
             return Ok(false);
@@ -189,7 +189,7 @@ impl Annealing<'_> {
     }
 
     /// Takes the row's riders from the vehicles that serve them. Whether these have rows for that.
-    fn take_riders(&mut self, row: u32, vehicle: usize) -> Result<bool, OutOfMemory> {
+    fn take_riders(&mut self, row: u32, vehicle: usize) -> Made<bool> {
         for rider in self.regrets.table.riders_of(row as usize) {
             if let Some(server) = self.present.server(*rider) {
                 if server as usize != vehicle {
@@ -211,7 +211,7 @@ impl Annealing<'_> {
     }
 
     /// Adds each dropped rider where that is cheapest.
-    fn insert_dropped(&mut self) -> Result<(), OutOfMemory> {
+    fn insert_dropped(&mut self) -> Made<()> {
         for place in 0..self.dropped.len() {
             let rider = item(&self.dropped, place, 0);
             if self.present.server(rider).is_none() {
@@ -245,7 +245,7 @@ impl Annealing<'_> {
     }
 
     /// Adds riders to the rows of those vehicles as long as that saves something.
-    fn fill_robbed(&mut self) -> Result<(), OutOfMemory> {
+    fn fill_robbed(&mut self) -> Made<()> {
         for place in 0..self.robbed.len() {
             let vehicle = item(&self.robbed, place, 0) as usize;
             for _ in 0..MOST_RIDERS {
@@ -263,8 +263,9 @@ impl Annealing<'_> {
         let row = self.present.row(vehicle)?;
         let mut least = 0;
         let mut best = None;
-        let wider = self.beside.wider(row);
-        for (rider, wider) in self.beside.added(row).iter().zip(wider) {
+        let added = self.beside.added.list(row as usize);
+        let wider = self.beside.wider.list(row as usize);
+        for (rider, wider) in added.iter().zip(wider) {
             if self.present.server(*rider).is_none() {
                 let cost = self.beside.change(row, *wider);
                 if cost < least {
@@ -277,7 +278,7 @@ impl Annealing<'_> {
     }
 
     /// Gives the row to its vehicle, which has one.
-    fn set_row(&mut self, row: u32) -> Result<(), OutOfMemory> {
+    fn set_row(&mut self, row: u32) -> Made<()> {
         if let Some(old) = self.replace(row) {
             self.log.push(old)?;
             self.change = self.change.saturating_add(self.beside.change(old, row));
@@ -291,23 +292,17 @@ impl Annealing<'_> {
         let old = self.present.row(vehicle);
         self.present.release(self.regrets.table, vehicle);
         self.present.give(self.regrets.table, row);
-        set_at(&mut self.marks, vehicle, self.beside.marks(row));
+        let marks = item(&self.beside.marks, row as usize, 0);
+        set_at(&mut self.marks, vehicle, marks);
         old
     }
 
-    fn accept(&mut self) -> Result<(), OutOfMemory> {
+    fn accept(&mut self) -> Made<()> {
         self.above = self.above.saturating_add(self.change);
         if self.above < self.least {
             self.least = self.above;
-            self.note()?;
+            write_over(&mut self.found, &self.present.rows)?;
         }
-        Ok(())
-    }
-
-    /// Notes the plan at hand.
-    fn note(&mut self) -> Result<(), OutOfMemory> {
-        self.found.clear();
-        self.found.extend_from_slice(self.present.rows())?;
         Ok(())
     }
 

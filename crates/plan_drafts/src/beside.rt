@@ -1,9 +1,8 @@
 //! Which rows of a vehicle have one rider less than a row, or one more.
 
-use pool_base::OutOfMemory;
-use row_tables::RowTable;
 use row_tables::fixed_point::{at, item, part};
 use row_tables::lists::Lists;
+use row_tables::{Made, RowTable};
 use std::alloc::Global;
 
 /// The rows beside each row.
@@ -12,16 +11,16 @@ pub struct Beside {
     /// For each row and each of its riders the row without her, or one past the last row.
     without: Lists,
     /// For each row the riders who can be added, rising, and the rows with these.
-    added: Lists,
-    wider: Lists,
+    pub added: Lists,
+    pub wider: Lists,
     /// For each row 64 marks of the riders who can be added.
-    marks: Vec<u64>,
+    pub marks: Vec<u64>,
     /// What each row costs, less what it costs to leave out its riders.
     worths: Vec<i64>,
 }
 
 impl Beside {
-    pub fn new(alloc: Global, table: &RowTable) -> Result<Self, OutOfMemory> {
+    pub fn new(alloc: Global, table: &RowTable) -> Made<Self> {
         let mut beside = Beside {
             without: rows_without(alloc, table)?,
             added: Lists::new(alloc),
@@ -38,7 +37,7 @@ impl Beside {
     }
 
     /// Lists who is added: the wider rows of a row stand by rising riders, as the rows of a vehicle do.
-    fn list_added(&mut self, table: &RowTable) -> Result<(), OutOfMemory> {
+    fn list_added(&mut self, table: &RowTable) -> Made<()> {
         for row in 0..table.row_count() {
             let mut marks = 0;
             for wider in self.wider.list(row) {
@@ -54,18 +53,14 @@ impl Beside {
 
     /// The row without this rider of its own, if there is one.
     pub fn without(&self, table: &RowTable, row: u32, rider: u32) -> Option<u32> {
-        let rows = self.without.list(row as usize);
-        for (place, member) in table.riders_of(row as usize).iter().enumerate() {
-            if *member == rider {
-                let row = item(rows, place, u32::MAX);
-                return if (row as usize) < table.row_count() {
-                    Some(row)
-                } else {
-                    None
-                };
-            }
+        let riders = table.riders_of(row as usize);
+        let place = riders.binary_search(&rider).ok()?;
+        let narrower = self.without.list(row as usize).get(place).copied()?;
+        if (narrower as usize) < table.row_count() {
+            Some(narrower)
+        } else {
+            None
         }
-        None
     }
 
     /// What the next row costs more than this one, each less what it costs to leave out its riders.
@@ -73,33 +68,17 @@ impl Beside {
         at(&self.worths, next as usize).saturating_sub(at(&self.worths, row as usize))
     }
 
-    /// Marks of the riders who can be added to this row.
-    pub fn marks(&self, row: u32) -> u64 {
-        item(&self.marks, row as usize, 0)
-    }
-
-    /// The riders who can be added to this row, rising.
-    pub fn added(&self, row: u32) -> &[u32] {
-        self.added.list(row as usize)
-    }
-
-    /// The rows that these riders make of it.
-    pub fn wider(&self, row: u32) -> &[u32] {
-        self.wider.list(row as usize)
-    }
-
     /// The row with this rider too, if there is one.
     pub fn with(&self, row: u32, rider: u32) -> Option<u32> {
-        match self.added(row).binary_search(&rider) {
-            Ok(place) => self.wider(row).get(place).copied(),
-            Err(_) => None,
-        }
+        let added = self.added.list(row as usize);
+        let place = added.binary_search(&rider).ok()?;
+        self.wider.list(row as usize).get(place).copied()
     }
 }
 
 /// For each row and each of its riders the row of the same vehicle without her, or one past the last row. A
 /// vehicle's rows stand by size, then riders.
-fn rows_without(alloc: Global, table: &RowTable) -> Result<Lists, OutOfMemory> {
+fn rows_without(alloc: Global, table: &RowTable) -> Made<Lists> {
     let mut without = Lists::new(alloc);
     let mut trip: Vec<u32> = Vec::new(alloc);
     for row in 0..table.row_count() {

@@ -5,65 +5,26 @@
 //! wins.
 use crate::decided::Decided;
 use linear_relaxation::{Ended, Saved};
-use pool_base::OutOfMemory;
 use row_tables::fixed_point::{ONE, item};
-use row_tables::{Decision, RowTable, Share};
+use row_tables::{Decision, Made, RowTable, Share};
 use std::alloc::Global;
 
 /// What each rider of a row counts toward being tried.
 const A_RIDER: i64 = ONE / 100 * 3;
 
-/// How much a node is tried for.
-#[derive(Clone, Copy)]
-pub struct Effort {
-    /// How many rows are tried at most.
-    candidates: usize,
-    /// After so many trials in a row without a better score no more are made.
-    idle: usize,
-    /// How many columns come in for one trial at most.
-    pivots: u64,
-}
-
-/// The effort in most graphs; in graphs of up to so many vehicles and riders, where a trial is cheap; and in graphs
-/// of more than so many, where it is dear.
-const EFFORT: Effort = Effort {
-    candidates: 6,
-    idle: 4,
-    pivots: 30,
-};
-
-const FEW_CONDITIONS: usize = 350;
-
-const STRONG_EFFORT: Effort = Effort {
-    candidates: 60,
-    idle: 60,
-    pivots: 600,
-};
+/// Up to so many vehicles and riders a trial is cheap, and with more than so many it is dear.
+pub const FEW_CONDITIONS: usize = 350;
 
 const MANY_CONDITIONS: usize = 800;
-
-const LIGHT_EFFORT: Effort = Effort {
-    candidates: 3,
-    idle: 3,
-    pivots: 30,
-};
-
-/// The effort for this table.
-fn effort_for(table: &RowTable) -> Effort {
-    let conditions = table.condition_count();
-    if conditions <= FEW_CONDITIONS {
-        STRONG_EFFORT
-    } else if conditions > MANY_CONDITIONS {
-        LIGHT_EFFORT
-    } else {
-        EFFORT
-    }
-}
 
 /// The work space of a choice.
 #[derive(Drop)]
 pub struct Branching {
-    effort: Effort,
+    /// How many rows are tried at most, after how many in a row without a better score no more are, and how many
+    /// columns come in for one trial at most.
+    candidates: usize,
+    idle: usize,
+    pivots: u64,
     /// Where the relaxation stood when the last choice was made.
     pub saved: Saved,
     /// The rows that may be tried, behind how far they lie from one half.
@@ -72,8 +33,15 @@ pub struct Branching {
 
 impl Branching {
     pub fn new(alloc: Global, table: &RowTable) -> Self {
+        let (candidates, idle, pivots) = match table.condition_count() {
+            0..=FEW_CONDITIONS => (60, 60, 600),
+            conditions if conditions > MANY_CONDITIONS => (3, 3, 30),
+            _ => (6, 4, 30),
+        };
         Branching {
-            effort: effort_for(table),
+            candidates,
+            idle,
+            pivots,
             saved: Saved::new(alloc),
             ranks: Vec::new(alloc),
         }
@@ -89,7 +57,7 @@ impl Branching {
         shares: &[Share],
         limit: i64,
         tries: bool,
-    ) -> Result<Option<usize>, OutOfMemory> {
+    ) -> Made<Option<usize>> {
         let limit = decided.relaxation.in_prices(limit);
         let rest = limit.saturating_sub(decided.relaxation.cost());
         decided.relaxation.save(&mut self.saved)?;
@@ -105,7 +73,7 @@ impl Branching {
     }
 
     /// Ranks these rows, those that are chosen most nearly by half first, as many as may be tried.
-    fn rank(&mut self, table: &RowTable, shares: &[Share]) -> Result<(), OutOfMemory> {
+    fn rank(&mut self, table: &RowTable, shares: &[Share]) -> Made<()> {
         self.ranks.clear();
         for share in shares {
             let distance = share.part.wrapping_sub(ONE / 2).saturating_abs();
@@ -114,7 +82,7 @@ impl Branching {
             self.ranks.push((rank, share.row))?;
         }
         self.ranks.as_mut_slice().sort_unstable();
-        self.ranks.truncate(self.effort.candidates);
+        self.ranks.truncate(self.candidates);
         Ok(())
     }
 
@@ -124,16 +92,11 @@ impl Branching {
 
     /// Tries one row after the other, until some in a row are no better. The place of the best one. A row that can't be
     /// the best any more, however much the cost rises where it is taken, isn't tried for that.
-    fn try_rows(
-        &mut self,
-        table: &RowTable,
-        decided: &mut Decided,
-        most: i64,
-    ) -> Result<usize, OutOfMemory> {
+    fn try_rows(&mut self, table: &RowTable, decided: &mut Decided, most: i64) -> Made<usize> {
         let mut best: usize = 0;
         let mut most_score = -1;
         for place in 0..self.ranks.len() {
-            if place.saturating_sub(best) >= self.effort.idle {
+            if place.saturating_sub(best) >= self.idle {
                 break;
             }
             let row = self.row(place);
@@ -159,11 +122,11 @@ impl Branching {
         decided: &mut Decided,
         decision: Decision,
         most: i64,
-    ) -> Result<i64, OutOfMemory> {
+    ) -> Made<i64> {
         let count = decided.len();
         decided.decide(table, decision)?;
         let relaxation = &mut decided.relaxation;
-        let (ended, rise) = relaxation.pivot_dual(table, self.effort.pivots, most)?;
+        let (ended, rise) = relaxation.pivot_dual(table, self.pivots, most)?;
         relaxation.go_back(&self.saved)?;
         decided.go_back(count);
         Ok(if ended == Ended::Failed { most } else { rise })

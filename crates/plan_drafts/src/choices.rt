@@ -6,7 +6,7 @@
 
 use crate::present::Present;
 use crate::regrets::Regrets;
-use pool_base::OutOfMemory;
+use row_tables::Made;
 use row_tables::fixed_point::{item, part, set_at};
 use row_tables::lists::short;
 use std::alloc::Global;
@@ -18,7 +18,7 @@ const MOST_TRIES: u64 = 200;
 const A_ROW: u64 = 8;
 
 /// A vehicle's turn to choose.
-#[derive(Clone, Copy)]
+#[derive(Clone, Copy, Default)]
 struct Turn {
     /// Where its rows begin and end, and which comes next.
     first: usize,
@@ -48,18 +48,8 @@ pub struct Choices {
     pub work: u64,
 }
 
-/// Stands where there is no turn any more.
-const NO_TURN: Turn = Turn {
-    first: 0,
-    end: 0,
-    next: 0,
-    sum: 0,
-    least: 0,
-    left: 0,
-};
-
 impl Choices {
-    pub fn new(alloc: Global, riders: usize) -> Result<Self, OutOfMemory> {
+    pub fn new(alloc: Global, riders: usize) -> Made<Self> {
         Ok(Choices {
             fits: Vec::new(alloc),
             turns: Vec::new(alloc),
@@ -79,7 +69,7 @@ impl Choices {
         present: &mut Present,
         vehicles: &[u32],
         most_steps: u32,
-    ) -> Result<i64, OutOfMemory> {
+    ) -> Made<i64> {
         for vehicle in vehicles {
             present.release(regrets.table, *vehicle as usize);
         }
@@ -94,12 +84,7 @@ impl Choices {
     }
 
     /// Lists the rows of each vehicle whose riders nobody serves, and puts the shorter lists first.
-    fn find_turns(
-        &mut self,
-        regrets: &Regrets,
-        present: &Present,
-        vehicles: &[u32],
-    ) -> Result<(), OutOfMemory> {
+    fn find_turns(&mut self, regrets: &Regrets, present: &Present, vehicles: &[u32]) -> Made<()> {
         self.fits.clear();
         self.turns.clear();
         self.work = 0;
@@ -111,7 +96,7 @@ impl Choices {
                 first,
                 end,
                 next: first,
-                ..NO_TURN
+                ..Turn::default()
             })?;
         }
         self.turns
@@ -120,14 +105,11 @@ impl Choices {
         Ok(())
     }
 
-    fn add_fits(
-        &mut self,
-        regrets: &Regrets,
-        present: &Present,
-        vehicle: usize,
-    ) -> Result<(), OutOfMemory> {
-        let rows = regrets.rows_of(vehicle);
-        self.count(rows.len());
+    fn add_fits(&mut self, regrets: &Regrets, present: &Present, vehicle: usize) -> Made<()> {
+        let rows = regrets.rows.list(vehicle);
+        self.work = self
+            .work
+            .saturating_add((rows.len() as u64).saturating_mul(A_ROW));
         for row in rows {
             if present.is_free(regrets.table, *row) {
                 self.fits.push(*row)?;
@@ -136,15 +118,10 @@ impl Choices {
         Ok(())
     }
 
-    /// Counts looks at so many rows.
-    fn count(&mut self, rows: usize) {
-        let numbers = (rows as u64).saturating_mul(A_ROW);
-        self.work = self.work.saturating_add(numbers);
-    }
-
+    /// The turn of this number, an empty one behind the last.
     #[inline]
     fn turn(&self, number: usize) -> Turn {
-        item(&self.turns, number, NO_TURN)
+        item(&self.turns, number, Turn::default())
     }
 
     /// Finds for each turn, the last first, the least regret from it on, and the riders whom no later one could serve.
@@ -159,15 +136,10 @@ impl Choices {
                 least = least.saturating_add(regrets.above(row));
             }
             let left = self.close_riders(regrets, turn, short(number));
-            set_at(
-                &mut self.turns,
-                number,
-                Turn {
-                    least,
-                    left,
-                    ..turn
-                },
-            );
+            if let Some(turn) = self.turns.get_mut(number) {
+                turn.least = least;
+                turn.left = left;
+            }
         }
     }
 
@@ -188,12 +160,7 @@ impl Choices {
 
     /// Begins with the present rows of these vehicles as the best. Their regret, with that of the riders whom they
     /// could serve and don't.
-    fn begin(
-        &mut self,
-        regrets: &Regrets,
-        present: &Present,
-        vehicles: &[u32],
-    ) -> Result<i64, OutOfMemory> {
+    fn begin(&mut self, regrets: &Regrets, present: &Present, vehicles: &[u32]) -> Made<i64> {
         let mut regret: i64 = 0;
         for turn in &self.turns {
             regret = regret.saturating_add(turn.left);
@@ -210,27 +177,16 @@ impl Choices {
 
     /// Searches for choices of a lesser regret than this; the least one found, or this. It is broken off
     /// after so many choices.
-    fn search(
-        &mut self,
-        regrets: &Regrets,
-        limit: i64,
-        most_steps: u32,
-    ) -> Result<i64, OutOfMemory> {
+    fn search(&mut self, regrets: &Regrets, limit: i64, most_steps: u32) -> Made<i64> {
         let mut limit = limit;
         let mut steps: u32 = 0;
         self.picks.clear();
         for _ in 0..u64::from(most_steps).saturating_mul(MOST_TRIES) {
-            match self.next_row(regrets, limit) {
-                None => {
-                    if !self.leave(regrets) {
-                        break;
-                    }
-                }
-                Some(row) => {
-                    if self.descend(regrets, row, &mut limit)? {
-                        steps = steps.saturating_add(1);
-                    }
-                }
+            if let Some(row) = self.next_row(regrets, limit) {
+                let is_open = self.descend(regrets, row, &mut limit)?;
+                steps = steps.saturating_add(u32::from(is_open));
+            } else if !self.leave(regrets) {
+                break;
             }
             if steps > most_steps {
                 break;
@@ -252,8 +208,9 @@ impl Choices {
                 return None;
             }
             if !is_any_marked(&self.is_served, regrets.table.riders_of(row as usize)) {
-                let next = place.saturating_add(1);
-                set_at(&mut self.turns, number, Turn { next, ..turn });
+                if let Some(turn) = self.turns.get_mut(number) {
+                    turn.next = place.saturating_add(1);
+                }
                 return Some(row);
             }
         }
@@ -261,12 +218,7 @@ impl Choices {
     }
 
     /// Chooses the row and goes on below it, if a better choice may be there. Whether it may.
-    fn descend(
-        &mut self,
-        regrets: &Regrets,
-        row: u32,
-        limit: &mut i64,
-    ) -> Result<bool, OutOfMemory> {
+    fn descend(&mut self, regrets: &Regrets, row: u32, limit: &mut i64) -> Made<bool> {
         let number = self.picks.len();
         self.picks.push(row)?;
         self.mark(regrets, row, true);
@@ -277,16 +229,13 @@ impl Choices {
             .saturating_add(turn.left);
         let below = self.turn(number.saturating_add(1));
         let is_open = sum.saturating_add(below.least) < *limit;
-        if is_open && self.picks.len() < self.turns.len() {
-            let next = below.first;
-            set_at(
-                &mut self.turns,
-                self.picks.len(),
-                Turn { sum, next, ..below },
-            );
-            return Ok(true);
-        }
-        if is_open {
+        if let Some(turn) = self.turns.get_mut(self.picks.len()) {
+            if is_open {
+                turn.sum = sum;
+                turn.next = turn.first;
+                return Ok(true);
+            }
+        } else if is_open {
             *limit = sum;
             self.best.clear();
             self.best.extend_from_slice(&self.picks)?;
@@ -297,13 +246,11 @@ impl Choices {
 
     /// Takes the last choice back, if there is one. Whether there was.
     fn leave(&mut self, regrets: &Regrets) -> bool {
-        match self.picks.pop() {
-            None => false,
-            Some(row) => {
-                self.mark(regrets, row, false);
-                true
-            }
+        let pick = self.picks.pop();
+        if let Some(row) = pick {
+            self.mark(regrets, row, false);
         }
+        pick.is_some()
     }
 
     /// Has the row's riders be served or not.
@@ -318,9 +265,9 @@ impl Choices {
                 regret
             };
             if let Some(closing) = item(&self.closings, place, None) {
-                let turn = self.turn(closing as usize);
-                let left = turn.left.wrapping_add(change);
-                set_at(&mut self.turns, closing as usize, Turn { left, ..turn });
+                if let Some(turn) = self.turns.get_mut(closing as usize) {
+                    turn.left = turn.left.wrapping_add(change);
+                }
             }
         }
     }

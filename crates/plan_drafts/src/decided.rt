@@ -1,8 +1,7 @@
 //! A relaxation under decisions.
 use linear_relaxation::Relaxation;
-use pool_base::OutOfMemory;
 use row_tables::lists::short;
-use row_tables::{Decision, RowTable};
+use row_tables::{Decision, Made, RowTable};
 use std::alloc::Global;
 
 /// A relaxation, and the rows that decisions forbid in it, in order.
@@ -36,7 +35,7 @@ impl Decided {
     }
 
     /// Gives a row to its vehicle or forbids it.
-    pub fn decide(&mut self, table: &RowTable, decision: Decision) -> Result<(), OutOfMemory> {
+    pub fn decide(&mut self, table: &RowTable, decision: Decision) -> Made<()> {
         if decision.is_taken {
             self.take(table, decision.row)
         } else {
@@ -46,7 +45,7 @@ impl Decided {
 
     /// Gives a row to its vehicle: forbids the vehicle's other rows, and those of other vehicles with one of
     /// its riders.
-    pub fn take(&mut self, table: &RowTable, row: usize) -> Result<(), OutOfMemory> {
+    pub fn take(&mut self, table: &RowTable, row: usize) -> Made<()> {
         for other in table.rows_of(table.vehicle(row)) {
             if other != row {
                 self.forbid(other)?;
@@ -58,7 +57,7 @@ impl Decided {
         Ok(())
     }
 
-    fn forbid_others(&mut self, others: &[u32], row: usize) -> Result<(), OutOfMemory> {
+    fn forbid_others(&mut self, others: &[u32], row: usize) -> Made<()> {
         for other in others {
             if *other as usize != row {
                 self.forbid(*other as usize)?;
@@ -67,7 +66,7 @@ impl Decided {
         Ok(())
     }
 
-    fn forbid(&mut self, row: usize) -> Result<(), OutOfMemory> {
+    fn forbid(&mut self, row: usize) -> Made<()> {
         if self.relaxation.forbid(row) {
             self.forbidden.push(short(row))?;
         }

@@ -1,8 +1,8 @@
 //! A plan from the relaxation: rows that it chooses nearly whole are taken, and it is solved again.
+use crate::Plan;
 use crate::decided::Decided;
-use pool_base::OutOfMemory;
 use row_tables::fixed_point::set_at;
-use row_tables::{Draws, RowTable, Share};
+use row_tables::{Draws, Made, RowTable, Share};
 use std::alloc::Global;
 use std::cmp::Reverse;
 
@@ -34,21 +34,9 @@ pub fn dive(
     decided: &mut Decided,
     basis: &[u32],
     number: u64,
-) -> Result<Option<Vec<Option<u32>>>, OutOfMemory> {
-    decided.go_back(0);
+) -> Made<Option<Plan>> {
     decided.relaxation.hold(false);
     decided.relaxation.go_to(table, basis)?;
-    let found = descend(alloc, table, decided, number);
-    decided.go_back(0);
-    found
-}
-
-fn descend(
-    alloc: Global,
-    table: &RowTable,
-    decided: &mut Decided,
-    number: u64,
-) -> Result<Option<Vec<Option<u32>>>, OutOfMemory> {
     let mut draws = Draws::new(number);
     let mut shares: Vec<Share> = Vec::new(alloc);
     let mut ranks: Vec<Rank> = Vec::new(alloc);
@@ -75,7 +63,7 @@ fn rank_open(
     decided: &Decided,
     shares: &[Share],
     ranks: &mut Vec<Rank>,
-) -> Result<bool, OutOfMemory> {
+) -> Made<bool> {
     ranks.clear();
     for share in shares {
         let row = share.row as usize;
@@ -100,11 +88,7 @@ fn is_whole(shares: &[Share]) -> bool {
 }
 
 /// The rows of which more than half is chosen.
-pub fn whole_plan(
-    alloc: Global,
-    table: &RowTable,
-    shares: &[Share],
-) -> Result<Vec<Option<u32>>, OutOfMemory> {
+pub fn whole_plan(alloc: Global, table: &RowTable, shares: &[Share]) -> Made<Plan> {
     let mut plan: Vec<Option<u32>> = vec![in alloc; None; table.vehicle_count()]?;
     for share in shares {
         if share.part > HALF {
@@ -119,12 +103,7 @@ pub fn whole_plan(
 }
 
 /// Takes the first rows that are still allowed, the very first one not where it is skipped.
-fn take_first(
-    table: &RowTable,
-    decided: &mut Decided,
-    ranks: &[Rank],
-    skips: bool,
-) -> Result<(), OutOfMemory> {
+fn take_first(table: &RowTable, decided: &mut Decided, ranks: &[Rank], skips: bool) -> Made<()> {
     let mut skips = skips;
     let mut count: u32 = 0;
     for (Reverse(part), row) in ranks {

@@ -1,5 +1,7 @@
 //! A draft: the relaxation of all rows, plans made from it, and a tree where they leave a gap.
+use crate::Plan;
 use crate::beside::Beside;
+use crate::branching::FEW_CONDITIONS;
 use crate::decided::Decided;
 use crate::diving::dive;
 use crate::merge::{Merge, renumbered};
@@ -9,7 +11,7 @@ use crate::scout::{Scout, Start};
 use crate::tree::DraftTree;
 use linear_relaxation::{Allowance, Relaxation};
 use pool_base::OutOfMemory;
-use row_tables::{Draft, Drafter, RowTable, Share, ascend, first_multipliers};
+use row_tables::{Draft, Drafter, Made, RowTable, Share, ascend, first_multipliers};
 use std::alloc::Global;
 use std::ops::Range;
 use std::thread;
@@ -61,12 +63,10 @@ const NEAR_PART: i64 = 2000;
 const MOST_TIMES: u64 = 3;
 
 /// A tree grows over the rows whose reduced cost is at most this part of the gap, and those that passes bring. It is
-/// larger with up to so many vehicles and riders, where a row costs little.
+/// larger with few vehicles and riders, where a row costs little.
 const POOL_PART: i64 = 4;
 
 const LARGER_PART: i64 = 2;
-
-const FEW_CONDITIONS: usize = 350;
 
 /// How many numbers a draft goes through at most. Of those who go through some side by side the one counts who goes
 /// through most.
@@ -97,7 +97,7 @@ impl Drafter for RelaxationDrafter {
         held: &[Option<u32>],
         budget: usize,
         workers: u8,
-    ) -> Result<Draft, OutOfMemory> {
+    ) -> Made<Draft> {
         let mut allowance = Allowance::new(MOST_WORK);
         allowance.spend(work_above(table, budget));
         let mut drafting = Drafting::new(alloc, table, held, workers, allowance)?;
@@ -137,7 +137,7 @@ impl<'a> Drafting<'a> {
         held: &[Option<u32>],
         workers: u8,
         allowance: Allowance,
-    ) -> Result<Self, OutOfMemory> {
+    ) -> Made<Self> {
         let share = allowance.share(FIRST_SHARE);
         let mut relaxation = Relaxation::new(alloc, table, held, share)?;
         solve(alloc, table, &mut relaxation)?;
@@ -153,7 +153,7 @@ impl<'a> Drafting<'a> {
     }
 
     /// Makes a plan from the solution and one by a dive.
-    fn make_plans(&mut self) -> Result<(), OutOfMemory> {
+    fn make_plans(&mut self) -> Made<()> {
         let table = self.regrets.table;
         let mut shares: Vec<Share> = Vec::new(self.alloc);
         self.decided.relaxation.find_shares(table, &mut shares)?;
@@ -170,27 +170,28 @@ impl<'a> Drafting<'a> {
     }
 
     /// A plan by a dive from the solution, if it comes to one.
-    fn dive(&mut self) -> Result<Option<Vec<Option<u32>>>, OutOfMemory> {
+    fn dive(&mut self) -> Made<Option<Plan>> {
         let share = self.tree.allowance.share(DIVE_SHARE);
         self.decided.relaxation.allow_work(share);
         let decided = &mut self.decided;
         let basis = self.tree.root_basis();
         let plan = dive(self.alloc, self.regrets.table, decided, basis, 0)?;
+        self.decided.go_back(0);
         let left = self.decided.relaxation.allowance();
         self.tree.allowance.settle(share, left);
         Ok(plan)
     }
 
     /// Betters a plan by neighbourhoods, and takes it where it is the best so far.
-    fn better(&mut self, plans: &mut Plans) -> Result<(), OutOfMemory> {
+    fn better(&mut self, plans: &mut Plans) -> Made<()> {
         let bound = self.tree.draft.bound;
         let allowance = &mut self.tree.allowance;
         plans.better(&self.regrets, bound, IDLE, STEPS, allowance)?;
-        self.tree.offer(self.alloc, plans.rows(), plans.cost())
+        self.tree.offer(self.alloc, plans.rows(), plans.cost)
     }
 
     /// Grows the tree to so many nodes, at first without the rows whose reduced cost exceeds a part of the gap.
-    fn grow<R: Threads + Sync>(&mut self, rt: &R, budget: usize) -> Result<(), OutOfMemory> {
+    fn grow<R: Threads + Sync>(&mut self, rt: &R, budget: usize) -> Made<()> {
         if !self.tree.is_open() {
             return Ok(());
         }
@@ -199,13 +200,9 @@ impl<'a> Drafting<'a> {
         let cost = self.tree.draft.cost.saturating_mul(1024);
         let gap = cost.saturating_sub(value);
         let is_small = table.condition_count() <= FEW_CONDITIONS;
-        let most = if is_small {
-            gap / LARGER_PART
-        } else {
-            gap / POOL_PART
-        };
+        let part = if is_small { LARGER_PART } else { POOL_PART };
         let relaxation = &mut self.decided.relaxation;
-        relaxation.shrink_pool(table, self.tree.multipliers(0), most)?;
+        relaxation.shrink_pool(table, self.tree.multipliers(0), gap / part)?;
         let relaxation = &self.decided.relaxation;
         self.tree
             .grow(rt, self.alloc, table, relaxation, budget, self.workers)
@@ -225,7 +222,7 @@ impl<'a> Drafting<'a> {
 
     /// Has scouts look for plans, and merges these. Scouts anneal where the gap is so wide that a rider more might be
     /// served.
-    fn make_more_plans<R: Threads + Sync>(&mut self, rt: &R) -> Result<(), OutOfMemory> {
+    fn make_more_plans<R: Threads + Sync>(&mut self, rt: &R) -> Made<()> {
         let count = if self.is_near() { FEW_SCOUTS } else { SCOUTS };
         let mut times = 1;
         let mut beside = None;
@@ -250,7 +247,7 @@ impl<'a> Drafting<'a> {
         rt: &R,
         beside: Option<&Beside>,
         numbers: Range<u64>,
-    ) -> Result<(), OutOfMemory> {
+    ) -> Made<()> {
         let share = self.tree.allowance.share(SCOUT_SHARE);
         let start = Start {
             regrets: &self.regrets,
@@ -267,14 +264,14 @@ impl<'a> Drafting<'a> {
             }
             left = left.least(scout.left);
             self.tree
-                .offer(self.alloc, scout.plans.rows(), scout.plans.cost())?;
+                .offer(self.alloc, scout.plans.rows(), scout.plans.cost)?;
         }
         self.tree.allowance.settle(share, left);
         self.merge(rt, &scouts)
     }
 
     /// Takes the best plan of the rows that the best one and those of scouts choose, as a small draft finds it.
-    fn merge<R: Threads + Sync>(&mut self, rt: &R, scouts: &[Scout]) -> Result<(), OutOfMemory> {
+    fn merge<R: Threads + Sync>(&mut self, rt: &R, scouts: &[Scout]) -> Made<()> {
         let merge = Merge::new(self.alloc, &self.regrets, &self.tree.draft.plan, scouts)?;
         let plan = renumbered(self.alloc, &self.tree.draft.plan, &merge.parts)?;
         let share = self.tree.allowance.share(MERGE_SHARE);
@@ -298,7 +295,7 @@ fn send_scouts<R: Threads + Sync>(
     start: Start,
     numbers: Range<u64>,
     workers: u8,
-) -> Result<Vec<Scout>, OutOfMemory> {
+) -> Made<Vec<Scout>> {
     let mut scouts: Vec<Scout> = Vec::new(alloc);
     for number in numbers {
         scouts.push(Scout::new(alloc, start, number)?)?;
@@ -324,7 +321,7 @@ fn work_above(table: &RowTable, budget: usize) -> u64 {
 
 /// Solves the relaxation, at first with little to pay for a rider who is left out. If it tires before it is solved, an
 /// ascent goes on from its multipliers, or from the first ones where they are better.
-fn solve(alloc: Global, table: &RowTable, relaxation: &mut Relaxation) -> Result<(), OutOfMemory> {
+fn solve(alloc: Global, table: &RowTable, relaxation: &mut Relaxation) -> Made<()> {
     let rows = table.row_count();
     let is_dear = rows > table.condition_count().saturating_mul(MANY_A_CONDITION);
     let is_long = rows > MANY_ROWS && !is_dear;
@@ -344,11 +341,7 @@ fn solve(alloc: Global, table: &RowTable, relaxation: &mut Relaxation) -> Result
 }
 
 /// Goes on from a relaxation's multipliers by an ascent.
-fn ascend_on(
-    alloc: Global,
-    table: &RowTable,
-    relaxation: &mut Relaxation,
-) -> Result<(), OutOfMemory> {
+fn ascend_on(alloc: Global, table: &RowTable, relaxation: &mut Relaxation) -> Made<()> {
     let start = relaxation.multipliers(alloc, table.rider_count())?;
     let more = table.penalty().saturating_mul(1024 * ABOVE);
     let target = relaxation.value().saturating_add(more);
@@ -359,11 +352,7 @@ fn ascend_on(
 }
 
 /// Has a relaxation take these multipliers where they are better than its own.
-fn try_multipliers(
-    table: &RowTable,
-    relaxation: &mut Relaxation,
-    multipliers: &[i64],
-) -> Result<(), OutOfMemory> {
+fn try_multipliers(table: &RowTable, relaxation: &mut Relaxation, multipliers: &[i64]) -> Made<()> {
     relaxation.fill_pool(table, multipliers, 0)?;
     relaxation.pass(table, 0)?;
     Ok(())

@@ -36,3 +36,6 @@ mod scout;
 mod tree;
 
 pub use draft::RelaxationDrafter;
+
+/// For each vehicle its row, if it has one.
+type Plan = Vec<Option<u32>>;

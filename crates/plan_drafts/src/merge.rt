@@ -1,10 +1,10 @@
 //! The rows that some plans choose, as a table of their own.
+use crate::Plan;
 use crate::regrets::Regrets;
 use crate::scout::Scout;
-use pool_base::OutOfMemory;
-use row_tables::RowTable;
 use row_tables::fixed_point::{item, set_at};
 use row_tables::lists::short;
+use row_tables::{Made, RowTable};
 use std::alloc::Global;
 
 /// Some rows of a table, as another table for the same vehicles and riders.
@@ -23,7 +23,7 @@ impl Merge {
         regrets: &Regrets,
         plan: &[Option<u32>],
         scouts: &[Scout],
-    ) -> Result<Self, OutOfMemory> {
+    ) -> Made<Self> {
         let table = regrets.table;
         let mut is_chosen = vec![in alloc; false; table.row_count()]?;
         mark(plan, &mut is_chosen);
@@ -46,12 +46,7 @@ impl Merge {
         Ok(merge)
     }
 
-    fn put_vehicle(
-        &mut self,
-        regrets: &Regrets,
-        vehicle: usize,
-        is_chosen: &[bool],
-    ) -> Result<(), OutOfMemory> {
+    fn put_vehicle(&mut self, regrets: &Regrets, vehicle: usize, is_chosen: &[bool]) -> Made<()> {
         let table = regrets.table;
         for row in table.rows_of(vehicle) {
             if item(is_chosen, row, false) || regrets.above(short(row)) <= 0 {
@@ -66,11 +61,7 @@ impl Merge {
 }
 
 /// A plan with these numbers in place of its rows.
-pub fn renumbered(
-    alloc: Global,
-    plan: &[Option<u32>],
-    numbers: &[Option<u32>],
-) -> Result<Vec<Option<u32>>, OutOfMemory> {
+pub fn renumbered(alloc: Global, plan: &[Option<u32>], numbers: &[Option<u32>]) -> Made<Plan> {
     let mut rows = Vec::new(alloc);
     for row in plan {
         rows.push(match row {

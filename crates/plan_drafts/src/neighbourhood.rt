@@ -6,10 +6,9 @@
 use crate::choices::Choices;
 use crate::present::Present;
 use crate::regrets::Regrets;
-use pool_base::OutOfMemory;
-use row_tables::Draws;
 use row_tables::fixed_point::{item, set_at};
 use row_tables::lists::short;
+use row_tables::{Draws, Made};
 use std::alloc::Global;
 
 /// A walk, and the work space for the next one.
@@ -20,12 +19,12 @@ pub struct Neighbourhood {
     /// Riders from whom the walk goes on.
     frontier: Vec<u32>,
     draws: Draws,
-    choices: Choices,
+    pub choices: Choices,
 }
 
 impl Neighbourhood {
     /// Walks over these rows. What is drawn follows from the seed.
-    pub fn new(alloc: Global, regrets: &Regrets, seed: u64) -> Result<Self, OutOfMemory> {
+    pub fn new(alloc: Global, regrets: &Regrets, seed: u64) -> Made<Self> {
         Ok(Neighbourhood {
             vehicles: Vec::new(alloc),
             is_in: vec![in alloc; false; regrets.table.vehicle_count()]?,
@@ -43,7 +42,7 @@ impl Neighbourhood {
         present: &mut Present,
         size: usize,
         most_steps: u32,
-    ) -> Result<i64, OutOfMemory> {
+    ) -> Made<i64> {
         self.vehicles.clear();
         self.frontier.clear();
         self.is_in.as_mut_slice().fill(false);
@@ -58,12 +57,7 @@ impl Neighbourhood {
             .choose(regrets, present, &self.vehicles, most_steps)
     }
 
-    /// How many numbers the last choice went through.
-    pub fn work(&self) -> u64 {
-        self.choices.work
-    }
-
-    fn begin(&mut self, regrets: &Regrets, present: &Present) -> Result<(), OutOfMemory> {
+    fn begin(&mut self, regrets: &Regrets, present: &Present) -> Made<()> {
         let left = self.left_rider(regrets, present);
         if let Some(rider) = left {
             self.frontier.push(rider)?;
@@ -79,7 +73,7 @@ impl Neighbourhood {
     fn left_rider(&mut self, regrets: &Regrets, present: &Present) -> Option<u32> {
         for _ in 0..8 {
             let rider = self.draws.below(regrets.table.rider_count());
-            if present.server(short(rider)).is_none() && !regrets.rows_with(rider).is_empty() {
+            if present.server(short(rider)).is_none() && !regrets.with.list(rider).is_empty() {
                 return Some(short(rider));
             }
         }
@@ -101,18 +95,13 @@ impl Neighbourhood {
     }
 
     /// Goes on from one of the riders to a row with her, its vehicle and those that serve its riders.
-    fn step(
-        &mut self,
-        regrets: &Regrets,
-        present: &Present,
-        size: usize,
-    ) -> Result<(), OutOfMemory> {
+    fn step(&mut self, regrets: &Regrets, present: &Present, size: usize) -> Made<()> {
         if self.frontier.is_empty() {
             let vehicle = self.draws.below(regrets.table.vehicle_count());
             return self.add(regrets, present, vehicle);
         }
         let rider = item(&self.frontier, self.draws.below(self.frontier.len()), 0);
-        let rows = regrets.rows_with(rider as usize);
+        let rows = regrets.with.list(rider as usize);
         if rows.is_empty() {
             return Ok(());
         }
@@ -134,12 +123,7 @@ impl Neighbourhood {
     }
 
     /// Takes in a vehicle that has a row, and its riders.
-    fn add(
-        &mut self,
-        regrets: &Regrets,
-        present: &Present,
-        vehicle: usize,
-    ) -> Result<(), OutOfMemory> {
+    fn add(&mut self, regrets: &Regrets, present: &Present, vehicle: usize) -> Made<()> {
         if let Some(row) = present.row(vehicle) {
             if !item(&self.is_in, vehicle, true) {
                 set_at(&mut self.is_in, vehicle, true);

@@ -1,11 +1,11 @@
 //! The parting of a node: it is branched on a row, and its two ends are solved.
+use crate::Plan;
 use crate::branching::{Branching, decision};
 use crate::decided::Decided;
 use crate::diving::whole_plan;
 use crate::tree::{DraftTree, Standing, standing_of};
 use linear_relaxation::{Allowance, Relaxation};
-use pool_base::OutOfMemory;
-use row_tables::{Decision, RowTable};
+use row_tables::{Decision, Made, RowTable};
 use std::alloc::Global;
 
 /// How many nodes are parted at once: a tree follows from this, and not from the number of workers.
@@ -23,12 +23,13 @@ pub struct End {
     pub decision: Decision,
     pub multipliers: Vec<i64>,
     pub standing: Standing,
-    pub plan: Option<Vec<Option<u32>>>,
+    pub plan: Option<Plan>,
 }
 
 /// Who parts nodes, with a relaxation of its own.
 #[derive(Drop)]
 pub struct Parter {
+    alloc: Global,
     pub decided: Decided,
     branching: Branching,
     /// The node at hand, if there is one.
@@ -48,10 +49,11 @@ impl Parter {
         relaxation: &Relaxation,
         plan: &[Option<u32>],
         allowance: Allowance,
-    ) -> Result<Self, OutOfMemory> {
+    ) -> Made<Self> {
         let mut beside = relaxation.beside(alloc, table, plan, allowance)?;
         beside.hold(true);
         Ok(Parter {
+            alloc,
             decided: Decided::new(alloc, beside),
             branching: Branching::new(alloc, table),
             node: None,
@@ -62,21 +64,15 @@ impl Parter {
     }
 
     /// Parts the node at hand of this tree.
-    pub fn part(&mut self, alloc: Global, table: &RowTable, tree: &DraftTree) {
+    pub fn part(&mut self, table: &RowTable, tree: &DraftTree) {
         self.branch = None;
         self.is_done = match self.node {
             None => true,
-            Some(number) => self.branch(alloc, table, tree, number).is_ok(),
+            Some(number) => self.branch(table, tree, number).is_ok(),
         };
     }
 
-    fn branch(
-        &mut self,
-        alloc: Global,
-        table: &RowTable,
-        tree: &DraftTree,
-        number: usize,
-    ) -> Result<(), OutOfMemory> {
+    fn branch(&mut self, table: &RowTable, tree: &DraftTree, number: usize) -> Made<()> {
         let Some(standing) = tree.standing(number) else {
             return Ok(());
         };
@@ -92,19 +88,14 @@ impl Parter {
         let branching = &mut self.branching;
         self.branch = branching.choose(table, decided, &standing.shares, cost, tries)?;
         if let Some(row) = self.branch {
-            self.add(alloc, table, tree, decision(number, row, true))?;
-            self.add(alloc, table, tree, decision(number, row, false))?;
+            self.add(table, tree, decision(number, row, true))?;
+            self.add(table, tree, decision(number, row, false))?;
         }
         Ok(())
     }
 
     /// Forbids what the decisions above the node forbid.
-    fn forbid_above(
-        &mut self,
-        table: &RowTable,
-        tree: &DraftTree,
-        number: usize,
-    ) -> Result<(), OutOfMemory> {
+    fn forbid_above(&mut self, table: &RowTable, tree: &DraftTree, number: usize) -> Made<()> {
         let mut number = number;
         self.decided.go_back(0);
         for _ in 0..tree.draft.nodes.len() {
@@ -120,16 +111,10 @@ impl Parter {
     }
 
     /// Makes the end to which this decision leads from where the relaxation stands, and goes back there.
-    fn add(
-        &mut self,
-        alloc: Global,
-        table: &RowTable,
-        tree: &DraftTree,
-        decision: Decision,
-    ) -> Result<(), OutOfMemory> {
+    fn add(&mut self, table: &RowTable, tree: &DraftTree, decision: Decision) -> Made<()> {
         let count = self.decided.len();
         self.decided.decide(table, decision)?;
-        let end = self.end(alloc, table, tree, decision)?;
+        let end = self.end(table, tree, decision)?;
         self.ends.push(end)?;
         self.decided.go_back(count);
         self.decided.relaxation.go_back(&self.branching.saved)
@@ -137,28 +122,22 @@ impl Parter {
 
     /// The end to which this decision leads, which is made. It has the value and the multipliers of the node above
     /// where those are better.
-    fn end(
-        &mut self,
-        alloc: Global,
-        table: &RowTable,
-        tree: &DraftTree,
-        decision: Decision,
-    ) -> Result<End, OutOfMemory> {
+    fn end(&mut self, table: &RowTable, tree: &DraftTree, decision: Decision) -> Made<End> {
         let most = tree.draft.cost.saturating_mul(1024).saturating_sub(1023);
         self.solve(table, most)?;
         let relaxation = &mut self.decided.relaxation;
-        let mut multipliers = relaxation.multipliers(alloc, table.rider_count())?;
-        let mut standing = standing_of(alloc, table, relaxation)?;
+        let mut multipliers = relaxation.multipliers(self.alloc, table.rider_count())?;
+        let mut standing = standing_of(self.alloc, table, relaxation)?;
         let mut plan = None;
         if standing.shares.is_empty() && standing.value < most {
-            let mut shares = Vec::new(alloc);
+            let mut shares = Vec::new(self.alloc);
             relaxation.find_shares(table, &mut shares)?;
-            plan = Some(whole_plan(alloc, table, &shares)?);
+            plan = Some(whole_plan(self.alloc, table, &shares)?);
         }
         if let Some(above) = tree.standing(decision.parent) {
             if standing.value < above.value {
                 standing.value = above.value;
-                multipliers = Vec::from_slice(alloc, tree.multipliers(decision.parent))?;
+                multipliers = Vec::from_slice(self.alloc, tree.multipliers(decision.parent))?;
             }
         }
         Ok(End {
@@ -170,7 +149,7 @@ impl Parter {
     }
 
     /// Solves the relaxation by the dual simplex, or where that fails from the node above.
-    fn solve(&mut self, table: &RowTable, most: i64) -> Result<(), OutOfMemory> {
+    fn solve(&mut self, table: &RowTable, most: i64) -> Made<()> {
         let relaxation = &mut self.decided.relaxation;
         if !relaxation.solve_dual(table, most, MOST_ROWS)? {
             relaxation.go_back(&self.branching.saved)?;

@@ -9,8 +9,7 @@ use crate::neighbourhood::Neighbourhood;
 use crate::present::Present;
 use crate::regrets::Regrets;
 use linear_relaxation::Allowance;
-use pool_base::OutOfMemory;
-use row_tables::Share;
+use row_tables::{Made, Share};
 use std::alloc::Global;
 use std::cmp::Reverse;
 
@@ -23,12 +22,13 @@ pub struct Plans {
     alloc: Global,
     present: Present,
     neighbourhood: Neighbourhood,
-    cost: i64,
+    /// What the present plan costs, in seconds; very much where it isn't lawful.
+    pub cost: i64,
 }
 
 impl Plans {
     /// A plan without rows. What is drawn follows from the number.
-    pub fn new(alloc: Global, regrets: &Regrets, number: u64) -> Result<Plans, OutOfMemory> {
+    pub fn new(alloc: Global, regrets: &Regrets, number: u64) -> Made<Plans> {
         Ok(Plans {
             alloc,
             present: Present::new(alloc, regrets.table)?,
@@ -39,17 +39,12 @@ impl Plans {
 
     /// The rows of the present plan.
     pub fn rows(&self) -> &[Option<u32>] {
-        self.present.rows()
-    }
-
-    /// What the present plan costs, in seconds; very much where it isn't lawful.
-    pub fn cost(&self) -> i64 {
-        self.cost
+        &self.present.rows
     }
 
     /// Makes a plan of the relaxation's shares: the rows by falling share, then those of each vehicle by rising
     /// regret, where they still fit.
-    pub fn round(&mut self, regrets: &Regrets, shares: &[Share]) -> Result<(), OutOfMemory> {
+    pub fn round(&mut self, regrets: &Regrets, shares: &[Share]) -> Made<()> {
         let mut ranks = Vec::new(self.alloc);
         for share in shares {
             ranks.push((Reverse(share.part), share.row))?;
@@ -60,7 +55,7 @@ impl Plans {
             self.present.offer(regrets.table, rank.1);
         }
         for vehicle in 0..regrets.table.vehicle_count() {
-            for row in regrets.rows_of(vehicle) {
+            for row in regrets.rows.list(vehicle) {
                 self.present.offer(regrets.table, *row);
             }
         }
@@ -68,7 +63,7 @@ impl Plans {
     }
 
     /// Takes this plan as the present one.
-    pub fn adopt(&mut self, regrets: &Regrets, rows: &[Option<u32>]) -> Result<(), OutOfMemory> {
+    pub fn adopt(&mut self, regrets: &Regrets, rows: &[Option<u32>]) -> Made<()> {
         self.present.adopt(regrets.table, rows);
         self.count(regrets)
     }
@@ -83,7 +78,7 @@ impl Plans {
         most_idle: u32,
         most_steps: u32,
         allowance: &mut Allowance,
-    ) -> Result<(), OutOfMemory> {
+    ) -> Made<()> {
         let mut idle: u32 = 0;
         for attempt in 0..MOST_ATTEMPTS {
             if self.cost <= bound || idle > most_idle || allowance.is_gone() {
@@ -94,15 +89,15 @@ impl Plans {
             let saved = self
                 .neighbourhood
                 .attempt(regrets, present, size, most_steps)?;
-            allowance.spend(self.neighbourhood.work());
+            allowance.spend(self.neighbourhood.choices.work);
             self.cost = self.cost.saturating_sub(saved / 1024);
             idle = if saved > 0 { 0 } else { idle.saturating_add(1) };
         }
         self.count(regrets)
     }
 
-    fn count(&mut self, regrets: &Regrets) -> Result<(), OutOfMemory> {
-        self.cost = plan_cost(self.alloc, regrets.table, self.present.rows())?;
+    fn count(&mut self, regrets: &Regrets) -> Made<()> {
+        self.cost = plan_cost(self.alloc, regrets.table, &self.present.rows)?;
         Ok(())
     }
 }

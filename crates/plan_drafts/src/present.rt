@@ -1,20 +1,19 @@
 //! A plan that changes.
-use pool_base::OutOfMemory;
-use row_tables::RowTable;
 use row_tables::fixed_point::{item, set_at};
 use row_tables::lists::short;
+use row_tables::{Made, RowTable};
 use std::alloc::Global;
 
 /// For each vehicle its row, and for each rider the vehicle that serves her.
 #[derive(Drop)]
 pub struct Present {
-    rows: Vec<Option<u32>>,
+    pub rows: Vec<Option<u32>>,
     servers: Vec<Option<u32>>,
 }
 
 impl Present {
     /// No vehicle has a row.
-    pub fn new(alloc: Global, table: &RowTable) -> Result<Self, OutOfMemory> {
+    pub fn new(alloc: Global, table: &RowTable) -> Made<Self> {
         Ok(Present {
             rows: vec![in alloc; None; table.vehicle_count()]?,
             servers: vec![in alloc; None; table.rider_count()]?,
@@ -35,11 +34,6 @@ impl Present {
                 self.give(table, row);
             }
         }
-    }
-
-    /// The rows.
-    pub fn rows(&self) -> &[Option<u32>] {
-        &self.rows
     }
 
     /// The vehicle's row.

@@ -4,10 +4,9 @@
 //! cost of its row lies above the vehicle's least, and for each rider who is left out what that costs above
 //! her multiplier. Of each vehicle's rows only those of least regret are looked at.
 
-use pool_base::OutOfMemory;
-use row_tables::RowTable;
 use row_tables::fixed_point::{at, item, set_at};
 use row_tables::lists::{Lists, short};
+use row_tables::{Made, RowTable};
 use std::alloc::Global;
 use std::ops::Range;
 
@@ -26,17 +25,13 @@ pub struct Regrets<'a> {
     /// For each rider what it costs to leave her out above her multiplier.
     left: Vec<i64>,
     /// For each vehicle its rows that are looked at, and for each rider those that have her, by rising regret.
-    rows: Lists,
-    with: Lists,
+    pub rows: Lists,
+    pub with: Lists,
 }
 
 impl<'a> Regrets<'a> {
     /// The regrets under these multipliers, in 1/1024 second.
-    pub fn new(
-        alloc: Global,
-        table: &'a RowTable,
-        multipliers: &[i64],
-    ) -> Result<Self, OutOfMemory> {
+    pub fn new(alloc: Global, table: &'a RowTable, multipliers: &[i64]) -> Made<Self> {
         let mut regrets = Regrets {
             table,
             above: Vec::new(alloc),
@@ -53,11 +48,7 @@ impl<'a> Regrets<'a> {
     }
 
     /// What each rider is worth: her multiplier, and at most what it costs to leave her out.
-    fn price_riders(
-        &mut self,
-        alloc: Global,
-        multipliers: &[i64],
-    ) -> Result<Vec<i64>, OutOfMemory> {
+    fn price_riders(&mut self, alloc: Global, multipliers: &[i64]) -> Made<Vec<i64>> {
         let mut prices = Vec::new(alloc);
         for rider in 0..self.table.rider_count() {
             let cost = self.table.cost_left(rider).saturating_mul(1024);
@@ -69,7 +60,7 @@ impl<'a> Regrets<'a> {
     }
 
     /// Notes the regrets of a vehicle's rows.
-    fn reduce(&mut self, prices: &[i64], rows: Range<usize>) -> Result<(), OutOfMemory> {
+    fn reduce(&mut self, prices: &[i64], rows: Range<usize>) -> Made<()> {
         let least = least_cost(self.table, prices, rows.start, rows.end);
         for row in rows {
             let cost = self.table.reduced_cost(prices, row);
@@ -79,7 +70,7 @@ impl<'a> Regrets<'a> {
     }
 
     /// Lists the rows that are looked at.
-    fn list(&mut self, alloc: Global) -> Result<(), OutOfMemory> {
+    fn list(&mut self, alloc: Global) -> Made<()> {
         let mut ranks = Vec::new(alloc);
         let mut is_listed = vec![in alloc; false; self.table.row_count()]?;
         for vehicle in 0..self.table.vehicle_count() {
@@ -90,7 +81,7 @@ impl<'a> Regrets<'a> {
     }
 
     /// All rows of the vehicle by rising regret.
-    fn rank_vehicle(&self, vehicle: usize, ranks: &mut Vec<Rank>) -> Result<(), OutOfMemory> {
+    fn rank_vehicle(&self, vehicle: usize, ranks: &mut Vec<Rank>) -> Made<()> {
         ranks.clear();
         for row in self.table.rows_of(vehicle) {
             ranks.push((self.above(short(row)), short(row)))?;
@@ -100,12 +91,7 @@ impl<'a> Regrets<'a> {
     }
 
     /// Lists the vehicle's rows of least regret and its first one, and marks them.
-    fn list_vehicle(
-        &mut self,
-        vehicle: usize,
-        ranks: &[Rank],
-        is_listed: &mut [bool],
-    ) -> Result<(), OutOfMemory> {
+    fn list_vehicle(&mut self, vehicle: usize, ranks: &[Rank], is_listed: &mut [bool]) -> Made<()> {
         let first = self.table.rows_of(vehicle).start;
         for (place, rank) in ranks.iter().enumerate() {
             let row = rank.1 as usize;
@@ -118,11 +104,7 @@ impl<'a> Regrets<'a> {
     }
 
     /// Lists for each rider the marked rows that have her.
-    fn list_riders(
-        &mut self,
-        is_listed: &[bool],
-        ranks: &mut Vec<Rank>,
-    ) -> Result<(), OutOfMemory> {
+    fn list_riders(&mut self, is_listed: &[bool], ranks: &mut Vec<Rank>) -> Made<()> {
         for rider in 0..self.table.rider_count() {
             self.rank_rider(rider, is_listed, ranks)?;
             for rank in ranks.iter() {
@@ -134,12 +116,7 @@ impl<'a> Regrets<'a> {
     }
 
     /// The marked rows that have the rider, by rising regret.
-    fn rank_rider(
-        &self,
-        rider: usize,
-        is_listed: &[bool],
-        ranks: &mut Vec<Rank>,
-    ) -> Result<(), OutOfMemory> {
+    fn rank_rider(&self, rider: usize, is_listed: &[bool], ranks: &mut Vec<Rank>) -> Made<()> {
         ranks.clear();
         for row in self.table.rows_with(rider) {
             if item(is_listed, *row as usize, false) {
@@ -160,18 +137,6 @@ impl<'a> Regrets<'a> {
     #[inline]
     pub fn left(&self, rider: u32) -> i64 {
         at(&self.left, rider as usize)
-    }
-
-    /// The vehicle's rows that are looked at, by rising regret.
-    #[inline]
-    pub fn rows_of(&self, vehicle: usize) -> &[u32] {
-        self.rows.list(vehicle)
-    }
-
-    /// Those rows of all vehicles that have this rider, by rising regret.
-    #[inline]
-    pub fn rows_with(&self, rider: usize) -> &[u32] {
-        self.with.list(rider)
     }
 }
 

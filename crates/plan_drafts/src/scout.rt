@@ -8,7 +8,7 @@ use crate::plans::Plans;
 use crate::regrets::Regrets;
 use crate::tree::DraftTree;
 use linear_relaxation::{Allowance, Relaxation};
-use pool_base::OutOfMemory;
+use row_tables::Made;
 use std::alloc::Global;
 
 /// Of so many scouts who may anneal one dives.
@@ -46,7 +46,7 @@ pub struct Scout {
 
 impl Scout {
     /// The scout of this number, with the best plan so far.
-    pub fn new(alloc: Global, start: Start, number: u64) -> Result<Self, OutOfMemory> {
+    pub fn new(alloc: Global, start: Start, number: u64) -> Made<Self> {
         let table = start.regrets.table;
         let plan = start.tree.draft.plan.as_slice();
         let mut plans = Plans::new(alloc, start.regrets, number)?;
@@ -67,7 +67,7 @@ impl Scout {
     }
 
     /// Goes on from the best plan by annealing, or to another by a dive, and betters it.
-    fn find(&mut self, alloc: Global, start: Start) -> Result<(), OutOfMemory> {
+    fn find(&mut self, alloc: Global, start: Start) -> Made<()> {
         let plan = match start.beside {
             Some(beside) if self.number % TURNS > 0 => {
                 let plan = start.tree.draft.plan.as_slice();

@@ -5,7 +5,7 @@ use crate::parter::{End, MOST_AT_ONCE, Parter};
 use linear_relaxation::{Allowance, Relaxation};
 use pool_base::OutOfMemory;
 use row_tables::lists::short;
-use row_tables::{Decision, Draft, DraftNode, RowTable, Share};
+use row_tables::{Decision, Draft, DraftNode, Made, RowTable, Share};
 use std::alloc::Global;
 use std::collections::BinaryHeap;
 use std::mem::replace;
@@ -53,7 +53,7 @@ impl DraftTree {
         table: &RowTable,
         relaxation: &mut Relaxation,
         allowance: Allowance,
-    ) -> Result<Self, OutOfMemory> {
+    ) -> Made<Self> {
         let mut tree = DraftTree {
             draft: Draft {
                 plan: Vec::new(alloc),
@@ -77,7 +77,7 @@ impl DraftTree {
         decision: Option<Decision>,
         multipliers: Vec<i64>,
         standing: Standing,
-    ) -> Result<(), OutOfMemory> {
+    ) -> Made<()> {
         let number = short(self.standings.len());
         self.open.push((standing.value.wrapping_neg(), number))?;
         self.standings.push(standing)?;
@@ -90,12 +90,7 @@ impl DraftTree {
     }
 
     /// Takes a plan of this cost where it is the best.
-    pub fn offer(
-        &mut self,
-        alloc: Global,
-        plan: &[Option<u32>],
-        cost: i64,
-    ) -> Result<(), OutOfMemory> {
+    pub fn offer(&mut self, alloc: Global, plan: &[Option<u32>], cost: i64) -> Made<()> {
         if cost < self.draft.cost {
             self.draft.cost = cost;
             self.draft.plan = Vec::from_slice(alloc, plan)?;
@@ -143,7 +138,7 @@ impl DraftTree {
         relaxation: &Relaxation,
         budget: usize,
         workers: u8,
-    ) -> Result<(), OutOfMemory> {
+    ) -> Made<()> {
         let share = self.allowance.share(SHARE);
         let mut left = share;
         let mut team: Vec<Parter> = Vec::new(alloc);
@@ -155,7 +150,7 @@ impl DraftTree {
             if left.is_gone() || !self.hand_out(&mut team, budget, left) {
                 break;
             }
-            self.part_all(rt, alloc, table, workers, &mut team);
+            self.part_all(rt, table, workers, &mut team);
             for parter in team.iter_mut() {
                 left = left.least(parter.decided.relaxation.allowance());
                 self.take_in(alloc, table, parter)?;
@@ -184,7 +179,6 @@ impl DraftTree {
     fn part_all<R: Threads + Sync>(
         &self,
         rt: &R,
-        alloc: Global,
         table: &RowTable,
         workers: u8,
         team: &mut [Parter],
@@ -195,18 +189,13 @@ impl DraftTree {
             team,
             workers,
             &|_: usize, parter: &mut Parter| {
-                parter.part(alloc, table, self);
+                parter.part(table, self);
             },
         );
     }
 
     /// Takes in what one made of its node: the next two nodes are its ends.
-    fn take_in(
-        &mut self,
-        alloc: Global,
-        table: &RowTable,
-        parter: &mut Parter,
-    ) -> Result<(), OutOfMemory> {
+    fn take_in(&mut self, alloc: Global, table: &RowTable, parter: &mut Parter) -> Made<()> {
         if !parter.is_done {
             return Err(OutOfMemory);
         }
@@ -264,11 +253,7 @@ impl DraftTree {
 }
 
 /// Where the relaxation stands.
-pub fn standing_of(
-    alloc: Global,
-    table: &RowTable,
-    relaxation: &mut Relaxation,
-) -> Result<Standing, OutOfMemory> {
+pub fn standing_of(alloc: Global, table: &RowTable, relaxation: &mut Relaxation) -> Made<Standing> {
     let mut shares = Vec::new(alloc);
     relaxation.find_shares(table, &mut shares)?;
     let mut parts = Vec::new(alloc);

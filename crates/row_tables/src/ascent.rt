@@ -2,9 +2,9 @@
 //!
 //! The subgradient counts for each rider how often the vehicles' rows of least reduced cost have her. Steps are
 //! as long as Polyak's rule says (1969), and halved after eight turns without a rise.
+use crate::Made;
 use crate::fixed_point::{add_at, at, copy, set_at};
 use crate::row_table::RowTable;
-use pool_base::OutOfMemory;
 use std::alloc::Global;
 
 /// One, of directions and step lengths.
@@ -15,11 +15,7 @@ const MOST_IDLE: u32 = 8;
 
 /// Multipliers after so many turns from what each rider costs who is served alone, toward a tenth of all
 /// penalties, in 1/1024 second.
-pub fn first_multipliers(
-    alloc: Global,
-    table: &RowTable,
-    turns: u32,
-) -> Result<Vec<i64>, OutOfMemory> {
+pub fn first_multipliers(alloc: Global, table: &RowTable, turns: u32) -> Made<Vec<i64>> {
     let riders = table.rider_count().min(1_000_000) as i64;
     let target = table.penalty().wrapping_mul(riders * UNIT) / 10;
     let start = first_point(alloc, table)?;
@@ -34,7 +30,7 @@ pub fn ascend(
     start: Vec<i64>,
     target: i64,
     turns: u32,
-) -> Result<Vec<i64>, OutOfMemory> {
+) -> Made<Vec<i64>> {
     let mut ascent = Ascent {
         best: Vec::from_slice(alloc, &start)?,
         point: start,
@@ -141,7 +137,7 @@ impl Ascent {
 
 /// For each rider the least of the penalty and of what it costs above its vehicle's first row to serve her
 /// alone.
-fn first_point(alloc: Global, table: &RowTable) -> Result<Vec<i64>, OutOfMemory> {
+fn first_point(alloc: Global, table: &RowTable) -> Made<Vec<i64>> {
     let mut point = Vec::new(alloc);
     for rider in 0..table.rider_count() {
         let mut least = table.penalty();

@@ -1,8 +1,8 @@
 //! A draft of an assignment: a plan and a tree of decisions, of which nothing is promised.
 ghost use Rattle.std.specs.Thread.{IsSync};
 
+use crate::Made;
 use crate::row_table::RowTable;
-use pool_base::OutOfMemory;
 use std::alloc::Global;
 use std::thread::Threads;
 
@@ -21,7 +21,7 @@ pub trait Drafter: Sync {
         held: &[Option<u32>],
         budget: usize,
         workers: u8,
-    ) -> Result<Draft, OutOfMemory>
+    ) -> Made<Draft>
         requires shared { IsSync R.row };
 }
 
@@ -61,29 +61,16 @@ impl Draft {
     /// The row that a node is branched on, and the number of the node where it is taken; the one where it
     /// isn't comes next.
     pub fn branch(&self, number: usize) -> Option<(usize, usize)> {
-        if number < self.nodes.len() {
-            self.nodes[number].branch
-        } else {
-            None
-        }
+        self.nodes.get(number)?.branch
     }
 
     /// The decision that leads to a node.
     pub fn decision(&self, number: usize) -> Option<Decision> {
-        if number < self.nodes.len() {
-            self.nodes[number].decision
-        } else {
-            None
-        }
+        self.nodes.get(number)?.decision
     }
 
     /// The multipliers of a node, with those of riders in taken rows sunk.
-    pub fn multipliers_at(
-        &self,
-        alloc: Global,
-        table: &RowTable,
-        number: usize,
-    ) -> Result<Vec<i64>, OutOfMemory> {
+    pub fn multipliers_at(&self, alloc: Global, table: &RowTable, number: usize) -> Made<Vec<i64>> {
         let mut multipliers = Vec::new(alloc);
         if number < self.nodes.len() {
             multipliers.extend_from_slice(&self.nodes[number].multipliers)?;

@@ -2,7 +2,7 @@
 //!
 //! Sums wrap and products are cut off at the ends of their type: what is made of these numbers is only
 //! tried, and judged in whole numbers afterwards.
-use pool_base::OutOfMemory;
+use crate::Made;
 
 /// One.
 pub const ONE: i64 = 1 << 32;
@@ -107,7 +107,7 @@ pub fn copy(from: &[i64], to: &mut [i64]) {
 }
 
 /// Makes this a list of so many equal items.
-pub fn reset<T: Copy>(items: &mut Vec<T>, count: usize, item: T) -> Result<(), OutOfMemory> {
+pub fn reset<T: Copy>(items: &mut Vec<T>, count: usize, item: T) -> Made<()> {
     items.clear();
     for _ in 0..count {
         items.push(item)?;
@@ -116,7 +116,7 @@ pub fn reset<T: Copy>(items: &mut Vec<T>, count: usize, item: T) -> Result<(), O
 }
 
 /// Writes a list in place of another.
-pub fn write_over<T: Copy>(items: &mut Vec<T>, others: &[T]) -> Result<(), OutOfMemory> {
+pub fn write_over<T: Copy>(items: &mut Vec<T>, others: &[T]) -> Made<()> {
     items.clear();
     items.extend_from_slice(others)?;
     Ok(())

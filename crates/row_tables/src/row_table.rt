@@ -1,8 +1,8 @@
 //! The rows of a trip graph, or of a part of one, in flat tables.
+use crate::Made;
 use crate::fixed_point::{at, item, part};
 use crate::lists::{Lists, short};
 use plan_rules::{TripGraph, TripRow};
-use pool_base::OutOfMemory;
 use std::alloc::Global;
 use std::ops::Range;
 
@@ -41,16 +41,12 @@ impl RowTable {
     }
 
     /// All rows of a graph.
-    pub fn of_graph(alloc: Global, graph: &TripGraph) -> Result<Self, OutOfMemory> {
+    pub fn of_graph(alloc: Global, graph: &TripGraph) -> Made<Self> {
         RowTable::of_allowed(alloc, graph, &[])
     }
 
     /// The rows of a graph but for those with a mark that says no. They are numbered anew.
-    pub fn of_allowed(
-        alloc: Global,
-        graph: &TripGraph,
-        allowed: &[bool],
-    ) -> Result<Self, OutOfMemory> {
+    pub fn of_allowed(alloc: Global, graph: &TripGraph, allowed: &[bool]) -> Made<Self> {
         let mut must = Vec::new(alloc);
         for rider in 0..graph.rider_count() {
             must.push(graph.must(rider))?;
@@ -63,12 +59,7 @@ impl RowTable {
         Ok(table)
     }
 
-    fn push_vehicle(
-        &mut self,
-        graph: &TripGraph,
-        allowed: &[bool],
-        vehicle: usize,
-    ) -> Result<(), OutOfMemory> {
+    fn push_vehicle(&mut self, graph: &TripGraph, allowed: &[bool], vehicle: usize) -> Made<()> {
         if vehicle < graph.vehicle_count() {
             let rows = graph.rows();
             for row in graph.first_row(vehicle)..graph.first_row(vehicle + 1) {
@@ -80,7 +71,7 @@ impl RowTable {
         self.end_vehicle()
     }
 
-    fn push_trip(&mut self, trip: &TripRow) -> Result<(), OutOfMemory> {
+    fn push_trip(&mut self, trip: &TripRow) -> Made<()> {
         for rider in trip.riders.as_slice() {
             self.conditions.push(*rider)?;
         }
@@ -88,14 +79,14 @@ impl RowTable {
     }
 
     /// Puts in a row of the vehicle at hand.
-    pub fn push_row(&mut self, cost: i64, riders: &[u32]) -> Result<(), OutOfMemory> {
+    pub fn push_row(&mut self, cost: i64, riders: &[u32]) -> Made<()> {
         for rider in riders {
             self.conditions.push(*rider as usize)?;
         }
         self.end_row(cost)
     }
 
-    fn end_row(&mut self, cost: i64) -> Result<(), OutOfMemory> {
+    fn end_row(&mut self, cost: i64) -> Made<()> {
         let vehicle = self.vehicle_count();
         self.vehicles.push(short(vehicle))?;
         self.costs.push(cost)?;
@@ -105,13 +96,13 @@ impl RowTable {
     }
 
     /// Ends the rows of the vehicle at hand: later ones are those of the next.
-    pub fn end_vehicle(&mut self) -> Result<(), OutOfMemory> {
+    pub fn end_vehicle(&mut self) -> Made<()> {
         self.ends.push(short(self.costs.len()))?;
         Ok(())
     }
 
     /// Lists the rows of each rider, and the columns of single conditions. To be called after the last row.
-    pub fn index(&mut self) -> Result<(), OutOfMemory> {
+    pub fn index(&mut self) -> Made<()> {
         self.rows.transpose(&self.conditions, self.must.len())?;
         for condition in 0..self.condition_count() {
             self.conditions.push(condition)?;

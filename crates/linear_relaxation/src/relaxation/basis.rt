@@ -2,14 +2,13 @@
 use crate::relaxation::factors::Factors;
 use crate::relaxation::ordering::{LEAST_PIVOT, Ordering};
 use crate::relaxation::sparse::Sparse;
-use pool_base::OutOfMemory;
 use rand_xoshiro::SplitMix64;
 use rand_xoshiro::rand_core::{Rng, SeedableRng};
-use row_tables::RowTable;
 use row_tables::fixed_point::{
     ONE, add_at, at, copy, is_quotient_above, item, quotient, reset, set_at, times, write_over,
 };
 use row_tables::lists::short;
+use row_tables::{Made, RowTable};
 use std::alloc::Global;
 
 /// After so many exchanges the factors are made anew.
@@ -24,23 +23,23 @@ const SEED: u64 = 6;
 /// Which column stands at each place, and the factors of those columns. The places are the conditions.
 #[derive(Drop)]
 pub struct Basis {
-    columns: Vec<u32>,
+    pub columns: Vec<u32>,
     /// Whether each column is in the basis.
     is_in: Vec<bool>,
-    levels: Vec<i64>,
+    pub levels: Vec<i64>,
     /// How much each condition has: a little more than one where a rider may be left out, so that no two
     /// levels are used up at once.
     capacities: Vec<i64>,
     pub factors: Factors,
     /// How many columns came in, and with how many numbers, when the factors were made; none where there are none.
-    made: Option<(usize, usize)>,
+    pub made: Option<(usize, usize)>,
     /// The last columns that had factors.
     good: Vec<u32>,
     ordering: Ordering,
     /// Costs and prices on their way; all 0 between two calls.
     numbers: Sparse,
     /// The column that was found last, over the places.
-    entering: Sparse,
+    pub entering: Sparse,
 }
 
 impl Basis {
@@ -62,7 +61,7 @@ impl Basis {
 
     /// Takes these rows of a table, of which no two have a rider in common, one for each vehicle that has any, and
     /// all other riders as left out.
-    pub fn begin(&mut self, table: &RowTable, start: &[Option<u32>]) -> Result<(), OutOfMemory> {
+    pub fn begin(&mut self, table: &RowTable, start: &[Option<u32>]) -> Made<()> {
         let count = table.condition_count();
         reset(&mut self.is_in, table.column_count(), false)?;
         reset(&mut self.levels, count, 0)?;
@@ -80,7 +79,7 @@ impl Basis {
         Ok(())
     }
 
-    fn draw_capacities(&mut self, table: &RowTable) -> Result<(), OutOfMemory> {
+    fn draw_capacities(&mut self, table: &RowTable) -> Made<()> {
         let mut draws = SplitMix64::seed_from_u64(SEED);
         reset(&mut self.capacities, table.condition_count(), ONE)?;
         for rider in 0..table.rider_count() {
@@ -92,14 +91,6 @@ impl Basis {
         Ok(())
     }
 
-    pub fn len(&self) -> usize {
-        self.columns.len()
-    }
-
-    pub fn columns(&self) -> &[u32] {
-        &self.columns
-    }
-
     pub fn column(&self, place: usize) -> usize {
         item(&self.columns, place, u32::MAX) as usize
     }
@@ -108,20 +99,12 @@ impl Basis {
         item(&self.is_in, column, false)
     }
 
-    pub fn level(&self, place: usize) -> i64 {
+    fn level(&self, place: usize) -> i64 {
         at(&self.levels, place)
     }
 
-    pub fn levels(&self) -> &[i64] {
-        &self.levels
-    }
-
-    pub fn is_factored(&self) -> bool {
-        self.made.is_some()
-    }
-
     /// Goes to other columns, which were a basis before.
-    pub fn go_to(&mut self, columns: &[u32]) -> Result<(), OutOfMemory> {
+    pub fn go_to(&mut self, columns: &[u32]) -> Made<()> {
         if columns.len() == self.columns.len() {
             self.put_columns(columns)?;
             self.made = None;
@@ -129,14 +112,14 @@ impl Basis {
         Ok(())
     }
 
-    fn put_columns(&mut self, columns: &[u32]) -> Result<(), OutOfMemory> {
+    fn put_columns(&mut self, columns: &[u32]) -> Made<()> {
         mark(&mut self.is_in, &self.columns, false);
         mark(&mut self.is_in, columns, true);
         write_over(&mut self.columns, columns)
     }
 
     /// Becomes the same as another basis over the same rows.
-    pub fn copy_from(&mut self, other: &Basis) -> Result<(), OutOfMemory> {
+    pub fn copy_from(&mut self, other: &Basis) -> Made<()> {
         self.put_columns(&other.columns)?;
         write_over(&mut self.levels, &other.levels)?;
         self.made = other.made;
@@ -145,7 +128,7 @@ impl Basis {
 
     /// Makes the factors of the columns, or where there are none goes back to the last columns that had
     /// some. False where it went back.
-    pub fn factor(&mut self, table: &RowTable) -> Result<bool, OutOfMemory> {
+    pub fn factor(&mut self, table: &RowTable) -> Made<bool> {
         let is_good = self.try_factor(table)?;
         if is_good {
             write_over(&mut self.good, &self.columns)?;
@@ -162,7 +145,7 @@ impl Basis {
         Ok(is_good)
     }
 
-    fn try_factor(&mut self, table: &RowTable) -> Result<bool, OutOfMemory> {
+    fn try_factor(&mut self, table: &RowTable) -> Made<bool> {
         self.ordering.factor(
             table,
             &mut self.columns,
@@ -251,19 +234,9 @@ impl Basis {
         best
     }
 
-    /// The number of the column that was found at a place.
-    pub fn entering_at(&self, place: usize) -> i64 {
-        self.entering.at(place)
-    }
-
     /// Puts the column that was found into this place. False where the factors should be made anew, which is dear where
     /// they have many numbers.
-    pub fn exchange(
-        &mut self,
-        place: usize,
-        column: usize,
-        level: i64,
-    ) -> Result<bool, OutOfMemory> {
+    pub fn exchange(&mut self, place: usize, column: usize, level: i64) -> Made<bool> {
         self.take_levels(level);
         set_at(&mut self.levels, place, level);
         let leaving = self.column(place);
@@ -292,10 +265,8 @@ impl Basis {
 
     /// Whether columns were exchanged since the factors were made.
     pub fn is_exchanged(&self) -> bool {
-        match self.made {
-            Some((count, _)) => self.factors.len() > count,
-            None => false,
-        }
+        self.made
+            .map_or(false, |(count, _)| self.factors.len() > count)
     }
 }
 

@@ -1,9 +1,8 @@
 //! The dual simplex over the pool (Lemke, 1954): from a solution to one where more rows are forbidden.
 use crate::relaxation::Relaxation;
 use crate::relaxation::ordering::LEAST_PIVOT;
-use pool_base::OutOfMemory;
-use row_tables::RowTable;
-use row_tables::fixed_point::{add_at, quotient, reset, times};
+use row_tables::fixed_point::{add_at, at, quotient, reset, times};
+use row_tables::{Made, RowTable};
 
 /// How pivots ended.
 #[derive(Clone, Copy, PartialEq, Eq)]
@@ -25,8 +24,13 @@ struct Entering {
 }
 
 impl Entering {
-    /// Whether the prices use it up before another: for less, or for as much at a greater number to divide by.
-    fn is_before(self, other: Entering) -> bool {
+    /// Whether the prices use it up before another, if there is one: for less, or for as much at a greater number to
+    /// divide by.
+    #[inline]
+    fn is_first(self, other: Option<Entering>) -> bool {
+        let Some(other) = other else {
+            return true;
+        };
         let cost = i128::from(self.cost).wrapping_mul(i128::from(other.value));
         let others = i128::from(other.cost).wrapping_mul(i128::from(self.value));
         cost < others || (cost == others && self.value > other.value)
@@ -36,12 +40,7 @@ impl Entering {
 impl Relaxation {
     /// Takes columns in until no level is wrong, or so many came in, or the cost rose by this. How much it
     /// rose. Forbidden rows are to be held at 0, and prices to be those of the basis where it has factors.
-    pub fn pivot_dual(
-        &mut self,
-        table: &RowTable,
-        most: u64,
-        limit: i64,
-    ) -> Result<(Ended, i64), OutOfMemory> {
+    pub fn pivot_dual(&mut self, table: &RowTable, most: u64, limit: i64) -> Made<(Ended, i64)> {
         self.prepare_dual(table)?;
         let mut rise: i64 = 0;
         for _ in 0..most {
@@ -59,35 +58,35 @@ impl Relaxation {
         Ok((Ended::Stopped, rise))
     }
 
-    fn prepare_dual(&mut self, table: &RowTable) -> Result<(), OutOfMemory> {
-        if !self.basis.is_factored() {
+    fn prepare_dual(&mut self, table: &RowTable) -> Made<()> {
+        if self.basis.made.is_none() {
             self.basis.factor(table)?;
             self.reprice();
         }
-        if !self.pool.is_listed() {
+        if !self.pool.is_listed {
             self.list_places()?;
         }
         Ok(())
     }
 
     /// Lists the places of each condition in the pool, but for those of rows that are forbidden now.
-    pub fn list_places(&mut self) -> Result<(), OutOfMemory> {
+    pub fn list_places(&mut self) -> Made<()> {
         self.pool
             .list_places(self.prices.len(), &self.is_forbidden)?;
-        reset(&mut self.products, self.pool.columns().len(), 0)
+        reset(&mut self.products, self.pool.columns.len(), 0)
     }
 
     /// Has the level at a place leave for the column that prices use up first. How much the cost rises, `None`
     /// where no column may come in.
-    fn exchange_at(&mut self, table: &RowTable, place: usize) -> Result<Option<i64>, OutOfMemory> {
+    fn exchange_at(&mut self, table: &RowTable, place: usize) -> Made<Option<i64>> {
         self.basis.find_row(place, &mut self.row);
-        let level = self.basis.level(place);
+        let level = at(&self.basis.levels, place);
         self.find_products(level > 0);
         let Some(entering) = self.entering() else {
             return Ok(None);
         };
         self.basis.find_column(table, entering.column);
-        let value = self.basis.entering_at(place);
+        let value = self.basis.entering.at(place);
         if value.saturating_abs() < LEAST_PIVOT || (value > 0) != (level > 0) {
             return self.factor_anew(table);
         }
@@ -105,7 +104,7 @@ impl Relaxation {
     }
 
     /// Makes the factors anew, where that can help: the cost stays. `None` where it can't.
-    fn factor_anew(&mut self, table: &RowTable) -> Result<Option<i64>, OutOfMemory> {
+    fn factor_anew(&mut self, table: &RowTable) -> Made<Option<i64>> {
         if self.basis.is_exchanged() && self.basis.factor(table)? {
             self.reprice();
             Ok(Some(0))
@@ -122,14 +121,13 @@ impl Relaxation {
             if value <= LEAST_PIVOT {
                 continue;
             }
-            let column = self.pool.column(place);
-            if !self.is_forbidden(column) && !self.basis.has(column) {
-                let found = Entering {
-                    column,
-                    cost: self.pool.reduced_cost(place, &self.prices).max(0),
-                    value,
-                };
-                best = first_of(best, found);
+            let found = Entering {
+                column: self.pool.column(place),
+                cost: self.pool.reduced_cost(place, &self.prices).max(0),
+                value,
+            };
+            if found.is_first(best) && self.may_enter(found.column) {
+                best = Some(found);
             }
         }
         best
@@ -143,20 +141,12 @@ impl Relaxation {
         for condition in self.row.places() {
             let value = self.row.at(condition);
             let value = if is_high { value } else { value.wrapping_neg() };
-            let places = self.pool.places_with(condition);
+            let places = self.pool.places.list(condition);
             for place in places {
                 add_at(&mut self.products, *place as usize, value);
             }
             count = count.saturating_add(places.len() as u64);
         }
         self.allowance.spend(count);
-    }
-}
-
-/// The one of these that prices use up first.
-fn first_of(best: Option<Entering>, found: Entering) -> Option<Entering> {
-    match best {
-        Some(other) if !found.is_before(other) => best,
-        _ => Some(found),
     }
 }

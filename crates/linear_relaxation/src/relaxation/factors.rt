@@ -4,7 +4,7 @@
 //! of those at the others. A column that comes in later is kept as it was over the places (product form of the
 //! inverse; Dantzig and Orchard-Hays, 1954). Only numbers that aren't 0 are kept.
 use crate::relaxation::sparse::Sparse;
-use pool_base::OutOfMemory;
+use row_tables::Made;
 use row_tables::fixed_point::{ONE, is_noise, item, part, quotient, write_over};
 use row_tables::lists::{Lists, short};
 use std::alloc::Global;
@@ -42,13 +42,13 @@ impl Columns {
         self.marks.clear();
     }
 
-    fn copy_from(&mut self, other: &Columns) -> Result<(), OutOfMemory> {
+    fn copy_from(&mut self, other: &Columns) -> Made<()> {
         self.places.copy_from(&other.places)?;
         write_over(&mut self.numbers, &other.numbers)?;
         write_over(&mut self.marks, &other.marks)
     }
 
-    fn push(&mut self, place: usize, number: i64) -> Result<(), OutOfMemory> {
+    fn push(&mut self, place: usize, number: i64) -> Made<()> {
         if !is_noise(number) {
             self.mark |= mark_of(place);
             self.places.push(place)?;
@@ -57,7 +57,7 @@ impl Columns {
         Ok(())
     }
 
-    fn end(&mut self) -> Result<(), OutOfMemory> {
+    fn end(&mut self) -> Made<()> {
         self.marks.push(replace(&mut self.mark, 0))?;
         self.places.end()
     }
@@ -111,7 +111,7 @@ impl Factors {
         self.above.clear();
     }
 
-    pub fn copy_from(&mut self, other: &Factors) -> Result<(), OutOfMemory> {
+    pub fn copy_from(&mut self, other: &Factors) -> Made<()> {
         write_over(&mut self.pivots, &other.pivots)?;
         self.count(other.size());
         self.columns.copy_from(&other.columns)?;
@@ -131,12 +131,7 @@ impl Factors {
 
     /// Has a column of ones be the next of the triangles, of which no column before changes anything. Where a column
     /// came in before is placed.
-    pub fn add_ones(
-        &mut self,
-        place: usize,
-        places: &[u32],
-        placed: &[u32],
-    ) -> Result<(), OutOfMemory> {
+    pub fn add_ones(&mut self, place: usize, places: &[u32], placed: &[u32]) -> Made<()> {
         if places.len() > 1 {
             for other in places {
                 self.part(place, *other as usize, ONE, placed)?;
@@ -148,12 +143,7 @@ impl Factors {
     }
 
     /// Has a reduced column be the next of the triangles.
-    pub fn add(
-        &mut self,
-        place: usize,
-        column: &Sparse,
-        placed: &[u32],
-    ) -> Result<(), OutOfMemory> {
+    pub fn add(&mut self, place: usize, column: &Sparse, placed: &[u32]) -> Made<()> {
         for other in column.places() {
             self.part(place, other, column.at(other), placed)?;
         }
@@ -162,13 +152,7 @@ impl Factors {
     }
 
     /// Puts a number of a column into the one triangle or the other.
-    fn part(
-        &mut self,
-        place: usize,
-        other: usize,
-        number: i64,
-        placed: &[u32],
-    ) -> Result<(), OutOfMemory> {
+    fn part(&mut self, place: usize, other: usize, number: i64, placed: &[u32]) -> Made<()> {
         if item(placed, other, NONE) != NONE {
             self.above.push(other, number)
         } else if other != place {
@@ -179,7 +163,7 @@ impl Factors {
     }
 
     /// Has a column come in at a place, as it is over all places.
-    pub fn enter(&mut self, place: usize, column: &Sparse) -> Result<(), OutOfMemory> {
+    pub fn enter(&mut self, place: usize, column: &Sparse) -> Made<()> {
         for other in column.places() {
             if other != place {
                 self.columns.push(other, column.at(other))?;
@@ -188,7 +172,7 @@ impl Factors {
         self.end(place, column.at(place))
     }
 
-    fn end(&mut self, place: usize, value: i64) -> Result<(), OutOfMemory> {
+    fn end(&mut self, place: usize, value: i64) -> Made<()> {
         self.pivots.push((short(place), value))?;
         self.columns.end()
     }

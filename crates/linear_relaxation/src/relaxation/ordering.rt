@@ -4,10 +4,9 @@
 //! column: both need no arithmetic. The rest comes by rising size.
 use crate::relaxation::factors::{Factors, NONE};
 use crate::relaxation::sparse::Sparse;
-use pool_base::OutOfMemory;
-use row_tables::RowTable;
 use row_tables::fixed_point::{ONE, item, reset, set_at};
 use row_tables::lists::{Lists, short};
+use row_tables::{Made, RowTable};
 use std::alloc::Global;
 
 /// A number of a column may be divided by from here on.
@@ -29,7 +28,7 @@ impl Side {
         }
     }
 
-    fn count_all(&mut self) -> Result<(), OutOfMemory> {
+    fn count_all(&mut self) -> Made<()> {
         self.counts.clear();
         for number in 0..self.lists.len() {
             self.counts.push(short(self.lists.list(number).len()))?;
@@ -98,7 +97,7 @@ impl Ordering {
         columns: &mut [u32],
         factors: &mut Factors,
         numbers: &mut Sparse,
-    ) -> Result<bool, OutOfMemory> {
+    ) -> Made<bool> {
         self.find(table, columns)?;
         factors.clear();
         reset(&mut self.placed, columns.len(), NONE)?;
@@ -126,7 +125,7 @@ impl Ordering {
         place: usize,
         factors: &mut Factors,
         numbers: &mut Sparse,
-    ) -> Result<Option<usize>, OutOfMemory> {
+    ) -> Made<Option<usize>> {
         let met = self.columns.lists.list(place);
         if condition != NONE {
             factors.add_ones(condition as usize, met, &self.placed)?;
@@ -144,7 +143,7 @@ impl Ordering {
     }
 
     /// Orders these columns.
-    fn find(&mut self, table: &RowTable, columns: &[u32]) -> Result<(), OutOfMemory> {
+    fn find(&mut self, table: &RowTable, columns: &[u32]) -> Made<()> {
         self.columns.lists.clear();
         for column in columns {
             let conditions = table.conditions_of(*column as usize);
@@ -172,7 +171,7 @@ impl Ordering {
         self.order_rest()
     }
 
-    fn order_rest(&mut self) -> Result<(), OutOfMemory> {
+    fn order_rest(&mut self) -> Made<()> {
         for pair in &self.single {
             self.order.push((pair.1, pair.0))?;
         }
@@ -220,7 +219,7 @@ fn peel(
     others: &mut Side,
     queue: &mut Vec<u32>,
     pairs: &mut Vec<(u32, u32)>,
-) -> Result<(), OutOfMemory> {
+) -> Made<()> {
     queue.clear();
     for number in 0..side.lists.len() {
         if side.count(number) == 1 {

@@ -1,9 +1,8 @@
 //! The primal simplex over the pool.
 use crate::relaxation::{FORBIDDEN, Relaxation};
-use pool_base::OutOfMemory;
-use row_tables::RowTable;
 use row_tables::fixed_point::{add_at, at, item, set_at, times};
 use row_tables::lists::{offer, short};
+use row_tables::{Made, RowTable};
 
 /// How many candidates a look at the columns keeps, and for how many turns they are used.
 const MOST_CANDIDATES: usize = 8;
@@ -19,8 +18,8 @@ const LEAST_GAIN: i64 = 1 << 24;
 
 impl Relaxation {
     /// Takes columns in until the solution over the pool is the best, or one can't come in, or it is tired.
-    pub fn pivot_on(&mut self, table: &RowTable) -> Result<(), OutOfMemory> {
-        if !self.basis.is_factored() {
+    pub fn pivot_on(&mut self, table: &RowTable) -> Made<()> {
+        if self.basis.made.is_none() {
             self.basis.factor(table)?;
         }
         self.candidates.clear();
@@ -69,7 +68,7 @@ impl Relaxation {
     }
 
     /// The place in the pool of the column to come in next, and its reduced cost.
-    fn next_place(&mut self) -> Result<Option<(i64, u32)>, OutOfMemory> {
+    fn next_place(&mut self) -> Made<Option<(i64, u32)>> {
         self.reprice_candidates();
         if self.turns == 0 || self.candidates.is_empty() {
             self.turns = MOST_CANDIDATES as u32;
@@ -102,9 +101,9 @@ impl Relaxation {
         self.candidates.truncate(count);
     }
 
-    fn find_candidates(&mut self) -> Result<(), OutOfMemory> {
+    fn find_candidates(&mut self) -> Made<()> {
         self.candidates.clear();
-        let count = self.pool.columns().len();
+        let count = self.pool.columns.len();
         let look = (count / 4).max(LEAST_LOOK).min(count);
         for part in 0..5_usize {
             let seen = part.wrapping_mul(look);
@@ -117,14 +116,14 @@ impl Relaxation {
     }
 
     /// Takes those of the next columns among the candidates that better the solution, and do so more than others.
-    fn look_at(&mut self, count: usize) -> Result<(), OutOfMemory> {
+    fn look_at(&mut self, count: usize) -> Made<()> {
         self.count_looks(count);
         for _ in 0..count {
             let place = self.pool.next();
             let cost = self.pool.reduced_cost(place, &self.prices);
             if cost < -LEAST_GAIN {
                 let column = self.pool.column(place);
-                if !self.basis.has(column) && !self.is_forbidden(column) {
+                if self.may_enter(column) {
                     offer(&mut self.candidates, MOST_CANDIDATES, (cost, short(place)))?;
                 }
             }
@@ -132,8 +131,14 @@ impl Relaxation {
         Ok(())
     }
 
+    /// Whether a column is neither in the basis nor forbidden.
+    #[inline]
+    pub fn may_enter(&self, column: usize) -> bool {
+        !self.basis.has(column) && !self.is_forbidden(column)
+    }
+
     /// Takes a column in. False where it can't come in, or its basis isn't one: another was gone back to.
-    fn enter(&mut self, table: &RowTable, column: usize, cost: i64) -> Result<bool, OutOfMemory> {
+    fn enter(&mut self, table: &RowTable, column: usize, cost: i64) -> Made<bool> {
         self.basis.find_column(table, column);
         self.pivots = self.pivots.saturating_add(1);
         let Some((place, level)) = self.leaving_place() else {

@@ -1,14 +1,13 @@
 //! The columns over which a solution is sought.
-use pool_base::OutOfMemory;
-use row_tables::RowTable;
 use row_tables::fixed_point::{at, item, set_at};
 use row_tables::lists::{Lists, short};
+use row_tables::{Made, RowTable};
 use std::alloc::Global;
 
 /// The columns of the riders, each at her number as its place, and behind them those of some rows.
 #[derive(Drop)]
 pub struct Pool {
-    columns: Vec<u32>,
+    pub columns: Vec<u32>,
     is_in: Vec<bool>,
     /// For each place what its column costs and its conditions: they lie side by side, unlike those of a table,
     /// of which a pool has few rows.
@@ -17,16 +16,16 @@ pub struct Pool {
     /// The same conditions, but none of a column that was forbidden when they were listed; and for each condition the
     /// places of the columns with it.
     open: Lists,
-    places: Lists,
+    pub places: Lists,
     /// Whether each column's conditions are listed that aren't forbidden.
-    is_listed: bool,
+    pub is_listed: bool,
     /// Where the next look at the columns starts.
     cursor: usize,
 }
 
 impl Pool {
     /// No column of a table with so many.
-    pub fn new(alloc: Global, columns: usize) -> Result<Self, OutOfMemory> {
+    pub fn new(alloc: Global, columns: usize) -> Made<Self> {
         Ok(Pool {
             columns: Vec::new(alloc),
             is_in: vec![in alloc; false; columns]?,
@@ -39,16 +38,12 @@ impl Pool {
         })
     }
 
-    pub fn columns(&self) -> &[u32] {
-        &self.columns
-    }
-
     pub fn has(&self, column: usize) -> bool {
         item(&self.is_in, column, false)
     }
 
     /// Takes in a column, where it isn't in yet.
-    pub fn add(&mut self, table: &RowTable, column: usize, cost: i64) -> Result<(), OutOfMemory> {
+    pub fn add(&mut self, table: &RowTable, column: usize, cost: i64) -> Made<()> {
         if !item(&self.is_in, column, true) {
             set_at(&mut self.is_in, column, true);
             self.is_listed = false;
@@ -65,7 +60,7 @@ impl Pool {
     }
 
     /// Presses the columns together that are in.
-    pub fn press(&mut self, table: &RowTable) -> Result<(), OutOfMemory> {
+    pub fn press(&mut self, table: &RowTable) -> Made<()> {
         let mut count = 0;
         self.conditions.clear();
         for place in 0..self.columns.len() {
@@ -115,17 +110,8 @@ impl Pool {
         rest
     }
 
-    /// Whether the places of each condition are listed.
-    pub fn is_listed(&self) -> bool {
-        self.is_listed
-    }
-
     /// Lists the places of each condition, below this many, but for those of forbidden columns.
-    pub fn list_places(
-        &mut self,
-        conditions: usize,
-        is_forbidden: &[bool],
-    ) -> Result<(), OutOfMemory> {
+    pub fn list_places(&mut self, conditions: usize, is_forbidden: &[bool]) -> Made<()> {
         self.is_listed = true;
         self.open.clear();
         for place in 0..self.columns.len() {
@@ -136,11 +122,5 @@ impl Pool {
             }
         }
         self.places.transpose(&self.open, conditions)
-    }
-
-    /// The places of the columns with a condition, as they were listed last.
-    #[inline]
-    pub fn places_with(&self, condition: usize) -> &[u32] {
-        self.places.list(condition)
     }
 }

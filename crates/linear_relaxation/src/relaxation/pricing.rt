@@ -1,9 +1,8 @@
 //! Multipliers from prices, their value over all rows, and rows that better a solution.
 use crate::relaxation::Relaxation;
-use pool_base::OutOfMemory;
-use row_tables::RowTable;
 use row_tables::fixed_point::{at, copy, item, set_at};
 use row_tables::lists::{offer, short};
+use row_tables::{Made, RowTable};
 
 /// What a vehicle adds to a value that has no row left: more than any plan costs.
 const NO_ROW: i64 = 1 << 41;
@@ -26,8 +25,8 @@ impl Relaxation {
 
     /// Computes the value of the multipliers over all rows, keeps them where they are the best so far, and
     /// puts up to so many rows of each vehicle into the pool. How many.
-    pub fn pass(&mut self, table: &RowTable, most_rows: usize) -> Result<usize, OutOfMemory> {
-        let before = self.pool.columns().len();
+    pub fn pass(&mut self, table: &RowTable, most_rows: usize) -> Made<usize> {
+        let before = self.pool.columns.len();
         self.count_looks(table.row_count());
         let mut value = table.value_of_riders(&self.tried);
         for vehicle in 0..table.vehicle_count() {
@@ -40,7 +39,7 @@ impl Relaxation {
             self.value = value;
             copy(&self.tried, &mut self.multipliers);
         }
-        Ok(self.pool.columns().len().saturating_sub(before))
+        Ok(self.pool.columns.len().saturating_sub(before))
     }
 
     /// The least reduced cost of the vehicle's rows under the multipliers at hand. Puts those below the bar into the
@@ -51,7 +50,7 @@ impl Relaxation {
         vehicle: usize,
         bar: i64,
         most_rows: usize,
-    ) -> Result<i64, OutOfMemory> {
+    ) -> Made<i64> {
         let mut least = if table.rows_of(vehicle).is_empty() {
             0
         } else {

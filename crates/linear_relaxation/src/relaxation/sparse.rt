@@ -1,7 +1,7 @@
 //! Columns of numbers of which most are 0.
 ghost use Rattle.std.specs.Iterator.{at_most};
 
-use pool_base::OutOfMemory;
+use row_tables::Made;
 use row_tables::fixed_point::{add_at, at, item, reset, set_at, times};
 use std::alloc::Global;
 
@@ -26,7 +26,7 @@ impl Sparse {
     }
 
     /// Makes these so many zeros.
-    pub fn make_space(&mut self, count: usize) -> Result<(), OutOfMemory> {
+    pub fn make_space(&mut self, count: usize) -> Made<()> {
         reset(&mut self.numbers, count, 0)?;
         reset(&mut self.marks, count / WORD + 1, 0)
     }
