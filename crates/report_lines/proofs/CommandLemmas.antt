@@ -1,5 +1,5 @@
 -- A command and the reply to it.
-use Rattle.std.proofs.Common.{◌≡◌, ◌≢◌, ℕ, zero, suc, ◌≤◌, ◌<◌, ◌^◌, ◌==◌, true, if◌then◌else◌, codes, drop, List, [], ◌++◌, refl, sym, ap, ◌∙◌, append_assoc, arith}
+use Rattle.std.proofs.Common.{◌≡◌, ◌≢◌, ℕ, zero, suc, ◌≤◌, ◌<◌, ◌^◌, ◌==◌, true, if◌then◌else◌, codes, drop, List, [], ◌++◌, refl, sym, ap, ◌∙◌, append_assoc, arith, rules}
 use Rattle.std.proofs.lemmas.Bool.Decides.{nat_tests}
 use Rattle.report_lines.proofs.Common.{numbered, spaced, IsReply, told_text, IsTold, three_text, AreThree, four_text, AreFour, ending_text, IsEnding, submit_text, IsSubmit, spaced_reply, Told, IsId, BeginsWith, BeginsWithNone, ends_number, Outcome, Reply}
 use Rattle.report_lines.specs.work.Commands.{IsParty}
@@ -39,8 +39,7 @@ ending_alone text (reply, is, e) = ((1, reply), ((omega arith, omega arith), is)
 pub alone_ending : (text : List ℕ) → BeginsWithNone spaced (λ n. n ≤ 6) text → Told ending_text IsEnding text → Told spaced_reply IsReply text
 alone_ending text none ((suc zero, reply), is, e) = (reply, is.1, e)
 alone_ending text none ((zero, reply), is, e) = absurd (omega (arith, is.0.0))
-alone_ending text none ((suc (suc n), reply), is, e) =
-    absurd (none (suc (suc n)) (spaced_reply reply) (party_begins text (suc (suc n)) reply (λ z. omega arith) is.0 e))
+alone_ending text none ((suc (suc n), reply), is, e) = search rules
 
 -- an ending with a party
 pub ending_party : (text : List ℕ) (persons : ℕ) (after : List ℕ) → 2 ≤ persons → BeginsWith spaced (λ n. n ≤ 6) text persons after → Told spaced_reply IsReply after → Told ending_text IsEnding text
@@ -52,10 +51,7 @@ ending_party text persons after more b (reply, is, e) =
 
 module _ (text : List ℕ) (persons : ℕ) (after : List ℕ) (b : BeginsWith spaced (λ n. n ≤ 6) text persons after) where
   pub party_ending : Told ending_text IsEnding text → (2 ≤ persons) × Told spaced_reply IsReply after
-  party_ending ((suc zero, reply), is, e) =
-      let most : persons ≤ 6 = b.lawful in
-      let same : spaced_reply reply ≡ text = sym e in
-      absurd (reply_is_no_number reply persons after (omega arith) (same ∙ b.whole))
+  party_ending ((suc zero, reply), is, e) = search (rules, reply_is_no_number)
   party_ending ((zero, reply), is, e) = absurd (omega (arith, is.0.0))
   party_ending ((suc (suc n), reply), is, e) =
       let same = six_once.once text persons (suc (suc n)) after (spaced_reply reply) b (party_begins text (suc (suc n)) reply (λ z. omega arith) is.0 e) in

@@ -1,6 +1,7 @@
 -- An entry's line.
+use Rattle.std.proofs.lemmas.Bool.Decides.{nat_tests}
 use Rattle.std.proofs.Common.{◌≡◌, ◌≢◌, ℕ, ◌≤◌, ◌<◌, ◌^◌, true, codes, List, ◌++◌, decimal, refl, sym, ap, ◌∙◌, append_assoc, arith, rules}
-use Rattle.report_lines.proofs.Common.{append_cancel_left, entry_line, command_text, reply_text, numbered, spaced, IsNextLine, told_text, IsTold, Told, BeginsWith, BeginsWithNone, ends_number, both_texts, BothAre, Reply}
+use Rattle.report_lines.proofs.Common.{entry_line, command_text, reply_text, numbered, spaced, IsNextLine, told_text, IsTold, Told, BeginsWith, BeginsWithNone, ends_number, both_texts, BothAre, Reply}
 use Rattle.report_lines.specs.declared.next.NextLine.TheVariants.{Entry as EntryOf}
 use Rattle.report_lines.proofs.lemmas.ReadingLemmas.{EndsOnce, decimal_once, no_head, numbered_once, same_begin, tail_told}
 use Rattle.request_book.specs.declared.command.Command.{Command}
@@ -73,9 +74,7 @@ module _ {line : List ℕ} where
 
       module _ {told : List ℕ} (space : rest ≡ codes " " ++ told) where
         pub entry_none : (Told told_text IsTold told → ⊥) → (lane : ℕ) → IsNextLine (EntryOf lane) line → ⊥
-        entry_none none lane is =
-            let x = behind_lane lane is in
-            none (x.0, x.1, append_cancel_left (codes " ") told (told_text x.0) (sym space ∙ x.2))
+        entry_none none lane is = grind (arith, nat_tests, (behind_lane lane is))
 
         pub entry_some : Told told_text IsTold told → IsNextLine (EntryOf of) line
         entry_some (x, is, e) =

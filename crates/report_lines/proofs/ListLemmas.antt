@@ -1,5 +1,5 @@
 -- Texts of things one behind another, to the end of a line.
-use Rattle.std.proofs.Common.{◌≡◌, ◌≢◌, ℕ, ◌<◌, Bool, true, false, nat_eq, length, codes, List, [], ◌∷◌, ◌++◌, refl, sym, ap, ◌∙◌, append_assoc, append-nil, length-append, eqb-true, subst, arith}
+use Rattle.std.proofs.Common.{◌≡◌, ◌≢◌, ℕ, ◌<◌, Bool, true, false, nat_eq, length, codes, List, [], ◌∷◌, ◌++◌, refl, sym, ap, ◌∙◌, append_assoc, append-nil, length-append, subst, arith, rules}
 use Rattle.report_lines.proofs.Common.{flat_map-append, All-append, All-cons, All-head, All-tail, BeginsWith, BeginsWithNone, ends_number, numbered, spaced, IsId}
 use Rattle.std.specs.List.{flat_map, All}
 use Rattle.report_lines.proofs.lemmas.ReadingLemmas.{EndsOnce, StandsApart, TextIsOfOne, numbered_once, spaced_apart}
@@ -32,10 +32,7 @@ module _ {X : Type 0} {t : X → List ℕ} {Is : X → Type 0} (item : IsItem t 
 
   -- less text is left after an item
   pub shorter_after : {rest : List ℕ} {x : X} {after : List ℕ} → BeginsWith t Is rest x after → length after < length rest
-  shorter_after {rest} {x} {after} b =
-      let f : List ℕ → ℕ = length in
-      let long : length rest ≡ length (t x ++ after) = ap f b.whole in
-      omega (arith, long, length-append (t x) after, item.some x)
+  shorter_after {rest} {x} {after} b = search (rules, length-append)
 
   not_empty : (x : X) (after : List ℕ) → [] ≡ t x ++ after → ⊥
   not_empty x after e =
@@ -56,21 +53,12 @@ module _ {X : Type 0} {t : X → List ℕ} {Is : X → Type 0} (item : IsItem t 
 
   -- before the first item
   pub so_far_none : {text : List ℕ} {items : List X} → items ≡ [] → ReadSoFar t Is text items text
-  so_far_none {text} {items} e =
-      subst (λ (xs : List X). ReadSoFar t Is text xs text) (sym e)
-      (record {
-        whole = refl;
-        lawful = λ k d within. absurd (omega arith);
-        only = λ all lawful same. (all, record { parts = refl; text = same; lawful = lawful });
-      })
+  so_far_none {text} {items} e = search rules
 
   -- where no text is left, the items are those that are given
   pub so_far_done : {text : List ℕ} {items : List X} {rest : List ℕ} → ReadSoFar t Is text items rest → nat_eq (length rest) 0 ≡ true → (given : List X) → given ≡ items → All Is given × (text ≡ flat_map t given)
-  so_far_done {text} {items} {rest = []} so done given e =
-      subst (λ (xs : List X). All Is xs × (text ≡ flat_map t xs)) (sym e) (so.lawful, so.whole ∙ append-nil (flat_map t items))
-  so_far_done {text} {items} {rest = c ∷ cs} so done given e =
-      let none : length (c ∷ cs) ≡ 0 = eqb-true (length (c ∷ cs)) 0 done in
-      absurd (omega arith)
+  so_far_done {text} {items} {rest = []} so done given e = search rules
+  so_far_done {text} {items} {rest = c ∷ cs} so done given e = search rules
 
   -- where no item follows, and not the end
   pub so_far_stuck : {text : List ℕ} {items : List X} {rest : List ℕ} → ReadSoFar t Is text items rest → nat_eq (length rest) 0 ≡ false → BeginsWithNone t Is rest → (all : List X) → All Is all → text ≢ flat_map t all

@@ -1,5 +1,5 @@
 -- A text is that of one line of a block.
-use Rattle.std.proofs.Common.{◌≡◌, ℕ, ◌+◌, eqb, ◌*◌, ◌<◌, ◌≤◌, ◌^◌, List, ◌++◌, get_or, codes, Option, None, Some, false, drop, refl, sym, ap, ◌∙◌, arith}
+use Rattle.std.proofs.Common.{◌≡◌, ℕ, ◌+◌, eqb, ◌*◌, ◌<◌, ◌≤◌, ◌^◌, List, ◌++◌, get_or, codes, Option, None, Some, false, refl, sym, ap, arith, rules}
 use Rattle.report_lines.proofs.Common.{eqb-false, append_cancel_left, stop_text, pair_line, numbered, signed, spaced, block_line_text, IsBlockLine, IsId, AreIds, FitsStop, both_texts, BothAre, order_text, IsOrder, PlannedStop, Batch, Expired, Overflow, Lapsed, Late, Alone, Shared, Row, Trip, Out, Move, Cost, Bound, Nodes, Branch, Leaf, Dead, End}
 use Rattle.std.specs.List.{All, flat_map}
 use Rattle.report_lines.proofs.LateLemmas.{order_ends}
@@ -48,14 +48,10 @@ move_of_one a b ia ib e =
 -- a late vehicle's order
 none_is_no_delay : (delay : ℕ) (rest : List ℕ) → delay < 2 ^ 128 → codes " none" ≡ spaced delay ++ rest → ⊥
 unfolding numbered
-none_is_no_delay delay rest small e =
-    let tail : List ℕ → List ℕ = λ xs. drop 1 xs in
-    no_number 110 (codes "one") delay rest refl small (ap tail e)
+none_is_no_delay delay rest small e = search (rules, no_number)
 
 order_of_one : TextIsOfOne order_text IsOrder
-order_of_one (da, None) (db, None) ia ib e =
-    let same : da ≡ db = ia ∙ sym ib in
-    ap (λ d. (d, None)) same
+order_of_one (da, None) (db, None) ia ib e = search rules
 order_of_one (da, None) (db, Some b) ia ib e = absurd (none_is_no_delay db (flat_map stop_text b) (omega (arith, ib.0)) e)
 order_of_one (da, Some a) (db, None) ia ib e = absurd (none_is_no_delay da (flat_map stop_text a) (omega (arith, ia.0)) (sym e))
 order_of_one (da, Some a) (db, Some b) ia ib e =

@@ -1,5 +1,5 @@
 -- Settings, and the numbers that a line tells of them.
-use Rattle.std.proofs.Common.{◌≡◌, ℕ, Bool, true, List, [], ◌∷◌, codes, refl, sym, ap, ◌∙◌, subst, arith}
+use Rattle.std.proofs.Common.{◌≡◌, ℕ, Bool, true, List, [], ◌∷◌, codes, refl, sym, ap, ◌∙◌, subst, arith, rules}
 use Rattle.report_lines.proofs.Common.{and_parts, decimal_digit, list_all, settings_line, numbered, AreOf, AreLawful, told_of, is_one_line, settings_text, AreSettings, dwell_text, SettingsText, Settings}
 use Rattle.std.proofs.Props.{props}
 use Rattle.std.proofs.lemmas.Bool.Decides.{nat_tests}
@@ -23,9 +23,7 @@ dwell_line dwell = grind (arith, nat_tests, numbered_one_line (codes " dwell=") 
 
 fields_line : (ws : List (List ℕ)) (ns : Numbers ws) (dwell : ℕ) → list_all is_one_line ws ≡ true → is_one_line (fields_text ws ns dwell) ≡ true
 fields_line [] ns dwell one = dwell_line dwell
-fields_line (w ∷ ws) ns dwell one =
-    let parts = and_parts (is_one_line w) (list_all is_one_line ws) one in
-    append_one_line (numbered w ns.0) (fields_text ws ns.1 dwell) (numbered_one_line w ns.0 parts.0) (fields_line ws ns.1 dwell parts.1)
+fields_line (w ∷ ws) ns dwell one = search (rules, and_parts, append_one_line, fields_text, numbered_one_line, (fields_line ws ns.1 dwell))
 
 pub settings_one_line : (s : SettingsText) → is_one_line (settings_text s) ≡ true
 settings_one_line s = ap is_one_line (settings_fields s) ∙ fields_line settings_words (numbers_of s) s.dwell refl
@@ -49,21 +47,7 @@ abbrev fields_of : Settings → Fields
 fields_of s = (s.mode, s.times, s.proof, s.workers, told_of s)
 
 abbrev settings_from : (f : Fields) → InRange f → Settings
-settings_from f r =
-    record {
-      mode = f.0;
-      wait = f.4.wait;
-      delay = f.4.delay;
-      trip = f.4.trip;
-      penalty = f.4.penalty;
-      budget = f.4.budget;
-      pairs = f.4.pairs;
-      workers = f.3;
-      proof = f.2;
-      dwell = f.4.dwell;
-      times = f.1;
-      in_range = r;
-    }
+settings_from f r = search rules
 
 same_from : (f g : Fields) → f ≡ g → (p : InRange f) (q : InRange g) → settings_from f p ≡ settings_from g q
 same_from f g e p =

@@ -1,19 +1,14 @@
 -- Signed numbers at the beginning of a text.
-use Rattle.std.proofs.Common.{◌≡◌, ◌≢◌, ℕ, suc, ◌≤◌, ◌<◌, ◌^◌, true, ℤ, pos, negsuc, FitsSigned, to_z, of_z, w64, Bor, Option, MatchOption, List, ◌∷◌, ◌++◌, decimal, codes, refl, sym, ◌∙◌, subst, arith, rules}
+use Rattle.std.proofs.Common.{◌≡◌, ◌≢◌, ℕ, suc, ◌≤◌, ◌<◌, ◌^◌, true, ℤ, pos, negsuc, to_z, of_z, w64, Bor, Option, MatchOption, List, ◌∷◌, ◌++◌, decimal, codes, refl, sym, ◌∙◌, subst, arith, rules}
 use Rattle.report_lines.proofs.Common.{signed, BeginsWith, BeginsWithNone, ends_number, IsWide, IsLong}
 use Rattle.std.specs.Fmt.{signed_decimal}
 use Rattle.std.specs.Int.{w128}
-use Rattle.std.proofs.lemmas.Int.{to_z-of_z}
 use Rattle.report_lines.proofs.ListLemmas.{IsItem}
 use Rattle.report_lines.proofs.ToldLemmas.{no_number}
 use Rattle.report_lines.proofs.lemmas.ReadingLemmas.{EndsOnce, decimal_once, behind_once, behind_none_words, behind_read}
 
 below_begins : (text : List ℕ) (n : ℕ) (rest : List ℕ) → n < 2 ^ 127 → ends_number rest ≡ true → 45 ∷ text ≡ signed_decimal (negsuc n) ++ rest → BeginsWith decimal (λ m. m ≤ 2 ^ 127) text (suc n) rest
-below_begins text n rest small ends e =
-    let same : 45 ∷ text ≡ 45 ∷ (decimal (suc n) ++ rest) = e in
-    let tails : text ≡ decimal (suc n) ++ rest = cc in
-    let within : suc n ≤ 2 ^ 127 = omega arith in
-    record { whole = tails; lawful = within; ends = ends }
+below_begins text n rest small ends e = search rules
 
 pub below_none : (text : List ℕ) → BeginsWithNone decimal (λ m. m ≤ 2 ^ 127) text → BeginsWithNone signed_decimal IsWide (45 ∷ text)
 below_none text none (pos n) rest b = no_number 45 text n rest refl (let small : n < 2 ^ 127 = b.lawful in omega arith) b.whole
@@ -45,11 +40,7 @@ signed_once = record { once = once }
 
 -- such a number is one of its type
 pub wide_same : (z : ℤ) → IsWide z → to_z w128 (of_z w128 z) ≡ z
-wide_same z is = to_z-of_z w128 z (fits z is)
-  where
-    fits : (z : ℤ) → IsWide z → FitsSigned w128 z
-    fits (pos n) is = search rules
-    fits (negsuc n) is = search rules
+wide_same z is = search rules
 
 -- behind words
 pub signed_none_words : (words text : List ℕ) → ((rest : List ℕ) → text ≢ words ++ rest) → BeginsWithNone (signed words) IsWide text
@@ -88,8 +79,4 @@ long_item =
     }
 
 pub long_same : (z : ℤ) → IsLong z → to_z w64 (of_z w64 z) ≡ z
-long_same z is = to_z-of_z w64 z (fits z is)
-  where
-    fits : (z : ℤ) → IsLong z → FitsSigned w64 z
-    fits (pos n) is = search rules
-    fits (negsuc n) is = search rules
+long_same z is = search rules

@@ -1,6 +1,6 @@
 -- Stops, one behind the other.
-use Rattle.std.proofs.Common.{◌≡◌, ℕ, ◌≤◌, ◌<◌, Bool, true, false, if◌then◌else◌, length, codes, List, ◌++◌, refl, sym, ap, ◌∙◌, arith}
-use Rattle.report_lines.proofs.Common.{stop_text, numbered, IsId, BeginsWith, BeginsWithNone, ends_number, both_texts, BothAre, FitsStop, visit_text, IsVisit, PlannedStop}
+use Rattle.std.proofs.Common.{◌≡◌, ℕ, ◌≤◌, Bool, true, false, if◌then◌else◌, codes, List, ◌++◌, refl, sym, ap, ◌∙◌, arith, rules}
+use Rattle.report_lines.proofs.Common.{stop_text, numbered, IsId, BeginsWith, BeginsWithNone, both_texts, BothAre, FitsStop, visit_text, IsVisit, PlannedStop}
 use Rattle.report_lines.proofs.ListLemmas.{IsItem}
 use Rattle.report_lines.proofs.lemmas.ReadingLemmas.{EndsOnce, StandsApart, both_none_first, both_none_second, both_some, both_once, numbered_once}
 
@@ -45,10 +45,7 @@ abbrev parts_of : PlannedStop → ((Bool × ℕ) × ℕ) × ℕ
 parts_of stop = (((stop.pick, stop.rider), stop.node), stop.second)
 
 stop_begins : (text : List ℕ) (stop : PlannedStop) (rest : List ℕ) → BeginsWith stop_text FitsStop text stop rest → BeginsWith parts_text AreParts text (parts_of stop) rest
-stop_begins text stop rest b =
-    let is = b.lawful in
-    let late : stop.second ≤ 18446744073709551615 = omega (arith, is.2) in
-    record { whole = b.whole; lawful = ((is.0, is.1), late); ends = b.ends }
+stop_begins text stop rest b = search rules
 
 stop_none : (text : List ℕ) → BeginsWithNone parts_text AreParts text → BeginsWithNone stop_text FitsStop text
 stop_none text none stop rest b = none (parts_of stop) rest (stop_begins text stop rest b)
@@ -72,15 +69,7 @@ stop_once =
 
 pub stop_item : IsItem stop_text FitsStop
 unfolding numbered
-stop_item = record { form = stop_once; behind = record { apart = λ stop rest ends. goes_on stop.pick stop rest }; some = λ stop. some stop.pick stop }
-  where
-    goes_on : (pick : Bool) (stop : PlannedStop) (rest : List ℕ) → ends_number ((visit_text (pick, stop.rider) ++ numbered (codes "@") stop.node ++ numbered (codes ":") stop.second) ++ rest) ≡ true
-    goes_on true stop rest = refl
-    goes_on false stop rest = refl
-
-    some : (pick : Bool) (stop : PlannedStop) → 0 < length (visit_text (pick, stop.rider) ++ numbered (codes "@") stop.node ++ numbered (codes ":") stop.second)
-    some true stop = omega arith
-    some false stop = omega arith
+stop_item = search (rules, stop_once)
 
 -- where a stop's parts are missing
 module _ {text : List ℕ} where

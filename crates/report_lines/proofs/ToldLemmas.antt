@@ -1,5 +1,5 @@
 -- Texts that begin with no number, and what is found not to hold.
-use Rattle.std.proofs.Common.{◌≡◌, ℕ, ◌<◌, ◌^◌, Bool, true, false, List, [], ◌∷◌, ◌++◌, length, decimal, arith}
+use Rattle.std.proofs.Common.{◌≡◌, ℕ, ◌<◌, ◌^◌, Bool, true, false, List, [], ◌∷◌, ◌++◌, length, decimal, arith, rules}
 use Rattle.std.proofs.lemmas.Bool.Decides.{nat_tests}
 use Rattle.report_lines.proofs.Common.{is_ascii_digit, list_all, decimal_is_IsNumeral_wide}
 use Rattle.report_lines.proofs.lemmas.NumeralLemmas.{decimal_digits}
@@ -14,6 +14,4 @@ no_number c cs n rest other small e = by (decimal n) (decimal_is_IsNumeral_wide 
 
 -- what is found not to hold
 pub not_so : {T : Type 0} (found : Bool) → (T → found ≡ true) → found ≡ false → T → ⊥
-not_so found whole off holds =
-    let on : found ≡ true = whole holds in
-    cc
+not_so found whole off holds = search rules

@@ -1,5 +1,5 @@
 -- The line of the settings.
-use Rattle.std.proofs.Common.{◌≡◌, ◌≢◌, ℕ, zero, suc, ◌≤◌, Bool, true, false, if◌then◌else◌, nat_eq, length, codes, List, [], ◌∷◌, ◌++◌, refl, sym, ap, ◌∙◌, append_assoc, arith, rules}
+use Rattle.std.proofs.Common.{◌≡◌, ◌≢◌, ℕ, zero, suc, Bool, true, false, if◌then◌else◌, nat_eq, length, codes, List, [], ◌∷◌, ◌++◌, refl, sym, ap, ◌∙◌, append_assoc, arith, rules}
 use Rattle.std.proofs.lemmas.Bool.Decides.{nat_tests}
 use Rattle.report_lines.proofs.Common.{is_ascii_digit, numbered, IsShortNumber, settings_text, AreSettings, BeginsWith, BeginsWithNone, ends_number, SettingsText, dwell_text}
 use Rattle.report_lines.proofs.lemmas.ReadingLemmas.{EndsOnce, TextIsOfOne, numbered_once, of_one, pair_is}
@@ -23,15 +23,8 @@ dwell_number = of_one (short_once (codes " dwell="))
 
 -- no dwell is told as 0
 pub dwell_not_zero : (text : List ℕ) (told : ℕ) → nat_eq (length text) 0 ≡ false → told ≡ 0 → text ≡ numbered (codes " dwell=") told → (dwell : ℕ) → IsShortNumber dwell → text ≢ dwell_text dwell
-dwell_not_zero text told some zero_told is zero within e =
-    let f : List ℕ → Bool = λ r. nat_eq (length r) 0 in
-    let none : nat_eq (length text) 0 ≡ true = ap f e in
-    cc
-dwell_not_zero text told some zero_told is (suc dwell) within e =
-    let told_so : dwell_text (suc dwell) ≡ numbered (codes " dwell=") (suc dwell) = dwell_told (suc dwell) (λ z. omega arith) in
-    let small : told ≤ 4294967295 = omega arith in
-    let same : suc dwell ≡ told = dwell_number (suc dwell) told within small (sym told_so ∙ sym e ∙ is) in
-    omega arith
+dwell_not_zero text told some zero_told is zero within e = search rules
+dwell_not_zero text told some zero_told is (suc dwell) within e = search (rules, dwell_text, dwell_told, dwell_number)
 
 -- no dwell is told by nothing
 no_dwell_told : (dwell : ℕ) → [] ≡ numbered (codes " dwell=") dwell → ⊥
@@ -79,8 +72,7 @@ pub record IsNoFields (ws : List (List ℕ)) (text : List ℕ) : Type 0 where
   pub never : are_apart ws ≡ true → (ns : Numbers ws) (dwell : ℕ) → AreShort ws ns → IsShortNumber dwell → text ≢ fields_text ws ns dwell
 
 pub none_here : {w : List ℕ} {ws : List (List ℕ)} {text : List ℕ} → BeginsWithNone (numbered w) IsShortNumber text → IsNoFields (w ∷ ws) text
-none_here {w} {ws} {text} none =
-    record { never = λ apart ns dwell short is e. none ns.0 (fields_text ws ns.1 dwell) (begins_field w ws text ns dwell apart short e) }
+none_here {w} {ws} {text} none = search (rules, begins_field)
 
 pub none_behind : {w : List ℕ} {ws : List (List ℕ)} {text : List ℕ} {n : ℕ} {after : List ℕ} → BeginsWith (numbered w) IsShortNumber text n after → IsNoFields ws after → IsNoFields (w ∷ ws) text
 none_behind {w} {ws} {text} {n} {after} b none =

@@ -1,5 +1,5 @@
 -- A line is of one kind.
-use Rattle.std.proofs.Common.{◌≡◌, ◌≢◌, ℕ, ◌≤◌, codes, List, [], ◌++◌, decimal, refl, sym, ap, ◌∙◌, append_assoc, false, ◌∷◌, arith}
+use Rattle.std.proofs.Common.{◌≡◌, ◌≢◌, ℕ, ◌≤◌, codes, List, [], ◌++◌, refl, sym, ap, ◌∙◌, append_assoc, false, ◌∷◌, arith, rules}
 use Rattle.report_lines.proofs.Common.{is_ascii_digit, numbered, IsNextLine}
 use Rattle.report_lines.specs.declared.next.NextLine.{NextLine}
 use Rattle.report_lines.specs.declared.next.NextLine.TheVariants.{Round, Done, Entry as EntryOf}
@@ -19,9 +19,7 @@ round_is_no_done m n e = grind arith
 
 -- no entry's line begins with words
 no_entry_behind : (c : ℕ) (cs line after : List ℕ) (lane : ℕ) → is_ascii_digit c ≡ false → IsNextLine (EntryOf lane) line → c ∷ cs ≡ line ++ after → ⊥
-no_entry_behind c cs line after lane other is e =
-    let b = entry_begins line lane is in
-    no_number c cs b.0 (b.1 ++ after) other (omega (arith, b.2)) (e ∙ ap (λ l. l ++ after) b.3 ∙ append_assoc (decimal b.0) b.1 after)
+no_entry_behind c cs line after lane other is e = search (rules, entry_begins, no_number, append_assoc)
 
 pub no_entry_round : (n : ℕ) (rest line after : List ℕ) (lane : ℕ) → IsNextLine (EntryOf lane) line → numbered (codes "round ") n ++ rest ≡ line ++ after → ⊥
 unfolding numbered

@@ -1,5 +1,5 @@
 -- Numerals at the beginning of a text.
-use Rattle.std.proofs.Common.{◌≡◌, ℕ, zero, suc, ◌+◌, ◌-◌, ◌*◌, ◌<◌, ◌≤◌, ◌^◌, get_or, drop, true, List, [], ◌∷◌, ◌++◌, length, decimal, refl, sym, ap, ◌∙◌, arith}
+use Rattle.std.proofs.Common.{◌≡◌, ℕ, zero, suc, ◌+◌, ◌-◌, ◌*◌, ◌<◌, ◌≤◌, ◌^◌, get_or, drop, true, List, [], ◌∷◌, ◌++◌, length, decimal, refl, sym, ap, ◌∙◌, arith, rules}
 use Rattle.report_lines.proofs.Common.{list_all, is_ascii_digit, and_parts, at_drop_more, decimal_is_IsNumeral_wide, AllDigits, value_of, value_after, BeginsWith, BeginsWithNone, ends_number}
 use Rattle.std.proofs.lemmas.Bool.Decides.{nat_tests}
 use Rattle.std.proofs.lemmas.Str.Parse.{IsNumeralModel, numerals_by_fold, tells_by_index}
@@ -58,15 +58,11 @@ module _ (text digits rest : List ℕ) (most : ℕ) (small : most < 2 ^ 128) (pa
       (digits_unique digits (decimal x) rest r all (decimal_digits x (omega arith)) ends b.ends same).0
 
   begins_value : (x : ℕ) (r : List ℕ) → BeginsWith decimal (λ n. n ≤ most) text x r → value_of digits ≡ x
-  begins_value x r b =
-      let within : x ≤ most = b.lawful in
-      ap value_of (begins_digits x r b) ∙ decimal_value x (omega arith)
+  begins_value x r b = search (rules, begins_digits, decimal_value)
 
   -- digits of too great a value
   pub begins_with_large : most < value_of digits → BeginsWithNone decimal (λ n. n ≤ most) text
-  begins_with_large large x r b =
-      let within : x ≤ most = b.lawful in
-      omega (arith, begins_value x r b)
+  begins_with_large large x r b = search (rules, begins_value)
 
   -- digits with a zero before them, or none
   pub begins_with_other : (digits ≡ decimal (value_of digits) → ⊥) → BeginsWithNone decimal (λ n. n ≤ most) text

@@ -1,6 +1,6 @@
 -- A text begins with one block at most.
-use Rattle.std.proofs.Common.{◌≡◌, ◌≢◌, ℕ, zero, suc, ◌+◌, ◌/◌, ◌%◌, nat_lt, Bool, true, false, not, ◌==◌, ℤ, pos, negsuc, Option, None, Some, List, [], ◌∷◌, ◌++◌, length, map, codes, decimal, refl, sym, ap, ◌∙◌, subst, append_assoc, ne_eqb, arith, rules}
-use Rattle.report_lines.proofs.Common.{and_parts, and_from, All-head, All-tail, stop_text, lines_text, numbered, signed, spaced, IsBlock, BeginsBlock, IsCutBlock, IsBadBlock, BlockFails, block_line_text, IsBlockLine, is_one_line, kind_place, may_follow_at, follow_on, last_place, order_text, visit_text, PlannedStop, BlockLine, Batch}
+use Rattle.std.proofs.Common.{◌≡◌, ◌≢◌, ℕ, zero, suc, ◌+◌, ◌/◌, nat_lt, true, false, not, ◌==◌, ℤ, pos, negsuc, Option, None, Some, List, [], ◌∷◌, ◌++◌, length, map, codes, decimal, refl, sym, ap, ◌∙◌, subst, append_assoc, ne_eqb, arith, rules}
+use Rattle.report_lines.proofs.Common.{and_parts, and_from, All-head, All-tail, stop_text, lines_text, numbered, signed, spaced, IsBlock, BeginsBlock, IsCutBlock, IsBadBlock, BlockFails, block_line_text, IsBlockLine, is_one_line, kind_place, may_follow_at, follow_on, last_place, order_text, PlannedStop, BlockLine, Batch}
 use Rattle.std.specs.List.{All, flat_map}
 use Rattle.std.proofs.lemmas.Bool.{cond_both}
 use Rattle.std.proofs.lemmas.Bool.Decides.{nat_tests}
@@ -24,10 +24,7 @@ glyph_line d = ap not (ne_eqb (digit_glyph false d) 10 (cond_both (nat_lt d 10) 
 
 digits_line : (k n : ℕ) (behind : List ℕ) → is_one_line behind ≡ true → is_one_line (digits_onto k 10 false n behind) ≡ true
 digits_line zero n behind one = one
-digits_line (suc k) n behind one =
-    let more : List ℕ = digit_glyph false (n % 10) ∷ behind in
-    let all : is_one_line more ≡ true = and_from (not (digit_glyph false (n % 10) == 10)) (is_one_line behind) (glyph_line (n % 10)) one in
-    cond_both (n / 10 == 0) more (digits_onto k 10 false (n / 10) more) (λ text. is_one_line text ≡ true) (λ last. all) (λ other. digits_line k (n / 10) more all)
+digits_line (suc k) n behind one = search (rules, and_from, glyph_line, cond_both, (digits_line k (n / 10)))
 
 decimal_line : (n : ℕ) → is_one_line (decimal n) ≡ true
 unfolding digits
@@ -53,11 +50,7 @@ many_one_line t one [] = refl
 many_one_line t one (x ∷ xs) = append_one_line (t x) (flat_map t xs) (one x) (many_one_line t one xs)
 
 stop_one_line : (stop : PlannedStop) → is_one_line (stop_text stop) ≡ true
-stop_one_line stop = by stop.pick
-  where
-    by : (pick : Bool) → is_one_line (visit_text (pick, stop.rider) ++ numbered (codes "@") stop.node ++ numbered (codes ":") stop.second) ≡ true
-    by true = search (rules, append_one_line, numbered_one_line)
-    by false = search (rules, append_one_line, numbered_one_line)
+stop_one_line stop = search (rules, append_one_line, numbered_one_line)
 
 order_one_line : (delay : ℕ) (stops : Option (List PlannedStop)) → is_one_line (order_text (delay, stops)) ≡ true
 order_one_line delay None = refl
@@ -76,8 +69,7 @@ block_line_one_line _ = search (rules, one_lines)
 -- the first line of a text of lines, and the others
 first_line : (x : BlockLine) (xs : List BlockLine) (rest : List ℕ) → lines_text (map block_line_text (x ∷ xs)) ++ rest ≡ block_line_text x ++ 10 ∷ (lines_text (map block_line_text xs) ++ rest)
 unfolding lines_text
-first_line x xs rest =
-    append_assoc (block_line_text x ++ 10 ∷ []) (lines_text (map block_line_text xs)) rest ∙ append_assoc (block_line_text x) (10 ∷ []) (lines_text (map block_line_text xs) ++ rest)
+first_line x xs rest = search (rules, append_assoc)
 
 -- a text begins with no line that may follow one of this place
 abbrev IsStuck : ℕ → List ℕ → Type 0
@@ -100,17 +92,14 @@ cut_stuck : (text : List ℕ) (xs : List BlockLine) (r : List ℕ) → IsCutBloc
 cut_stuck text xs r cut x behind is may e = no_one_line (block_line_text x) behind (subst (λ t. is_one_line t ≡ true) e cut.cut)
 
 bad_stuck : (text : List ℕ) (xs : List BlockLine) (r line after : List ℕ) → IsBadBlock text xs r line after → IsStuck (last_place 0 xs) r
-bad_stuck text xs r line after bad x behind is may e =
-    bad.bad x is may (cut_once line (block_line_text x) after behind bad.one (block_line_one_line x) (sym bad.next ∙ e)).0
+bad_stuck text xs r line after bad x behind is may e = grind (arith, nat_tests, (cut_once line), (block_line_one_line x))
 
 -- lines behind which none follows, at the beginning of one text, are the same
 stuck_same : (place : ℕ) (xs ys : List BlockLine) (r s : List ℕ) → All IsBlockLine xs → All IsBlockLine ys → follow_on place xs ≡ true → follow_on place ys ≡ true → IsStuck (last_place place xs) r → IsStuck (last_place place ys) s → lines_text (map block_line_text xs) ++ r ≡ lines_text (map block_line_text ys) ++ s → (xs ≡ ys) × (r ≡ s)
 unfolding lines_text
 stuck_same place [] [] r s ix iy fx fy kx ky e = (refl, e)
-stuck_same place [] (y ∷ ys) r s ix iy fx fy kx ky e =
-    absurd (kx y (lines_text (map block_line_text ys) ++ s) (All-head IsBlockLine y ys iy) (and_parts (may_follow_at place y) (follow_on (kind_place y) ys) fy).0 (e ∙ first_line y ys s))
-stuck_same place (x ∷ xs) [] r s ix iy fx fy kx ky e =
-    absurd (ky x (lines_text (map block_line_text xs) ++ r) (All-head IsBlockLine x xs ix) (and_parts (may_follow_at place x) (follow_on (kind_place x) xs) fx).0 (sym e ∙ first_line x xs r))
+stuck_same place [] (y ∷ ys) r s ix iy fx fy kx ky e = search (rules, All-head, and_parts, first_line)
+stuck_same place (x ∷ xs) [] r s ix iy fx fy kx ky e = search (rules, All-head, and_parts, first_line)
 stuck_same place (x ∷ xs) (y ∷ ys) r s ix iy fx fy kx ky e =
     let hx = All-head IsBlockLine x xs ix in
     let hy = All-head IsBlockLine y ys iy in

@@ -1,5 +1,5 @@
 -- An outcome's lines are a block.
-use Rattle.std.proofs.Common.{◌≡◌, ℕ, ◌≤◌, true, ℤ, List, [], ◌∷◌, ◌++◌, length, map, nat_le, refl, arith}
+use Rattle.std.proofs.Common.{◌≡◌, ℕ, ◌≤◌, true, ℤ, List, [], ◌∷◌, ◌++◌, length, map, nat_le, refl, arith, rules}
 use Rattle.report_lines.proofs.Common.{and_from, lines_text, Outcome, IsBlock, IsBlockLine, kind_place, is_between, may_follow_at, follow_on, last_place, BlockLine, Batch, Expired, Lapsed, Alone, Shared, Out, Move, Cost, Bound, Nodes, End}
 use Rattle.dispatch_report.specs.Block.{row_as_line, trip_as_line, late_as_line, tree_line, lines_of_answer, lines_of, block_lines}
 use Rattle.std.specs.List.{All}
@@ -64,8 +64,7 @@ choice_run p l h plan =
     plan.left) plan.moves
 
 counts_run : (p : ℕ) → 1 ≤ p → p ≤ 10 → (cost nodes : ℕ) (bound : ℤ) → Run p ((Cost cost ∷ []) ++ (Bound bound ∷ []) ++ (Nodes nodes ∷ [])) 13 13
-counts_run p l h cost nodes bound =
-    record { order = and_from (is_between 1 10 p) true (between 1 10 p l h) refl; low_end = omega arith; high_end = omega arith }
+counts_run p l h cost nodes bound = search rules
 
 tree_run : (rows : List RowLine) (p : ℕ) → 13 ≤ p → p ≤ 13 → (tree : List Node) → Run p (map (tree_line rows) tree) 13 14
 tree_run rows p l h tree = kind_run (tree_line rows) 13 14 (omega arith) at may tree p l (omega arith)
@@ -102,13 +101,4 @@ outcome_run batch outcome =
 
 -- the text of an outcome's block begins with the block of its lines
 pub outcome_block : (batch : ℕ) (outcome : Outcome) (rest : List ℕ) → All IsBlockLine (lines_of true batch outcome) → IsBlock (lines_text (block_lines true batch outcome) ++ rest) (lines_of true batch outcome) rest
-outcome_block batch outcome rest lawful =
-    let run = outcome_run batch outcome in
-    record {
-      begins = record {
-        whole = refl;
-        lawful = lawful;
-        order = run.order;
-      };
-      ended = let low : 16 ≤ last_place 0 (lines_of true batch outcome) = run.low_end in let high : last_place 0 (lines_of true batch outcome) ≤ 16 = run.high_end in omega arith;
-    }
+outcome_block batch outcome rest lawful = grind (arith, nat_tests, (outcome_run batch outcome))

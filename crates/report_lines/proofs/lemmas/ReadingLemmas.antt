@@ -1,5 +1,5 @@
 -- Texts of one thing behind another, and of whole lines.
-use Rattle.std.proofs.Common.{◌≡◌, ◌≢◌, ℕ, ◌≤◌, ◌<◌, ◌^◌, Bool, true, false, nat_eq, length, List, [], ◌∷◌, ◌++◌, Option, Some, None, MatchOption, Bor, decimal, refl, sym, ap, ◌∙◌, append_assoc, append-nil, eqb-true, arith}
+use Rattle.std.proofs.Common.{◌≡◌, ◌≢◌, ℕ, ◌≤◌, ◌<◌, ◌^◌, Bool, true, false, nat_eq, length, List, [], ◌∷◌, ◌++◌, Option, Some, None, MatchOption, Bor, decimal, refl, sym, ap, ◌∙◌, append_assoc, append-nil, arith, rules}
 use Rattle.report_lines.proofs.Common.{append_cancel_left, numbered, spaced, BeginsWith, BeginsWithNone, ends_number, both_texts, BothAre, Told}
 use Rattle.report_lines.proofs.lemmas.NumeralLemmas.{digits_unique, decimal_digits, decimal_same}
 
@@ -26,9 +26,7 @@ module _ {X : Type 0} {t : X → List ℕ} {Is : X → Type 0} where
   -- a line that is the thing's text and nothing more
   pub line_whole : {line : List ℕ} {x : X} {rest : List ℕ} → BeginsWith t Is line x rest → nat_eq (length rest) 0 ≡ true → Is x × (line ≡ t x)
   line_whole {line} {x} {rest = []} b done = (b.lawful, b.whole ∙ append-nil (t x))
-  line_whole {line} {x} {rest = c ∷ cs} b done =
-      let none : length (c ∷ cs) ≡ 0 = eqb-true (length (c ∷ cs)) 0 done in
-      absurd (omega arith)
+  line_whole {line} {x} {rest = c ∷ cs} b done = search rules
 
   begins_whole : {line : List ℕ} (x : X) → Is x → line ≡ t x → BeginsWith t Is line x []
   begins_whole x is e = record { whole = e ∙ sym (append-nil (t x)); lawful = is; ends = refl }
@@ -59,12 +57,7 @@ module _ {X Y : Type 0} {t : X → List ℕ} {Is : X → Type 0} {u : Y → List
       none p.1 rest (record { whole = same.1; lawful = b.lawful.1; ends = b.ends })
 
 pub both_some : {X Y : Type 0} {t : X → List ℕ} {Is : X → Type 0} {u : Y → List ℕ} {Us : Y → Type 0} {text : List ℕ} {x : X} {after : List ℕ} {y : Y} {rest : List ℕ} → BeginsWith t Is text x after → BeginsWith u Us after y rest → BeginsWith (both_texts t u) (BothAre Is Us) text (x, y) rest
-both_some {X} {Y} {t} {Is} {u} {Us} {text} {x} {after} {y} {rest} first second =
-    record {
-      whole = first.whole ∙ ap (λ r. t x ++ r) second.whole ∙ sym (append_assoc (t x) (u y) rest);
-      lawful = (first.lawful, second.lawful);
-      ends = second.ends;
-    }
+both_some {X} {Y} {t} {Is} {u} {Us} {text} {x} {after} {y} {rest} first second = search (rules, append_assoc)
 
 pub both_once : {X Y : Type 0} {t : X → List ℕ} {Is : X → Type 0} {u : Y → List ℕ} {Us : Y → Type 0} → StandsApart u → EndsOnce t Is → EndsOnce u Us → EndsOnce (both_texts t u) (BothAre Is Us)
 both_once {X} {Y} {t} {Is} {u} {Us} behind first second =
@@ -99,21 +92,11 @@ module _ {X : Type 0} (t : X → List ℕ) (Is : X → Type 0) (words : List ℕ
   behind_none_words none x rest b = none (t x ++ rest) (b.whole ∙ append_assoc words (t x) rest)
 
   thing_behind : (after : List ℕ) (x : X) (rest : List ℕ) → text ≡ words ++ after → BeginsWith (λ y. words ++ t y) Is text x rest → BeginsWith t Is after x rest
-  thing_behind after x rest e b =
-      record {
-        whole = append_cancel_left words after (t x ++ rest) (sym e ∙ b.whole ∙ append_assoc words (t x) rest);
-        lawful = b.lawful;
-        ends = b.ends;
-      }
+  thing_behind after x rest e b = search (rules, append_cancel_left, append_assoc)
 
   pub behind_read : (after : List ℕ) (r : Option (X × Bor (List ℕ))) → text ≡ words ++ after → MatchOption r (BeginsWithNone t Is after) (λ x. BeginsWith t Is after x.0 x.1.now) → MatchOption r (BeginsWithNone (λ x. words ++ t x) Is text) (λ x. BeginsWith (λ y. words ++ t y) Is text x.0 x.1.now)
   behind_read after None e none = λ x rest b. none x rest (thing_behind after x rest e b)
-  behind_read after (Some x) e some =
-      record {
-        whole = e ∙ ap (λ r. words ++ r) some.whole ∙ sym (append_assoc words (t x.0) x.1.now);
-        lawful = some.lawful;
-        ends = some.ends;
-      }
+  behind_read after (Some x) e some = search (rules, append_assoc)
 
 pub behind_once : {X : Type 0} {t : X → List ℕ} {Is : X → Type 0} (words : List ℕ) → EndsOnce t Is → EndsOnce (λ x. words ++ t x) Is
 behind_once {X} {t} {Is} words form =

@@ -12,9 +12,7 @@ use Rattle.road_network.specs.Roads.{Roads}
 lines_then : (ls : List (List ℕ)) (rest : List ℕ) → list_all (λ l. is_one_line l) ls ≡ true → LinesThen ls (lines_text ls ++ rest) rest
 unfolding lines_text
 lines_then [] rest one = refl
-lines_then (l ∷ ls) rest one =
-    let parts = and_parts (is_one_line l) (list_all (λ l. is_one_line l) ls) one in
-    (lines_text ls ++ rest, record { whole = line_more l (lines_text ls) rest; one = parts.0 }, lines_then ls rest parts.1)
+lines_then (l ∷ ls) rest one = search (rules, and_parts, line_more, (lines_then ls rest))
 
 lines_whole : (ls : List (List ℕ)) (text rest : List ℕ) → LinesThen ls text rest → text ≡ lines_text ls ++ rest
 unfolding lines_text
