@@ -1,8 +1,8 @@
 -- The names that the proofs of this crate cite from elsewhere, passed on from one place. Declares nothing.
-pub use Rattle.std.proofs.lemmas.Bool.{and_from, and_left, and_parts, both_ways, cases_Bool, cases_eq, cases_lt, cond-false, cond-true, false≢true, or_left, or_right, false_from_ne_true}
+pub use Rattle.std.proofs.lemmas.Bool.{and_from, and_parts, both_ways, cases_Bool, cases_eq, cases_lt, false_from_ne_true}
 pub use Rattle.std.proofs.lemmas.Bool.Decides.{nat_tests}
 pub use Rattle.std.proofs.lemmas.Int.{int_min_is, ints}
-pub use Rattle.std.proofs.lemmas.List.{get_or-replicate, get_or_append_left, get_or_push, get_or_read, length_push, set-get_or, set_past}
+pub use Rattle.std.proofs.lemmas.List.{get_or-replicate, get_or_append_left, get_or_push, get_or_read, set-get_or, set_past}
 pub use Rattle.std.proofs.lemmas.List.Sorted.{sum_by_popped, sum_by_pushed}
 pub use Rattle.std.proofs.lemmas.List.Sums.{sum_by-cons}
 pub use Rattle.std.proofs.lemmas.Option.{none-some, same_Some}
@@ -28,16 +28,16 @@ pub use Rattle.plan_rules.specs.lemmas.Graph.{HasNoRow, is_in}
 pub use Rattle.plan_rules.specs.GoodGraph.{IsGoodGraph}
 pub use Rattle.plan_rules.specs.Greedy.{IsGreedy, IsTaken, IsTriedBefore}
 unfoldable pub use Rattle.plan_rules.specs.Multipliers.{first_fit_below, leaf_value}
-pub use Rattle.plan_rules.specs.Multipliers.{Usable, first_fit_of, first_fit_value, is_usable_by, multiplier_at, multiplier_sum, reduced_cost, room_at, usable_of}
+pub use Rattle.plan_rules.specs.Multipliers.{Usable, first_fit_of, first_fit_value, is_usable_by, multiplier_at, reduced_cost, room_at, usable_of}
 pub use Rattle.plan_rules.specs.Terms.{first_fit, rider_term, vehicle_term}
-pub use Rattle.plan_rules.specs.Path.{IsPathOf, Standing, standing_of}
+pub use Rattle.plan_rules.specs.Path.{IsPathOf, standing_of}
 unfoldable pub use Rattle.plan_rules.specs.Plan.{cost_of}
 pub use Rattle.plan_rules.specs.Plan.{IsBound, IsLawful, IsPlan}
 pub use Rattle.plan_rules.specs.lemmas.Plan.{choice_cost, left_out, times_chosen}
 pub use Rattle.plan_rules.specs.Reading.{IsSoundNode, ReadsTo, coming_after, places_from}
 pub use Rattle.plan_rules.specs.Size.{IsSmall, IsSmallSum}
 pub use Rattle.plan_rules.specs.Sums.{count_below, int_sum_below, least_below, lesser, sum_below}
-pub use Rattle.plan_rules.specs.Tree.{CanBranch, Clash, IsDeadEnd, IsSoleRow, MayUse, Place, belongs_to_dead_end, belongs_to_end, every_row, is_within, least_leaf, only_row, rounded_up, without_row, Stranded}
+pub use Rattle.plan_rules.specs.Tree.{CanBranch, Clash, IsDeadEnd, IsSoleRow, MayUse, Place, belongs_to_dead_end, belongs_to_end, every_row, least_leaf, only_row, rounded_up, without_row, Stranded}
 pub use Rattle.plan_rules.specs.declared.node.Node.{Node}
 pub use Rattle.plan_rules.specs.declared.node.Node.TheVariants.{Branch, Dead, Leaf}
 pub use Rattle.plan_rules.specs.lemmas.Tree.{IsWholeTree, places, places_read, value_read}

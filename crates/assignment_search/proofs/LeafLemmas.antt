@@ -1,6 +1,6 @@
 -- A sound tree has a leaf.
-use Rattle.std.proofs.Common.{◌≡◌, ℕ, suc, ◌+◌, ◌≤◌, List, [], ◌∷◌, Option, count_by, refl, arith}
-use Rattle.assignment_search.proofs.Common.{Graph, IsGoodGraph, Usable, every_row, only_row, without_row, Place, belongs_to_end, belongs_to_dead_end, is_within, places_from, IsWholeTree, Node, Branch, Leaf, Dead, flag, each_plan_at_one_end, no_plan_at_dead_ends, HasLeaf, coming_after}
+use Rattle.std.proofs.Common.{◌≡◌, ℕ, suc, ◌≤◌, List, [], ◌∷◌, Option, count_by, refl, arith}
+use Rattle.assignment_search.proofs.Common.{Graph, IsGoodGraph, Usable, every_row, Place, belongs_to_end, belongs_to_dead_end, places_from, IsWholeTree, Node, Leaf, each_plan_at_one_end, no_plan_at_dead_ends, HasLeaf, coming_after}
 use Rattle.plan_rules.proofs.lemmas.TreeLemmas.{count-cons}
 
 later : (n : Node) (nodes : List Node) → HasLeaf nodes → HasLeaf (n ∷ nodes)

@@ -1,8 +1,7 @@
 -- Where a walk stands.
-use Rattle.std.proofs.Common.{◌≡◌, ℕ, zero, suc, ◌<◌, Bool, true, false, List, [], ◌∷◌, ◌++◌, length, get_or, take, MatchBool, refl, sym, ap, ◌∙◌, subst, ⊎_elim, arith}
-use Rattle.assignment_search.proofs.Common.{cases_eq, get_or_push, get_or_append_left, length_push, Graph, IsRowOf, Usable, every_row, ReadsTo, IsSoundNode, coming_after, Standing, standing_of, IsPathOf, Node, Branch, Dead}
+use Rattle.std.proofs.Common.{◌≡◌, ℕ, zero, suc, ◌<◌, Bool, true, false, List, [], ◌∷◌, length, get_or, take, MatchBool, refl, sym, ◌∙◌, arith}
+use Rattle.assignment_search.proofs.Common.{Graph, Usable, ReadsTo, IsSoundNode, coming_after, standing_of, Node, Dead}
 use Rattle.plan_rules.specs.declared.path.Decision.{Decision}
-use Rattle.plan_rules.proofs.lemmas.PathLemmas.{standing_start, standing_push}
 
 -- ---- a tree that ends later goes on here
 

@@ -1,6 +1,6 @@
 -- The names that the proofs of this crate cite from elsewhere, passed on from one place. Declares nothing.
 pub use Rattle.std.proofs.lemmas.List.{drop_more, get_or_default, get_or_read, length-map, length_push, nil_from_length}
-pub use Rattle.std.proofs.lemmas.List.Elements.{All-contains, All-filter, All-from_get_or, All-map, All-nil, Contains-get_or}
+pub use Rattle.std.proofs.lemmas.List.Elements.{All-contains, All-map, All-nil, Contains-get_or}
 pub use Rattle.std.specs.List.{AllByRecursion, AllZip, list_any, range_with_len}
 pub use Rattle.batch_snapshot.specs.Batch.{Batch}
 pub use Rattle.batch_solver.specs.Instance.{posed_by}
@@ -11,9 +11,8 @@ pub use Rattle.batch_solver.specs.Trips.{AreLate, AreTrips, IsLate, IsLateOrder,
 pub use Rattle.batch_solver.specs.lemmas.Named.{told_stops, vehicle_id}
 pub use Rattle.batch_solver.specs.work.Lists.{AreLists}
 pub use Rattle.plan_rules.proofs.lemmas.GraphLemmas.{row_read}
-pub use Rattle.plan_rules.specs.Graph.{Graph, IsGraphRow, IsRowOf, choice_at, cost_at, no_row, riders_at, row_at}
+pub use Rattle.plan_rules.specs.Graph.{Graph, IsRowOf, choice_at, cost_at, no_row, riders_at, row_at}
 pub use Rattle.plan_rules.specs.lemmas.Graph.{HasNoRow, is_in}
-pub use Rattle.plan_rules.specs.GoodGraph.{IsGoodGraph}
 pub use Rattle.plan_rules.specs.declared.row.TripRow.{TripRow}
 pub use Rattle.plan_rules.specs.lemmas.Plan.{MarksServed, times_chosen}
 pub use Rattle.pool_base.specs.Times.{point_count, travel_time}

@@ -1,5 +1,5 @@
 -- The names that the proofs of this crate cite from elsewhere, passed on from one place. Declares nothing.
-pub use Rattle.std.proofs.lemmas.Bool.{and_from, and_parts, both_ways, cases_Bool, cases_eq, cases_lt, cond-false, cond-true, false_from_ne_true, or_cases}
+pub use Rattle.std.proofs.lemmas.Bool.{and_from, and_parts, both_ways, cases_eq, cases_lt, false_from_ne_true, or_cases}
 pub use Rattle.std.proofs.lemmas.Bool.Decides.{nat_tests}
 pub use Rattle.std.proofs.lemmas.Int.{int_min_is, ints}
 pub use Rattle.std.proofs.lemmas.List.{get_or_append_left, get_or_past, get_or_push, length_push}
@@ -12,7 +12,7 @@ pub use Rattle.dual_bound.specs.work.Size.{HasLeastCosts, IsCost, IsModest}
 pub use Rattle.plan_rules.proofs.lemmas.GraphLemmas.{row_between, row_read}
 pub use Rattle.plan_rules.proofs.lemmas.SumLemmas.{int_sum_le, int_sum_more, int_sum_plus, int_sum_same, int_sum_single, least_below_found, least_below_none, least_below_some, lesser-le_left, lesser-le_right, part}
 pub use Rattle.plan_rules.proofs.lemmas.ValueLemmas.{least_passed, least_taken, none_after, none_before, starts_rise, sum_more}
-pub use Rattle.plan_rules.specs.Graph.{Graph, cost_at, has_rider, must_be_served, riders_at, row_at, row_vehicle}
+pub use Rattle.plan_rules.specs.Graph.{Graph, cost_at, has_rider, riders_at, row_at, row_vehicle}
 pub use Rattle.plan_rules.specs.GoodGraph.{IsGoodGraph}
 unfoldable pub use Rattle.plan_rules.specs.Multipliers.{first_fit_below, leaf_value}
 pub use Rattle.plan_rules.specs.Multipliers.{Usable, first_fit_of, first_fit_value, is_usable_by, multiplier_at, multiplier_sum, reduced_cost, room_at, usable_of}

@@ -1,6 +1,6 @@
 -- After a node's search, labels have the hubs of one rank more.
 use Rattle.std.proofs.Common.{◌≡◌, ℕ, ◌+◌, ◌<◌, ◌≤◌, ◌⊎◌, List, [], ◌∷◌, ◌++◌, length, get_or, slice_index, All, Contains, sym, ap, ◌∙◌, subst, inl, inr, arith}
-use Rattle.hub_labels.proofs.Cited.{cases_lt, get_or_append_left, get_or_push, length_push, All-push, All-weaker, Contains-append_left, Contains-push, never, longest, Arc, IsArcAmong, Hub, IsRankedHub, IsLabelBelow, AreLabelsBelow, IsToldAt, IsPruned, IsSpread, GainsHub}
+use Rattle.hub_labels.proofs.Cited.{cases_lt, get_or_append_left, get_or_push, length_push, All-push, All-weaker, Contains-append_left, Contains-push, never, Arc, IsArcAmong, Hub, IsRankedHub, IsLabelBelow, AreLabelsBelow, IsToldAt, IsPruned, IsSpread, GainsHub}
 use Rattle.hub_labels.proofs.Times.{AreTimes, start_within}
 use Rattle.hub_labels.proofs.Found.{IsOwnLabel, hub_found, found_hub}
 

@@ -1,8 +1,8 @@
 -- When every node had its searches, the labels are those of the network.
-use Rattle.std.proofs.Common.{◌≡◌, ℕ, ◌+◌, ◌<◌, ◌≤◌, true, List, [], length, get_or, slice_index, map, All, subst, arith}
-use Rattle.hub_labels.proofs.Cited.{get_or_default, longest, Arc, IsLeastTime, Roads, IsNetwork, IsArcAmong, goal_within, Hub, IsForwardHub, IsBackwardHub, IsLabel, AreLabelsOf, turned, IsRanking, IsRankedHub, IsLabelBelow, AreLabelsBelow, IsRising}
+use Rattle.std.proofs.Common.{◌≡◌, ℕ, ◌<◌, ◌≤◌, List, [], length, get_or, slice_index, map, All, subst, arith}
+use Rattle.hub_labels.proofs.Cited.{get_or_default, Arc, IsLeastTime, Roads, IsNetwork, IsArcAmong, goal_within, Hub, IsForwardHub, IsBackwardHub, IsLabel, AreLabelsOf, turned, IsRanking, IsRankedHub, IsLabelBelow, AreLabelsBelow, IsRising}
 use Rattle.hub_labels.proofs.Times.{times_of, start_within, time_is}
-use Rattle.hub_labels.proofs.Turned.{turn_there, turn_back, IsLeastTime-turned, among_directed}
+use Rattle.hub_labels.proofs.Turned.{turn_there, turn_back, IsLeastTime-turned}
 
 -- a list of hubs by numbers that rank them is one by rank
 is_label : (arcs : List Arc) (n : ℕ) (rank : List ℕ) (bound : ℕ) (IsHub IsRanked : ℕ → ℕ → Type 0) (label : List Hub) → IsRanking arcs n rank → ((v : ℕ) → v < n → slice_index rank v < bound)

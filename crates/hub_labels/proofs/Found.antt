@@ -1,6 +1,6 @@
 -- A pruned search from a node finds exactly the nodes that the node is a hub of.
-use Rattle.std.proofs.Common.{◌≡◌, ℕ, suc, ◌+◌, ◌<◌, ◌≤◌, ◌⊎◌, List, [], ◌∷◌, get_or, slice_index, All, Contains, sym, ◌∙◌, subst, inl, inr, arith}
-use Rattle.hub_labels.proofs.Cited.{get_or_default, All-contains, sum_by-cons, never, longest, Arc, IsWalk, walk_seconds, IsArcAmong, HasWalkOf, goal_within, Hub, IsRankedHub, AreLabelsBelow, IsToldAt, IsPruned, IsSpread}
+use Rattle.std.proofs.Common.{◌≡◌, ℕ, suc, ◌+◌, ◌<◌, ◌≤◌, ◌⊎◌, List, [], ◌∷◌, get_or, slice_index, All, Contains, sym, ◌∙◌, inl, inr, arith}
+use Rattle.hub_labels.proofs.Cited.{get_or_default, All-contains, sum_by-cons, never, longest, Arc, IsWalk, walk_seconds, IsArcAmong, goal_within, Hub, IsRankedHub, AreLabelsBelow, IsToldAt, IsPruned, IsSpread}
 use Rattle.hub_labels.proofs.Times.{AreTimes, metric_of, start_within, time_is, time_least, least_is}
 use Rattle.hub_labels.proofs.Cover.{IsClear, cover}
 

@@ -1,5 +1,5 @@
 -- Rank as a number.
-use Rattle.std.proofs.Common.{◌≡◌, ℕ, ◌+◌, ◌-◌, ◌*◌, ◌<◌, ◌≤◌, ◌↔◌, eqb, List, length, count_by, ap, inl, inr, arith}
+use Rattle.std.proofs.Common.{ℕ, ◌+◌, ◌-◌, ◌*◌, ◌<◌, ◌≤◌, ◌↔◌, eqb, List, length, ap, inl, inr, arith}
 use Rattle.hub_labels.proofs.Cited.{cases_eq, cases_lt, count_by-le-length, Arc, degree, IsOfLowerRank, key_of, mul-le-mul_right}
 
 -- no degree is above twice the number of arcs

@@ -1,5 +1,5 @@
 -- Nodes in the order of their keys.
-use Rattle.std.proofs.Common.{◌≡◌, ℕ, ◌+◌, ◌-◌, ◌*◌, ◌%◌, ◌<◌, ◌≤◌, ◌⊎◌, false, eqb, List, length, get_or, slice_index, map, All, sym, ap, ◌∙◌, subst, inl, inr, arith}
+use Rattle.std.proofs.Common.{◌≡◌, ℕ, ◌+◌, ◌-◌, ◌*◌, ◌%◌, ◌<◌, ◌≤◌, false, eqb, List, length, get_or, slice_index, map, All, sym, ap, ◌∙◌, subst, inl, inr, arith}
 use Rattle.hub_labels.proofs.Cited.{cases_eq, cases_lt, nat_tests, length-map, get_or-map, get_or_default, Contains-get_or, Arc, degree, key_of, IsNodeOrder, IsRanking, ne_eqb, ext_get_or}
 use Rattle.std.specs.List.{IsDistinct}
 use Rattle.std.specs.List.Sorted.{IsPermutation, IsStrictlyIncreasing, IsSorted}

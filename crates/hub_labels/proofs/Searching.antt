@@ -1,6 +1,6 @@
 -- Steps of a pruned search.
-use Rattle.std.proofs.Common.{◌≡◌, ◌≢◌, ℕ, ◌+◌, ◌<◌, ◌≤◌, ◌⊎◌, Bool, true, List, [], ◌∷◌, ◌++◌, length, get_or, slice_index, All, Contains, refl, sym, ap, ◌∙◌, subst, inl, inr, arith}
-use Rattle.hub_labels.proofs.Cited.{cases_eq, All-contains, Contains-append_left, Contains-push, never, longest, Arc, Hop, IsWalk, walk_seconds, IsArcAmong, hop_of, waits, IsNextTaken, IsHopRelaxed, RelaxesHops, HasWalkOf, IsWalk-push, walk_seconds-push, Hub, arc_from, AreHopsOf, IsToldAt, IsPruning, true≢false}
+use Rattle.std.proofs.Common.{◌≡◌, ℕ, ◌+◌, ◌<◌, ◌≤◌, ◌⊎◌, Bool, true, List, [], ◌∷◌, ◌++◌, length, get_or, slice_index, All, Contains, refl, sym, ap, ◌∙◌, subst, inl, inr, arith}
+use Rattle.hub_labels.proofs.Cited.{cases_eq, All-contains, Contains-append_left, Contains-push, never, Arc, Hop, IsWalk, IsArcAmong, hop_of, waits, IsNextTaken, IsHopRelaxed, RelaxesHops, HasWalkOf, IsWalk-push, walk_seconds-push, Hub, arc_from, AreHopsOf, IsToldAt, IsPruning}
 
 -- hops of a network's arcs lead to its nodes, in at most the longest arc's seconds
 pub hops_within : (arcs : List Arc) (n node : ℕ) (hops : List Hop) → All (IsArcAmong n) arcs → AreHopsOf arcs node hops → All (λ (hop : Hop). (hop.to < n) × (hop.seconds ≤ 10000)) hops

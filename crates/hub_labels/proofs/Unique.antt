@@ -1,6 +1,6 @@
 -- The definition names one label: lists by rank that have the same hubs are the same.
 use Rattle.std.proofs.Common.{◌≡◌, ℕ, zero, suc, ◌<◌, ◌⊎◌, List, [], ◌∷◌, length, get_or, Contains, refl, sym, ap, ◌∙◌, subst, inl, inr, arith}
-use Rattle.hub_labels.proofs.Cited.{Arc, Hub, degree, IsOfLowerRank, IsFirstWrong, IsLabel, IsFirstDifference}
+use Rattle.hub_labels.proofs.Cited.{Arc, Hub, IsOfLowerRank, IsFirstWrong, IsLabel, IsFirstDifference}
 
 -- of two nodes at most one is of lower rank
 lower_apart : (arcs : List Arc) (a b : ℕ) → IsOfLowerRank arcs a b → IsOfLowerRank arcs b a → ⊥

@@ -1,5 +1,5 @@
 use Rattle.std.proofs.Common.{◌≡◌, ◌≢◌, ℕ, ◌+◌, ◌<◌, ◌≤◌, List, length, slice_index, set, refl, sym, ap, ◌∙◌, ⊎_elim, arith}
-use Rattle.rebalancing.proofs.Common.{cases_eq, cases_lt, IsPriced, IsGrown, IsReached, IsOpen}
+use Rattle.rebalancing.proofs.Common.{cases_eq, IsPriced, IsGrown, IsReached, IsOpen}
 use Rattle.std.proofs.lemmas.List.{length-set, get_or-set_same, get_or-set_other}
 use Rattle.rebalancing.proofs.Shifting.{vehicles_differ, IsRooted-kept}
 

@@ -1,7 +1,7 @@
 -- The edges between vehicles and riders are the rows of one rider.
 use Rattle.std.proofs.Common.{◌≡◌, ℕ, zero, suc, ◌+◌, ◌<◌, ◌≤◌, inl, inr, List, [], ◌∷◌, ◌++◌, length, get_or, map, take, refl, sym, ap, ◌∙◌, subst, arith, add-one}
-use Rattle.trip_graph.proofs.Common.{cases_lt, length-map, get_or-map, get_or_default, map-append, take_more, RvEdge, IsRvGraph, no_edge, Settled, CanServe, IsRvEdge, TripOf, AreRowsOfSize, ComesBefore, IsLower, trips_of, HasOneRider, edges_upto, single_edge, AreLevelsUpTo}
-use Rattle.std.specs.List.{All, Contains}
+use Rattle.trip_graph.proofs.Common.{cases_lt, length-map, get_or-map, get_or_default, map-append, take_more, RvEdge, IsRvGraph, no_edge, Settled, CanServe, IsRvEdge, TripOf, AreRowsOfSize, ComesBefore, trips_of, HasOneRider, edges_upto, single_edge, AreLevelsUpTo}
+use Rattle.std.specs.List.{All}
 use Rattle.std.proofs.lemmas.List.{append-nil, append_assoc, take_all}
 use Rattle.trip_growth.proofs.lemmas.TripSearch.{one_rider}
 use Rattle.pair_graph.specs.lemmas.Edge.{pair_of}

@@ -1,4 +1,4 @@
-use Rattle.std.proofs.Common.{◌≡◌, ℕ, ◌<◌, ◌≤◌, length, slice_index, map, pos, neg_ℤ, ◌∙◌, arith}
+use Rattle.std.proofs.Common.{◌≡◌, ℕ, ◌<◌, length, slice_index, map, pos, neg_ℤ, ◌∙◌, arith}
 use Rattle.rebalancing.proofs.Common.{travel_time, weight_of, IsPricedMatching, weight_in, IsMatching}
 use Rattle.rebalancing.proofs.Choosing.{IsMatching-chosen, total-chosen, ArePotentials-chosen}
 use Rattle.rebalancing.proofs.MatchingLaw.{IsMatching-short, best_by_prices, ArePrices-from_potentials}

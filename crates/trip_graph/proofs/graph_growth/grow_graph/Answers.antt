@@ -1,4 +1,4 @@
-use Rattle.std.proofs.Common.{◌≡◌, ℕ, ◌+◌, ◌<◌, ◌≤◌, List, [], length, get_or, sym, ◌∙◌, subst, arith}
+use Rattle.std.proofs.Common.{◌≡◌, ℕ, ◌+◌, ◌<◌, List, [], length, get_or, sym, ◌∙◌, subst, arith}
 use Rattle.trip_graph.proofs.Common.{get_or_default, travel_time, IsRvGraph, RvEdge, Settled, TripOf, AreLevels, AreLevelsUpTo}
 use Rattle.trip_graph.proofs.SingleEdges.{have_one, rv_of_singles}
 use Rattle.trip_graph.proofs.graph_growth.grow_graph.Goals as goal

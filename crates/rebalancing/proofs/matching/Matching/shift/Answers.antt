@@ -1,4 +1,4 @@
-use Rattle.std.proofs.Common.{◌≡◌, refl, arith}
+use Rattle.std.proofs.Common.{refl, arith}
 use Rattle.rebalancing.proofs.Common.{with_items_is, Falls, Rises}
 use Rattle.rebalancing.proofs.Shifting.{vehicles_differ, IsPriced-shifted, IsGrown-shifted, IsReached-shifted, IsCheapest-shifted}
 use Rattle.rebalancing.proofs.matching.Matching.shift.Goals as goal

@@ -1,4 +1,4 @@
-use Rattle.std.proofs.Common.{ℕ, ◌<◌, List, length, get_or, arith}
+use Rattle.std.proofs.Common.{ℕ, List, length, get_or, arith}
 use Rattle.trip_graph.proofs.Common.{get_or_default, TripOf, batch_of, tau_of}
 use Rattle.trip_graph.proofs.LevelSteps as step
 use Rattle.trip_graph.proofs.level_run.LevelRunJob.run.Goals as goal
