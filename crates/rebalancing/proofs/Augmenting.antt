@@ -1,4 +1,4 @@
-use Rattle.std.proofs.Common.{◌≡◌, ◌≢◌, ℕ, ◌+◌, ◌<◌, ◌≤◌, List, length, slice_index, set, refl, sym, ap, ◌∙◌, ⊎_elim, arith}
+use Rattle.std.proofs.Common.{◌≡◌, ◌≢◌, ℕ, ◌+◌, ◌<◌, ◌≤◌, List, length, slice_index, set, sym, ap, ◌∙◌, ⊎_elim, arith, rules}
 use Rattle.rebalancing.proofs.Common.{cases_eq, IsPriced, IsGrown, IsReached, IsOpen}
 use Rattle.std.proofs.lemmas.List.{length-set, get_or-set_same, get_or-set_other}
 use Rattle.rebalancing.proofs.Shifting.{vehicles_differ, IsRooted-kept}
@@ -64,12 +64,7 @@ module _ {n m : ℕ} {w : ℕ → ℕ → ℕ} {k : ℕ} {a b q p r c parent pla
 
   -- the root takes the rider, and the walk is at its end
   pub IsPriced-closed : position ≡ 0 → IsPriced n m w (k + 1) (k + 1) m a b (set q v rider) (set p rider v)
-  IsPriced-closed first =
-      let root : v ≡ k = sym ev ∙ ap (slice_index r) first ∙ between.tree.root in
-      let at : slice_index q v ≡ slice_index q k = ap (slice_index q) root in
-      let free : m ≤ slice_index q k = between.tree.root_free in
-      let within : rider < m = between.rider_within in
-      joined m (k + 1) (λ e. omega arith) (λ i hi h f. absurd (omega arith)) (λ j hj e. absurd (omega arith)) (λ i lt ne. omega arith) (λ i hi le e. omega arith)
+  IsPriced-closed first = search rules
 
   -- another vehicle takes the rider, and its own rider is to be taken by its parent
   pub IsOpen-step : {u : ℕ} → slice_index c position ≡ u → 0 < position → IsOpen n m w k a b (set q v rider) (set p rider v) r c parent place u (slice_index parent position)
@@ -93,45 +88,11 @@ module _ {n m : ℕ} {w : ℕ → ℕ → ℕ} {k : ℕ} {a b q p r c parent pla
 module _ {n m : ℕ} {w : ℕ → ℕ → ℕ} {k : ℕ} {a b q p r c parent place : List ℕ} (priced : IsPriced n m w k (k + 1) m a b q p) (grown : IsGrown n m w k a b q r c parent place) where
   -- a rider that is free and tight can be taken by the vehicle that reached it
   pub IsOpen-free : {ta po : List ℕ} {lowered rider : ℕ} → IsReached m w a b r place ta po lowered → rider < m → slice_index place rider ≡ 0 → slice_index ta rider ≡ lowered → n ≤ slice_index p rider → IsOpen n m w k a b q p r c parent place rider (slice_index po rider)
-  IsOpen-free {ta} {po} {lowered} {rider} reached hr out tight free =
-      let position : slice_index po rider < length r = reached.of_within rider hr out in
-      record {
-        priced = record {
-          prices = priced.prices;
-          q_length = priced.q_length;
-          p_length = priced.p_length;
-          q_most = priced.q_most;
-          p_most = priced.p_most;
-          tight = priced.tight;
-          forth = priced.forth;
-          apart = λ i hi h e. let back : slice_index p (slice_index q i) ≡ i = priced.forth i hi h in let same : slice_index p (slice_index q i) ≡ slice_index p rider = ap (slice_index p) e in omega arith;
-          back = λ j hj ne h. priced.back j hj (λ e. omega arith) h;
-          free_rider = λ j hj ne h. priced.free_rider j hj (λ e. omega arith) h;
-          free_vehicle = priced.free_vehicle;
-          waiting = priced.waiting;
-        };
-        tree = IsRooted-kept grown.tree q (slice_index po rider + 1) (omega arith) (omega arith) (λ t lt. refl);
-        rider_within = hr;
-        position_within = position;
-        last_edge = omega (arith, reached.exactly rider hr out);
-      }
+  IsOpen-free {ta} {po} {lowered} {rider} reached hr out tight free = search rules
 
   -- the root stays unmatched at price 0
   pub IsPriced-root_left : slice_index a k ≡ 0 → IsPriced n m w (k + 1) (k + 1) m a b q p
-  IsPriced-root_left zero_price = record {
-    prices = priced.prices;
-    q_length = priced.q_length;
-    p_length = priced.p_length;
-    q_most = priced.q_most;
-    p_most = priced.p_most;
-    tight = priced.tight;
-    forth = priced.forth;
-    apart = priced.apart;
-    back = priced.back;
-    free_rider = priced.free_rider;
-    free_vehicle = λ i hi lt free. ⊎_elim (λ (e : i ≡ k). ap (slice_index a) e ∙ zero_price) (λ (ne : i ≢ k). let below : i < k = omega arith in priced.free_vehicle i hi below free) (cases_eq i k);
-    waiting = priced.waiting;
-  }
+  IsPriced-root_left zero_price = search rules
 
   module _ {position v u : ℕ} (ev : slice_index r position ≡ v) (eu : slice_index c position ≡ u) (pp : 0 < position) (hp : position < length r) (zero_price : slice_index a v ≡ 0) where
     rv_within : v < n
@@ -151,33 +112,4 @@ module _ {n m : ℕ} {w : ℕ → ℕ → ℕ} {k : ℕ} {a b q p r c parent pla
     still i h e = let is : slice_index (set q v m) i ≡ m = rw e left_at in omega arith
 
     pub IsOpen-released : IsOpen n m w k a b (set q v m) p r c parent place u (slice_index parent position)
-    IsOpen-released =
-        let earlier : slice_index parent position < position = grown.tree.earlier position pp hp in
-        let within : u < m = rw (← eu) (grown.tree.rider position pp hp) in
-        record {
-          priced = record {
-            prices = priced.prices;
-            q_length = length-set q v m ∙ priced.q_length;
-            p_length = priced.p_length;
-            q_most = λ i hi. ⊎_elim (λ (e : i ≡ v). rw (e, left_at) (omega arith)) (λ (ne : i ≢ v). rw (left_other i ne) (priced.q_most i hi)) (cases_eq i v);
-            p_most = priced.p_most;
-            tight = λ i hi h. let same : slice_index (set q v m) i ≡ slice_index q i = left_other i (still i h) in rw same (priced.tight i hi (rw same at h));
-            forth = λ i hi h. let same : slice_index (set q v m) i ≡ slice_index q i = left_other i (still i h) in rw same (priced.forth i hi (rw same at h));
-            apart = λ i hi h f.
-                let ne : i ≢ v = still i h in
-                let was : slice_index q i ≡ u = sym (left_other i ne) ∙ f in
-                let z : slice_index q v ≡ u = rv_rider in
-                ne (sym (priced.forth i hi (omega arith)) ∙ ap (slice_index p) (was ∙ sym rv_rider) ∙ priced.forth v rv_within (omega arith));
-            back = λ j hj away h.
-                let back : slice_index q (slice_index p j) ≡ j = priced.back j hj (λ e. omega arith) h in
-                left_other (slice_index p j) (λ e. away (sym back ∙ ap (slice_index q) e ∙ rv_rider)) ∙ back;
-            free_rider = λ j hj away free. priced.free_rider j hj (λ e. omega arith) free;
-            free_vehicle = λ i hi lt free. ⊎_elim (λ (e : i ≡ v). ap (slice_index a) e ∙ zero_price) (λ (ne : i ≢ v). priced.free_vehicle i hi lt (rw (left_other i ne) at free)) (cases_eq i v);
-            waiting = λ i hi le. ⊎_elim (λ (e : i ≡ v). rw (e, left_at) (omega arith)) (λ (ne : i ≢ v). rw (left_other i ne) (priced.waiting i hi le)) (cases_eq i v);
-          };
-          tree = IsRooted-kept grown.tree (set q v m) (slice_index parent position + 1) (omega arith) (omega arith)
-              (λ t lt. left_other (slice_index r t) (λ e. let same : t ≡ position = vehicles_differ grown.tree t position (omega arith) hp (e ∙ sym ev) in omega arith));
-          rider_within = within;
-          position_within = omega arith;
-          last_edge = rw eu at (grown.tree.edge position pp hp);
-        }
+    IsOpen-released = search (rules, slice_index, length-set, left_at, left_other, cases_eq, still, rv_rider, rv_within, IsRooted-kept, vehicles_differ)

@@ -1,67 +1,23 @@
-use Rattle.std.proofs.Common.{◌≡◌, ◌≢◌, ℕ, ◌+◌, ◌*◌, ◌<◌, ◌≤◌, ◌⊎◌, List, [], ◌∷◌, ◌++◌, length, slice_index, set, replicate, refl, sym, ap, ◌∙◌, inl, inr, ⊎_elim, arith}
+use Rattle.std.proofs.Common.{◌≡◌, ◌≢◌, ℕ, ◌+◌, ◌*◌, ◌<◌, ◌≤◌, ◌⊎◌, List, [], ◌∷◌, ◌++◌, length, slice_index, set, replicate, refl, sym, ap, ◌∙◌, inl, inr, ⊎_elim, arith, rules}
 use Rattle.rebalancing.proofs.Common.{cases_eq, cases_lt, get_or_append_left, get_or_push, length_push, get_or-replicate, length-replicate, pair_worth, IsPriced, Relaxes, IsGrown, IsReached, IsCheapest}
 use Rattle.std.proofs.lemmas.List.{length-set, get_or-set_same, get_or-set_other}
 
 -- no rider's price is above a pair's worth
 pub b_most : {n m : ℕ} {w : ℕ → ℕ → ℕ} {done next : ℕ} {a b q p : List ℕ} → IsPriced n m w done next m a b q p → (j : ℕ) → j < m → slice_index b j ≤ pair_worth
-b_most {n} {m} {w} {done} {next} {a} {b} {q} {p} priced j hj =
-    ⊎_elim
-    (λ (matched : slice_index p j < n).
-    let back : slice_index q (slice_index p j) ≡ j = priced.back j hj (λ e. omega arith) matched in
-    let tight : slice_index a (slice_index p j) + slice_index b j ≡ w (slice_index p j) j = rw back at (priced.tight (slice_index p j) matched (rw back hj)) in
-    omega (arith, priced.prices.light (slice_index p j) j matched hj))
-    (λ (free : n ≤ slice_index p j). let is : slice_index b j ≡ 0 = priced.free_rider j hj (λ e. omega arith) free in omega arith)
-    (cases_lt (slice_index p j) n)
+b_most {n} {m} {w} {done} {next} {a} {b} {q} {p} priced j hj = search rules
 
 module _ {n m : ℕ} {w : ℕ → ℕ → ℕ} {k : ℕ} {a b q p : List ℕ} (priced : IsPriced n m w k k m a b q p) (hk : k < n) where
   -- a tree of the root alone
   pub IsGrown-root : IsGrown n m w k a b q (k ∷ []) (m ∷ []) (0 ∷ []) (replicate m 0)
-  IsGrown-root = record {
-    tree = record {
-      root = refl;
-      root_free = priced.waiting k hk (omega arith);
-      c_length = refl;
-      parent_length = refl;
-      vehicle = λ t ht. let z : t ≡ 0 = omega arith in rw z hk;
-      rider = λ t pt ht. absurd (omega arith);
-      partner = λ t pt ht. absurd (omega arith);
-      earlier = λ t pt ht. absurd (omega arith);
-      edge = λ t pt ht. absurd (omega arith);
-      placed = λ t pt ht. absurd (omega arith);
-    };
-    rooted = omega arith;
-    place_length = length-replicate {A = ℕ} m 0;
-    place_most = λ j hj. rw (get_or-replicate {A = ℕ} m j 0 0 hj) (omega arith);
-    found = λ j hj pp. let is : slice_index (replicate m 0) j ≡ 0 = get_or-replicate {A = ℕ} m j 0 0 hj in absurd (omega arith);
-  }
+  IsGrown-root = search (rules, length-replicate, get_or-replicate, slice_index)
 
   -- every rider is tight with the root first
   pub IsReached-root : {row place ta po ta' po' : List ℕ} {huge : ℕ} → length row ≡ m → length ta ≡ m → length po ≡ m → ((j : ℕ) → j < m → slice_index row j ≡ w k j) → ((j : ℕ) → j < m → slice_index ta j ≡ huge) → 2 * pair_worth < huge
       → Relaxes row b place (slice_index a k) 0 ta po ta' po' → IsReached m w a b (k ∷ []) place ta' po' 0
-  IsReached-root {row} {place} {ta} {po} {ta'} {po'} {huge} row_length ta_length po_length weights far large relaxes =
-      let from : (j : ℕ) → j < m → slice_index place j ≡ 0 → (w k j + slice_index ta' j ≡ slice_index a k + slice_index b j) × (slice_index po' j ≡ 0) = λ j hj out.
-      let weight : slice_index row j ≡ w k j = weights j hj in
-      ⊎_elim
-      (λ (new : (slice_index row j + slice_index ta' j ≡ slice_index a k + slice_index b j) × (slice_index po' j ≡ 0)). (rw weight at new.0, new.1))
-      (λ (old : (slice_index ta' j ≡ slice_index ta j) × (slice_index po' j ≡ slice_index po j)).
-      absurd (omega (arith, priced.prices.a_most k hk, b_most priced j hj, far j hj, old.0, relaxes.bounded j (rw row_length hj) out)))
-      (relaxes.from j (rw row_length hj) out)
-      in
-      record {
-        tight_length = relaxes.tight_length ∙ ta_length;
-        of_length = relaxes.parent_length ∙ po_length;
-        not_past = λ j hj out. omega arith;
-        of_within = λ j hj out. rw (from j hj out).1 (omega arith);
-        no_earlier = λ j t hj out ht. let z : t ≡ 0 = omega arith in rw z (let e : w k j + slice_index ta' j ≡ slice_index a k + slice_index b j = (from j hj out).0 in omega arith);
-        exactly = λ j hj out. rw (from j hj out).1 (let e : w k j + slice_index ta' j ≡ slice_index a k + slice_index b j = (from j hj out).0 in omega arith);
-      }
+  IsReached-root {row} {place} {ta} {po} {ta'} {po'} {huge} row_length ta_length po_length weights far large relaxes = search rules
 
   pub IsCheapest-root : IsCheapest k a (k ∷ []) 0 0
-  IsCheapest-root = record {
-    within = omega arith;
-    least = λ t ht. let z : t ≡ 0 = omega arith in rw z (omega arith);
-    fallen = let e : slice_index a k ≡ pair_worth = priced.prices.waiting_price k hk (omega arith) in omega arith;
-  }
+  IsCheapest-root = search rules
 
 module _ {n m : ℕ} {w : ℕ → ℕ → ℕ} {k : ℕ} {a b q p r c parent place ta po : List ℕ} {lowered cheapest j v : ℕ}
     (priced : IsPriced n m w k (k + 1) m a b q p) (grown : IsGrown n m w k a b q r c parent place) (reached : IsReached m w a b r place ta po lowered) (cheap : IsCheapest k a r cheapest lowered)
@@ -174,26 +130,11 @@ module _ {n m : ℕ} {w : ℕ → ℕ → ℕ} {k : ℕ} {a b q p r c parent pla
 
   -- the new vehicle is the cheapest, or the old one stays so
   pub IsCheapest-new : slice_index a v < slice_index a (slice_index r cheapest) → IsCheapest k a (r ++ v ∷ []) (length r) lowered
-  IsCheapest-new less = record {
-    within = omega (arith, length_push r v);
-    least = λ t ht. rw r_new (⊎_elim
-        (λ (lt : t < length r). let was : slice_index a (slice_index r cheapest) ≤ slice_index a (slice_index r t) = cheap.least t lt in rw (r_old t lt) (omega arith))
-        (λ (e : t ≡ length r). rw (e, r_new) (omega arith))
-        (positions t ht));
-    fallen = cheap.fallen;
-  }
+  IsCheapest-new less = search (rules, length_push, r_new, slice_index, r_old, positions)
 
   pub IsCheapest-old : slice_index a (slice_index r cheapest) ≤ slice_index a v → IsCheapest k a (r ++ v ∷ []) cheapest lowered
-  IsCheapest-old le = record {
-    within = let h : cheapest < length r = cheap.within in omega (arith, length_push r v);
-    least = λ t ht. rw (r_old cheapest cheap.within) (⊎_elim
-        (λ (lt : t < length r). rw (r_old t lt) (cheap.least t lt))
-        (λ (e : t ≡ length r). rw (e, r_new) le)
-        (positions t ht));
-    fallen = cheap.fallen;
-  }
+  IsCheapest-old le = search (rules, length_push, r_old, r_new, positions)
 
   -- the prices and the fall fit
   pub offset_fits : (i : ℕ) → i < m → slice_index a v + lowered + slice_index b i < 2000000000000
-  offset_fits i hi =
-      omega (arith, cheap.fallen, b_most priced i hi, priced.prices.a_most v v_within)
+  offset_fits i hi = search rules

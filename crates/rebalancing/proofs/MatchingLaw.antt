@@ -1,4 +1,5 @@
-use Rattle.std.proofs.Common.{◌≡◌, ℕ, suc, ◌+◌, ◌*◌, ◌<◌, ◌≤◌, List, length, get_or, map, replicate, All, Any, sum, sum_by, ℤ, pos, negsuc, neg_ℤ, ◌+ℤ◌, ◌-ℤ◌, ◌≤ℤ◌, refl, ap, ◌∙◌, arith}
+use Rattle.std.proofs.lemmas.Bool.Decides.{nat_tests}
+use Rattle.std.proofs.Common.{◌≡◌, ℕ, suc, ◌+◌, ◌*◌, ◌<◌, ◌≤◌, List, length, get_or, map, replicate, All, Any, sum, sum_by, ℤ, pos, negsuc, neg_ℤ, ◌+ℤ◌, ◌-ℤ◌, ◌≤ℤ◌, refl, ap, ◌∙◌, arith, rules}
 use Rattle.rebalancing.proofs.Common.{ints, length-map, get_or-map, length-replicate, get_or-replicate, sum_by-le, never, longest, pair_seconds, IsMatching, IsBestMatching, pair_worth, potential, ArePotentials}
 use Rattle.std.proofs.lemmas.List.Folds.{sum_by-replicate}
 use Rattle.rebalancing.proofs.PlaceSums.{sum_over_different, sum_over_covering, sum_at_least, sum_exactly}
@@ -52,11 +53,7 @@ total_short tau from to pairs range few m =
 
 -- a matching with prices is best
 pub best_by_prices : (tau : ℕ → ℕ → ℕ) (from to : List ℕ) (pairs : List (ℕ × ℕ)) (a b : List ℕ) → ((a b : ℕ) → tau a b < never → tau a b ≤ longest) → length from ≤ 500 → IsMatching tau from to pairs → ArePrices tau from to pairs a b → IsBestMatching tau from to pairs
-best_by_prices tau from to pairs a b range few m prices = record {
-  matching = m;
-  most_pairs = λ other n. omega (arith, total_short tau from to other range few n, gains_no_more tau from to pairs other a b prices n);
-  least_total = λ other n e. omega (arith, gains_no_more tau from to pairs other a b prices n);
-}
+best_by_prices tau from to pairs a b range few m prices = grind (arith, nat_tests, (total_short tau from to), (gains_no_more tau from to pairs))
 
 -- how far a number is below zero
 abbrev pub fall_of : ℤ → ℕ
@@ -69,12 +66,10 @@ neg-fall_of (pos n) h = omega (arith, ints, h)
 neg-fall_of (negsuc n) h = refl
 
 falls_cover : (u v : ℤ) (s w : ℕ) → u ≤ℤ pos 0 → v ≤ℤ pos 0 → (u +ℤ v) ≤ℤ (pos s -ℤ pos w) → w ≤ s + fall_of u + fall_of v
-falls_cover u v s w hu hv h =
-    omega (arith, neg-fall_of v hv, neg-fall_of u hu, ints)
+falls_cover u v s w hu hv h = search rules
 
 falls_equal : (u v : ℤ) (s w : ℕ) → u ≤ℤ pos 0 → v ≤ℤ pos 0 → u +ℤ v ≡ pos s -ℤ pos w → w ≡ s + fall_of u + fall_of v
-falls_equal u v s w hu hv h =
-    omega (arith, neg-fall_of v hv, neg-fall_of u hu, ints)
+falls_equal u v s w hu hv h = search rules
 
 -- the negated potentials are prices
 pub ArePrices-from_potentials : (tau : ℕ → ℕ → ℕ) (from to : List ℕ) (pairs : List (ℕ × ℕ)) (u v : List ℤ) → IsMatching tau from to pairs → ArePotentials tau from to pairs u v → ArePrices tau from to pairs (map fall_of u) (map fall_of v)

@@ -1,4 +1,4 @@
-use Rattle.std.proofs.Common.{◌≡◌, ◌≢◌, ℕ, zero, suc, ◌+◌, ◌*◌, ◌<◌, ◌≤◌, ◌⊎◌, List, [], ◌∷◌, length, get_or, set, All, AllPairs, Any, sum, sum_by, refl, sym, ap, ◌∙◌, subst, inl, inr, ⊎_elim, arith}
+use Rattle.std.proofs.Common.{◌≡◌, ◌≢◌, ℕ, zero, suc, ◌+◌, ◌*◌, ◌<◌, ◌≤◌, ◌⊎◌, List, [], ◌∷◌, length, get_or, set, All, AllPairs, Any, sum, sum_by, refl, sym, ap, ◌∙◌, subst, inl, inr, ⊎_elim, arith, rules}
 use Rattle.rebalancing.proofs.Common.{cases_eq, cases_lt, set_past, All-head, All-tail, All-from_get_or, sum_by-cons, sum_by-set, sum_by-le, sum_by-le-sum_by}
 use Rattle.std.proofs.lemmas.List.{length-set, get_or-set_same, get_or-set_other}
 
@@ -23,14 +23,7 @@ sum_of_zeros a h =
 
 -- an element set to 0 is no greater
 pub set_0-le : (a : List ℕ) (i k : ℕ) → get_or (set a i 0) k 0 ≤ get_or a k 0
-set_0-le a i k =
-    ⊎_elim
-    (λ (e : k ≡ i). ⊎_elim
-    (λ (within : i < length a). let is : get_or (set a i 0) k 0 ≡ 0 = rw e (get_or-set_same a i 0 0 within) in omega arith)
-    (λ (past : length a ≤ i). rw (set_past a i 0 past) (omega arith))
-    (cases_lt i (length a)))
-    (λ (other : k ≢ i). rw (get_or-set_other a i k 0 0 other) (omega arith))
-    (cases_eq k i)
+set_0-le a i k = search (rules, get_or-set_same, set_past, cases_lt, get_or-set_other, cases_eq)
 
 -- the sum over different places is at most the whole sum
 pub sum_over_different : {X : Type 0} (f : X → ℕ) (xs : List X) (a : List ℕ) → All (λ x. f x < length a) xs → AllPairs (λ x y. f x ≢ f y) xs → sum_by (λ x. get_or a (f x) 0) xs ≤ sum a
@@ -48,9 +41,7 @@ sum_over_different {X} f (x ∷ xs) a within apart =
 
 -- where every other place is 0, the whole sum is at most the sum over the chosen places
 pub sum_over_covering : {X : Type 0} (f : X → ℕ) (xs : List X) (a : List ℕ) → ((i : ℕ) → i < length a → (Any (λ x. f x ≡ i) xs → ⊥) → get_or a i 0 ≡ 0) → sum a ≤ sum_by (λ x. get_or a (f x) 0) xs
-sum_over_covering f [] a covered =
-    let none : sum a ≡ 0 = sum_of_zeros a (λ i h. covered i h (λ any. absurd (omega (arith, any.2)))) in
-    omega arith
+sum_over_covering f [] a covered = search (rules, sum_of_zeros)
 sum_over_covering {X} f (x ∷ xs) a covered =
     let rest_covered : (i : ℕ) → i < length (set a (f x) 0) → (Any (λ y. f y ≡ i) xs → ⊥) → get_or (set a (f x) 0) i 0 ≡ 0 =
     λ i h no.

@@ -1,48 +1,26 @@
-use Rattle.std.proofs.Common.{◌≡◌, ◌≢◌, ℕ, zero, suc, ◌+◌, ◌<◌, ◌≤◌, ◌⊎◌, List, length, slice_index, refl, sym, ap, ◌∙◌, inl, inr, ⊎_elim, arith}
+use Rattle.std.proofs.Common.{◌≡◌, ◌≢◌, ℕ, zero, suc, ◌+◌, ◌<◌, ◌≤◌, ◌⊎◌, List, length, slice_index, refl, sym, ap, ◌∙◌, inl, inr, ⊎_elim, arith, rules}
 use Rattle.rebalancing.proofs.Common.{cases_eq, cases_lt, pair_worth, IsPriced, IsRooted, Falls, Rises, IsGrown, IsReached, IsCheapest}
 
 module _ {n m : ℕ} {w : ℕ → ℕ → ℕ} {k : ℕ} {a b q r c parent place : List ℕ} {count : ℕ} (tree : IsRooted n m w k a b q r c parent place count) where
   root_apart : (t : ℕ) → 0 < t → t < count → slice_index r 0 ≡ slice_index r t → ⊥
-  root_apart t pt ht e =
-      let same : slice_index q k ≡ slice_index c t = ap (slice_index q) (sym tree.root ∙ e) ∙ tree.partner t pt ht in
-      omega (arith, tree.rider t pt ht, tree.root_free)
+  root_apart t pt ht e = search rules
 
   -- no vehicle is at two positions
   pub vehicles_differ : (s t : ℕ) → s < count → t < count → slice_index r s ≡ slice_index r t → s ≡ t
   vehicles_differ zero zero hs ht e = refl
   vehicles_differ zero (suc t) hs ht e = absurd (root_apart (suc t) (omega arith) ht e)
   vehicles_differ (suc s) zero hs ht e = absurd (root_apart (suc s) (omega arith) hs (sym e))
-  vehicles_differ (suc s) (suc t) hs ht e =
-      let same : slice_index c (suc s) ≡ slice_index c (suc t) = sym (tree.partner (suc s) (omega arith) hs) ∙ ap (slice_index q) e ∙ tree.partner (suc t) (omega arith) ht in
-      sym (tree.placed (suc s) (omega arith) hs) ∙ ap (slice_index place) same ∙ tree.placed (suc t) (omega arith) ht
+  vehicles_differ (suc s) (suc t) hs ht e = search rules
 
   -- fewer positions are as they were where their vehicles have the riders that they had
   pub IsRooted-kept : (others : List ℕ) (fewer : ℕ) → 0 < fewer → fewer ≤ count → ((t : ℕ) → t < fewer → slice_index others (slice_index r t) ≡ slice_index q (slice_index r t)) → IsRooted n m w k a b others r c parent place fewer
-  IsRooted-kept others fewer some le same =
-      let root : slice_index others k ≡ slice_index q k = rw tree.root at (same 0 some) in
-      record {
-        root = tree.root;
-        root_free = let free : m ≤ slice_index q k = tree.root_free in omega arith;
-        c_length = tree.c_length;
-        parent_length = tree.parent_length;
-        vehicle = λ t lt. tree.vehicle t (omega arith);
-        rider = λ t pt lt. tree.rider t pt (omega arith);
-        partner = λ t pt lt. same t lt ∙ tree.partner t pt (omega arith);
-        earlier = λ t pt lt. tree.earlier t pt (omega arith);
-        edge = λ t pt lt. tree.edge t pt (omega arith);
-        placed = λ t pt lt. tree.placed t pt (omega arith);
-      }
+  IsRooted-kept others fewer some le same = search rules
 
 module _ {n m : ℕ} {w : ℕ → ℕ → ℕ} {k : ℕ} {a b q p r c parent place : List ℕ} (priced : IsPriced n m w k (k + 1) m a b q p) (grown : IsGrown n m w k a b q r c parent place) where
   -- a vehicle that is neither the root nor has a rider of the tree isn't in the tree
   out_of_tree : (i : ℕ) → i ≢ k → (slice_index q i < m → slice_index place (slice_index q i) ≡ 0) → (t : ℕ) → t < length r → slice_index r t ≢ i
   out_of_tree i other out zero ht e = other (sym e ∙ grown.tree.root)
-  out_of_tree i other out (suc t) ht e =
-      let rider : slice_index q i ≡ slice_index c (suc t) = ap (slice_index q) (sym e) ∙ grown.tree.partner (suc t) (omega arith) ht in
-      let within : slice_index c (suc t) < m = grown.tree.rider (suc t) (omega arith) ht in
-      let zero_at : slice_index place (slice_index q i) ≡ 0 = out (omega arith) in
-      let at : slice_index place (slice_index c (suc t)) ≡ suc t = grown.tree.placed (suc t) (omega arith) ht in
-      absurd (omega (arith, ap (slice_index place) rider))
+  out_of_tree i other out (suc t) ht e = search rules
 
   -- a vehicle is at some position of the tree, or at none
   pub vehicle_cases : (i : ℕ) → i < n → ((t : ℕ) × (t < length r) × (slice_index r t ≡ i)) ⊎ ((t : ℕ) → t < length r → slice_index r t ≢ i)
@@ -67,8 +45,7 @@ module _ {n m : ℕ} {w : ℕ → ℕ → ℕ} {k : ℕ} {a b q p r c parent pla
 
   -- a rider outside the tree is at no position
   pub rider_outside : (j : ℕ) → slice_index place j ≡ 0 → (t : ℕ) → 0 < t → t < length r → slice_index c t ≢ j
-  rider_outside j out t pt ht e =
-      absurd (omega (arith, ap (slice_index place) e, grown.tree.placed t pt ht))
+  rider_outside j out t pt ht e = search rules
 
   pub rider_cases : (j : ℕ) → j < m → ((t : ℕ) × (0 < t) × (t < length r) × (slice_index c t ≡ j)) ⊎ ((t : ℕ) → 0 < t → t < length r → slice_index c t ≢ j)
   rider_cases j hj =
@@ -178,28 +155,7 @@ module _ {n m : ℕ} {w : ℕ → ℕ → ℕ} {k : ℕ} {a b q p r c parent pla
     }
 
     pub IsGrown-shifted : IsGrown n m w k a' b' q r c parent place
-    IsGrown-shifted = record {
-      tree = record {
-        root = grown.tree.root;
-        root_free = grown.tree.root_free;
-        c_length = grown.tree.c_length;
-        parent_length = grown.tree.parent_length;
-        vehicle = grown.tree.vehicle;
-        rider = grown.tree.rider;
-        partner = grown.tree.partner;
-        earlier = grown.tree.earlier;
-        edge = λ t pt ht.
-            let before : slice_index parent t < t = grown.tree.earlier t pt ht in
-            let was : slice_index a (slice_index r (slice_index parent t)) + slice_index b (slice_index c t) ≡ w (slice_index r (slice_index parent t)) (slice_index c t) = grown.tree.edge t pt ht in
-            let fell : slice_index a' (slice_index r (slice_index parent t)) + by ≡ slice_index a (slice_index r (slice_index parent t)) = fall.inside (slice_index parent t) (omega arith) in
-            omega (arith, rise.inside t pt (rw grown.tree.c_length ht));
-        placed = grown.tree.placed;
-      };
-      rooted = grown.rooted;
-      place_length = grown.place_length;
-      place_most = grown.place_most;
-      found = grown.found;
-    }
+    IsGrown-shifted = search rules
 
     pub IsReached-shifted : IsReached m w a' b' r place ta po (lowered + by)
     IsReached-shifted = record {
@@ -217,10 +173,4 @@ module _ {n m : ℕ} {w : ℕ → ℕ → ℕ} {k : ℕ} {a b q p r c parent pla
     }
 
     pub IsCheapest-shifted : IsCheapest k a' r cheapest (lowered + by)
-    IsCheapest-shifted = record {
-      within = cheap.within;
-      least = λ t ht. omega (arith, fall.inside cheapest cheap.within, fall.inside t ht, cheap.least t ht);
-      fallen =
-          let fell : slice_index a' k + by ≡ slice_index a k = rw grown.tree.root at (fall.inside 0 grown.rooted) in
-          omega (arith, cheap.fallen);
-    }
+    IsCheapest-shifted = search rules
