@@ -1,10 +1,11 @@
 -- The rows of a settled batch, and those that its vehicles hold, make a graph without a fault.
-use Rattle.std.proofs.Common.{◌≡◌, ◌==◌, ℕ, suc, ◌<◌, ◌≤◌, inl, inr, Bool, true, false, Option, None, Some, List, [], ◌∷◌, length, get_or, refl, sym, ◌∙◌, subst, arith, MatchBool}
+use Rattle.std.proofs.lemmas.Bool.Decides.{nat_tests}
+use Rattle.std.proofs.Common.{◌≡◌, ◌==◌, ℕ, suc, ◌<◌, ◌≤◌, inl, inr, Bool, true, false, Option, None, Some, List, [], ◌∷◌, length, get_or, refl, sym, ◌∙◌, subst, arith, MatchBool, rules}
 use Rattle.trip_graph.proofs.Common.{list_any, cases_lt, IsTravelTime, Settled, IsServable, IsTrip, trip_task, vehicle_at, IsSound, SubTripsAreServable, DelaysAreSmall, TripRow, Graph, no_row, choice_at, riders_at, has_rider, times_served, HoldsRightly, IsRowWith, HoldRows, AreRowsUpTo}
 use Rattle.std.specs.List.{Contains}
 use Rattle.std.proofs.lemmas.Bool.{eqb-true}
 use Rattle.std.proofs.lemmas.Map.Views.{Contains-from_any}
-use Rattle.std.proofs.lemmas.Option.{none-some, same_Some}
+use Rattle.std.proofs.lemmas.Option.{none-some}
 use Rattle.plan_rules.specs.declared.fault.GraphFault.{GraphFault}
 use Rattle.plan_rules.specs.declared.fault.GraphFault.TheVariants.{Range, Order, Held, OutOfMemory}
 use Rattle.plan_rules.specs.GraphFault.{HasGoodRows, HasRowsInOrder, IsGraphFault}
@@ -21,8 +22,7 @@ held_riders : (rows : List TripRow) (held : List (Option ℕ)) (w k : ℕ) (ride
     → MatchBool late (choice_at held w ≡ None) ((j : ℕ) × (choice_at held w ≡ Some j) × IsRowWith rows w riders j)
     → choice_at held w ≡ Some k → (get_or rows k no_row).riders.items ≡ riders
 held_riders rows held w k riders true none e = absurd (none-some k (sym none ∙ e))
-held_riders rows held w k riders false found e =
-    subst (λ (j : ℕ). (get_or rows j no_row).riders.items ≡ riders) (same_Some found.0 k (sym found.1 ∙ e)) found.2.trip
+held_riders rows held w k riders false found e = search rules
 
 -- what may be wrong where rows are good, in order, and held rightly
 only_memory : (g : Graph) (fault : GraphFault) → HasGoodRows g → HasRowsInOrder g → HasHeldRows g → IsGraphFault g fault → fault ≡ OutOfMemory
@@ -80,19 +80,11 @@ module _ (most points : ℕ) (tau : ℕ → ℕ → ℕ) (settled : Settled) (su
 
     holds_by : (v : ℕ) → v < length settled.vehicles → (late : Bool) → MatchBool late (IsServable tau (trip_task settled v []) → ⊥) (IsServable tau (trip_task settled v []))
         → MatchBool late (choice_at g.held v ≡ None) ((k : ℕ) × (choice_at g.held v ≡ Some k) × IsRowWith g.rows v (vehicle_at settled v).held.items k) → HoldsRightly g v
-    holds_by v less true unserved none =
-        holds_at g v None none (λ k own.
-        let row = exact.right k own.within in
-        let served = subst (λ (w : ℕ). IsServable tau (trip_task settled w (riders_at g k))) own.own row.served.servable in
-        unserved (alone_served v (riders_at g k) less row.served.riders (omega (arith, row.served.size)) served))
-    holds_by v less false served found =
-        holds_at g v (Some found.0) found.1 (record { within = found.2.within; own = found.2.own }, none_earlier v found.0 less found.2)
+    holds_by v less true unserved none = grind (arith, nat_tests, (alone_served v))
+    holds_by v less false served found = search (rules, holds_at, none_earlier)
 
     held_rows : HasHeldRows g
-    held_rows = record {
-      sized = hold.count ∙ sym vehicles;
-      holds = λ v lt. let less : v < length settled.vehicles = omega arith in holds_by v less (vehicle_at settled v).late (sound.each v less).late (hold.each v less);
-    }
+    held_rows = search (rules, holds_by)
 
     -- want of memory alone keeps such a graph from being made
     pub memory_only : AreInOrder g.rows → (fault : GraphFault) → IsGraphFault g fault → fault ≡ OutOfMemory

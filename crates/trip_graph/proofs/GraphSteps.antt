@@ -1,4 +1,4 @@
-use Rattle.std.proofs.Common.{◌≡◌, ℕ, suc, ◌+◌, ◌-◌, ◌<◌, ◌≤◌, inl, inr, Bool, true, false, Option, None, Some, List, [], ◌∷◌, ◌++◌, length, get_or, map, take, refl, sym, ap, ◌∙◌, subst, arith, MatchBool, MatchOption}
+use Rattle.std.proofs.Common.{◌≡◌, ℕ, suc, ◌+◌, ◌-◌, ◌<◌, ◌≤◌, inl, inr, Bool, true, false, Option, None, Some, List, [], ◌∷◌, ◌++◌, length, get_or, map, take, refl, sym, ap, ◌∙◌, subst, arith, MatchBool, MatchOption, rules}
 use Rattle.trip_graph.proofs.Common.{cases_lt, length-map, get_or_append_left, get_or-append_right, get_or_push, get_or-map, get_or_default, get_or_past, take_more, All-append, All-nil, flat_map-cons, get_or-flat_map, sum_by-cons, sum_by_push, sum_by-take-le, Settled, SettledVehicle, IsServable, IsTrip, IsRow, trip_task, vehicle_at, IsSoundVehicle, TripRow, Graph, IsGoodGraph, no_row, choice_at, TripOf, AreSomeRows, AreRowsOfSize, AreLevels, row_total, level_total, AreRowsUpTo, total_upto, trip_row, vehicle_rows, IsRowWith, HoldRows, IsTripGraphOf}
 use Rattle.std.specs.List.{All, flat_map}
 use Rattle.std.proofs.lemmas.List.{length-append, take_all}
@@ -18,17 +18,11 @@ own_all P v (lists ∷ levels) each =
 
 pub total_none : (levels : List (List (List TripOf))) → total_upto levels 0 ≡ 0
 total_none [] = refl
-total_none (lists ∷ levels) =
-    let a = sum_by-cons (λ (ls : List (List TripOf)). row_total (take 0 ls)) lists levels in
-    let z : row_total (take 0 lists) ≡ 0 = refl in
-    omega (arith, total_none levels)
+total_none (lists ∷ levels) = search (rules, sum_by-cons, (total_none levels))
 
 pub total_few : (levels : List (List (List TripOf))) (n : ℕ) → total_upto levels n ≤ level_total levels
 total_few [] n = omega arith
-total_few (lists ∷ levels) n =
-    let a = sum_by-cons (λ (ls : List (List TripOf)). row_total (take n ls)) lists levels in
-    let one = sum_by-take-le (λ (rows : List TripOf). length rows) lists n in
-    omega (arith, total_few levels n, sum_by-cons row_total lists levels)
+total_few (lists ∷ levels) n = search (rules, sum_by-cons, sum_by-take-le, (total_few levels n))
 
 -- of one vehicle more, which may have no list
 one_more_list : (lists : List (List TripOf)) (v : ℕ) → row_total (take (v + 1) lists) ≡ row_total (take v lists) + length (get_or lists v [])
@@ -177,9 +171,7 @@ module _ (most : ℕ) (tau : ℕ → ℕ → ℕ) (settled : Settled) where
       → ((k : ℕ) → from ≤ k → k < length rows → (get_or rows k no_row).vehicle ≡ v)
       → MatchBool late (h ≡ None) ((k : ℕ) × (h ≡ Some k) × IsRowWith rows v riders k)
   holds true h from v rows riders found served above own = found
-  holds false None from v rows riders found served above own =
-      let there = served refl in
-      absurd (found there.0 (above there.0 there.1.within there.1.own) there.1.within there.1.trip)
+  holds false None from v rows riders found served above own = search rules
   holds false (Some k) from v rows riders found served above own = (k, refl, record { within = found.1; own = own k found.0 found.1; trip = found.2 })
 
   can_hold : (late : Bool) (v : ℕ) (held : List ℕ) → MatchBool late (IsServable tau (trip_task settled v []) → ⊥) (IsServable tau (trip_task settled v []))
@@ -239,8 +231,7 @@ module _ (most : ℕ) (tau : ℕ → ℕ → ℕ) (settled : Settled) where
 
   pub total_more : (v : ℕ) (levels : List (List (List TripOf))) (rows : List TripRow) → AreLevels tau settled (most + 1) levels → v < length settled.vehicles → length rows ≡ total_upto levels v
       → length (rows ++ vehicle_rows levels v) ≡ total_upto levels (v + 1)
-  total_more v levels rows all less so_far =
-      omega (arith, total_step levels v, length-append rows (vehicle_rows levels v))
+  total_more v levels rows all less so_far = search (rules, total_step, length-append)
 
 -- the rows of all vehicles
 rows_of_all : (most : ℕ) (tau : ℕ → ℕ → ℕ) (settled : Settled) (rows : List TripRow) → AreRowsUpTo most tau settled (length settled.vehicles) rows → AreRowsOf most tau settled rows

@@ -1,4 +1,5 @@
-use Rattle.std.proofs.Common.{◌≡◌, ℕ, suc, ◌+◌, ◌-◌, ◌<◌, ◌≤◌, inl, inr, List, [], ◌∷◌, ◌++◌, length, get_or, Contains, add-one, refl, sym, ap, ◌∙◌, subst, arith}
+use Rattle.std.proofs.lemmas.Bool.Decides.{nat_tests}
+use Rattle.std.proofs.Common.{◌≡◌, ℕ, suc, ◌+◌, ◌-◌, ◌<◌, ◌≤◌, inl, inr, List, [], ◌∷◌, ◌++◌, length, get_or, Contains, add-one, sym, ◌∙◌, subst, arith, rules}
 use Rattle.trip_graph.proofs.Common.{cases_lt, length-map, get_or_append_left, get_or_push, get_or-map, get_or_default, All-nil, sum_by_push, IsTravelTime, Settled, SubTripsAreServable, CanServe, IsTrip, IsSound, TripOf, ComesBefore, trips_of, AreSomeRows, AreRowsOfSize, HasMoreThan, IsLevelOf, AreLevelsUpTo, HasMoreOfSize, AreLevels, row_total, level_total, AreLevelsOf, HasMoreRows}
 use native.Mathlib.Numerals.{unary_clauses}
 use Rattle.std.proofs.lemmas.List.{length-append}
@@ -52,10 +53,7 @@ module _ (tau : ℕ → ℕ → ℕ) (settled : Settled) where
   -- what the vehicle of one number gave
   pub own_level : (size room number at : ℕ) (vehicles : List ℕ) (levels : List Level) (level : Level) → AreLevelsOf tau settled size room vehicles levels → number ≡ at
       → (at < length levels) × (level ≡ get_or levels at level) → IsLevelOf tau settled (get_or vehicles number 0) size room level
-  own_level size room number at vehicles levels level all same found =
-      let here : number < length levels = (let lt = found.0 in omega arith) in
-      let is : get_or levels number level ≡ level = ap (λ (n : ℕ). get_or levels n level) same ∙ sym found.1 in
-      subst (λ (l : Level). IsLevelOf tau settled (get_or vehicles number 0) size room l) is (all.each number level here)
+  own_level size room number at vehicles levels level all same found = search rules
 
   pub level_more : (size n : ℕ) (lists : List (List TripOf)) (rows : List TripOf) → AreLevelsUpTo tau settled size n lists → AreRowsOfSize tau settled n size rows
       → AreLevelsUpTo tau settled size (n + 1) (lists ++ rows ∷ [])
@@ -121,15 +119,10 @@ module _ (tau : ℕ → ℕ → ℕ) (settled : Settled) where
   -- the vehicle alone has more rows than there is room left
   pub more_than_left : (size room left n : ℕ) (lists : List (List TripOf)) → AreLevelsUpTo tau settled size n lists
       → HasMoreThan tau settled n (λ m. m ≡ size) left → n < length settled.vehicles → room ≤ row_total lists + left → HasMoreOfSize tau settled size room
-  more_than_left size room left n lists level more lt enough =
-      more_than_room size room n lists more.rows level more.some lt (let m = more.more in omega arith)
+  more_than_left size room left n lists level more lt enough = grind (arith, nat_tests, (more_than_room size room n lists more.rows level more.some lt))
 
   pub levels_one : (lists : List (List TripOf)) → AreLevelsUpTo tau settled 0 (length settled.vehicles) lists → AreLevels tau settled 1 (lists ∷ [])
-  levels_one lists level =
-      record {
-        count = refl;
-        each = λ k lt. let e : 0 ≡ k = omega arith in subst (λ (j : ℕ). AreLevelsUpTo tau settled j (length settled.vehicles) (get_or (lists ∷ []) j [])) e level;
-      }
+  levels_one lists level = search rules
 
   pub levels_more : (sizes : ℕ) (levels : List (List (List TripOf))) (lists : List (List TripOf)) → AreLevels tau settled sizes levels → AreLevelsUpTo tau settled sizes (length settled.vehicles) lists
       → AreLevels tau settled (sizes + 1) (levels ++ lists ∷ [])

@@ -1,5 +1,5 @@
 -- Some rows of some levels, more than allowed, make a list of more rows than allowed.
-use Rattle.std.proofs.Common.{◌≡◌, ℕ, zero, suc, ◌+◌, ◌<◌, ◌≤◌, inl, inr, List, [], ◌++◌, length, get_or, subst, arith}
+use Rattle.std.proofs.Common.{◌≡◌, ℕ, zero, suc, ◌+◌, ◌<◌, ◌≤◌, inl, inr, List, [], ◌++◌, length, get_or, subst, arith, rules}
 use Rattle.trip_graph.proofs.Common.{cases_lt, get_or_past, All-append, All-nil, Settled, IsRow, TripRow, no_row, TripOf, AreSomeRows, HasMoreRows, vehicle_rows, AreSomeLevels, level_total, total_upto}
 use Rattle.std.specs.List.{All}
 use Rattle.std.proofs.lemmas.List.{length-append}
@@ -34,12 +34,7 @@ module _ (most : ℕ) (tau : ℕ → ℕ → ℕ) (settled : Settled) (allowed :
 
   upto : (n : ℕ) → IsUpTo n (rows_upto levels n)
   unfolding rows_upto
-  upto zero = record {
-    right = All-nil (λ (row : TripRow). IsRow most tau settled row.vehicle row.riders.items row.cost);
-    below = All-nil (λ (row : TripRow). row.vehicle < 0);
-    order = none_in_order;
-    total = (let z = total_none levels in omega arith);
-  }
+  upto zero = search (rules, All-nil, none_in_order, total_none)
   upto (suc n) =
       let before = upto n in
       let new = own n in

@@ -1,8 +1,9 @@
 -- The rows stand by vehicle, then size, then riders.
-use Rattle.std.proofs.Common.{◌≡◌, ℕ, suc, ◌+◌, ◌-◌, ◌<◌, ◌≤◌, inl, inr, List, [], ◌∷◌, ◌++◌, length, get_or, map, refl, sym, ◌∙◌, subst, arith, Ordering}
+use Rattle.std.proofs.lemmas.Bool.Decides.{nat_tests}
+use Rattle.std.proofs.Common.{◌≡◌, ℕ, suc, ◌+◌, ◌-◌, ◌<◌, ◌≤◌, inl, inr, List, [], ◌∷◌, ◌++◌, length, get_or, map, refl, sym, ◌∙◌, subst, arith, rules}
 use Rattle.trip_graph.proofs.Common.{cases_lt, length-map, get_or_append_left, get_or-append_right, get_or-map, All-append, All-nil, flat_map-cons, Settled, TripRow, no_row, row_cmp, TripOf, IsLower, ComesBefore, AreSomeRows, trip_row, vehicle_rows}
-use Rattle.std.specs.declared.cmp.Ordering.TheVariants.{Less, Equal, Greater}
-use Rattle.std.specs.Ordering.{MatchOrdering, nat_cmp}
+use Rattle.std.specs.declared.cmp.Ordering.TheVariants.{Less, Equal}
+use Rattle.std.specs.Ordering.{nat_cmp}
 use Rattle.std.specs.Cmp.{nat_cmp_is}
 use Rattle.std.specs.Cmp.Lexicographic.{slice_cmp}
 use Rattle.std.specs.List.{All}
@@ -21,12 +22,7 @@ same_cmp : (x y : ℕ) → x ≡ y → nat_cmp x y ≡ Equal
 same_cmp x y h = sym (nat_cmp_is x y Equal h)
 
 lower_cmp : (a b : List ℕ) → length a ≡ length b → IsLower a b → slice_cmp nat_cmp a b ≡ Less
-lower_cmp a b e low = by (slice_cmp nat_cmp a b) (compared a b e)
-  where
-    by : (o : Ordering) → MatchOrdering o (IsLower a b) (a ≡ b) (IsLower b a) → o ≡ Less
-    by Less h = refl
-    by Equal h = absurd (lower_irrefl b (subst (λ (x : List ℕ). IsLower x b) h low))
-    by Greater h = absurd (lower_asym a b low h)
+lower_cmp a b e low = grind (arith, nat_tests, (compared a b e), (lower_irrefl b), (lower_asym a b low))
 
 by_vehicle : (a b : TripRow) → a.vehicle < b.vehicle → row_cmp a b ≡ Less
 by_vehicle a b h = rw (less_cmp a.vehicle b.vehicle h) refl
@@ -43,16 +39,7 @@ none_in_order i j less lt = absurd (omega arith)
 -- rows in order behind rows in order that all stand before them
 pub join_in_order : (xs ys : List TripRow) → AreInOrder xs → AreInOrder ys
     → ((i j : ℕ) → i < length xs → j < length ys → row_cmp (get_or xs i no_row) (get_or ys j no_row) ≡ Less) → AreInOrder (xs ++ ys)
-join_in_order xs ys first second across i j less lt =
-    let n = length-append xs ys in
-    elim (cases_lt j (length xs)) as (λ _. row_cmp (get_or (xs ++ ys) i no_row) (get_or (xs ++ ys) j no_row) ≡ Less) [
-      | inl low ↦ rw (get_or_append_left xs ys no_row i (omega arith), get_or_append_left xs ys no_row j low) (first i j less low)
-      | inr high ↦ elim (cases_lt i (length xs)) as (λ _. row_cmp (get_or (xs ++ ys) i no_row) (get_or (xs ++ ys) j no_row) ≡ Less) [
-        | inl low ↦ rw (get_or_append_left xs ys no_row i low, get_or-append_right xs ys (length xs) j no_row refl high) (across i (j - length xs) low (omega arith))
-        | inr ge ↦ rw (get_or-append_right xs ys (length xs) i no_row refl ge, get_or-append_right xs ys (length xs) j no_row refl high)
-            (second (i - length xs) (j - length xs) (omega arith) (omega arith))
-      ]
-    ]
+join_in_order xs ys first second across i j less lt = search (rules, length-append, cases_lt, get_or_append_left, get_or-append_right)
 
 -- a row of the vehicle with at least so many riders
 record IsFrom (v size : ℕ) (row : TripRow) : Type 0 where

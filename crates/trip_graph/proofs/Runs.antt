@@ -1,17 +1,13 @@
 -- The vehicles of a run, and what stands between them.
-use Rattle.std.proofs.Common.{◌≡◌, ℕ, suc, ◌+◌, ◌<◌, ◌≤◌, inl, inr, List, [], ◌∷◌, ◌++◌, length, get_or, drop, drop-cons, add-one, zero, refl, subst, arith}
-use Rattle.trip_graph.proofs.Common.{cases_lt, drop_all, TripOf, AreEmpty, AreNext}
+use Rattle.std.proofs.Common.{◌≡◌, ℕ, suc, ◌+◌, ◌<◌, ◌≤◌, List, [], ◌∷◌, ◌++◌, length, get_or, drop, drop-cons, add-one, zero, subst, arith, rules}
+use Rattle.trip_graph.proofs.Common.{drop_all, TripOf, AreEmpty, AreNext}
 
 module _ (lists : List (List TripOf)) where
   empty_none : (from : ℕ) → AreEmpty lists from from
   empty_none from v lo hi = absurd (omega arith)
 
   empty_more : (from end : ℕ) → AreEmpty lists from end → get_or lists end [] ≡ [] → AreEmpty lists from (end + 1)
-  empty_more from end none here v lo hi =
-      elim (cases_lt v end) as (λ _. get_or lists v [] ≡ []) [
-        | inl low ↦ none v lo low
-        | inr ge ↦ let e : end ≡ v = omega arith in subst (λ (w : ℕ). get_or lists w [] ≡ []) e here
-      ]
+  empty_more from end none here v lo hi = search rules
 
   pub next_none : (from : ℕ) → AreNext lists from [] from
   unfolding AreNext
@@ -46,15 +42,7 @@ module _ (lists : List (List TripOf)) where
 
   pub next_first : (from n : ℕ) (vs : List ℕ) (end : ℕ) → AreNext lists from (drop n vs) end → n < length vs → IsFirst from (get_or vs n 0) end (drop (n + 1) vs)
   unfolding AreNext
-  next_first from n vs end next lt = by (drop n vs) (get_or vs n 0) (drop (n + 1) vs) (drop_next vs n lt) next
-    where
-      drop_next : (vs : List ℕ) (n : ℕ) → n < length vs → drop n vs ≡ get_or vs n 0 ∷ drop (n + 1) vs
-      drop_next vs n lt = rw (add-one, drop-cons vs n 0) refl
-
-      by : (all : List ℕ) (v : ℕ) (rest : List ℕ) → all ≡ v ∷ rest → AreNext lists from all end → IsFirst from v end rest
-      by all v rest is next =
-          let here : AreNext lists from (v ∷ rest) end = subst (λ (l : List ℕ). AreNext lists from l end) is next in
-          record { on = here.0; empty = here.1; next = here.2 }
+  next_first from n vs end next lt = search (rules, add-one, drop-cons)
 
   pub next_last : (from n : ℕ) (vs : List ℕ) (end : ℕ) → AreNext lists from (drop n vs) end → length vs ≤ n → AreEmpty lists from end
   unfolding AreNext
