@@ -1,5 +1,5 @@
 -- What a search finds.
-use Rattle.std.proofs.Common.{◌≡◌, ℕ, suc, ◌+◌, ◌*◌, ◌<◌, ◌≤◌, Bool, true, List, [], ◌∷◌, ◌++◌, length, get_or, set, take, drop, Option, Result, Ok, Err, ℤ, pos, ◌≤ℤ◌, ◌<ℤ◌, to_z, of_z, All, refl, sym, ap, ◌∙◌, subst, arith}
+use Rattle.std.proofs.Common.{◌≡◌, ℕ, suc, ◌+◌, ◌*◌, ◌<◌, ◌≤◌, Bool, true, List, [], ◌∷◌, ◌++◌, length, get_or, take, drop, Option, Result, Ok, Err, ℤ, pos, ◌≤ℤ◌, ◌<ℤ◌, to_z, of_z, All, refl, sym, ap, ◌∙◌, subst, arith, rules}
 use Rattle.assignment_search.proofs.Common.{w128, ints, Graph, IsGoodGraph, IsBound, IsLawful, cost_of, IsGreedy, Usable, usable_of, leaf_value, first_fit_value, every_row, only_row, without_row, CanBranch, IsDeadEnd, Place, rounded_up, places, places_read, ReadsTo, Node, Branch, Leaf, Dead, within_every_row, dead_end_holds_none, tree_value_bounds, Agree, agree_back, leaf_value_agrees, first_fit_value_agrees, dead_end_agrees, may_use_agrees, can_branch_agrees, both_ways, IsSmallSum, IsWorthBranching, IsGoodLeaf, IsGoodNode, IsGrown, HasUsable, IsFixed, IsSolePlan, IsLowest, HasLeaf, IsNewEnd, IsJudged, choice_count, IsBestNear, IsFairNode, IsSearchAnswer, IsTreeSoFar, IsParting, IsPartedAt}
 use Rattle.std.specs.Result.{IfOk}
 use Rattle.std.proofs.lemmas.List.Elements.{All-from_recursion}
@@ -151,9 +151,7 @@ module _ (g : Graph) (limit place : ℕ) (nodes : List Node) (values : List ℤ)
       )
 
   pub judged_here : (ms : List ℤ) → get_or nodes place Dead ≡ Leaf ms → IsJudged g (usable_of allowed) ms (get_or values place (pos 0))
-  judged_here ms is =
-      judged_agrees g s.usable (usable_of allowed) ms (get_or values place (pos 0)) (agree_back g (usable_of allowed) s.usable same)
-      (subst (λ (xs : List ℤ). IsJudged g s.usable xs (get_or values place (pos 0))) (sym (inner ms lowest.multipliers (sym is ∙ lowest.leaf))) here.judged)
+  judged_here ms is = search (rules, inner, here, s, leaf_value_agrees, same)
 
   pub full_answer : (v k : ℕ) → v < g.vehicles → CanBranch g (usable_of allowed) v k → length nodes + 3 ≤ 2 * choice_count g every_row
   full_answer v k below can =
@@ -163,13 +161,7 @@ module _ (g : Graph) (limit place : ℕ) (nodes : List Node) (values : List ℤ)
 
 -- a plan that costs no more than a bound is the best near it
 best_from_least : (g : Graph) (plan : List (Option ℕ)) (low : ℤ) → IsGoodGraph g → pos (cost_of g plan) ≤ℤ low → IsBound g low → IsBestNear g plan
-best_from_least g plan low good most bound =
-    record { held = least g.held good.held; greedy = λ chosen is fair. least chosen fair; change = λ v other fair. least (set plan v other) fair }
-  where
-    least : (chosen : List (Option ℕ)) → IsLawful g chosen → cost_of g plan ≤ cost_of g chosen
-    least chosen fair =
-        let above : low ≤ℤ pos (cost_of g chosen) = bound chosen fair in
-        omega (arith, ints, above, most)
+best_from_least g plan low good most bound = search rules
 
 module _ (g : Graph) (budget limit place : ℕ) (nodes : List Node) (values : List ℤ) (good : IsGoodGraph g) (so_far : IsTreeSoFar g budget limit nodes values) (lowest : IsLowest nodes values place)
     (held : limit ≤ cost_of g g.held) (greedy : (chosen : List (Option ℕ)) → IsGreedy g chosen → IsLawful g chosen → limit ≤ cost_of g chosen) (plan : List (Option ℕ)) (lawful : IsLawful g plan) where
@@ -181,9 +173,7 @@ module _ (g : Graph) (budget limit place : ℕ) (nodes : List Node) (values : Li
 
   -- the tree's value is a bound
   low_is_bound : IsBound g low
-  low_is_bound chosen fair =
-      subst (λ (z : ℤ). z ≤ℤ pos (cost_of g chosen)) (value_is g limit nodes values place grown lowest)
-      (tree_value_bounds g nodes good (grown_reads g low limit nodes values (every_row ∷ []) [] grown) chosen fair)
+  low_is_bound chosen fair = search (rules, value_is, grown, tree_value_bounds, grown_reads, low)
 
   answer_of : IsBestNear g plan → (low <ℤ pos (cost_of g plan) → budget < length nodes + 2) → (2 * choice_count g every_row ≤ budget → low ≡ pos (cost_of g plan))
       → IsSearchAnswer g budget (record { plan = plan; cost = cost_of g plan; bound = low; tree = nodes })
@@ -208,8 +198,7 @@ module _ (g : Graph) (budget limit place : ℕ) (nodes : List Node) (values : Li
 
   module _ (found : Found) (of : found.plan ≡ plan) (costs : found.cost ≡ cost_of g plan) (is : found.bound ≡ low) (same : found.tree ≡ nodes) where
     answer_found : IsSearchAnswer g budget (record { plan = plan; cost = cost_of g plan; bound = low; tree = nodes }) → IsSearchAnswer g budget found
-    answer_found answer =
-        subst (IsSearchAnswer g budget) (λ i. record { plan = sym of i; cost = sym costs i; bound = sym is i; tree = sym same i }) answer
+    answer_found answer = search rules
 
     -- the plan costs no more than the tree shows
     pub answer_met : pos (cost_of g plan) ≤ℤ low → IsSearchAnswer g budget found

@@ -1,6 +1,6 @@
 -- Leaf values where the usable rows of one vehicle alone changed.
-use Rattle.std.proofs.Common.{◌≡◌, ◌≢◌, ℕ, zero, suc, ◌<◌, List, length, Option, ℤ, pos, negsuc, ◌+ℤ◌, ◌-ℤ◌, FitsSigned, to_z, of_z, sym, ap, ◌∙◌, inl, inr, arith, unwrap_or}
-use Rattle.assignment_search.proofs.Common.{w128, ints, cases_eq, int_sum_below, Graph, row_vehicle, Usable, is_usable_by, reduced_cost, vehicle_term, leaf_value, IsSmall, IsSmallSum, only_row, without_row, int_sum_same, least_below_agrees, nat_tests}
+use Rattle.std.proofs.Common.{◌≡◌, ◌≢◌, ℕ, zero, suc, ◌<◌, List, ℤ, pos, negsuc, ◌+ℤ◌, ◌-ℤ◌, FitsSigned, to_z, of_z, sym, ap, ◌∙◌, inl, inr, arith, unwrap_or, rules}
+use Rattle.assignment_search.proofs.Common.{w128, ints, cases_eq, int_sum_below, Graph, row_vehicle, Usable, vehicle_term, leaf_value, IsSmall, IsSmallSum, only_row, without_row, int_sum_same, least_below_agrees, nat_tests}
 use Rattle.std.proofs.lemmas.Int.{to_z-of_z}
 use Rattle.assignment_search.specs.work.Apart.{AgreeApart}
 
@@ -13,10 +13,7 @@ int_sum_moved (suc n) v f h l e = elim (cases_eq v n) [
 ]
 
 term_apart : (g : Graph) (u w : Usable) (ms : List ℤ) (v x : ℕ) → AgreeApart g v u w → x ≢ v → vehicle_term g u ms x ≡ vehicle_term g w ms x
-term_apart g u w ms v x e other =
-    ap (λ (o : Option ℤ). unwrap_or o (pos 0))
-    (least_below_agrees (length g.rows) (is_usable_by g u x) (is_usable_by g w x) (reduced_cost g ms)
-    (λ k l. grind (arith, nat_tests, e k l, other)))
+term_apart g u w ms v x e other = search (rules, unwrap_or, least_below_agrees, nat_tests)
 
 -- a value changes by the changed vehicle's part
 pub value_moved : (g : Graph) (u w : Usable) (ms : List ℤ) (v : ℕ) (z old new : ℤ) → v < g.vehicles → AgreeApart g v u w → z ≡ leaf_value g u ms → old ≡ vehicle_term g u ms v → new ≡ vehicle_term g w ms v → (z -ℤ old) +ℤ new ≡ leaf_value g w ms
@@ -37,15 +34,7 @@ back z h = to_z-of_z w128 z (fits z h)
 -- nothing is lost as the value is computed
 pub computed : (z old new : ℤ) → IsSmallSum 1500 z → IsSmall old → IsSmall new
     → to_z w128 (of_z w128 (to_z w128 (of_z w128 (to_z w128 (of_z w128 z) -ℤ to_z w128 (of_z w128 old))) +ℤ to_z w128 (of_z w128 new))) ≡ (z -ℤ old) +ℤ new
-computed z old new h ho hn =
-    let here : to_z w128 (of_z w128 z) ≡ z = back z (record { low = omega (arith, ints, h.low); high = omega (arith, ints, h.high) }) in
-    let was : to_z w128 (of_z w128 old) ≡ old = back old (record { low = omega (arith, ints, ho.low); high = omega (arith, ints, ho.high) }) in
-    let is : to_z w128 (of_z w128 new) ≡ new = back new (record { low = omega (arith, ints, hn.low); high = omega (arith, ints, hn.high) }) in
-    let less : to_z w128 (of_z w128 z) -ℤ to_z w128 (of_z w128 old) ≡ z -ℤ old = λ i. here i -ℤ was i in
-    let rest : to_z w128 (of_z w128 (to_z w128 (of_z w128 z) -ℤ to_z w128 (of_z w128 old))) ≡ z -ℤ old =
-    ap (λ (y : ℤ). to_z w128 (of_z w128 y)) less ∙ back (z -ℤ old) (record { low = omega (arith, ints, h.low, ho.high); high = omega (arith, ints, h.high, ho.low) }) in
-    ap (λ (y : ℤ). to_z w128 (of_z w128 y)) (λ i. rest i +ℤ is i)
-    ∙ back ((z -ℤ old) +ℤ new) (record { low = omega (arith, ints, h.low, ho.high, hn.low); high = omega (arith, ints, h.high, ho.low, hn.high) })
+computed z old new h ho hn = search (rules, to_z, of_z, back, ints)
 
 -- ---- the two ends of a branch
 

@@ -1,5 +1,5 @@
 -- What it costs to give one vehicle another row.
-use Rattle.std.proofs.Common.{◌≡◌, ℕ, zero, suc, ◌+◌, ◌*◌, ◌<◌, ◌≤◌, false, IsTrue, List, length, set, Option, Some, None, sym, ap, ◌∙◌, subst, inl, inr, arith}
+use Rattle.std.proofs.Common.{◌≡◌, ℕ, zero, suc, ◌+◌, ◌*◌, ◌<◌, ◌≤◌, false, IsTrue, List, length, set, Option, Some, sym, ap, ◌∙◌, subst, arith, rules}
 use Rattle.assignment_search.proofs.Common.{cases_eq, sum_below, Graph, IsGoodGraph, riders_at, cost_at, has_rider, choice_at, is_in, must_be_served, IsLawful, choice_cost, cost_of, left_out, flag, flag-true, flag-false, sum_below_same, times_served_as_count, BettersNothing}
 use Rattle.std.proofs.lemmas.List.{get_or-set_same, get_or-set_other}
 use Rattle.plan_rules.specs.lemmas.Plan.{choice_size}
@@ -9,13 +9,7 @@ use Rattle.plan_rules.proofs.lemmas.ServedLemmas.{served_or_left}
 pub sum_set : (n : ℕ) (f : Option ℕ → ℕ) (chosen : List (Option ℕ)) (v : ℕ) (c : Option ℕ) → v < n → v < length chosen
     → sum_below n (λ w. f (choice_at (set chosen v c) w)) + f (choice_at chosen v) ≡ sum_below n (λ w. f (choice_at chosen w)) + f c
 sum_set zero f chosen v c low within = absurd (omega arith)
-sum_set (suc n) f chosen v c low within = elim (cases_eq v n) [
-  | inl here ↦
-      let below = sum_below_same n (λ w. f (choice_at (set chosen v c) w)) (λ w. f (choice_at chosen w)) (λ w l. ap f (get_or-set_other chosen v w c None (λ (e : w ≡ v). omega arith))) in
-      let new : f (choice_at (set chosen v c) n) ≡ f c = ap f (subst (λ (w : ℕ). choice_at (set chosen v c) w ≡ c) here (get_or-set_same chosen v c None within)) in
-      omega (arith, below, new, ap (λ (w : ℕ). f (choice_at chosen w)) here)
-  | inr other ↦ omega (arith, sum_set n f chosen v c (omega arith) within, ap f (get_or-set_other chosen v n c None (λ (e : n ≡ v). other (sym e))))
-]
+sum_set (suc n) f chosen v c low within = search (rules, cases_eq, sum_below_same, get_or-set_other, get_or-set_same, (sum_set n f chosen v c))
 
 -- a row that costs no less than the present one, each with the penalties of those whom only the other serves, betters nothing
 pub dear_betters_nothing : (g : Graph) (chosen : List (Option ℕ)) (v j k : ℕ) → IsGoodGraph g → IsLawful g chosen → v < g.vehicles → choice_at chosen v ≡ Some j

@@ -20,7 +20,7 @@ pub use Rattle.assignment_search.specs.work.Next.{IsNext, IsPartedAt, IsParting}
 pub use Rattle.assignment_search.specs.work.OpenLeaves.{AreOpen, leaf_cmp, leaf_sum}
 pub use Rattle.plan_rules.proofs.lemmas.GraphLemmas.{has_at, in_choice, times_served_as_count, times_served_some}
 pub use Rattle.plan_rules.proofs.lemmas.PlanLemmas.{has_choice}
-pub use Rattle.plan_rules.proofs.lemmas.SumLemmas.{count_below_found, count_below_same, count_below_some, count_below_two, flag, flag-false, flag-true, int_sum_le, int_sum_same, int_sum_zero, least_below_found, least_below_none, least_below_some, part, sum_below_plus, sum_below_same}
+pub use Rattle.plan_rules.proofs.lemmas.SumLemmas.{count_below_found, count_below_some, count_below_two, flag, flag-false, flag-true, int_sum_le, int_sum_same, int_sum_zero, least_below_found, least_below_none, least_below_some, part, sum_below_plus, sum_below_same}
 pub use Rattle.plan_rules.proofs.lemmas.TreeLemmas.{dead_end_holds_none, each_plan_at_one_end, no_plan_at_dead_ends, tree_value_bounds, within_every_row}
 pub use Rattle.plan_rules.proofs.lemmas.UsableLemmas.{Agree, agree_back, can_branch_agrees, dead_end_agrees, first_fit_value_agrees, leaf_value_agrees, least_below_agrees, may_use_agrees}
 pub use Rattle.plan_rules.specs.Graph.{Graph, IsRowOf, choice_at, cost_at, has_rider, must_be_served, riders_at, row_vehicle}
@@ -28,7 +28,7 @@ pub use Rattle.plan_rules.specs.lemmas.Graph.{HasNoRow, is_in}
 pub use Rattle.plan_rules.specs.GoodGraph.{IsGoodGraph}
 pub use Rattle.plan_rules.specs.Greedy.{IsGreedy, IsTaken, IsTriedBefore}
 unfoldable pub use Rattle.plan_rules.specs.Multipliers.{first_fit_below, leaf_value}
-pub use Rattle.plan_rules.specs.Multipliers.{Usable, first_fit_of, first_fit_value, is_usable_by, multiplier_at, reduced_cost, room_at, usable_of}
+pub use Rattle.plan_rules.specs.Multipliers.{Usable, first_fit_of, first_fit_value, is_usable_by, multiplier_at, reduced_cost, usable_of}
 pub use Rattle.plan_rules.specs.Terms.{first_fit, rider_term, vehicle_term}
 pub use Rattle.plan_rules.specs.Path.{IsPathOf, standing_of}
 unfoldable pub use Rattle.plan_rules.specs.Plan.{cost_of}

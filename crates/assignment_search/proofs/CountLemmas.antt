@@ -1,6 +1,6 @@
 -- How many choices there are, and how long a tree can be.
-use Rattle.std.proofs.Common.{◌≡◌, ◌==◌, ◌&&◌, ◌||◌, not, ℕ, zero, suc, ◌+◌, ◌*◌, ◌<◌, ◌≤◌, max, Bool, true, List, [], ◌∷◌, length, take, drop, get_or, ℤ, refl, sym, ap, ◌∙◌, subst, ⊎_elim, arith, eqb-true}
-use Rattle.assignment_search.proofs.Common.{cases_eq, count_below, Graph, IsRowOf, row_vehicle, Usable, is_usable_by, every_row, only_row, without_row, CanBranch, coming_after, ReadsTo, Node, Branch, Leaf, Dead, flag, sum_below_same, sum_below_plus, count_below_same, count_below_some, product_below, choice_count, IsGrown, nat_tests}
+use Rattle.std.proofs.Common.{◌≡◌, ◌==◌, ◌&&◌, ◌||◌, not, ℕ, zero, suc, ◌+◌, ◌*◌, ◌<◌, ◌≤◌, max, Bool, true, List, [], ◌∷◌, length, take, drop, get_or, ℤ, refl, sym, ap, ◌∙◌, arith, rules}
+use Rattle.assignment_search.proofs.Common.{cases_eq, count_below, Graph, IsRowOf, row_vehicle, Usable, is_usable_by, every_row, only_row, without_row, CanBranch, ReadsTo, Node, Branch, Leaf, Dead, flag, sum_below_same, sum_below_plus, count_below_some, product_below, choice_count, nat_tests}
 use Rattle.std.proofs.Math.Nat.{add-mul, mul-add, le-max_left}
 use Rattle.assignment_search.proofs.GrowthLemmas.{IsSplit, grown_reads}
 
@@ -8,9 +8,7 @@ use Rattle.assignment_search.proofs.GrowthLemmas.{IsSplit, grown_reads}
 
 product_same : (n : ℕ) (f h : ℕ → ℕ) → ((w : ℕ) → w < n → f w ≡ h w) → product_below n f ≡ product_below n h
 product_same zero f h e = refl
-product_same (suc n) f h e =
-    let before = product_same n f h (λ w l. e w (omega (arith, l))) in
-    λ i. before i * e n (omega arith) i
+product_same (suc n) f h e = search (rules, (product_same n f h))
 
 product_some : (n : ℕ) (f : ℕ → ℕ) → ((w : ℕ) → 1 ≤ f w) → 1 ≤ product_below n f
 product_some zero f e = omega arith
@@ -23,21 +21,7 @@ product_some (suc n) f e = some (product_below n f) (f n) (product_some n f e) (
 -- where one factor is a sum, so is the product
 product_split : (n : ℕ) (f a b : ℕ → ℕ) (v : ℕ) → v < n → ((w : ℕ) → (w ≡ v → ⊥) → f w ≡ a w) → ((w : ℕ) → (w ≡ v → ⊥) → f w ≡ b w) → f v ≡ a v + b v → product_below n f ≡ product_below n a + product_below n b
 product_split zero f a b v l first second both = absurd (omega (arith, l))
-product_split (suc n) f a b v l first second both =
-    ⊎_elim
-    (λ (here : v ≡ n).
-    let left : product_below n f ≡ product_below n a = product_same n f a (λ w low. first w (λ (e : w ≡ v). omega (arith, low, e, here))) in
-    let right : product_below n f ≡ product_below n b = product_same n f b (λ w low. second w (λ (e : w ≡ v). omega (arith, low, e, here))) in
-    let last : f n ≡ a n + b n = subst (λ (w : ℕ). f w ≡ a w + b w) here both in
-    let whole = ap (λ (x : ℕ). product_below n f * x) last ∙ mul-add (product_below n f) (a n) (b n) in
-    whole ∙ (λ i. left i * a n + right i * b n))
-    (λ (other : v ≡ n → ⊥).
-    let before : product_below n f ≡ product_below n a + product_below n b = product_split n f a b v (omega (arith, l, other)) first second both in
-    let left : f n ≡ a n = first n (λ (e : n ≡ v). other (sym e)) in
-    let right : f n ≡ b n = second n (λ (e : n ≡ v). other (sym e)) in
-    let whole = ap (λ (x : ℕ). x * f n) before ∙ add-mul (product_below n a) (product_below n b) (f n) in
-    whole ∙ (λ i. product_below n a * left i + product_below n b * right i))
-    (cases_eq v n)
+product_split (suc n) f a b v l first second both = grind (arith, nat_tests, product_same, mul-add, add-mul, cases_eq, (product_split n f a b v))
 
 -- ---- the choices at a branch
 
@@ -64,14 +48,10 @@ count_split g u v k =
     ∙ sum_below_plus (length g.rows) (λ j. flag (is_usable_by g (only_row g u v k) v j)) (λ j. flag (is_usable_by g (without_row u k) v j))
 
 count_only_other : (g : Graph) (u : Usable) (v k w : ℕ) → (w ≡ v → ⊥) → usable_count g u w ≡ usable_count g (only_row g u v k) w
-count_only_other g u v k w other =
-    count_below_same (length g.rows) (is_usable_by g u w) (is_usable_by g (only_row g u v k) w)
-    (λ j l. other_only (row_vehicle g j == w) (u j) (row_vehicle g j == v) (j == k) (λ a b. other (sym (eqb-true (row_vehicle g j) w a) ∙ eqb-true (row_vehicle g j) v b)))
+count_only_other g u v k w other = search rules
 
 count_without_other : (g : Graph) (u : Usable) (v k w : ℕ) → IsRowOf g v k → (w ≡ v → ⊥) → usable_count g u w ≡ usable_count g (without_row u k) w
-count_without_other g u v k w row other =
-    count_below_same (length g.rows) (is_usable_by g u w) (is_usable_by g (without_row u k) w)
-    (λ j l. other_without (row_vehicle g j == w) (u j) (j == k) (λ a b. other (sym (eqb-true (row_vehicle g j) w a) ∙ ap (row_vehicle g) (eqb-true j k b) ∙ row.own)))
+count_without_other g u v k w row other = search rules
 
 count_only_some : (g : Graph) (u : Usable) (v k : ℕ) → CanBranch g u v k → 1 ≤ usable_count g (only_row g u v k) v
 count_only_some g u v k can =
@@ -113,15 +93,9 @@ all_choices g (u ∷ us) = choice_count g u + all_choices g us
 
 -- nodes that lead from these subtrees to those are not many
 reads_short : (g : Graph) → ((k : ℕ) → k < length g.rows → row_vehicle g k < g.vehicles) → (nodes : List Node) (coming rest : List Usable) → ReadsTo g coming nodes rest → length nodes + 2 * all_choices g rest + length coming ≤ 2 * all_choices g coming + length rest
-reads_short g exist [] coming rest h =
-    let sums : all_choices g coming ≡ all_choices g rest = ap (all_choices g) h in
-    let sizes : length coming ≡ length rest = ap (λ (c : List Usable). length c) h in
-    omega (arith, sums, sizes)
+reads_short g exist [] coming rest h = search rules
 reads_short g exist (n ∷ nodes) [] rest h = absurd h
-reads_short g exist (Branch v k ∷ nodes) (u ∷ us) rest h =
-    let can = h.0 in
-    let low : v < g.vehicles = subst (λ (w : ℕ). w < g.vehicles) can.row.row.own (exist k can.row.row.within) in
-    omega (arith, reads_short g exist nodes (only_row g u v k ∷ without_row u k ∷ us) rest (h.1), choices_split g u v k low can)
+reads_short g exist (Branch v k ∷ nodes) (u ∷ us) rest h = search (rules, choices_split, (reads_short g exist nodes))
 reads_short g exist (n ∷ nodes) (u ∷ us) rest h = omega (arith, reads_short g exist nodes us rest (h.1), choices_some g u)
 
 drop_length : (xs : List Node) (i : ℕ) → i < length xs → length (take i xs) + 1 + length (drop (suc i) xs) ≡ length xs
@@ -132,11 +106,4 @@ drop_length (x ∷ xs) (suc i) l = omega (arith, drop_length xs i (omega (arith,
 -- while a leaf of a sound tree has a vehicle with two rows, the tree is short
 pub tree_short : (g : Graph) (low : ℤ) (limit : ℕ) (nodes : List Node) (values : List ℤ) (i v k : ℕ) (ms : List ℤ) → ((k : ℕ) → k < length g.rows → row_vehicle g k < g.vehicles)
     → i < length nodes → get_or nodes i Dead ≡ Leaf ms → (s : IsSplit g low limit (every_row ∷ []) nodes values [] i) → v < g.vehicles → CanBranch g s.usable v k → length nodes + 3 ≤ 2 * choice_count g every_row
-tree_short g low limit nodes values i v k ms exist l leaf s below can =
-    let after : IsGrown g low limit s.later (drop (suc i) nodes) (drop (suc i) values) [] =
-    subst (λ (n : Node). IsGrown g low limit (coming_after g s.usable n s.later) (drop (suc i) nodes) (drop (suc i) values) []) leaf s.after in
-    let before = reads_short g exist (take i nodes) (every_row ∷ []) (s.usable ∷ s.later) (grown_reads g low limit (take i nodes) (take i values) (every_row ∷ []) (s.usable ∷ s.later) s.before) in
-    let rest = reads_short g exist (drop (suc i) nodes) s.later [] (grown_reads g low limit (drop (suc i) nodes) (drop (suc i) values) s.later [] after) in
-    let size = drop_length nodes i l in
-    let split = choices_split g s.usable v k below can in
-    omega (arith, before, rest, size, split, choices_some g (only_row g s.usable v k), choices_some g (without_row s.usable k))
+tree_short g low limit nodes values i v k ms exist l leaf s below can = grind (arith, nat_tests, (reads_short g exist (take i nodes)), (reads_short g exist (drop (suc i) nodes) s.later), (grown_reads g low limit (take i nodes) (take i values)), (grown_reads g low limit (drop (suc i) nodes) (drop (suc i) values) s.later), (drop_length nodes i l), (choices_split g s.usable v k below can), (choices_some g))

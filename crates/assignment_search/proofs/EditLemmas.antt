@@ -1,5 +1,5 @@
 -- A leaf replaced by a branch with its ends, and the values beside them.
-use Rattle.std.proofs.Common.{◌≡◌, ℕ, zero, suc, ◌+◌, ◌<◌, List, [], ◌∷◌, ◌++◌, length, get_or, take, drop, refl, ap, ◌∙◌, arith}
+use Rattle.std.proofs.Common.{◌≡◌, ℕ, zero, suc, ◌+◌, ◌<◌, List, [], ◌∷◌, ◌++◌, length, get_or, take, drop, refl, ap, arith, rules}
 use Rattle.std.specs.List.{insert, remove}
 
 replace_suc : {X : Type 0} (xs : List X) (i : ℕ) (b p q : X) → i < length xs → insert (insert (insert (remove xs i) i b) (suc i) p) (suc (suc i)) q ≡ take i xs ++ (b ∷ p ∷ q ∷ drop (suc i) xs)
@@ -8,10 +8,7 @@ replace_suc (x ∷ xs) zero b p q l = refl
 replace_suc (x ∷ xs) (suc i) b p q l = ap (λ ys. x ∷ ys) (replace_suc xs i b p q (omega (arith, l)))
 
 pub edit_replace : {X : Type 0} (xs : List X) (i : ℕ) (b p q : X) → i < length xs → insert (insert (insert (remove xs i) i b) (i + 1) p) (i + 2) q ≡ take i xs ++ (b ∷ p ∷ q ∷ drop (suc i) xs)
-edit_replace xs i b p q l =
-    let one : i + 1 ≡ suc i = omega arith in
-    let two : i + 2 ≡ suc (suc i) = omega arith in
-    (λ j. insert (insert (insert (remove xs i) i b) (one j) p) (two j) q) ∙ replace_suc xs i b p q l
+edit_replace xs i b p q l = search (rules, replace_suc)
 
 keep_suc : {X : Type 0} (xs : List X) (i : ℕ) (p q d : X) → i < length xs → insert (insert xs (suc i) p) (suc (suc i)) q ≡ take i xs ++ (get_or xs i d ∷ p ∷ q ∷ drop (suc i) xs)
 keep_suc [] i p q d l = absurd (omega (arith, l))
@@ -19,10 +16,7 @@ keep_suc (x ∷ xs) zero p q d l = refl
 keep_suc (x ∷ xs) (suc i) p q d l = ap (λ ys. x ∷ ys) (keep_suc xs i p q d (omega (arith, l)))
 
 pub edit_keep : {X : Type 0} (xs : List X) (i : ℕ) (p q d : X) → i < length xs → insert (insert xs (i + 1) p) (i + 2) q ≡ take i xs ++ (get_or xs i d ∷ p ∷ q ∷ drop (suc i) xs)
-edit_keep xs i p q d l =
-    let one : i + 1 ≡ suc i = omega arith in
-    let two : i + 2 ≡ suc (suc i) = omega arith in
-    (λ j. insert (insert xs (one j) p) (two j) q) ∙ keep_suc xs i p q d l
+edit_keep xs i p q d l = search (rules, keep_suc)
 
 -- two more elements
 pub edit_length : {X : Type 0} (xs : List X) (i : ℕ) (b p q : X) → i < length xs → length (take i xs ++ (b ∷ p ∷ q ∷ drop (suc i) xs)) ≡ length xs + 2

@@ -1,6 +1,6 @@
 -- A leaf where no vehicle has a choice holds one plan, whose cost is the first-fit value.
-use Rattle.std.proofs.Common.{◌≡◌, ◌==◌, ◌&&◌, ℕ, zero, suc, ◌+◌, ◌*◌, ◌<◌, ◌≤◌, Bool, true, false, ltb, List, [], ◌∷◌, length, Option, Some, None, MatchOption, ℤ, pos, ◌+ℤ◌, ◌-ℤ◌, ◌≤ℤ◌, refl, sym, ap, ◌∙◌, subst, inl, inr, ⊎_elim, arith, eq-eqb, eqb-true, unwrap_or}
-use Rattle.assignment_search.proofs.Common.{nat_tests, same_Some, none-some, ints, cases_eq, cases_lt, cases_Bool, and_from, and_parts, get_or_push, get_or_append_left, sum_below, count_below, int_sum_below, lesser, Graph, IsRowOf, HasNoRow, riders_at, row_vehicle, has_rider, choice_at, is_in, must_be_served, IsGoodGraph, IsPlan, IsLawful, choice_cost, cost_of, times_chosen, left_out, Usable, multiplier_at, is_usable_by, reduced_cost, vehicle_term, rider_term, leaf_value, room_at, first_fit_of, first_fit_below, first_fit, first_fit_value, MayUse, IsSoleRow, IsDeadEnd, Clash, Stranded, rounded_up, flag, flag-true, flag-false, part, int_sum_same, int_sum_le, int_sum_zero, least_below_some, least_below_none, least_below_found, count_below_found, times_served_as_count, times_served_some, in_choice, has_choice, HasUsable, IsFixed, IsSolePlan, false_from_ne_true}
+use Rattle.std.proofs.Common.{◌≡◌, ◌==◌, ℕ, zero, suc, ◌+◌, ◌*◌, ◌<◌, ◌≤◌, Bool, true, false, ltb, List, length, Option, Some, None, MatchOption, ℤ, pos, ◌+ℤ◌, ◌-ℤ◌, ◌≤ℤ◌, refl, sym, ap, ◌∙◌, subst, ⊎_elim, arith, eq-eqb, eqb-true, unwrap_or, rules}
+use Rattle.assignment_search.proofs.Common.{nat_tests, same_Some, none-some, ints, cases_eq, cases_lt, cases_Bool, and_from, and_parts, get_or_push, get_or_append_left, sum_below, count_below, int_sum_below, Graph, IsRowOf, HasNoRow, riders_at, row_vehicle, has_rider, choice_at, is_in, must_be_served, IsGoodGraph, IsPlan, IsLawful, choice_cost, cost_of, times_chosen, left_out, Usable, multiplier_at, is_usable_by, reduced_cost, vehicle_term, rider_term, leaf_value, first_fit_of, first_fit_below, first_fit, first_fit_value, MayUse, IsSoleRow, IsDeadEnd, Clash, Stranded, rounded_up, flag, flag-true, flag-false, part, int_sum_same, int_sum_le, int_sum_zero, least_below_some, least_below_none, least_below_found, count_below_found, times_served_as_count, times_served_some, in_choice, has_choice, HasUsable, IsFixed, IsSolePlan, false_from_ne_true}
 use Rattle.plan_rules.proofs.lemmas.DualityLemmas.{choices_sum, multiplier_sum_is, prices_sum, riders_give, served_give}
 use Rattle.plan_rules.proofs.lemmas.TreeLemmas.{rounded_up_mono}
 use Rattle.dual_bound.proofs.lemmas.FirstFitLemmas.{length-first_fit}
@@ -9,10 +9,7 @@ use Rattle.dual_bound.proofs.lemmas.FirstFitValueLemmas.{first_fit_leaves_room, 
 -- where two are counted, two pass
 count_two_found : (n : ℕ) (p : ℕ → Bool) → 2 ≤ count_below n p → (j : ℕ) × (k : ℕ) × (j < k) × (k < n) × (p j ≡ true) × (p k ≡ true)
 count_two_found zero p h = absurd (omega (arith, h))
-count_two_found (suc n) p h = elim (cases_Bool (p n)) [
-  | inl passes ↦ let w = count_below_found n p (omega (arith, h, flag-true (p n) passes)) in (w.0, n, w.1, omega arith, w.2, passes)
-  | inr fails ↦ let w = count_two_found n p (omega (arith, h, flag-false (p n) fails)) in (w.0, w.1, w.2, omega (arith, w.3), w.4, w.5)
-]
+count_two_found (suc n) p h = search (rules, cases_Bool, count_below_found, flag-true, flag-false, (count_two_found n p))
 
 module _ (g : Graph) (u : Usable) (chosen : List (Option ℕ)) (good : IsGoodGraph g) (sized : length chosen ≡ g.vehicles) (sole : IsSolePlan g u chosen) (fixed : IsFixed g u) (has : HasUsable g u) (alive : IsDeadEnd g u → ⊥) where
   -- a choice may be used
@@ -104,33 +101,17 @@ rider_term_ge g ms r t most all = grind (arith, ints, nat_tests, rider_term_is g
 
 riders_ge : (g : Graph) (ms : List ℤ) (chosen : List (Option ℕ)) → ((r : ℕ) → r < g.riders → multiplier_at ms r ≤ℤ pos (1024 * g.penalty)) → ((r : ℕ) → r < g.riders → times_chosen g chosen r ≡ 0 → multiplier_at ms r ≡ pos (1024 * g.penalty))
     → (served_give g ms chosen +ℤ pos (1024 * (g.penalty * left_out g chosen))) ≤ℤ int_sum_below g.riders (rider_term g ms)
-riders_ge g ms chosen most all =
-    let each = int_sum_le g.riders (λ r. part (ltb 0 (times_chosen g chosen r)) (multiplier_at ms r) +ℤ pos (1024 * (g.penalty * flag (times_chosen g chosen r == 0)))) (rider_term g ms)
-    (λ r l. rider_term_ge g ms r (times_chosen g chosen r) (most r l) (all r l)) in
-    omega (arith, ints, prices_sum g ms chosen)
+riders_ge g ms chosen most all = grind (arith, nat_tests, (int_sum_le g.riders), (times_chosen g chosen), (rider_term_ge g ms), (prices_sum g ms chosen))
 
 -- ---- the first-fit multipliers there
 
 first_fit_read : (g : Graph) (u : Usable) (n r : ℕ) → r < n → multiplier_at (first_fit_below g u n) r ≡ first_fit_of g u (first_fit_below g u r) r
 unfolding first_fit_below
 first_fit_read g u zero r l = absurd (omega (arith, l))
-first_fit_read g u (suc n) r l =
-    let before = first_fit_below g u n in
-    let next = first_fit_of g u before n in
-    let long : length before ≡ n = length-first_fit g u n in
-    ⊎_elim
-    (λ (here : r ≡ n). get_or_push before next (pos 0) r (long ∙ sym here) ∙ ap (λ (q : ℕ). first_fit_of g u (first_fit_below g u q) q) (sym here))
-    (λ (other : r ≡ n → ⊥). get_or_append_left before (next ∷ []) (pos 0) r (omega (arith, l, other, long)) ∙ first_fit_read g u n r (omega (arith, l, other)))
-    (cases_eq r n)
+first_fit_read g u (suc n) r l = search (rules, length-first_fit, get_or_push, get_or_append_left, cases_eq, (first_fit_read g u n r))
 
 first_fit_left : (g : Graph) (u : Usable) (r : ℕ) → r < g.riders → ((k : ℕ) → k < length g.rows → u k ≡ true → has_rider g k r ≡ true → ⊥) → multiplier_at (first_fit g u) r ≡ pos (1024 * g.penalty)
-first_fit_left g u r l nowhere =
-    first_fit_read g u g.riders r l
-    ∙ ap (λ (o : Option ℤ). lesser o (pos (1024 * g.penalty)))
-    (least_below_none (length g.rows) (λ k. u k && has_rider g k r) (room_at g u (first_fit_below g u r)) not_both)
-  where
-    not_both : (k : ℕ) → k < length g.rows → (u k && has_rider g k r) ≡ false
-    not_both k low = false_from_ne_true (u k && has_rider g k r) (λ e. let parts = and_parts (u k) (has_rider g k r) e in nowhere k low (parts.0) (parts.1))
+first_fit_left g u r l nowhere = search (rules, first_fit_read, least_below_none, false_from_ne_true, and_parts)
 
 -- ---- together
 
@@ -148,6 +129,4 @@ module _ (g : Graph) (u : Usable) (chosen : List (Option ℕ)) (good : IsGoodGra
 
   -- the one plan costs no more than the value shows
   pub sole_reaches : (value : ℤ) → first_fit_value g u ≤ℤ value → pos (cost_of g chosen) ≤ℤ rounded_up value
-  sole_reaches value above =
-      let reach : pos (1024 * cost_of g chosen) ≤ℤ first_fit_value g u = value_reaches in
-      rounded_up_ge value (cost_of g chosen) (omega (arith, ints))
+  sole_reaches value above = search (rules, value_reaches, rounded_up_ge, ints)

@@ -1,6 +1,6 @@
 -- Trees that grow.
-use Rattle.std.proofs.Common.{◌≡◌, ℕ, zero, suc, ◌<◌, ◌≤◌, List, [], ◌∷◌, ◌++◌, length, get_or, take, drop, Option, Some, None, ℤ, pos, ◌≤ℤ◌, refl, sym, ap, ◌∙◌, subst, ⊎_elim, arith, unwrap_or}
-use Rattle.assignment_search.proofs.Common.{none-some, same_Some, ints, int_min_is, cases_eq, lesser, Graph, IsRowOf, row_vehicle, Usable, leaf_value, first_fit_value, every_row, only_row, without_row, CanBranch, rounded_up, least_leaf, IsSoundNode, coming_after, ReadsTo, places_from, value_read, IsLawful, cost_of, IsGreedy, Node, Branch, Leaf, Dead, IsWorthBranching, IsGoodLeaf, IsGoodNode, IsGrown, HasUsable, IsLowest, IsNewEnd, IsFairNode, nat_tests}
+use Rattle.std.proofs.Common.{◌≡◌, ℕ, zero, suc, ◌<◌, ◌≤◌, List, [], ◌∷◌, ◌++◌, length, get_or, take, drop, Option, Some, ℤ, pos, ◌≤ℤ◌, refl, sym, ap, ◌∙◌, subst, ⊎_elim, arith, unwrap_or, rules}
+use Rattle.assignment_search.proofs.Common.{none-some, same_Some, ints, int_min_is, cases_eq, lesser, Graph, IsRowOf, row_vehicle, Usable, leaf_value, every_row, only_row, without_row, CanBranch, rounded_up, least_leaf, IsSoundNode, coming_after, ReadsTo, places_from, value_read, IsLawful, cost_of, IsGreedy, Node, Branch, Leaf, Dead, IsWorthBranching, IsGoodLeaf, IsGoodNode, IsGrown, HasUsable, IsLowest, IsNewEnd, IsFairNode, nat_tests}
 use Rattle.std.specs.List.{AllByRecursion as ByRecursion}
 use Rattle.plan_rules.proofs.lemmas.SumLemmas.{lesser-le_left, lesser-le_right}
 use Rattle.plan_rules.proofs.lemmas.TreeLemmas.{rounded_up_mono}
@@ -81,9 +81,7 @@ LeavesAbove low nodes values = (k : ℕ) (ms : List ℤ) → k < length nodes �
 raise_node : (g : Graph) (low new : ℤ) (limit : ℕ) (u : Usable) (n : Node) (z : ℤ) → low ≤ℤ new → ((ms : List ℤ) → n ≡ Leaf ms → new ≤ℤ rounded_up z) → IsGoodNode g low limit u n z → IsGoodNode g new limit u n z
 raise_node g low new limit u (Leaf ms) z up floor h = record { judged = h.judged; first_fit = h.first_fit; floor = floor ms refl; alive = h.alive }
 raise_node g low new limit u Dead z up floor h = h
-raise_node g low new limit u (Branch v k) z up floor h =
-    let w = h.1 in
-    (h.0, record { at_most = omega (arith, ints, w.at_most, up); below = w.below })
+raise_node g low new limit u (Branch v k) z up floor h = search rules
 
 pub raised : (g : Graph) (low new : ℤ) (limit : ℕ) (nodes : List Node) (values : List ℤ) (coming rest : List Usable) → low ≤ℤ new → LeavesAbove new nodes values → IsGrown g low limit coming nodes values rest → IsGrown g new limit coming nodes values rest
 raised g low new limit [] [] coming rest up above h = h
@@ -108,16 +106,7 @@ lowest_floor g low limit nodes values i grown lowest =
 
 least_low : (g : Graph) (low : ℤ) (limit : ℕ) (nodes : List Node) (values : List ℤ) (coming rest : List Usable) → IsGrown g low limit coming nodes values rest → (z : ℤ) → least_leaf g (places_from g coming nodes) ≡ Some z → low ≤ℤ z
 least_low g low limit [] [] coming rest h z e = absurd (none-some z e)
-least_low g low limit (Leaf ms ∷ nodes) (w ∷ values) (u ∷ us) rest h z e =
-    let leaf = h.0 in
-    let floor : low ≤ℤ rounded_up (leaf_value g u ms) = subst (λ (y : ℤ). low ≤ℤ rounded_up y) leaf.judged.judged leaf.floor in
-    both (least_leaf g (places_from g us nodes)) (least_low g low limit nodes values us rest (h.1)) floor (same_Some _ _ e)
-  where
-    both : (o : Option ℤ) → ((y : ℤ) → o ≡ Some y → low ≤ℤ y) → low ≤ℤ rounded_up (leaf_value g u ms) → lesser o (rounded_up (leaf_value g u ms)) ≡ z → low ≤ℤ z
-    both None before here is = omega (arith, ints)
-    both (Some y) before here is =
-        let old : low ≤ℤ y = before y refl in
-        omega (arith, ints, int_min_is y (rounded_up (leaf_value g u ms)))
+least_low g low limit (Leaf ms ∷ nodes) (w ∷ values) (u ∷ us) rest h z e = search (rules, same_Some, ints, int_min_is, (least_low g low limit nodes values us rest (h.1)))
 least_low g low limit (n ∷ nodes) (w ∷ values) (u ∷ us) rest h z e = least_low g low limit nodes values (coming_after g u n us) rest (h.1) z e
 least_low g low limit nodes values coming rest h z e = absurd h
 
@@ -134,10 +123,7 @@ least_high g low limit (Leaf ns ∷ nodes) (w ∷ values) (u ∷ us) rest (suc i
     let least = least_leaf g (places_from g us nodes) in
     let value = rounded_up (leaf_value g u ns) in
     (lesser least value, refl, omega (arith, ints, ap (λ (o : Option ℤ). lesser o value) before.1, lesser-le_left before.0 value, before.2))
-least_high g low limit (n ∷ nodes) (w ∷ values) (u ∷ us) rest zero ms h l e = absurd (differ e)
-  where
-    differ : n ≡ Leaf ms → ⊥
-    differ e = cc
+least_high g low limit (n ∷ nodes) (w ∷ values) (u ∷ us) rest zero ms h l e = search rules
 least_high g low limit (n ∷ nodes) (w ∷ values) (u ∷ us) rest (suc i) ms h l e = least_high g low limit nodes values (coming_after g u n us) rest i ms (h.1) (omega (arith, l)) e
 least_high g low limit nodes values coming rest i ms h l e = absurd h
 
@@ -154,18 +140,7 @@ value_is g limit nodes values i grown lowest =
 pub nodes_fair : (g : Graph) (low : ℤ) (limit : ℕ) → limit ≤ cost_of g g.held → ((chosen : List (Option ℕ)) → IsGreedy g chosen → IsLawful g chosen → limit ≤ cost_of g chosen)
     → (nodes : List Node) (values : List ℤ) (coming rest : List Usable) → IsGrown g low limit coming nodes values rest → ByRecursion (λ p. IsFairNode g low p.usable p.node) (places_from g coming nodes)
 nodes_fair g low limit held greedy [] [] coming rest h = tt
-nodes_fair g low limit held greedy (n ∷ nodes) (z ∷ values) (u ∷ us) rest h = (fair n (h.0), nodes_fair g low limit held greedy nodes values (coming_after g u n us) rest (h.1))
-  where
-    fair : (m : Node) → IsGoodNode g low limit u m z → IsFairNode g low u m
-    fair (Leaf ms) leaf = subst (λ (y : ℤ). first_fit_value g u ≤ℤ y) leaf.judged.judged leaf.first_fit
-    fair Dead h = tt
-    fair (Branch v k) h =
-        let worth = h.1 in
-        record {
-          at_most = worth.at_most;
-          below_held = omega (arith, ints, worth.below, held);
-          below_greedy = λ chosen is lawful. omega (arith, ints, worth.below, greedy chosen is lawful);
-        }
+nodes_fair g low limit held greedy (n ∷ nodes) (z ∷ values) (u ∷ us) rest h = search (rules, ints, (nodes_fair g low limit held greedy nodes values))
 nodes_fair g low limit held greedy nodes values coming rest h = absurd h
 
 -- ---- vehicles keep a usable row
@@ -197,8 +172,7 @@ AllUsable g (u ∷ us) = HasUsable g u × AllUsable g us
 usable_along : (g : Graph) (nodes : List Node) (coming rest : List Usable) → ReadsTo g coming nodes rest → AllUsable g coming → AllUsable g rest
 usable_along g [] coming rest h all = subst (AllUsable g) h all
 usable_along g (n ∷ nodes) [] rest h all = absurd h
-usable_along g (Branch v k ∷ nodes) (u ∷ us) rest h all =
-    usable_along g nodes (only_row g u v k ∷ without_row u k ∷ us) rest (h.1) (usable_only g u v k (h.0) (all.0), (usable_without g u v k (h.0) (all.0), all.1))
+usable_along g (Branch v k ∷ nodes) (u ∷ us) rest h all = search (rules, usable_only, usable_without, (usable_along g nodes))
 usable_along g (n ∷ nodes) (u ∷ us) rest h all = usable_along g nodes us rest (h.1) (all.1)
 
 every_usable : (g : Graph) → HasUsable g every_row

@@ -1,6 +1,7 @@
 -- A sound tree has a leaf.
 use Rattle.std.proofs.Common.{◌≡◌, ℕ, suc, ◌≤◌, List, [], ◌∷◌, Option, count_by, refl, arith}
-use Rattle.assignment_search.proofs.Common.{Graph, IsGoodGraph, Usable, every_row, Place, belongs_to_end, belongs_to_dead_end, places_from, IsWholeTree, Node, Leaf, each_plan_at_one_end, no_plan_at_dead_ends, HasLeaf, coming_after}
+use Rattle.assignment_search.proofs.Common.{Graph, IsGoodGraph, Usable, Place, belongs_to_end, belongs_to_dead_end, places_from, IsWholeTree, Node, Leaf, each_plan_at_one_end, no_plan_at_dead_ends, HasLeaf, coming_after}
+use Rattle.std.proofs.lemmas.Bool.Decides.{nat_tests}
 use Rattle.plan_rules.proofs.lemmas.TreeLemmas.{count-cons}
 
 later : (n : Node) (nodes : List Node) → HasLeaf nodes → HasLeaf (n ∷ nodes)
@@ -18,7 +19,4 @@ leaf_among g chosen (n ∷ nodes) (u ∷ us) dead some =
     later n nodes (leaf_among g chosen nodes after (omega (arith, first, dead)) (omega (arith, first, second, dead, some)))
 
 pub sound_has_leaf : (g : Graph) (nodes : List Node) → IsGoodGraph g → IsWholeTree g nodes → HasLeaf nodes
-sound_has_leaf g nodes good sound =
-    let held = good.held in
-    let one = each_plan_at_one_end g nodes g.held good sound held.plan in
-    leaf_among g g.held nodes (every_row ∷ []) (no_plan_at_dead_ends g nodes g.held good sound held) (omega (arith, one))
+sound_has_leaf g nodes good sound = grind (arith, nat_tests, (each_plan_at_one_end g nodes g.held good sound), (leaf_among g g.held nodes), (no_plan_at_dead_ends g nodes g.held good sound))

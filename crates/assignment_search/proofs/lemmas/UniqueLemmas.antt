@@ -1,5 +1,5 @@
 -- There is one greedy plan.
-use Rattle.std.proofs.Common.{◌≡◌, ℕ, zero, suc, ◌<◌, List, length, Option, Some, None, refl, sym, ap, ◌∙◌, subst, arith}
+use Rattle.std.proofs.Common.{◌≡◌, ℕ, zero, suc, ◌<◌, List, length, Option, Some, None, refl, sym, ap, ◌∙◌, subst, arith, rules}
 use Rattle.assignment_search.proofs.Common.{Graph, choice_at, IsGoodGraph, IsTriedBefore, IsTaken, IsGreedy}
 use Rattle.std.proofs.lemmas.List.{ext_get_or}
 use Rattle.plan_rules.specs.lemmas.Rank.{rank_of, rank_value}
@@ -7,15 +7,12 @@ use Rattle.plan_rules.specs.lemmas.Rank.{rank_of, rank_value}
 -- what is tried before has a lesser rank
 tried_ranks : (g : Graph) (j k : ℕ) → IsGoodGraph g → j < length g.rows → k < length g.rows → IsTriedBefore g j k → rank_of g j < rank_of g k
 unfolding rank_value
-tried_ranks g j k good lj lk tried =
-    omega (arith, tried, good.few, lj, lk, (good.rows j lj).few, (good.rows k lk).few, (good.rows j lj).cheap, (good.rows k lk).cheap)
+tried_ranks g j k good lj lk tried = search rules
 
 -- what one greedy plan takes, so does another
 taken_same : (n : ℕ) (g : Graph) (a b : List (Option ℕ)) → IsGoodGraph g → IsGreedy g a → IsGreedy g b → (k : ℕ) → rank_of g k < n → k < length g.rows → IsTaken g a k → IsTaken g b k
 taken_same zero g a b good first second k low l taken = absurd (omega (arith, low))
-taken_same (suc n) g a b good first second k low l taken =
-    (second.taken k l).1 (λ j lj tried other.
-    (first.taken k l).0 taken j lj tried (taken_same n g b a good second first j (omega (arith, tried_ranks g j k good lj l tried, low)) lj other))
+taken_same (suc n) g a b good first second k low l taken = search (rules, tried_ranks, (taken_same n g b a good second first))
 
 pub greedy_unique : (g : Graph) (a b : List (Option ℕ)) → IsGoodGraph g → IsGreedy g a → IsGreedy g b → a ≡ b
 greedy_unique g a b good first second =
