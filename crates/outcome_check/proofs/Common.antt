@@ -1,5 +1,5 @@
 -- The names that the proofs of this crate cite from elsewhere, passed on from one place. Declares nothing.
-pub use Rattle.std.proofs.lemmas.Bool.{both_ways, cases_eq, cases_lt}
+pub use Rattle.std.proofs.lemmas.Bool.{both_ways, cases_eq}
 pub use Rattle.std.proofs.lemmas.List.{get_or-append_right, get_or-map, get_or_append_left, get_or_default, get_or_push, length-map, length_push, map_push, nil_from_length, take_more}
 pub use Rattle.std.proofs.lemmas.List.Elements.{All-contains, All-map, All-push, filter_passes}
 pub use Rattle.std.proofs.lemmas.List.FromFn.{get_or-range_with_len, length-range_with_len}
@@ -54,7 +54,7 @@ pub use Rattle.stop_orders.specs.Order.{IsKnown, is_of_rider}
 pub use Rattle.stop_orders.specs.Settled.{IsTrip, no_rider, rider_at, trip_task, vehicle_at}
 pub use Rattle.stop_orders.specs.lemmas.Named.{no_vehicle}
 pub use Rattle.stop_orders.specs.Sound.{IsSound}
-pub use Rattle.stop_orders.specs.Task.{IsOrderOf, ReachesAll, Serves, order_delay, seconds_of, visit_at, visits_of}
+pub use Rattle.stop_orders.specs.Task.{IsOrderOf, ReachesAll, Serves, order_delay, seconds_of}
 pub use Rattle.stop_orders.specs.declared.settled.Settled.{Settled}
 pub use Rattle.stop_orders.specs.declared.settled_rider.SettledRider.{SettledRider}
 pub use Rattle.stop_orders.specs.declared.settled_vehicle.SettledVehicle.{SettledVehicle}

@@ -1,6 +1,6 @@
 -- In a snapshot nobody is in two places, so ids tell riders and passengers apart.
-use Rattle.std.proofs.Common.{◌≡◌, ◌≢◌, ℕ, zero, suc, ◌+◌, ◌-◌, ◌<◌, ◌≤◌, List, [], ◌∷◌, ◌++◌, length, get_or, map, None, refl, sym, ap, ◌∙◌, subst, arith, ⊎_elim}
-use Rattle.outcome_check.proofs.Common.{cases_eq, cases_lt, get_or_append_left, get_or-append_right, get_or-map, length-map, Batch, IsKept, IsOnce, riders_aboard, once_apart, IsPlaced, IsSettled, Settings, Settled, vehicle_at, IsSound, rider_id, HasOwnIds}
+use Rattle.std.proofs.Common.{◌≡◌, ℕ, zero, suc, ◌+◌, ◌-◌, ◌<◌, List, [], ◌∷◌, ◌++◌, length, get_or, map, None, refl, sym, ap, ◌∙◌, subst, arith, rules}
+use Rattle.outcome_check.proofs.Common.{get_or_append_left, get_or-append_right, get_or-map, length-map, Batch, IsKept, IsOnce, riders_aboard, once_apart, IsPlaced, IsSettled, Settings, Settled, vehicle_at, IsSound, rider_id, HasOwnIds}
 use Rattle.std.specs.List.{flat_map}
 use Rattle.std.proofs.lemmas.List.{length-append}
 use Rattle.std.proofs.lemmas.Option.{slice_get-get_or}
@@ -26,22 +26,12 @@ stands_behind front part whole is = record {
 
 part_of : {X : Type 0} (f : X → List ℕ) (xs : List X) (v : ℕ) (d : X) → v < length xs → StandsIn (f (get_or xs v d)) (flat_map f xs)
 part_of f [] v d h = absurd (omega arith)
-part_of f (x ∷ xs) zero d h = record {
-  from = 0;
-  within = λ j low. let n = length-append (f x) (flat_map f xs) in omega (arith, n, low);
-  at = λ j low. let same : 0 + j ≡ j = omega arith in ap (λ (k : ℕ). get_or (f x ++ flat_map f xs) k 0) same ∙ get_or_append_left (f x) (flat_map f xs) 0 j low;
-}
+part_of f (x ∷ xs) zero d h = search (rules, length-append, get_or_append_left)
 part_of f (x ∷ xs) (suc v) d h = stands_behind (f x) (f (get_or xs v d)) (flat_map f xs) (part_of f xs v d (omega arith))
 
 -- no id stands twice in a part either
 once_in : (part whole : List ℕ) → IsOnce whole → StandsIn part whole → (i j : ℕ) → i < length part → j < length part → get_or part i 0 ≡ get_or part j 0 → i ≡ j
-once_in part whole once is i j a b e = ⊎_elim
-    (λ (same : i ≡ j). same)
-    (λ (ne : i ≢ j). ⊎_elim
-    (λ (less : i < j). absurd (once (is.from + i) (is.from + j) (omega (arith, less)) (is.within j b) (is.at i a ∙ e ∙ sym (is.at j b))))
-    (λ (ge : j ≤ i). absurd (once (is.from + j) (is.from + i) (omega (arith, ge, ne)) (is.within i a) (is.at j b ∙ sym e ∙ sym (is.at i a))))
-    (cases_lt i j))
-    (cases_eq i j)
+once_in part whole once is i j a b e = search rules
 
 no_vehicle : Vehicle
 no_vehicle = record { id = 0; seats = 0; node = 0; time = 0; aboard = record { items = [] } }

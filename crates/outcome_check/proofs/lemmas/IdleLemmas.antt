@@ -1,5 +1,6 @@
 -- Idle vehicles and riders who are left out stand at places of the table, each once.
-use Rattle.std.proofs.Common.{◌≡◌, ℕ, ◌<◌, List, [], length, get_or, map, All, sym, ap, ◌∙◌, subst, arith}
+use Rattle.std.proofs.lemmas.Bool.Decides.{nat_tests}
+use Rattle.std.proofs.Common.{◌≡◌, ℕ, ◌<◌, List, [], length, map, All, sym, ap, ◌∙◌, subst, arith}
 use Rattle.outcome_check.proofs.Common.{rising_once, IsStrictlyIncreasing, length-map, get_or-map, MoveLine, Settled, SettledRider, SettledVehicle, rider_at, no_rider, no_vehicle, IsSound, AreMoves, move_line, rider_id, vehicle_id, has_places, none_matched, HaveOwnPlaces}
 
 -- rising ids tell riders and vehicles apart
@@ -17,16 +18,7 @@ one_vehicle settled rising v w a b e =
 
 pub own_places : (k points : ℕ) (tau : ℕ → ℕ → ℕ) (settled : Settled) (idle left : List ℕ) → IsSound k points tau settled → 0 < length settled.vehicles → All (λ v. v < length settled.vehicles) idle → All (λ r. r < length settled.riders) left
     → IsStrictlyIncreasing idle → IsStrictlyIncreasing left → HaveOwnPlaces points settled idle left
-own_places k points tau settled idle left sound some vehicles riders up vp =
-    let places = has_places k points tau settled sound some in
-    record {
-      vehicles = vehicles;
-      riders = riders;
-      starts = λ i d h. places.vehicles (get_or idle i d) (vehicles i d h);
-      origins = λ i d h. places.riders (get_or left i d) (riders i d h);
-      own_vehicles = λ i j a b e. rising_once idle up i j a b (one_vehicle settled sound.vehicle_ids (get_or idle i 0) (get_or idle j 0) (vehicles i 0 a) (vehicles j 0 b) e);
-      own_riders = λ i j a b e. rising_once left vp i j a b (one_rider settled sound.rider_ids (get_or left i 0) (get_or left j 0) (riders i 0 a) (riders j 0 b) e);
-    }
+own_places k points tau settled idle left sound some vehicles riders up vp = grind (arith, nat_tests, (has_places k points tau settled sound some), (rising_once idle up), (rising_once left vp), (one_vehicle settled sound.vehicle_ids), (one_rider settled sound.rider_ids))
 
 -- without vehicles there is no move
 pub none_move : (tau : ℕ → ℕ → ℕ) (settled : Settled) (idle left : List ℕ) (moves : List MoveLine) → idle ≡ [] → AreMoves tau settled idle left moves → moves ≡ []

@@ -1,5 +1,5 @@
 -- Late vehicles, and orders of their passengers.
-use Rattle.std.proofs.Common.{◌≡◌, ℕ, true, false, not, eqb, ⊎_elim, List, [], None, refl, sym, ap, ◌∙◌, subst, arith}
+use Rattle.std.proofs.Common.{◌≡◌, ℕ, true, false, not, eqb, ⊎_elim, List, [], None, refl, sym, ap, ◌∙◌, subst, arith, rules}
 use Rattle.outcome_check.proofs.Common.{LateVehicle, PlannedStop, Settled, Stop, Task, trip_task, IsOrderOf, ReachesAll, order_delay, told_stops, IsLateOrder, IsLeast}
 use Rattle.std.proofs.lemmas.Bool.Decides.{eqb_tells}
 
@@ -16,12 +16,10 @@ module _ (points : List ℕ) (tau : ℕ → ℕ → ℕ) (settled : Settled) (v 
   late_order_of delay lines late = subst (λ (t : Task). IsOrderOf t late.stops) (sym same) late.order
 
   pub late_reaches : (delay : ℕ) (lines : List PlannedStop) (late : IsLateOrder points tau settled v delay lines) → (order : List Stop) → order ≡ late.stops → ReachesAll tau task order
-  late_reaches delay lines late order e =
-      subst (λ (t : Task). ReachesAll tau t order) (sym same) (subst (λ (stops : List Stop). ReachesAll tau (trip_task settled v []) stops) (sym e) late.reaches)
+  late_reaches delay lines late order e = search rules
 
   pub late_delay : (delay : ℕ) (lines : List PlannedStop) (late : IsLateOrder points tau settled v delay lines) → (order : List Stop) → order ≡ late.stops → order_delay tau task order ≡ delay
-  late_delay delay lines late order e =
-      ap (λ (t : Task). order_delay tau t order) same ∙ ap (λ (stops : List Stop). order_delay tau (trip_task settled v []) stops) e ∙ late.has_delay
+  late_delay delay lines late order e = search rules
 
   pub late_from : (delay : ℕ) (lines : List PlannedStop) (order : List Stop) → IsOrderOf task order → ReachesAll tau task order → order_delay tau task order ≡ delay → IsLeast tau task delay
       → lines ≡ told_stops points tau settled v [] order → IsLateOrder points tau settled v delay lines

@@ -1,5 +1,6 @@
 -- Moves, read as pairs of places, and matchings that grow.
-use Rattle.std.proofs.Common.{◌≡◌, ◌≢◌, ◌⊎◌, ℕ, suc, ◌+◌, ◌-◌, ◌<◌, ◌≤◌, Bool, true, false, List, [], ◌∷◌, ◌++◌, length, get_or, take, set, map, sum_by, All, AllPairs, refl, sym, ap, ◌∙◌, subst, inr, ⊎_elim, arith}
+use Rattle.std.proofs.lemmas.Bool.Decides.{nat_tests}
+use Rattle.std.proofs.Common.{◌≡◌, ◌≢◌, ◌⊎◌, ℕ, suc, ◌+◌, ◌-◌, ◌<◌, ◌≤◌, Bool, true, false, List, [], ◌∷◌, ◌++◌, length, get_or, take, set, map, sum_by, All, AllPairs, refl, sym, ap, ◌∙◌, subst, inr, ⊎_elim, arith, rules}
 use Rattle.outcome_check.proofs.Common.{cases_eq, get_or_default, length-map, get_or-map, map_push, take_more, All-push, IsMatching, IsBestMatching, pair_seconds, MoveLine, Settled, rider_at, vehicle_at, AreMoves, move_line, HaveOwnPlaces, IsRisingMatching, IsWithin, TellsMoves}
 use Rattle.std.proofs.lemmas.List.{ext_get_or, length-take, get_or-take, get_or-set_same, get_or-set_other, length-set}
 use Rattle.std.proofs.lemmas.List.Quantifiers.{all_pairs_push}
@@ -39,37 +40,16 @@ module _ (tau : ℕ → ℕ → ℕ) (settled : Settled) (idle left : List ℕ) 
 
   -- moves tell of one list of pairs
   pub one_reading : (points : ℕ) → HaveOwnPlaces points settled idle left → (pairs others : List (ℕ × ℕ)) → TellsMoves tau settled idle left moves pairs → TellsMoves tau settled idle left moves others → pairs ≡ others
-  one_reading points own pairs others tells also =
-      let long = told_as_long pairs tells in let other_long = told_as_long others also in
-      ext_get_or (0, 0) pairs others (omega (arith, long, other_long))
-      (λ k h. let other : k < length others = omega (arith, long, other_long, h) in
-      same k (get_or pairs k (0, 0)) (get_or others k (0, 0)) (tells.within k (0, 0) h) (also.within k (0, 0) other) (sym (told_at pairs tells k h) ∙ told_at others also k other))
-    where
-      same : (k : ℕ) (p q : ℕ × ℕ) → IsWithin (length idle) (length left) p → IsWithin (length idle) (length left) q → move_line tau settled idle left p ≡ move_line tau settled idle left q → p ≡ q
-      same k p q a b e =
-          let first : p.0 ≡ q.0 = own.own_vehicles p.0 q.0 a.0 b.0 (ap (λ (m : MoveLine). m.vehicle) e) in
-          let second : p.1 ≡ q.1 = own.own_riders p.1 q.1 a.1 b.1 (ap (λ (m : MoveLine). m.rider) e) in
-          ap (λ (x : ℕ). (x, p.1)) first ∙ ap (λ (y : ℕ). (q.0, y)) second
+  one_reading points own pairs others tells also = grind (arith, nat_tests, (told_as_long pairs tells), (told_as_long others also), (ext_get_or (0, 0) pairs others), (told_at pairs tells), (told_at others also))
 
   -- best moves tell of their pairs
   pub moves_tell : (are : AreMoves tau settled idle left moves) → TellsMoves tau settled idle left moves are.pairs
-  moves_tell are = record {
-    within = λ k d h.
-        let w = are.best.matching.within k d h in
-        let starts = length-map idle (λ v. (vehicle_at settled v).start) in
-        let origins = length-map left (λ r. (rider_at settled r).leg.origin) in
-        (omega (arith, w.0, starts), omega (arith, w.1, origins));
-    told = are.told;
-  }
+  moves_tell are = search (rules, length-map)
 
   -- pairs that best moves tell of are a best matching by rising first place
   pub moves_best : (points : ℕ) → HaveOwnPlaces points settled idle left → (pairs : List (ℕ × ℕ)) → TellsMoves tau settled idle left moves pairs → AreMoves tau settled idle left moves
       → IsBestMatching tau (map (λ v. (vehicle_at settled v).start) idle) (map (λ r. (rider_at settled r).leg.origin) left) pairs × AllPairs (λ (p q : ℕ × ℕ). p.0 < q.0) pairs
-  moves_best points own pairs tells are =
-      let same : are.pairs ≡ pairs = one_reading points own are.pairs pairs (moves_tell are) tells in (
-        subst (λ (ps : List (ℕ × ℕ)). IsBestMatching tau (map (λ v. (vehicle_at settled v).start) idle) (map (λ r. (rider_at settled r).leg.origin) left) ps) same are.best,
-        subst (λ (ps : List (ℕ × ℕ)). AllPairs (λ (p q : ℕ × ℕ). p.0 < q.0) ps) same are.rising,
-      )
+  moves_best points own pairs tells are = grind (arith, nat_tests, (one_reading points own are.pairs pairs), (moves_tell are))
 
 -- rising numbers below a number are no more than it
 pub rising_short : (n m : ℕ) (ps : List (ℕ × ℕ)) → AllPairs (λ (p q : ℕ × ℕ). p.0 < q.0) ps → All (λ (p : ℕ × ℕ). (m ≤ p.0) × (p.0 < n)) ps → length ps ≤ n - m
@@ -84,20 +64,13 @@ rising_short n m (p ∷ ps) up all =
 module _ (tau : ℕ → ℕ → ℕ) (from to : List ℕ) where
   -- a matching as good as a best one is best
   pub best_alike : (pairs best : List (ℕ × ℕ)) → IsMatching tau from to pairs → IsBestMatching tau from to best → length pairs ≡ length best → sum_by (pair_seconds tau from to) pairs ≡ sum_by (pair_seconds tau from to) best → IsBestMatching tau from to pairs
-  best_alike pairs best matching is long total = record {
-    matching = matching;
-    most_pairs = λ other m. let most = is.most_pairs other m in omega (arith, most, long);
-    least_total = λ other m e. let least = is.least_total other m (e ∙ long) in omega (arith, least, total);
-  }
+  best_alike pairs best matching is long total = search rules
 
   pub best_long : (pairs best : List (ℕ × ℕ)) → IsBestMatching tau from to pairs → IsBestMatching tau from to best → length pairs ≡ length best
   best_long pairs best is also = let most = also.most_pairs pairs is.matching in let other = is.most_pairs best also.matching in omega (arith, most, other)
 
   pub best_total : (pairs best : List (ℕ × ℕ)) → IsBestMatching tau from to pairs → IsBestMatching tau from to best → sum_by (pair_seconds tau from to) pairs ≡ sum_by (pair_seconds tau from to) best
-  best_total pairs best is also =
-      let long = best_long pairs best is also in
-      let least = also.least_total pairs is.matching long in let other = is.least_total best also.matching (sym long) in
-      omega (arith, least, other)
+  best_total pairs best is also = search rules
 
 -- the first i pairs are a matching by rising first place; marks of the places that they take, and a number just above the last first place
 pub record IsScanned (tau : ℕ → ℕ → ℕ) (from to : List ℕ) (pairs : List (ℕ × ℕ)) (i : ℕ) (taken : List Bool) (least : ℕ) : Type 0 where
@@ -111,10 +84,7 @@ pub record IsScanned (tau : ℕ → ℕ → ℕ) (from to : List ℕ) (pairs : L
 module _ (tau : ℕ → ℕ → ℕ) (from to : List ℕ) (pairs : List (ℕ × ℕ)) (i : ℕ) (taken : List Bool) (least : ℕ) (scan : IsScanned tau from to pairs i taken least) (low : i < length pairs) where
   -- what stands among the first pairs stands there in all
   read_front : (k : ℕ) (d : ℕ × ℕ) → k < length (take i pairs) → (k < i) × (get_or (take i pairs) k d ≡ get_or pairs k (0, 0))
-  read_front k d h =
-      let short = length-take i pairs in
-      let inside : k < i = omega (arith, h, short) in
-      (inside, get_or-take i pairs k d inside ∙ get_or_default pairs k d (0, 0) (omega (arith, inside, low)))
+  read_front k d h = search (rules, length-take, get_or-take, get_or_default)
 
   -- one more pair, whose first place is higher and whose second is free
   pub scan_next : IsWithin (length from) (length to) (get_or pairs i (0, 0)) → least ≤ (get_or pairs i (0, 0)).0 → get_or taken (get_or pairs i (0, 0)).1 false ≡ false

@@ -1,6 +1,6 @@
 -- Orders are read back from what is told of them.
-use Rattle.std.proofs.Common.{◌≡◌, ℕ, ◌+◌, ◌<◌, ◌≤◌, List, [], ◌∷◌, ◌++◌, length, get_or, map, zip, take, refl, sym, ap, ◌∙◌, subst, arith}
-use Rattle.outcome_check.proofs.Common.{get_or-map, length-map, rising_once, AllByRecursion, get_or_default, take_more, length_push, PlannedStop, Settled, SettledRider, Stop, Pick, IsKnown, IsTrip, trip_task, vehicle_at, rider_at, no_rider, IsOrderOf, visit_at, visits_of, seconds_of, rider_id, told_stop, told_stops, HasOwnIds}
+use Rattle.std.proofs.Common.{◌≡◌, ℕ, ◌+◌, ◌<◌, ◌≤◌, List, [], ◌∷◌, ◌++◌, length, get_or, map, zip, take, refl, sym, ap, ◌∙◌, subst, arith, rules}
+use Rattle.outcome_check.proofs.Common.{get_or-map, length-map, rising_once, AllByRecursion, get_or_default, take_more, length_push, PlannedStop, Settled, SettledRider, Stop, Pick, IsKnown, IsTrip, trip_task, vehicle_at, rider_at, no_rider, IsOrderOf, seconds_of, rider_id, told_stop, told_stops, HasOwnIds}
 use Rattle.std.proofs.lemmas.List.{take_all}
 use Rattle.std.proofs.lemmas.List.Elements.{All-from_recursion}
 use Rattle.std.proofs.lemmas.Slice.Zip.{get_or-zip, length-zip}
@@ -34,9 +34,7 @@ known_at riders passengers stops k d all h = All-from_recursion (IsKnown riders 
 
 module _ (points : List ℕ) (tau : ℕ → ℕ → ℕ) (settled : Settled) (v : ℕ) (trip : List ℕ) (stops : List Stop) where
   seconds_as_long : length (seconds_of tau (trip_task settled v trip) stops) ≡ length stops
-  seconds_as_long =
-      let task = trip_task settled v trip in
-      seconds_long tau task.dwell task.start task.ready (visits_of task stops) ∙ length-map stops (visit_at task)
+  seconds_as_long = search (rules, seconds_long, length-map)
 
   pub told_long : length (told_stops points tau settled v trip stops) ≡ length stops
   told_long = zip_long (told_stop points settled v trip) stops (seconds_of tau (trip_task settled v trip) stops) seconds_as_long

@@ -1,5 +1,5 @@
 -- A batch poses one problem.
-use Rattle.std.proofs.Common.{◌≡◌, ◌↔◌, ℕ, List, map, refl, subst}
+use Rattle.std.proofs.Common.{◌≡◌, ◌↔◌, ℕ, List, map, refl, subst, rules}
 use Rattle.outcome_check.proofs.Common.{Batch, one_trip_graph, same_rising, AnswersWith, HasGraphsWith, IsGoodOutcome, IsOutcomeWith, IsGoodPlan, Holds, Posed, Point, IsRrGraph, IsRvGraph, RvEdge, Graph, travel_time, IsSettled, Answer, Planned, Settings, Roads, index_in, Settled, AreTravelTimes, IsTripGraphOf, IsVerdictOf, Meets, Verdict, Good, Fails}
 use Rattle.batch_snapshot.specs.Points.{ArePoints}
 use Rattle.batch_laws.proofs.lemmas.EdgeLemmas.{one_rr_graph, one_rv_graph}
@@ -35,8 +35,7 @@ module _ (settings : Settings) (points : List ℕ) (tau : ℕ → ℕ → ℕ) (
 
   answer_good : (a : Answer) → AnswersWith settings points tau settled (IsGoodPlan settings) a → (q : Point) → AnswersWith settings points tau settled (Holds settings q) a
   answer_good answer.Overflow more q = more
-  answer_good (answer.Planned planned) good q =
-      with_graphs settings points tau settled good.graph good.edges good.pairs good.exact good.edges_exact good.pairs_exact (Holds settings q planned) (good.holds q)
+  answer_good (answer.Planned planned) good q = search rules
 
 module _ (settings : Settings) (roads : Roads) (batch : Batch) (outcome : Outcome) where
   one_points : (points others : List ℕ) → ArePoints batch points → ArePoints batch others → points ≡ others
@@ -63,8 +62,7 @@ module _ (settings : Settings) (roads : Roads) (batch : Batch) (outcome : Outcom
         (subst (λ (ps : List ℕ). AnswersWith settings ps (travel_time with.times) with.settled P outcome.answer) same_points with.answer))
 
     pub meets_of : (v : Verdict) → IsVerdictOf (λ q. AnswersWith settings points (travel_time times) settled (Holds settings q) outcome.answer) v → IsVerdictOf (Meets settings roads batch outcome) v
-    meets_of v is = verdict_of_same (λ q. AnswersWith settings points (travel_time times) settled (Holds settings q) outcome.answer) (Meets settings roads batch outcome)
-        (λ q. with_limits (Holds settings q)) (λ q. of_limits (Holds settings q)) v is
+    meets_of v is = search (rules, verdict_of_same, with_limits, of_limits)
 
   -- an outcome is good where all points hold of it
   all_good : ((q : Point) → Meets settings roads batch outcome q) → IsGoodOutcome settings roads batch outcome
@@ -75,9 +73,7 @@ module _ (settings : Settings) (roads : Roads) (batch : Batch) (outcome : Outcom
       (λ q. of_limits first.points first.times first.settled first.nodes first.table first.limits first.expired (Holds settings q) (all q)))
 
   pub good_meets : IsGoodOutcome settings roads batch outcome → (q : Point) → Meets settings roads batch outcome q
-  good_meets good q =
-      with_limits good.points good.times good.settled good.nodes good.table good.limits good.expired (Holds settings q)
-      (answer_good settings good.points (travel_time good.times) good.settled outcome.answer good.answer q)
+  good_meets good q = search (rules, with_limits, answer_good)
 
   -- a verdict of the points is good exactly where the outcome is
   pub verdict_good : (v : Verdict) → IsVerdictOf (Meets settings roads batch outcome) v → (v ≡ Good) ↔ IsGoodOutcome settings roads batch outcome

@@ -1,5 +1,6 @@
 -- Trips give one plan, if any.
-use Rattle.std.proofs.Common.{◌≡◌, ◌≢◌, ℕ, zero, suc, ◌+◌, ◌<◌, ◌⊎◌, not, Bool, true, false, cond, List, [], ◌∷◌, length, get_or, filter, Contains, Option, Some, None, MatchOption, refl, sym, ap, ◌∙◌, subst, inl, inr, arith, ⊎_elim}
+use Rattle.std.proofs.lemmas.Bool.Decides.{nat_tests}
+use Rattle.std.proofs.Common.{◌≡◌, ◌≢◌, ℕ, zero, suc, ◌<◌, ◌⊎◌, not, Bool, true, false, cond, List, [], ◌∷◌, length, get_or, filter, Contains, Option, Some, None, MatchOption, refl, sym, ap, ◌∙◌, subst, inl, inr, arith, ⊎_elim, rules}
 use Rattle.outcome_check.proofs.Common.{filter_range_below, length-map, AllZip, range_with_len, IsStrictlyIncreasing, get_or_default, All-contains, filter_passes, length-range_with_len, get_or-range_with_len, Graph, IsRowOf, HasNoRow, choice_at, riders_at, no_row, ChosenTrip, PlannedStop, Settings, Settled, Stop, Pick, Drop, Alight, IsKnown, is_of_rider, IsTrip, trip_task, vehicle_at, rider_at, IsOrderOf, seconds_of, IsTripGraphOf, rider_id, told_stop, told_stops, IsTripOf, has_head, has_later, head_or_tail, same_rising, graph_in_order, one_place, HasOwnIds, GivesTrips, TellsRow, HasNoRowFor, GiveRows, no_chosen}
 use Rattle.std.proofs.lemmas.List.{ext_get_or}
 use Rattle.std.proofs.lemmas.Slice.Zip.{AllZip-long}
@@ -26,11 +27,7 @@ all_zip_at R (x ∷ xs) (y ∷ ys) a b all (suc k) h = all_zip_at R xs ys a b al
 -- what a filter begins with stands in the list
 filter_has : {X : Type 0} (R : X → X → Type 0) (p : X → Bool) (xs : List X) (y : X) (ys : List X) → filter p xs ≡ y ∷ ys → Contains xs y
 filter_has R p [] y ys e = absurd (cc)
-filter_has {X} R p (x ∷ xs) y ys e = by (p x) e (filter_has R p xs y ys)
-  where
-    by : (b : Bool) → cond b (x ∷ filter p xs) (filter p xs) ≡ y ∷ ys → (filter p xs ≡ y ∷ ys → Contains xs y) → Contains (x ∷ xs) y
-    by true f later = let same : x ≡ y = (cc) in subst (λ (z : X). Contains (x ∷ xs) z) same (has_head R x xs)
-    by false f later = has_later R x xs y (later f)
+filter_has {X} R p (x ∷ xs) y ys e = grind (arith, nat_tests, (has_head R x xs), (has_later R x xs y), (filter_has R p xs y ys))
 
 -- what passes stays in a filter
 pub filter_keeps : {X : Type 0} (R : X → X → Type 0) (p : X → Bool) (xs : List X) (y : X) → p y ≡ true → Contains xs y → Contains (filter p xs) y
@@ -61,11 +58,7 @@ pub kept_passes : (p : ℕ → Bool) (n v : ℕ) → Contains (filter p (range_w
 kept_passes p n v found = All-contains (λ (x : ℕ). p x ≡ true) (filter p (range_with_len 0 n)) v (filter_passes p (range_with_len 0 n)) found
 
 pub kept_rises : (p : ℕ → Bool) (n : ℕ) → IsStrictlyIncreasing (filter p (range_with_len 0 n))
-kept_rises p n = IsStrictlyIncreasing-filter p (range_with_len 0 n)
-    (λ k h.
-    let e = length-range_with_len 0 n in
-    let a = get_or-range_with_len 0 n k 0 (omega (arith, e, h)) in let b = get_or-range_with_len 0 n (k + 1) 0 (omega (arith, e, h)) in
-    omega (arith, a, b))
+kept_rises p n = search (rules, IsStrictlyIncreasing-filter, length-range_with_len, get_or-range_with_len)
 
 module _ (points : List ℕ) (tau : ℕ → ℕ → ℕ) (settled : Settled) (v : ℕ) (own : HasOwnIds settled) where
   -- a rider of the trip is told to be picked up
@@ -112,9 +105,7 @@ module _ (points : List ℕ) (tau : ℕ → ℕ → ℕ) (settled : Settled) (v 
   pub one_trip : (trip other : List ℕ) (stops others : List Stop) (told : List PlannedStop) (d : PlannedStop) → IsTrip (length settled.riders) trip → IsTrip (length settled.riders) other
       → IsOrderOf (trip_task settled v trip) stops → IsOrderOf (trip_task settled v other) others → told ≡ told_stops points tau settled v trip stops → told ≡ told_stops points tau settled v other others
       → trip ≡ other
-  one_trip trip other stops others told d is_trip is_other o p is also =
-      same_rising trip other is_trip.rising is_other.rising
-      (rider_also trip other stops others told d is_trip is_other o p is also) (rider_also other trip others stops told d is_other is_trip p o also is)
+  one_trip trip other stops others told d is_trip is_other o p is also = search (rules, same_rising, rider_also)
 
 no_stop : PlannedStop
 no_stop = record { pick = false; rider = 0; node = 0; second = 0 }

@@ -1,6 +1,6 @@
 -- Points, asked one after the other.
-use Rattle.std.proofs.Common.{◌≡◌, ℕ, zero, suc, ◌+◌, ◌<◌, ◌≤◌, refl, sym, ap, ◌∙◌, subst, ⊎_elim, arith}
-use Rattle.outcome_check.proofs.Common.{cases_lt, point_place, IsVerdictOf, Point, Verdict, Good, Fails}
+use Rattle.std.proofs.Common.{◌≡◌, ℕ, zero, suc, ◌+◌, ◌<◌, refl, arith, rules}
+use Rattle.outcome_check.proofs.Common.{point_place, IsVerdictOf, Point, Verdict, Good, Fails}
 use Rattle.batch_solver.specs.declared.point.Point.TheVariants as point
 
 -- all points before this place hold
@@ -31,10 +31,7 @@ module _ (P : Point → Type 0) where
   hold_none q h = absurd (omega arith)
 
   pub hold_more : (p : Point) → HoldBelow P (point_place p) → P p → HoldBelow P (point_place p + 1)
-  hold_more p before holds q h = ⊎_elim
-      (λ (less : point_place q < point_place p). before q less)
-      (λ (ge : point_place p ≤ point_place q). let same : point_place p ≡ point_place q = omega (arith, h, ge) in subst P (sym (back p) ∙ ap point_at same ∙ back q) holds)
-      (cases_lt (point_place q) (point_place p))
+  hold_more p before holds q h = search rules
 
   pub hold_all : HoldBelow P 9 → (q : Point) → P q
   hold_all before q = before q (last_place q)
