@@ -2,6 +2,7 @@ pub mod Written
 pub mod Lines
 pub mod Words
 pub mod Entry
+pub mod Fits
 pub mod Block
 pub mod Round
 pub mod Head

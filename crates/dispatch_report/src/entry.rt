@@ -1,6 +1,8 @@
 ghost use Rattle.std.specs.Prelude.{◌≡◌, ◌==◌, ◌++◌, [], OnOk, codes, if◌then◌else◌};
 ghost use Rattle.dispatch_report.specs.Entry.{command_text, entry_line};
+ghost use Rattle.dispatch_report.specs.Fits.{IsCommand, IsReply, TellsEnd};
 ghost use Rattle.dispatch_report.specs.Words.{numbered, spaced};
+ghost use Rattle.request_book.specs.declared.command.Command.TheVariants.{Submit};
 
 use crate::reply::put_reply;
 use crate::words::{put_numbered, put_spaced};
@@ -9,7 +11,9 @@ use request_book::{Command, Entry};
 
 /// Appends the line of an entry at its position, without its end. It fails only for want of memory.
 pub fn put_entry(line: &mut Vec<u8>, position: u64, entry: &Entry) -> Result<(), OutOfMemory>
-    ensures { OnOk result (line.new.items ≡ line.old.items ++ entry_line position entry.now) }
+    ensures printed { OnOk result (line.new.items ≡ line.old.items ++ entry_line position entry.now) }
+    ensures command { OnOk result (IsCommand entry.now.command) }
+    ensures reply { OnOk result (TellsEnd entry.now.reply → IsReply entry.now.reply) }
 {
     put_number(line, position)?;
     put_spaced(line, u64::from(entry.lane))?;
@@ -20,7 +24,8 @@ pub fn put_entry(line: &mut Vec<u8>, position: u64, entry: &Entry) -> Result<(),
 }
 
 fn put_command(line: &mut Vec<u8>, command: &Command) -> Result<(), OutOfMemory>
-    ensures { OnOk result (line.new.items ≡ line.old.items ++ command_text command.now) }
+    ensures printed { OnOk result (line.new.items ≡ line.old.items ++ command_text command.now) }
+    ensures fits { OnOk result (IsCommand command.now) }
 {
     match command {
         Command::Submit {
@@ -59,13 +64,14 @@ fn put_submit(
     time: Second,
     party: Party,
 ) -> Result<(), OutOfMemory>
-    ensures { OnOk result (line.new.items ≡ line.old.items ++ (numbered (codes "submit ") rider ++ spaced origin ++ spaced destination ++ spaced time ++ (if party == 1 then [] else spaced party))) }
+    ensures printed { OnOk result (line.new.items ≡ line.old.items ++ (numbered (codes "submit ") rider ++ spaced origin ++ spaced destination ++ spaced time ++ (if party == 1 then [] else spaced party))) }
+    ensures fits { OnOk result (IsCommand (Submit rider origin destination time party)) }
 {
     put_numbered(line, b"submit ", u64::from(rider.get()))?;
     put_spaced(line, u64::from(origin.get()))?;
     put_spaced(line, u64::from(destination.get()))?;
     put_spaced(line, u64::from(time.get()))?;
-    put_party(line, party)
+    put_party(line, party.get())
 }
 
 fn put_three(
@@ -82,11 +88,11 @@ fn put_three(
     put_spaced(line, u64::from(third))
 }
 
-fn put_party(line: &mut Vec<u8>, party: Party) -> Result<(), OutOfMemory>
-    ensures { OnOk result (line.new.items ≡ line.old.items ++ (if party == 1 then [] else spaced party)) }
+fn put_party(line: &mut Vec<u8>, persons: u8) -> Result<(), OutOfMemory>
+    ensures { OnOk result (line.new.items ≡ line.old.items ++ (if persons == 1 then [] else spaced persons)) }
 {
-    if party.get() == 1 {
+    if persons == 1 {
         return Ok(());
     }
-    put_spaced(line, u64::from(party.get()))
+    put_spaced(line, u64::from(persons))
 }

@@ -1,6 +1,8 @@
-ghost use Rattle.std.specs.Prelude.{◌≡◌, ◌++◌, ℕ, Option, OnOk};
+ghost use Rattle.std.specs.Prelude.{◌≡◌, ◌++◌, ℕ, Option, OnOk, IfSome};
 ghost use Rattle.dispatch_report.specs.Entry.{rider_status_text, refusal_text, reply_text};
+ghost use Rattle.dispatch_report.specs.Fits.{IsBatch, IsId, IsRefusal, IsReply, TellsEnd};
 ghost use Rattle.dispatch_report.specs.lemmas.Named.{spaced_or_none};
+ghost use Rattle.request_book.specs.declared.reply.Reply.TheVariants.{Refused};
 
 use crate::words::{put_numbered, put_spaced};
 use pool_base::{OutOfMemory, VehicleId, put_bytes};
@@ -8,7 +10,8 @@ use request_book::{BookRefusal, Reply, Status};
 
 /// Appends the words of a reply.
 pub(crate) fn put_reply(line: &mut Vec<u8>, reply: Reply) -> Result<(), OutOfMemory>
-    ensures { OnOk result (line.new.items ≡ line.old.items ++ reply_text reply) }
+    ensures printed { OnOk result (line.new.items ≡ line.old.items ++ reply_text reply) }
+    ensures fits { OnOk result (TellsEnd reply → IsReply reply) }
 {
     match reply {
         Reply::Accepted => put_bytes(line, b"accepted"),
@@ -26,7 +29,8 @@ pub(crate) fn put_reply(line: &mut Vec<u8>, reply: Reply) -> Result<(), OutOfMem
 }
 
 fn put_refusal(line: &mut Vec<u8>, refusal: BookRefusal) -> Result<(), OutOfMemory>
-    ensures { OnOk result (line.new.items ≡ line.old.items ++ refusal_text refusal) }
+    ensures printed { OnOk result (line.new.items ≡ line.old.items ++ refusal_text refusal) }
+    ensures fits { OnOk result (TellsEnd (Refused refusal) → IsRefusal refusal) }
 {
     match refusal {
         BookRefusal::DuplicateRider => put_bytes(line, b"duplicate-rider"),
@@ -64,7 +68,8 @@ fn put_refusal(line: &mut Vec<u8>, refusal: BookRefusal) -> Result<(), OutOfMemo
 }
 
 fn put_holder(line: &mut Vec<u8>, holder: Option<VehicleId>) -> Result<(), OutOfMemory>
-    ensures { OnOk result (line.new.items ≡ line.old.items ++ spaced_or_none holder) }
+    ensures printed { OnOk result (line.new.items ≡ line.old.items ++ spaced_or_none holder) }
+    ensures fits { OnOk result (IfSome holder IsId) }
 {
     match holder {
         Some(vehicle) => put_spaced(line, u64::from(vehicle.get())),
@@ -73,7 +78,8 @@ fn put_holder(line: &mut Vec<u8>, holder: Option<VehicleId>) -> Result<(), OutOf
 }
 
 fn put_spaced_or_none(line: &mut Vec<u8>, number: Option<u64>) -> Result<(), OutOfMemory>
-    ensures { OnOk result (line.new.items ≡ line.old.items ++ spaced_or_none number) }
+    ensures printed { OnOk result (line.new.items ≡ line.old.items ++ spaced_or_none number) }
+    ensures fits { OnOk result (IfSome number IsBatch) }
 {
     match number {
         Some(n) => put_spaced(line, n),
