@@ -22,12 +22,12 @@ pub use Rattle.report_lines.specs.Both.{BothAre, both_texts}
 pub use Rattle.report_lines.specs.Cut.{is_one_line}
 pub use Rattle.report_lines.specs.HeadFault.{FitsLine, HasForm, HeadFails, HeadLine, LineFails, LinesFail, head_lines, sizes_of}
 pub use Rattle.report_lines.specs.HeadLines.{AreSettings, AreSizes, settings_text, sizes_text}
-pub use Rattle.report_lines.specs.Ids.{AreIds, IsId}
+pub use Rattle.report_lines.specs.Ids.{AreIds}
+pub use Rattle.dispatch_report.specs.Fits.{IsId, IsReply}
 pub use Rattle.report_lines.specs.Line.{IsFirstLine}
 pub use Rattle.report_lines.specs.Next.{IsNextLine}
 pub use Rattle.report_lines.specs.Order.{follow_on, is_between, kind_place, last_place, may_follow_at}
 pub use Rattle.report_lines.specs.Reading.{BeginsWith, BeginsWithNone, ends_number}
-pub use Rattle.report_lines.specs.Reply.{IsReply}
 pub use Rattle.report_lines.specs.Settings.{AreLawful, AreOf}
 pub use Rattle.report_lines.specs.Signed.{IsLong, IsWide}
 pub use Rattle.report_lines.specs.Stops.{FitsStop}

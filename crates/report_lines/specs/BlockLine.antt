@@ -3,7 +3,8 @@ use Rattle.std.specs.Prelude.{◌≡◌, ℕ, ◌<◌, ◌^◌, MatchOption}
 use Rattle.std.specs.List.{All}
 use Rattle.dispatch_report.specs.declared.block_line.BlockLine.{BlockLine}
 use Rattle.dispatch_report.specs.declared.block_line.BlockLine.TheVariants.{Batch, Expired, Overflow, Lapsed, Late, Alone, Shared, Row, Trip, Out, Move, Cost, Bound, Nodes, Branch, Leaf, Dead, End}
-use Rattle.report_lines.specs.Ids.{IsId, AreIds}
+use Rattle.report_lines.specs.Ids.{AreIds}
+use Rattle.dispatch_report.specs.Fits.{IsId}
 use Rattle.report_lines.specs.Signed.{IsWide, IsLong}
 use Rattle.report_lines.specs.Stops.{FitsStop}
 

@@ -1,10 +1,6 @@
--- Which numbers are ids.
-use Rattle.std.specs.Prelude.{ℕ, ◌≤◌}
+use Rattle.std.specs.Prelude.{ℕ}
+use Rattle.dispatch_report.specs.Fits.{IsId}
 
--- a rider, a vehicle or a node
-abbrev pub IsId : ℕ → Type 0
-IsId n = n ≤ 1000000000
-
--- two of them
+-- two ids
 abbrev pub AreIds : ℕ × ℕ → Type 0
 AreIds p = IsId p.0 × IsId p.1

@@ -12,8 +12,6 @@ pub mod HeadLines
 pub mod Settings
 pub mod Head
 pub mod HeadFault
-pub mod Command
-pub mod Reply
 pub mod Next
 pub mod lemmas
 pub mod work

@@ -2,8 +2,7 @@
 use Rattle.std.specs.Prelude.{◌≡◌, ℕ, ◌<◌, ◌^◌, List, codes}
 use Rattle.dispatch_report.specs.Entry.{entry_line}
 use Rattle.dispatch_report.specs.Words.{numbered}
-use Rattle.report_lines.specs.Command.{IsCommand}
-use Rattle.report_lines.specs.Reply.{IsReply}
+use Rattle.dispatch_report.specs.Fits.{IsCommand, IsReply}
 use Rattle.report_lines.specs.declared.next.NextLine.{NextLine}
 use Rattle.report_lines.specs.declared.next.NextLine.TheVariants.{Round, Done, Entry as EntryOf}
 use Rattle.request_book.specs.declared.journal.Entry.{Entry}

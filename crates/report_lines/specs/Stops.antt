@@ -1,5 +1,5 @@
 use Rattle.std.specs.Prelude.{ℕ, ◌<◌, ◌^◌}
-use Rattle.report_lines.specs.Ids.{IsId}
+use Rattle.dispatch_report.specs.Fits.{IsId}
 use Rattle.request_book.specs.declared.outcome.PlannedStop.{PlannedStop}
 
 -- Which stops a line can tell.

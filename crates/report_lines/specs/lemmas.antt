@@ -1,2 +1,1 @@
 pub mod HeadLines
-pub mod Replies

@@ -2,7 +2,8 @@ ghost use Rattle.std.specs.Prelude.{◌≡◌, ◌≢◌, ℕ, ◌≤◌, ◌<�
 ghost use Rattle.dispatch_report.specs.Block.{pair_line};
 ghost use Rattle.dispatch_report.specs.Words.{numbered, spaced};
 ghost use Rattle.report_lines.specs.Both.{both_texts, BothAre};
-ghost use Rattle.report_lines.specs.Ids.{IsId, AreIds};
+ghost use Rattle.report_lines.specs.Ids.{AreIds};
+ghost use Rattle.dispatch_report.specs.Fits.{IsId};
 ghost use Rattle.report_lines.specs.Reading.{IsReadAs};
 
 use crate::ids::{ID_MOST, rider, vehicle};

@@ -1,6 +1,6 @@
 ghost use Rattle.std.specs.Prelude.{◌≡◌, ◌≢◌, ℕ, ◌≤◌, ◌<◌, ◌^◌, List, ◌++◌, MatchOption, codes, true};
 ghost use Rattle.dispatch_report.specs.Entry.{refusal_text};
-ghost use Rattle.report_lines.specs.Reply.{IsRefusal};
+ghost use Rattle.dispatch_report.specs.Fits.{IsRefusal};
 ghost use Rattle.report_lines.specs.work.Replies.{IsWordRefusal, IsNumberRefusal, IsEndedRefusal};
 ghost use Rattle.report_lines.specs.Reading.{IsReadAs};
 

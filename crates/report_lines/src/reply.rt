@@ -1,6 +1,6 @@
 ghost use Rattle.std.specs.Prelude.{◌≡◌, ◌≢◌, ℕ, ◌≤◌, ◌<◌, ◌^◌, List, ◌++◌, MatchOption, codes, true};
 ghost use Rattle.dispatch_report.specs.Entry.{reply_text};
-ghost use Rattle.report_lines.specs.Reply.{IsReply};
+ghost use Rattle.dispatch_report.specs.Fits.{IsReply};
 ghost use Rattle.report_lines.specs.work.Replies.{IsWordReply, spaced_reply};
 ghost use Rattle.report_lines.specs.work.Told.{Told};
 ghost use Rattle.report_lines.specs.Reading.{IsReadAs};

@@ -1,7 +1,7 @@
 ghost use Rattle.std.specs.Prelude.{◌≡◌, ◌≢◌, ℕ, ◌≤◌, ◌<◌, List, MatchOption, IfOk};
 ghost use Rattle.std.specs.List.{flat_map, All};
 ghost use Rattle.dispatch_report.specs.Words.{spaced};
-ghost use Rattle.report_lines.specs.Ids.{IsId};
+ghost use Rattle.dispatch_report.specs.Fits.{IsId};
 ghost use Rattle.report_lines.specs.Reading.{IsReadAs};
 
 use crate::ids::{ID_MOST, rider};

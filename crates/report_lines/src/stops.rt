@@ -2,7 +2,7 @@ ghost use Rattle.std.specs.Prelude.{◌≡◌, ◌≢◌, ℕ, ◌≤◌, ◌<�
 ghost use Rattle.std.specs.List.{flat_map, All};
 ghost use Rattle.dispatch_report.specs.Block.{stop_text};
 ghost use Rattle.dispatch_report.specs.Words.{numbered, spaced};
-ghost use Rattle.report_lines.specs.Ids.{IsId};
+ghost use Rattle.dispatch_report.specs.Fits.{IsId};
 ghost use Rattle.report_lines.specs.Reading.{BeginsWith, BeginsWithNone, IsReadAs};
 ghost use Rattle.report_lines.specs.Stops.{FitsStop};
 ghost use Rattle.report_lines.specs.work.Stops.{visit_text, IsVisit};

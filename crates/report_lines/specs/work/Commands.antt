@@ -2,10 +2,8 @@
 use Rattle.std.specs.Prelude.{ℕ, ◌≤◌, ◌==◌, List, [], ◌++◌, codes, if◌then◌else◌}
 use Rattle.dispatch_report.specs.Entry.{command_text}
 use Rattle.dispatch_report.specs.Words.{numbered, spaced}
-use Rattle.report_lines.specs.Command.{IsCommand}
-use Rattle.report_lines.specs.Reply.{IsReply}
+use Rattle.dispatch_report.specs.Fits.{IsCommand, IsId, IsReply}
 use Rattle.report_lines.specs.work.Replies.{spaced_reply}
-use Rattle.report_lines.specs.Ids.{IsId}
 use Rattle.report_lines.specs.Both.{both_texts, BothAre}
 use Rattle.request_book.specs.declared.command.Command.{Command}
 use Rattle.request_book.specs.declared.reply.Reply.{Reply}

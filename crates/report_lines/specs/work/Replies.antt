@@ -1,6 +1,6 @@
 use Rattle.std.specs.Prelude.{ℕ, List, ◌++◌, codes, None, Some}
 use Rattle.dispatch_report.specs.Entry.{reply_text}
-use Rattle.report_lines.specs.Reply.{IsRefusal}
+use Rattle.dispatch_report.specs.Fits.{IsRefusal}
 use Rattle.request_book.specs.declared.reply.BookRefusal.{BookRefusal}
 use Rattle.request_book.specs.declared.reply.BookRefusal.TheVariants.{DuplicateRider, UnknownNode, SamePlace, PoolFull, BookFull, UnknownRider, IsAboard, Ended, UnknownVehicle, TimeBack, NotPromised, VehicleFull, NotAboard, BatchOpen, ClockBack, NotThisBatch}
 use Rattle.request_book.specs.declared.reply.Reply.{Reply}

@@ -1,6 +1,6 @@
 use Rattle.std.specs.Prelude.{ℕ, Bool, List, codes, if◌then◌else◌}
 use Rattle.dispatch_report.specs.Words.{numbered}
-use Rattle.report_lines.specs.Ids.{IsId}
+use Rattle.dispatch_report.specs.Fits.{IsId}
 
 -- The beginning of a stop: what happens, and to whom.
 
