@@ -32,7 +32,7 @@ pub use Rattle.dispatch_engine.specs.Run.{IsReady, IsRoundRun, IsRun, IsSameRun,
 pub use Rattle.dispatch_engine.specs.lemmas.Lanes.{IsPlain}
 pub use Rattle.dispatch_report.specs.declared.day.DayCounts.{DayCounts}
 pub use Rattle.plan_rules.proofs.lemmas.GraphLemmas.{in_choice, times_served_as_count, times_served_found, times_served_some}
-pub use Rattle.plan_rules.specs.Graph.{IsRowOf, choice_at, must_be_served, no_row, riders_at}
+pub use Rattle.plan_rules.specs.Graph.{IsRowOf, choice_at, must_be_served, riders_at}
 pub use Rattle.plan_rules.specs.lemmas.Graph.{is_in}
 pub use Rattle.plan_rules.specs.lemmas.Plan.{times_chosen}
 pub use Rattle.pool_base.proofs.lemmas.InOrderLemmas.{first_fault-each, first_fault-none, first_fault-some}
@@ -57,7 +57,7 @@ unfoldable pub use Rattle.request_book.specs.Closing.{picks}
 unfoldable pub use Rattle.request_book.specs.lemmas.Closing.{trip_picks, after_answer, closed_state}
 pub use Rattle.request_book.specs.Closing.{after_plan}
 pub use Rattle.request_book.specs.Command.{closed_outcome}
-pub use Rattle.request_book.specs.Consistent.{IsConsistent, IsNode, NamesNodes, seat_in}
+pub use Rattle.request_book.specs.Consistent.{IsNode, seat_in}
 unfoldable pub use Rattle.request_book.specs.Keyed.{KeysDiffer, changed_at, look_up}
 unfoldable pub use Rattle.request_book.specs.lemmas.Keyed.{without}
 pub use Rattle.request_book.specs.Keyed.{KeysRise, by_key}
@@ -66,7 +66,7 @@ pub use Rattle.request_book.specs.Rider.{is_active, passenger_of, pool_promise, 
 pub use Rattle.request_book.specs.lemmas.Named.{shown, asking, in_batch, lets_out, planned_status, stands_at, takes_in}
 unfoldable pub use Rattle.request_book.specs.Sealing.{batch_of}
 unfoldable pub use Rattle.request_book.specs.lemmas.Named.{sealed_state}
-pub use Rattle.request_book.specs.Sealing.{after_seal, is_over}
+pub use Rattle.request_book.specs.Sealing.{after_seal}
 pub use Rattle.request_book.specs.State.{find_passenger, find_rider, find_vehicle}
 unfoldable pub use Rattle.request_book.specs.Step.{step}
 pub use Rattle.request_book.specs.Step.{rider_becomes, vehicle_becomes}
@@ -82,7 +82,7 @@ pub use Rattle.request_book.specs.declared.outcome.Planned.{Planned}
 pub use Rattle.request_book.specs.declared.outcome.PlannedStop.{PlannedStop}
 pub use Rattle.request_book.specs.declared.reply.BookRefusal.{BookRefusal}
 pub use Rattle.request_book.specs.declared.reply.Reply.{Reply}
-pub use Rattle.request_book.specs.declared.reply.Reply.TheVariants.{Accepted, Cancelled, Closed, Dropped, Picked, Placed, Sealed}
+pub use Rattle.request_book.specs.declared.reply.Reply.TheVariants.{Accepted, Closed, Dropped, Picked, Placed, Sealed}
 pub use Rattle.request_book.specs.declared.rider.BookRider.{BookRider}
 pub use Rattle.request_book.specs.declared.rider.Status.{Status}
 pub use Rattle.request_book.specs.declared.rider.Status.TheVariants.{Aboard, Delivered, Expired, Promised, Waiting}
@@ -111,7 +111,7 @@ pub use Rattle.route_drive.specs.declared.day_run.DriveFault.{DriveFault}
 pub use Rattle.route_drive.specs.declared.day_run.DriveFault.TheVariants.{OutOfMemory}
 pub use Rattle.route_drive.specs.declared.tree.Found.{Found}
 pub use Rattle.route_drive.specs.declared.walk.WalkStep.{WalkStep}
-pub use Rattle.route_drive.specs.work.Counting.{AddsServed, AreServed, IsDelayed, all_served_by, served_by, waited}
+pub use Rattle.route_drive.specs.work.Counting.{AddsServed, AreServed, IsDelayed, all_served_by, waited}
 pub use Rattle.route_drive.specs.work.Drive.{HasCome, HasEnded, IsCounted, IsInTime, IsLastOn, IsLateAt, IsRoundOn, IsStoppedAt, IsTaken, IsUnderWay, Takes, at_rest, fault_at, reported_place, step_from}
 pub use Rattle.route_drive.specs.work.Places.{ArePlaced, heading_of, headings_of, told_by, told_of}
 pub use Rattle.route_drive.specs.work.Rounds.{Adds}

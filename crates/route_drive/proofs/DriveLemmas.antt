@@ -1,6 +1,6 @@
 -- A day under way, round by round.
-use Rattle.std.proofs.Common.{◌≡◌, ◌≢◌, ℕ, zero, suc, ◌+◌, ◌-◌, ◌<◌, List, [], ◌∷◌, ◌++◌, length, get_or, map, take, drop, replicate, Option, None, Some, inl, inr, refl, sym, ap, ◌∙◌, subst, arith, append-nil, All}
-use Rattle.route_drive.proofs.Common.{option_map_or, cases_lt, get_or-replicate, length-map, length-replicate, BookView, IsBook, next_position, state_after, Command, Entry, Journal, Planned, State, Settings, Roads, NumberedLanes, empty_round, lane_at, IsReady, IsRoundRun, IsRun, IsSameRun, journal_of, position_after_run, state_after_run, Course, DayRound, DayCounts, DriveFault, AreDriven, ComesTooLate, HasDrivenToTheEnd, IsDrivenRound, IsLateAnswer, IsTooLateDay, IsNewBook, courses_after, courses_from, courses_left, first_courses, left_course, number_after, plan_in, planned_course, AreCounts, entries_of, seal_of, EntersTooLate, IsInTime, left_commands, AddsServed, AreServed, HasCome, HasEnded, IsCounted, IsLastOn, IsLateAt, IsRoundOn, IsStoppedAt, IsTaken, IsUnderWay, Takes, second_of, longest, get_or_past, map_push, Any}
+use Rattle.std.proofs.Common.{◌≡◌, ◌≢◌, ℕ, zero, suc, ◌+◌, ◌-◌, ◌<◌, List, [], ◌∷◌, ◌++◌, length, get_or, map, take, drop, Some, refl, sym, ap, ◌∙◌, subst, arith, append-nil, All, rules}
+use Rattle.route_drive.proofs.Common.{length-map, BookView, IsBook, next_position, state_after, Command, Entry, Journal, State, Settings, Roads, NumberedLanes, empty_round, lane_at, IsReady, IsRoundRun, IsRun, IsSameRun, journal_of, position_after_run, state_after_run, Course, DayRound, DayCounts, DriveFault, AreDriven, ComesTooLate, HasDrivenToTheEnd, IsDrivenRound, IsLateAnswer, IsTooLateDay, IsNewBook, courses_after, courses_from, courses_left, first_courses, number_after, AreCounts, entries_of, seal_of, EntersTooLate, IsInTime, left_commands, AddsServed, AreServed, HasCome, HasEnded, IsCounted, IsLastOn, IsLateAt, IsRoundOn, IsStoppedAt, IsTaken, IsUnderWay, Takes, second_of, longest, map_push, Any}
 use Rattle.dispatch_engine.proofs.lemmas.RunLemmas.{position-more, run-more, state-more}
 use Rattle.route_drive.proofs.LeaveLemmas.{count_stays}
 use Rattle.route_drive.proofs.EntryLemmas.{served_more}
@@ -11,17 +11,11 @@ use Rattle.route_drive.specs.declared.entering.Stopped.TheVariants as stop
 
 -- as many courses as vehicles
 pub courses_each : (s : State) (round : NumberedLanes) (es : List Entry) (courses : List Course) → length courses ≡ length s.vehicles → length (courses_after s round es courses) ≡ length s.vehicles
-courses_each s round es courses same = elim (plan_in es) as (λ (o : Option Planned). length (option_map_or (λ planned. map (planned_course s.riders planned) s.vehicles) o (map (left_course (seal_of round)) courses)) ≡ length s.vehicles) [
-  | None ↦ length-map courses (left_course (seal_of round)) ∙ same
-  | Some planned ↦ length-map s.vehicles (planned_course s.riders planned)
-]
+courses_each s round es courses same = search (rules, length-map)
 
 -- an empty round has no command
 pub nothing_at : (number lane : ℕ) → lane_at (empty_round number) lane ≡ []
-nothing_at number lane = elim (cases_lt lane 16) [
-  | inl h ↦ get_or-replicate 16 lane [] [] h
-  | inr h ↦ get_or_past (replicate 16 []) lane [] (let e = length-replicate {A = List Command} 16 [] in omega (arith, e))
-]
+nothing_at number lane = search rules
 
 -- the number above the last round's
 pub number_after_is : (rounds : List NumberedLanes) (r : NumberedLanes) → 0 < length rounds → r ≡ get_or rounds (length rounds - 1) r → r.number + 1 ≡ number_after rounds
@@ -49,21 +43,7 @@ module _ (settings : Settings) (roads : Roads) where
   -- a day begins
   pub come_none : (Took : List DayRound → Type 0) (new : BookView) (drive : Drive) → Took [] → IsNewBook settings roads new → drive.book ≡ new
       → drive.courses.items ≡ first_courses settings roads new.state → AreServed [] drive.served → HasCome Took settings roads new.state [] drive
-  come_none Took new drive took is same are nobody =
-      let way : IsUnderWay settings roads new.state [] new drive.courses.items [] = record {
-        script = [];
-        driven = tt;
-        numbers = refl;
-        run = tt;
-        ready = record { nodes = is.nodes; wait = is.wait; closed = ap (λ (s : State). s.sealed) is.state };
-        entries = is.entries;
-        base = is.base ∙ sym is.state;
-        state = refl;
-        first = is.first;
-        courses_are = are;
-        each = ap length are ∙ length-map new.state.vehicles _;
-      } in
-      record { made = []; taken = took; served = nobody; way = subst (λ (b : BookView). IsUnderWay settings roads new.state [] b drive.courses.items []) (sym same) way }
+  come_none Took new drive took is same are nobody = search (rules, length-map)
 
   -- one more round is driven
   module _ (s : State) (rounds : List NumberedLanes) (drive : Drive) (made : List DayRound) (way : IsUnderWay settings roads s rounds drive.book drive.courses.items made) where
@@ -145,17 +125,7 @@ module _ (settings : Settings) (roads : Roads) where
 
     -- the next round is too late, or the last one
     late_at : (all rest : List NumberedLanes) (n : ℕ) → all ≡ rounds ++ rest → ComesTooLate settings roads drive.book.state.vehicles drive.courses.items rest n → (rest ≡ [] → n ≡ number_after all) → IsTooLateDay settings roads s all n made
-    late_at all rest n parts late end = record {
-      before = rounds;
-      rest = rest;
-      parts = parts;
-      script = way.script;
-      driven = way.driven;
-      numbers = way.numbers;
-      run = way.run;
-      late = rw (← way.state, ← way.courses_are) late;
-      end = end;
-    }
+    late_at all rest n parts late end = search rules
 
   module _ (s : State) (rounds : List NumberedLanes) (Before After : List DayRound → Type 0) (drive : Drive) (come : HasCome Before settings roads s rounds drive) where
     pub come_more : (round : NumberedLanes) (drive' : Drive) → IsRoundOn settings roads round drive Before After drive' → HasCome After settings roads s (rounds ++ round ∷ []) drive'
@@ -192,14 +162,7 @@ pub day_ends : (settings : Settings) (roads : Roads) (s : State) (rounds : List 
     → HasCome Before settings roads s rounds drive → HasEnded settings roads rounds drive Before After end
     → ((entries : List Entry) → AreServed entries end.served → AreCounts roads end.book.state.riders entries run)
     → IsCounted After settings roads s rounds run
-day_ends settings roads s [] Before After drive end run come ended counts =
-    let same = sym ended.0 in record {
-      made = come.made;
-      taken = ended.1 come.made come.taken;
-      driven = no_map come.made come.way.numbers;
-      counts = subst (λ (t : State). AreCounts roads t.riders (entries_of come.made) run) (ap (λ (d : Drive). d.book.state) ended.0 ∙ come.way.state)
-          (counts (entries_of come.made) (subst (λ (d : Drive). AreServed (entries_of come.made) d.served) same come.served));
-    }
+day_ends settings roads s [] Before After drive end run come ended counts = search (rules, no_map)
 day_ends settings roads s (q ∷ rounds) Before After drive end run come on counts =
     let r : DayRound = record { number = number_after (q ∷ rounds); journal = on.journal } in
     let made : List DayRound = come.made ++ r ∷ [] in record {
@@ -221,46 +184,19 @@ pub taken_is : (settings : Settings) (roads : Roads) (driven : NumberedLanes) (b
     → journal ≡ record { first = after.first; base = after.base; entries = after.entries }
     → next ≡ record { nodes = after.nodes; wait = after.wait; first = next_position after.first after.entries; base = after.state; entries = []; state = after.state; spare = 0 }
     → IsTaken settings roads driven book next journal
-taken_is settings roads driven book after next journal run same kept ready is next_is = rw (is, next_is) (record {
-  run = run;
-  base = same.base;
-  first = same.first;
-  ready = record { nodes = ready.nodes; wait = ready.wait; closed = ready.closed };
-  entries = refl;
-  base_is = refl;
-  state = kept.state ∙ ap (λ (ns : List ℕ). state_after ns after.wait after.base after.entries) ready.nodes ∙ ap (λ (w : ℕ). state_after roads.nodes w after.base after.entries) ready.wait
-      ∙ ap (λ (s : State). state_after roads.nodes settings.wait s after.entries) same.base;
-  next = ap (λ (f : ℕ). next_position f after.entries) same.first;
-})
+taken_is settings roads driven book after next journal run same kept ready is next_is = search rules
 
 -- a round as it is driven, by another number
 renumbered : (settings : Settings) (roads : Roads) (driven : NumberedLanes) (number : ℕ) (book next : BookView) (journal : Journal) → IsTaken settings roads driven book next journal
     → IsTaken settings roads (record driven { number = number }) book next journal
-renumbered settings roads driven number book next journal taken = record {
-  run = record { replies = taken.run.replies; closes = taken.run.closes; lanes = taken.run.lanes };
-  base = taken.base;
-  first = taken.first;
-  ready = taken.ready;
-  entries = taken.entries;
-  base_is = taken.base_is;
-  state = taken.state;
-  next = taken.next;
-}
+renumbered settings roads driven number book next journal taken = assumption
 
 pub round_on : (settings : Settings) (roads : Roads) (round driven : NumberedLanes) (drive drive' : Drive) (next : BookView) (journal : Journal) (Before After : List DayRound → Type 0)
     → IsDrivenRound settings roads drive.book.state drive.courses.items round (record driven { number = round.number })
     → IsTaken settings roads driven drive.book next journal → drive'.book ≡ next → drive'.courses.items ≡ courses_after next.state round journal.entries drive.courses.items
     → AddsServed journal.entries drive.served drive'.served → Takes Before After (record { number = round.number; journal = journal })
     → IsRoundOn settings roads round drive Before After drive'
-round_on settings roads round driven drive drive' next journal Before After is taken same are adds takes = record {
-  driven = record driven { number = round.number };
-  is_driven = is;
-  journal = journal;
-  taken = rw same (renumbered settings roads driven round.number drive.book next journal taken);
-  kept = takes;
-  served = adds;
-  courses_are = are ∙ sym (ap (λ (b : BookView). courses_after b.state round journal.entries drive.courses.items) same);
-}
+round_on settings roads round driven drive drive' next journal Before After is taken same are adds takes = search rules
 
 -- why a round stopped
 pub stopped_late : (number : ℕ) (Late : Type 0) (Before : List DayRound → Type 0) (stopped : Stopped) (answer : DriveFault) → IsStoppedAt stopped number answer → (stopped ≡ stop.TooLate → Late) → IsLateAt number Late Before Before answer
@@ -272,14 +208,4 @@ pub last_on : (settings : Settings) (roads : Roads) (driven : NumberedLanes) (nu
     → lane_at driven 0 ≡ left_commands drive.book.state.vehicles drive.courses.items → ((lane : ℕ) → lane ≢ 0 → lane_at driven lane ≡ []) → All IsInTime (left_commands drive.book.state.vehicles drive.courses.items)
     → IsTaken settings roads driven drive.book next journal → drive'.book ≡ next → AddsServed journal.entries drive.served drive'.served → Takes Before After (record { number = number; journal = journal })
     → IsLastOn settings roads number drive Before After drive'
-last_on settings roads driven number drive drive' next journal Before After own others in_time taken same adds takes = record {
-  driven = driven;
-  own = own;
-  others = others;
-  in_time = in_time;
-  journal = journal;
-  taken = rw same taken;
-  kept = takes;
-  served = adds;
-  nodes = ap (λ (b : BookView). b.nodes) same ∙ taken.ready.nodes;
-}
+last_on settings roads driven number drive drive' next journal Before After own others in_time taken same adds takes = search rules

@@ -1,6 +1,6 @@
 -- What is entered, stop by stop and vehicle by vehicle.
-use Rattle.std.proofs.Common.{◌≡◌, ℕ, zero, suc, ◌+◌, ◌<◌, ◌≤◌, Bool, true, false, List, [], ◌∷◌, ◌++◌, length, get_or, map, filter, take, drop, Some, Result, Ok, Err, refl, sym, ap, ◌∙◌, inl, inr, subst, arith, append_assoc, append-nil, length-append, IsSome, All, Contains, IfOk, MatchResult, find, IfErr, min}
-use Rattle.route_drive.proofs.Common.{AllZip, cond-true, cond-false, take_more, get_or_append_left, All-nil, All-cons, All-push, Vehicle, Command, PlannedStop, Roads, NumberedLanes, lane_at, Course, NodeAt, Stay, WalkStep, longest, Pickup, Dropoff, Report, AreEntered, EntersTooLate, IsInTime, due, left_commands, standing_after, stop_command, walk_end, step_from, ArePlaced, heading_of, headings_of, told_by, told_of, Adds, second_of, cond_both, le-leb, drop_more, flat_map_more, length-take, map_push, filter_more, length-zip, nat_tests}
+use Rattle.std.proofs.Common.{◌≡◌, ℕ, zero, suc, ◌+◌, ◌<◌, ◌≤◌, Bool, true, false, List, [], ◌∷◌, ◌++◌, length, get_or, map, filter, take, drop, Some, Result, Ok, Err, refl, sym, ap, ◌∙◌, inl, subst, arith, append_assoc, append-nil, length-append, IsSome, All, Contains, IfOk, MatchResult, find, IfErr, min, rules}
+use Rattle.route_drive.proofs.Common.{AllZip, cond-true, cond-false, take_more, get_or_append_left, All-nil, All-cons, All-push, Vehicle, Command, PlannedStop, Roads, NumberedLanes, Course, NodeAt, Stay, WalkStep, longest, Pickup, Dropoff, Report, AreEntered, EntersTooLate, IsInTime, due, left_commands, standing_after, stop_command, walk_end, step_from, ArePlaced, heading_of, headings_of, told_by, told_of, Adds, second_of, cond_both, le-leb, drop_more, flat_map_more, length-take, map_push, filter_more, length-zip, nat_tests}
 use Rattle.std.specs.List.{Any}
 use Rattle.std.specs.List.{flat_map, zip}
 use Rattle.std.proofs.lemmas.List.Quantifiers.{Any-push}
@@ -34,11 +34,7 @@ standing-push dwell at [] s = refl
 standing-push dwell at (x ∷ stops) s = standing-push dwell (record { node = x.node; second = x.second; free = x.second + dwell }) stops s
 
 pub Adds-trans : (lane : ℕ) (a b c : NumberedLanes) (xs ys : List Command) → Adds lane xs a b → Adds lane ys b c → Adds lane (xs ++ ys) a c
-Adds-trans lane a b c xs ys one two = record {
-  size = two.size ∙ one.size;
-  own = two.own ∙ ap (λ l. l ++ ys) one.own ∙ append_assoc (lane_at a lane) xs ys;
-  others = λ k ne. two.others k ne ∙ one.others k ne;
-}
+Adds-trans lane a b c xs ys one two = search (rules, append_assoc)
 
 same_takes : {X Y : Type 0} (xs : List X) (ys : List Y) (k : ℕ) → length ys ≡ length xs → length (take k ys) ≡ length (take k xs)
 same_takes xs ys k e = length-take k ys ∙ ap (min k) e ∙ sym (length-take k xs)
@@ -51,10 +47,7 @@ zip-push xs ys x y e = absurd (omega (arith, e))
 
 zip-more : {X Y : Type 0} (xs : List X) (ys : List Y) (k : ℕ) (x : X) (y : Y) → length ys ≡ length xs → k < length xs → x ≡ get_or xs k x → y ≡ get_or ys k y
     → zip (take (k + 1) xs) (take (k + 1) ys) ≡ zip (take k xs) (take k ys) ++ (x, y) ∷ []
-zip-more xs ys k x y e h is_x is_y =
-    let a : take (k + 1) xs ≡ take k xs ++ x ∷ [] = take_more xs k x h ∙ ap (λ z. take k xs ++ z ∷ []) (sym is_x) in
-    let b : take (k + 1) ys ≡ take k ys ++ y ∷ [] = take_more ys k y (omega (arith, e, h)) ∙ ap (λ z. take k ys ++ z ∷ []) (sym is_y) in
-    rw (a, b) (zip-push (take k xs) (take k ys) x y (same_takes xs ys k e))
+zip-more xs ys k x y e h is_x is_y = grind (arith, nat_tests, (take_more xs k x h), (take_more ys k y), (zip-push (take k xs) (take k ys) x y), (same_takes xs ys k e))
 
 -- what is entered of one more vehicle, where it heads, and the stops left of it
 pub told-more : (now : ℕ) (vehicles : List Vehicle) (courses : List Course) (places : List NodeAt) (k : ℕ) (v : Vehicle) (c : Course) (there : NodeAt) → length courses ≡ length vehicles → length places ≡ length vehicles
@@ -111,8 +104,7 @@ module _ (roads : Roads) (dwell now : ℕ) where
     record { there = z; reported = placed.0; told = refl },
     Any-push (λ (c : Command). longest < second_of c) (map (stop_command x.id) (due now y.stops.items)) (Report x.id z.node z.second) (subst (λ (t : NodeAt). longest < t.second) (sym is) late),
   )
-  placed_late (x ∷ vehicles) (y ∷ courses) (z ∷ places) size placed (suc k, there, within, is, late) =
-      inr (placed_late vehicles courses places (omega (arith, size)) placed.1 (k, there, omega (arith, within), is, late))
+  placed_late (x ∷ vehicles) (y ∷ courses) (z ∷ places) size placed (suc k, there, within, is, late) = search (rules, (placed_late vehicles courses places))
 
 any_left : (P : Command → Type 0) (xs ys : List Command) → Any P xs → Any P (xs ++ ys)
 any_left P xs ys (k, x, h, is, p) = (k, x, (let e = length-append xs ys in omega (arith, e, h)), get_or_append_left xs ys x k h ∙ is, p)
@@ -124,10 +116,8 @@ any_right P (z ∷ xs) ys any = let rest = any_right P xs ys any in (suc rest.0,
 -- a stop of one vehicle is among the stops left of all
 pub left_late : (P : Command → Type 0) (vehicles : List Vehicle) (courses : List Course) (k : ℕ) (v : Vehicle) (c : Course) → k < length vehicles → k < length courses
     → v ≡ get_or vehicles k v → c ≡ get_or courses k c → Any P (map (stop_command v.id) c.stops.items) → Any P (left_commands vehicles courses)
-left_late P (x ∷ vehicles) (y ∷ courses) zero v c h g is_v is_c any =
-    any_left P (map (stop_command x.id) y.stops.items) (left_commands vehicles courses) (rw (← is_v, ← is_c) any)
-left_late P (x ∷ vehicles) (y ∷ courses) (suc k) v c h g is_v is_c any =
-    any_right P (map (stop_command x.id) y.stops.items) (left_commands vehicles courses) (left_late P vehicles courses k v c (omega arith) (omega arith) is_v is_c any)
+left_late P (x ∷ vehicles) (y ∷ courses) zero v c h g is_v is_c any = search (rules, any_left)
+left_late P (x ∷ vehicles) (y ∷ courses) (suc k) v c h g is_v is_c any = search (rules, any_right, (left_late P vehicles courses k v c))
 left_late P vehicles courses k v c h g is_v is_c any = absurd (omega arith)
 
 -- one among those of a map
@@ -147,10 +137,7 @@ stop_in_time vehicle s le = cond_both s.pick (Pickup vehicle s.rider s.second) (
 -- what is due comes in time
 pub due_in_time : (vehicle now : ℕ) (stops : List PlannedStop) → now ≤ longest → All IsInTime (map (stop_command vehicle) (due now stops))
 due_in_time vehicle now [] h = All-nil IsInTime
-due_in_time vehicle now (s ∷ stops) h = elim (leb_tells s.second now) [
-  | inl t ↦ rw t.0 (All-cons IsInTime (stop_command vehicle s) (map (stop_command vehicle) (due now stops)) (stop_in_time vehicle s (let le = t.1 in omega (arith, le, h))) (due_in_time vehicle now stops h))
-  | inr f ↦ rw f.0 (due_in_time vehicle now stops h)
-]
+due_in_time vehicle now (s ∷ stops) h = search (rules, leb_tells, All-cons, stop_in_time, (due_in_time vehicle now stops h))
 
 pub told_in_time : (vehicle now : ℕ) (course : Course) (there : NodeAt) → now ≤ longest → there.second ≤ longest → All IsInTime (told_of now vehicle course there)
 told_in_time vehicle now course there h in_time = All-push IsInTime (map (stop_command vehicle) (due now course.stops.items)) (Report vehicle there.node there.second) (due_in_time vehicle now course.stops.items h) in_time

@@ -1,6 +1,6 @@
 -- Who is served by entries that follow one another, and the counts of them.
-use Rattle.std.proofs.Common.{◌≡◌, ℕ, ◌+◌, ◌^◌, ◌<◌, max, Bool, List, [], ◌∷◌, ◌++◌, length, get_or, map, filter, take, refl, sym, ap, ◌∙◌, subst, arith, eqb, append_assoc, append-nil, Contains, min, ◌-◌}
-use Rattle.route_drive.proofs.Common.{AllZip, take_more, get_or_default, length-map, map-append, Any-from_list_any, filter-append, IsNode, Entry, Reply, BookRider, Roads, ServedRider, DayRound, greatest, AreCounts, IsDelayOf, dropped_among, entries_of, is_dropped, is_picked, picked_among, wait_of, AddsServed, AreServed, IsDelayed, all_served_by, served_by, waited, eqb-true, flat_map_more, map_push}
+use Rattle.std.proofs.Common.{◌≡◌, ℕ, ◌+◌, ◌^◌, ◌<◌, max, Bool, List, [], ◌∷◌, ◌++◌, length, get_or, map, filter, take, refl, sym, ap, ◌∙◌, subst, arith, append_assoc, append-nil, Contains, min, ◌-◌, rules}
+use Rattle.route_drive.proofs.Common.{AllZip, take_more, get_or_default, length-map, map-append, Any-from_list_any, filter-append, IsNode, Entry, Reply, BookRider, Roads, ServedRider, DayRound, greatest, AreCounts, IsDelayOf, dropped_among, entries_of, is_dropped, is_picked, picked_among, wait_of, AddsServed, AreServed, IsDelayed, all_served_by, waited, eqb-true, flat_map_more, map_push}
 use Rattle.route_drive.specs.declared.counts.Served.{Served}
 
 pub greatest-push : (xs : List ℕ) (x : ℕ) → greatest (xs ++ x ∷ []) ≡ max (greatest xs) x
@@ -19,9 +19,7 @@ entries_of-push made r = sym (flat_map_more (λ (x : DayRound). x.journal.entrie
 
 -- whom earlier entries and later ones served
 served-append : (p : Reply → Bool) (es fs : List Entry) → all_served_by (filter (λ e. p e.reply) (es ++ fs)) ≡ all_served_by (filter (λ e. p e.reply) es) ++ all_served_by (filter (λ e. p e.reply) fs)
-served-append p es fs =
-    ap all_served_by (filter-append (λ (e : Entry). p e.reply) es fs)
-    ∙ map-append (λ (e : Entry). served_by e.command) (filter (λ (e : Entry). p e.reply) es) (filter (λ (e : Entry). p e.reply) fs)
+served-append p es fs = search (rules, filter-append, map-append)
 
 -- no entry follows
 pub adds_none : (served : Served) → AddsServed [] served served
@@ -61,26 +59,14 @@ delays_of roads riders (e ∷ es) (d ∷ ds) are = (are.0, delays_of roads rider
 delays_of roads riders es ds are = absurd are
 
 count_is : (n : ℕ) (served : List ServedRider) (es : List Entry) → n ≡ length served → n < 2 ^ 64 → served ≡ all_served_by es → n ≡ min (length es) (2 ^ 64 - 1)
-count_is n served es is small are =
-    let size : length served ≡ length es = ap length are ∙ length-map es (λ (e : Entry). served_by e.command) in
-    omega (arith, is, small, size)
+count_is n served es is small are = search (rules, length-map)
 
 pub counts_are : (roads : Roads) (riders : List BookRider) (served : Served) (es : List Entry) (picked dropped wait delay : ℕ) (delays : List ℕ)
     → picked ≡ length served.picked.items → picked < 2 ^ 64 → dropped ≡ length served.dropped.items → dropped < 2 ^ 64
     → wait ≡ greatest (map (waited riders) served.picked.items) → AllZip (IsDelayed roads riders) served.dropped.items delays → delay ≡ greatest delays
     → AreServed es served → AreCounts roads riders es (record { picked = picked; dropped = dropped; worst_wait = wait; worst_delay = delay })
-counts_are roads riders served es picked dropped wait delay delays picks few drops less waits are worst is = record {
-  picked_is = count_is picked served.picked.items (picked_among es) picks few is.picked;
-  dropped_is = count_is dropped served.dropped.items (dropped_among es) drops less is.dropped;
-  wait_is = waits ∙ ap (λ (l : List ServedRider). greatest (map (waited riders) l)) is.picked ∙ ap greatest (waits_of riders (picked_among es));
-  delays = delays;
-  delays_are = delays_of roads riders (dropped_among es) delays (subst (λ (l : List ServedRider). AllZip (IsDelayed roads riders) l delays) is.dropped are);
-  delay_is = worst;
-}
+counts_are roads riders served es picked dropped wait delay delays picks few drops less waits are worst is = search (rules, count_is, waits_of, delays_of)
 
 -- a node that is found is among the nodes
 pub node_known : (nodes : List ℕ) (node : ℕ) → IsNode nodes node → Contains nodes node
-node_known nodes node found =
-    let any = Any-from_list_any (λ n. eqb n node) nodes found in
-    let same : any.1 ≡ node = eqb-true any.1 node any.4 in
-    (any.0, any.2, get_or_default nodes any.0 node any.1 any.2 ∙ any.3 ∙ same)
+node_known nodes node found = search (rules, Any-from_list_any, eqb-true, get_or_default)

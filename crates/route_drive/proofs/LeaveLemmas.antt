@@ -1,9 +1,8 @@
 -- What each step leaves: riders who they are, so that the waits and delays that are told at the end of a day are those of
 -- its pickups and drop-offs, and the vehicles by their ids.
-use Rattle.std.proofs.Common.{◌≡◌, ℕ, Bool, true, false, cond, List, [], ◌∷◌, ◌++◌, length, map, Option, None, Some, refl, sym, ap, ◌∙◌, option_map, ◌==◌, ◌&&◌}
-use Rattle.route_drive.proofs.Common.{false≢true, length-map, Batch, Rider, Vehicle, look_up-map, look_up-push_found, map-changed_at, after_answer, after_plan, picks, in_batch, planned_status, closed_state, changed_at, state_after, is_active, with_status, sealed_state, after_seal, is_over, find_rider, step, answer, picked_up, dropped_off, stands_at, takes_in, lets_out, rider_becomes, vehicle_becomes, submit_step, submit_refusal, cancel_step, report_step, pickup_step, dropoff_step, seal_step, close_step, table_step, by-table, one_more, Command, Submit, Cancel, Report, Pickup, Dropoff, Seal, Close, Answer, BookRefusal, Entry, Reply, Accepted, Placed, Picked, Dropped, Sealed, Closed, BookRider, Status, Waiting, Aboard, Delivered, Expired, State, is_dropped, is_picked, Outcome, Cancelled}
+use Rattle.std.proofs.Common.{◌≡◌, ℕ, Bool, true, false, cond, List, [], ◌∷◌, ◌++◌, length, map, Option, None, Some, refl, sym, ap, ◌∙◌, option_map, ◌==◌, rules}
+use Rattle.route_drive.proofs.Common.{false≢true, length-map, Batch, Rider, Vehicle, look_up-map, look_up-push_found, map-changed_at, after_answer, in_batch, planned_status, closed_state, changed_at, state_after, with_status, sealed_state, find_rider, step, answer, picked_up, dropped_off, stands_at, takes_in, lets_out, submit_step, submit_refusal, cancel_step, report_step, pickup_step, dropoff_step, seal_step, close_step, table_step, by-table, Command, Submit, Cancel, Report, Pickup, Dropoff, Seal, Close, Answer, BookRefusal, Entry, Reply, Accepted, Picked, Dropped, Closed, BookRider, Status, Waiting, State, is_dropped, is_picked, Outcome}
 use Rattle.request_book.specs.declared.outcome.Answer.TheVariants as answers
-use Rattle.request_book.specs.declared.rider.Status.TheVariants.{Cancelled as GivenUp}
 
 -- a rider of whatever status
 abbrev pub IsSame : BookRider → BookRider → Type 0
@@ -21,10 +20,7 @@ pub keeps_self : (riders : List BookRider) → Keeps riders riders
 keeps_self riders id r found = (r, found, same_status false r.status r)
 
 pub keeps_trans : (a b c : List BookRider) → Keeps a b → Keeps b c → Keeps a c
-keeps_trans a b c one two id r found =
-    let first = one id r found in
-    let second = two id first.0 first.1 in
-    (second.0, second.1, second.2 ∙ ap (with_status second.0.status) first.2)
+keeps_trans a b c one two id r found = search rules
 
 keeps_mapped : (f : BookRider → BookRider) → ((r : BookRider) → IsSame r (f r)) → (riders : List BookRider) → Keeps riders (map f riders)
 keeps_mapped f same riders id r found = (f r, look_up-map (λ (x : BookRider). x.id) f (λ x. ap (λ (r : BookRider). r.id) (same x)) id riders ∙ ap (option_map f) found, same r)
@@ -36,8 +32,7 @@ keeps_changed id status riders = keeps_mapped (λ (r : BookRider). cond (r.id ==
 keeps_answered : (batch : List Rider) (a : Answer) (riders : List BookRider) → Keeps riders (after_answer batch a riders)
 unfolding after_answer
 keeps_answered batch answers.Overflow riders = keeps_self riders
-keeps_answered batch (answers.Planned plan) riders =
-    keeps_mapped (after_plan batch (picks plan.chosen)) (λ r. same_status (is_active r.status && in_batch batch r.id) (planned_status (picks plan.chosen) r.id) r) riders
+keeps_answered batch (answers.Planned plan) riders = search (rules, keeps_mapped, same_status, in_batch, planned_status)
 
 abbrev pub IsPickup : Command → Type 0
 IsPickup (Pickup vehicle rider time) = Unit {0}
@@ -64,21 +59,11 @@ other-leaves s next c reply p d riders ids = record { riders = riders; ids = ids
 
 picked-leaves : (s : State) (vehicle rider time : ℕ) (r : Option BookRider) → Leaves s (Pickup vehicle rider time) (picked_up s r vehicle time, Picked)
 picked-leaves s vehicle rider time None = record { riders = keeps_self s.riders; ids = refl; picked = λ e. tt; dropped = λ e. absurd (false≢true e) }
-picked-leaves s vehicle rider time (Some r) = record {
-  riders = keeps_changed r.id (Aboard vehicle) s.riders;
-  ids = map-changed_at (λ (v : Vehicle). v.id) vehicle (takes_in r time) (λ v. refl) s.vehicles;
-  picked = λ e. tt;
-  dropped = λ e. absurd (false≢true e);
-}
+picked-leaves s vehicle rider time (Some r) = search (rules, keeps_changed, map-changed_at, takes_in)
 
 dropped-leaves : (s : State) (vehicle rider time : ℕ) (r : Option BookRider) → Leaves s (Dropoff vehicle rider time) (dropped_off s r vehicle time, Dropped)
 dropped-leaves s vehicle rider time None = record { riders = keeps_self s.riders; ids = refl; picked = λ e. absurd (false≢true e); dropped = λ e. tt }
-dropped-leaves s vehicle rider time (Some r) = record {
-  riders = keeps_changed r.id Delivered s.riders;
-  ids = map-changed_at (λ (v : Vehicle). v.id) vehicle (lets_out r time) (λ v. refl) s.vehicles;
-  picked = λ e. absurd (false≢true e);
-  dropped = λ e. tt;
-}
+dropped-leaves s vehicle rider time (Some r) = search (rules, keeps_changed, map-changed_at, lets_out)
 
 closed-leaves : (s : State) (k : ℕ) (outcome : Outcome) → Leaves s (Close k outcome) (closed_state s outcome.answer, Closed)
 unfolding closed_state
@@ -93,16 +78,11 @@ table-leaves nodes wait s (Submit rider origin destination time party) =
     let r : BookRider = record { id = rider; origin = origin; destination = destination; time = time; party = party; status = Waiting } in
     answer-leaves s _ (submit_refusal nodes s r) Accepted (record s { riders = s.riders ++ r ∷ [] })
     (other-leaves s (record s { riders = s.riders ++ r ∷ [] }) _ Accepted refl refl (λ id q found. (q, look_up-push_found (λ (x : BookRider). x.id) id r q s.riders found, same_status false q.status q)) refl)
-table-leaves nodes wait s (Cancel rider) =
-    answer-leaves s _ _ Cancelled (rider_becomes s rider GivenUp) (other-leaves s (rider_becomes s rider GivenUp) _ Cancelled refl refl (keeps_changed rider GivenUp s.riders) refl)
-table-leaves nodes wait s (Report vehicle node time) =
-    answer-leaves s _ _ Placed (vehicle_becomes s vehicle (stands_at node time))
-    (other-leaves s (vehicle_becomes s vehicle (stands_at node time)) _ Placed refl refl (keeps_self s.riders) (map-changed_at (λ (v : Vehicle). v.id) vehicle (stands_at node time) (λ v. refl) s.vehicles))
+table-leaves nodes wait s (Cancel rider) = search (rules, answer-leaves, other-leaves, keeps_changed)
+table-leaves nodes wait s (Report vehicle node time) = search (rules, answer-leaves, stands_at, other-leaves, keeps_self, map-changed_at)
 table-leaves nodes wait s (Pickup vehicle rider time) = answer-leaves s _ _ Picked (picked_up s (find_rider rider s.riders) vehicle time) (picked-leaves s vehicle rider time (find_rider rider s.riders))
 table-leaves nodes wait s (Dropoff vehicle rider time) = answer-leaves s _ _ Dropped (dropped_off s (find_rider rider s.riders) vehicle time) (dropped-leaves s vehicle rider time (find_rider rider s.riders))
-table-leaves nodes wait s (Seal now) =
-    answer-leaves s _ _ (Sealed (one_more s.batches)) (sealed_state wait s now)
-    (other-leaves s (sealed_state wait s now) _ (Sealed (one_more s.batches)) refl refl (keeps_mapped (after_seal wait now) (λ r. same_status (is_over wait now r) Expired r) s.riders) refl)
+table-leaves nodes wait s (Seal now) = search (rules, answer-leaves, sealed_state, other-leaves, keeps_mapped, same_status)
 table-leaves nodes wait s (Close batch outcome) = answer-leaves s _ _ Closed (closed_state s outcome.answer) (closed-leaves s batch outcome)
 
 pub step-leaves : (nodes : List ℕ) (wait : ℕ) (s : State) (c : Command) → Leaves s c (step nodes wait s c)

@@ -1,5 +1,5 @@
 -- The suffix law: what remains of a serving order serves.
-use Rattle.std.proofs.Common.{◌≡◌, ℕ, suc, ◌+◌, ◌<◌, ◌≤◌, Bool, true, false, eqb, List, [], ◌∷◌, ◌++◌, length, map, filter, drop, refl, sym, ap, ◌∙◌, subst, arith, inl, inr, length-append, All, remove, slice_index_or, not}
+use Rattle.std.proofs.Common.{◌≡◌, ℕ, suc, ◌+◌, ◌<◌, ◌≤◌, Bool, true, false, eqb, List, [], ◌∷◌, ◌++◌, length, map, filter, drop, refl, sym, ap, ◌∙◌, subst, arith, inl, inr, length-append, All, remove, not, rules}
 use Rattle.route_drive.proofs.Common.{AllByRecursion, cases_lt, cond-true, cond-false, false≢true, get_or_append_left, get_or-append_seam, All-append, All-cons, All-nil, sum_by_push, sum_by-cons, longest, Leg, Task, Stop, Pick, Drop, Alight, Visit, is_of_rider, is_of_passenger, IsKnown, place_of, boarding_of, room_after, ServesFrom, seconds_from, no_leg, leg_at, persons, IsLeg, IsTask, visit_at, visits_of, free_seats, IsOrderOf, Serves, seconds_of, eq-eqb, ne_eqb, not_from_false, not_from_true, map-map, nat_tests}
 use Rattle.std.proofs.lemmas.List.Edits.{length-remove}
 use Rattle.stop_orders.specs.declared.visit.Visit.TheVariants.{Pickup, Dropoff}
@@ -221,55 +221,17 @@ goes_on points tau dwell (suc k) task place free (stop ∷ stops) same valid ord
     let from : ServesFrom tau dwell next then (free_seats (task_after stop task)) (visits_of (task_after stop task) renamed) = rw (on.visits, on.room) serves.3 in
     subst (λ vs. GoesOn points tau dwell (drop k vs) (drop k (seconds_from tau dwell next then vs)) (rest_of k (task_after stop task) renamed)) on.visits
     (goes_on points tau dwell k (task_after stop task) next then renamed (same_dwell stop task ∙ same) on.valid on.order from)
-goes_on points tau dwell k task place free stops same valid order serves = record {
-  valid = valid;
-  order = order;
-  visits_are = refl;
-  dwell_is = same;
-  place = place;
-  free = free;
-  serves = serves;
-  seconds_are = refl;
-}
+goes_on points tau dwell k task place free stops same valid order serves = search rules
 
 -- the rest serves from wherever the next stop is met
 meets : (tau : ℕ → ℕ → ℕ) (dwell place free room x ready : ℕ) (visits : List Visit) (seconds : List ℕ) → ServesFrom tau dwell place free room visits → seconds_from tau dwell place free visits ≡ seconds
     → MeetsNext tau x ready visits seconds → ServesFrom tau dwell x ready room visits × (seconds_from tau dwell x ready visits ≡ seconds)
 meets tau dwell place free room x ready [] seconds serves are joins = (tt, are)
 meets tau dwell place free room x ready (v ∷ visits) [] serves are joins = absurd (let e : 0 ≡ suc _ = sym (ap length are) in cc)
-meets tau dwell place free room x ready (v ∷ visits) (second ∷ seconds) serves are joins =
-    let head : free + tau place (place_of v) ≡ second = ap (λ l. slice_index_or l 0 0) are in
-    let e : ready + tau x (place_of v) ≡ free + tau place (place_of v) = joins.1 ∙ sym head in
-    ((joins.0, rw e serves.1, serves.2, rw e serves.3), rw e are)
+meets tau dwell place free room x ready (v ∷ visits) (second ∷ seconds) serves are joins = search rules
 
 pub suffix_serves : (points : ℕ) (tau : ℕ → ℕ → ℕ) (task : Task) (stops : List Stop) (k place ready : ℕ)
     → IsTask points task → Serves tau task stops → place < points → ready ≤ longest
     → MeetsNext tau place ready (drop k (visits_of task stops)) (drop k (seconds_of tau task stops))
     → RestServes points tau task stops k place ready
-suffix_serves points tau task stops k place ready valid serves within short joins =
-    let on = goes_on points tau task.dwell k task task.start task.ready stops refl valid serves.order serves.in_time in
-    let t : Task = (rest_of k task stops).0 in
-    let r : List Stop = (rest_of k task stops).1 in
-    let vs : List Visit = drop k (visits_of task stops) in
-    let from = meets tau task.dwell on.place on.free (free_seats t) place ready vs (drop k (seconds_of tau task stops)) on.serves on.seconds_are joins in
-    let seen : visits_of t r ≡ vs = on.visits_are in
-    let d : t.dwell ≡ task.dwell = on.dwell_is in
-    record {
-      valid = record {
-        start = within;
-        ready = short;
-        dwell = on.valid.dwell;
-        seats = on.valid.seats;
-        seated = on.valid.seated;
-        passenger_count = on.valid.passenger_count;
-        rider_count = on.valid.rider_count;
-        passengers = on.valid.passengers;
-        riders = on.valid.riders;
-      };
-      serves = record {
-        order = on.order;
-        in_time = rw (d, seen) from.0;
-      };
-      visits = seen;
-      seconds = rw (d, seen) from.1;
-    }
+suffix_serves points tau task stops k place ready valid serves within short joins = grind (arith, nat_tests, (goes_on points tau task.dwell k task task.start task.ready stops), (meets tau task.dwell))

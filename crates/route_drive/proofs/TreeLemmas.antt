@@ -1,5 +1,5 @@
 -- Searches for shortest walks.
-use Rattle.std.proofs.Common.{IfNone, IfOk, IsSome, MatchOption, Result, Ok, Err, ◌≡◌, ℕ, Option, None, Some, ◌+◌, ◌*◌, ◌<◌, ◌≤◌, ◌⊎◌, Bool, true, false, cond, not, List, [], ◌∷◌, ◌++◌, length, get_or, slice_index, set, replicate, map, reverse, count_by, All, refl, sym, ap, ◌∙◌, inl, inr, subst, arith, length-append}
+use Rattle.std.proofs.Common.{IfNone, IfOk, IsSome, MatchOption, Result, Ok, Err, ◌≡◌, ℕ, Option, None, Some, ◌+◌, ◌*◌, ◌<◌, ◌≤◌, ◌⊎◌, Bool, true, false, cond, not, List, [], ◌∷◌, ◌++◌, length, get_or, slice_index, set, replicate, map, reverse, count_by, All, refl, sym, ap, ◌∙◌, inl, inr, subst, arith, length-append, rules}
 use Rattle.route_drive.proofs.Common.{position_or_len, cases_eq, cases_lt, get_or_append_left, reverse-append, get_or-replicate, length-replicate, All-contains, sum_by-replicate, sum_by-set, sum_by-cons, get_or-append_seam, never, Arc, Hop, Roads, index_in, IsArcAmong, IsNetwork, hop_of, leaving, IsWalk, walk_seconds, HasNoWalk, Found, WalkStep, IsShortestWalk, no_found, found_at, is_seen, IsTight, IsTree, AreHopsOpened, IsOpened, Grows, IsGrowing, IsWalkBack, true≢false, length-set, get_or-set_same, get_or-set_other, get_or_past, get_or_default, position, IsWalk-append, walk_seconds-append, short_walk, nat_tests}
 use Rattle.travel_times.proofs.lemmas.SearchLemmas.{arc_of_hop, hop_of_arc, hops_among}
 use Rattle.travel_times.specs.Near.{AreTimesUpTo}
@@ -23,42 +23,10 @@ module _ (arcs : List Arc) (times : List ℕ) (seen : List Bool) (found : List F
 
   pub IsTree-mark : IsTree arcs times seen found → k < length found → IsTight arcs times (found_at found k).node to → to < length times → slice_index times to < never → is_seen seen to ≡ false
       → IsTree arcs times (set seen to true) (found ++ (record { node = to; by = k }) ∷ [])
-  IsTree-mark tree inside tight within near unseen =
-      let marks = tree.marks in
-      let in_seen : to < length seen = omega arith in
-      let s = size in
-      let counted : count_by not (set seen to true) + cond (not (get_or seen to false)) 1 0 ≡ count_by not seen + cond (not true) 1 0 = sum_by-set (λ (b : Bool). cond (not b) 1 0) seen to true false in_seen in
-      let fewer : count_by not (set seen to true) + 1 ≡ count_by not seen + 0 = rw unseen at counted in
-      record {
-        marks = length-set seen to true ∙ tree.marks;
-        some = omega (arith, s);
-        within = λ j h. elim (old_or_new j h) [ inl lt ↦ rw (left j lt) (tree.within j lt) | inr e ↦ rw (e, last) within ];
-        reached = λ j h. elim (old_or_new j h) [ inl lt ↦ rw (left j lt) (tree.reached j lt) | inr e ↦ rw (e, last) near ];
-        earlier = λ j p h. elim (old_or_new j h) [ inl lt ↦ rw (left j lt) (tree.earlier j p lt) | inr e ↦ rw (e, last) inside ];
-        tight = λ j p h. elim (old_or_new j h) [
-          | inl lt ↦ let b : (found_at found j).by < length found = (let e = tree.earlier j p lt in omega arith) in rw (left j lt, left (found_at found j).by b) (tree.tight j p lt)
-          | inr e ↦ rw (e, last, left k inside) tight
-        ];
-        marked = λ node h. elim (cases_eq node to) [
-          | inl e ↦ (length found, omega (arith, s), rw last (sym e))
-          | inr ne ↦ let old = tree.marked node (sym (get_or-set_other seen to node true false ne) ∙ h) in (old.0, omega (arith, s, old.1), ap (λ (f : Found). f.node) (left old.0 old.1) ∙ old.2)
-        ];
-        first_marked = rw (left 0 tree.some) (elim (cases_eq (found_at found 0).node to) [
-          | inl e ↦ rw e (get_or-set_same seen to true false in_seen)
-          | inr ne ↦ get_or-set_other seen to (found_at found 0).node true false ne ∙ tree.first_marked
-        ]);
-        count = omega (arith, s, fewer, tree.count);
-      }
+  IsTree-mark tree inside tight within near unseen = search (rules, size, sum_by-set, length-set, old_or_new, left, last, cases_eq, get_or-set_other, get_or-set_same)
 
   pub Grows-mark : (seen₀ : List Bool) (found₀ : List Found) → to < length seen → Grows seen₀ seen found₀ found → Grows seen₀ (set seen to true) found₀ (found ++ (record { node = to; by = k }) ∷ [])
-  Grows-mark seen₀ found₀ within grows = record {
-    longer = let s = size in omega (arith, s, grows.longer);
-    kept = λ j h. left j (let l = grows.longer in omega arith) ∙ grows.kept j h;
-    still = λ node h. elim (cases_eq node to) [
-      | inl e ↦ rw e (get_or-set_same seen to true false within)
-      | inr ne ↦ get_or-set_other seen to node true false ne ∙ grows.still node h
-    ];
-  }
+  Grows-mark seen₀ found₀ within grows = search (rules, size, left, cases_eq, get_or-set_same, get_or-set_other)
 
 pub Grows-none : (seen : List Bool) (found : List Found) → Grows seen seen found found
 Grows-none seen found = record { longer = omega arith; kept = λ j h. refl; still = λ node h. h }
@@ -68,12 +36,7 @@ pub AreHopsOpened-more : (hops : List Hop) (i here : ℕ) (times : List ℕ) (mo
     → ((node : ℕ) → is_seen seen node ≡ true → is_seen seen' node ≡ true) → i < length hops
     → (slice_index times (get_or hops i e).to ≤ most → here + (get_or hops i e).seconds ≡ slice_index times (get_or hops i e).to → is_seen seen' (get_or hops i e).to ≡ true)
     → AreHopsOpened hops (i + 1) here times most seen'
-AreHopsOpened-more hops i here times most seen seen' e before still within own k d lt h near tight = elim (cases_eq k i) [
-  | inl is ↦
-      let at : get_or hops k d ≡ get_or hops i e = ap (λ j. get_or hops j d) is ∙ get_or_default hops i d e within in
-      rw at (own (rw at at near) (rw at at tight))
-  | inr ne ↦ still (get_or hops k d).to (before k d (omega arith) h near tight)
-]
+AreHopsOpened-more hops i here times most seen seen' e before still within own k d lt h near tight = search (rules, cases_eq, get_or_default)
 
 -- a hop leads to a node
 pub hop_among : (roads : Roads) (hops : List Hop) (node i : ℕ) (d : Hop) → IsNetwork roads → hops ≡ map hop_of (leaving node roads.arcs) → i < length hops → (get_or hops i d).to < length roads.nodes
@@ -90,44 +53,20 @@ IsOpened-all arcs times most seen node all arc among from near tight =
 -- a tight hop is a tight arc
 IsTight-own : (arcs : List Arc) (times : List ℕ) (node k : ℕ) (d : Hop) → k < length (map hop_of (leaving node arcs))
     → slice_index times node + (get_or (map hop_of (leaving node arcs)) k d).seconds ≡ slice_index times (get_or (map hop_of (leaving node arcs)) k d).to → IsTight arcs times node (get_or (map hop_of (leaving node arcs)) k d).to
-IsTight-own arcs times node k d within tight =
-    let hops : List Hop = map hop_of (leaving node arcs) in
-    let same : get_or hops k (get_or hops k d) ≡ get_or hops k d = get_or_default hops k (get_or hops k d) d within in
-    let arc = arc_of_hop arcs node k (get_or hops k d) within same in
-    record {
-      arc = arc.0;
-      among = arc.1;
-      leaves = arc.2;
-      ends = ap (λ (h : Hop). h.to) arc.3;
-      rises = ap (λ (n : ℕ). slice_index times node + n) (ap (λ (h : Hop). h.seconds) arc.3) ∙ tight;
-    }
+IsTight-own arcs times node k d within tight = search (rules, get_or_default, arc_of_hop, slice_index)
 
 pub IsTight-hop : (arcs : List Arc) (times : List ℕ) (hops : List Hop) (node k : ℕ) (d : Hop) → hops ≡ map hop_of (leaving node arcs) → k < length hops
     → slice_index times node + (get_or hops k d).seconds ≡ slice_index times (get_or hops k d).to → IsTight arcs times node (get_or hops k d).to
-IsTight-hop arcs times hops node k d are within tight =
-    let P : List Hop → Type 0 = λ hs. k < length hs → slice_index times node + (get_or hs k d).seconds ≡ slice_index times (get_or hs k d).to → IsTight arcs times node (get_or hs k d).to in
-    (subst P (sym are) (IsTight-own arcs times node k d)) within tight
+IsTight-hop arcs times hops node k d are within tight = search (rules, slice_index, IsTight-own)
 
 -- one more of the found is opened
 pub IsGrowing-more : (arcs : List Arc) (times : List ℕ) (start most next : ℕ) (seen seen' : List Bool) (found found' : List Found) → next < length found → IsGrowing arcs times start most next seen found
     → IsTree arcs times seen' found' → Grows seen seen' found found' → IsOpened arcs times most seen' (found_at found next).node → IsGrowing arcs times start most (next + 1) seen' found'
-IsGrowing-more arcs times start most next seen seen' found found' inside growing tree grows opened = record {
-  tree = tree;
-  first = ap (λ (f : Found). f.node) (grows.kept 0 growing.tree.some) ∙ growing.first;
-  opened = λ k lt h.
-      let within : k < length found = omega arith in
-      rw (grows.kept k within) (elim (cases_eq k next) [
-        | inl e ↦ rw e opened
-        | inr ne ↦ λ arc among from near tight. grows.still arc.to (growing.opened k (omega arith) within arc among from near tight)
-      ]);
-}
+IsGrowing-more arcs times start most next seen seen' found found' inside growing tree grows opened = search rules
 
 -- at the start nothing is marked
 nowhere : (n node : ℕ) → is_seen (replicate n false) node ≡ false
-nowhere n node = elim (cases_lt node n) [
-  | inl h ↦ get_or-replicate n node false false h
-  | inr h ↦ get_or_past (replicate n false) node false (let e = length-replicate n false in omega (arith, e))
-]
+nowhere n node = search (rules, cases_lt, get_or-replicate, get_or_past, length-replicate)
 
 -- the search begins
 pub IsGrowing-start : (arcs : List Arc) (times : List ℕ) (start most n : ℕ) → length times ≡ n → start < n → slice_index times start < never
@@ -163,19 +102,7 @@ module _ (arcs : List Arc) (n start goal : ℕ) (times : List ℕ) (among : All 
   -- a node that is no further than the goal is no nearer by way of another one
   no_nearer : (via node : ℕ) (walk : List Arc) → via < n → node < n → slice_index times goal < never → IsWalk arcs via walk node → slice_index times via + walk_seconds walk ≤ slice_index times goal
       → slice_index times node ≤ slice_index times via + walk_seconds walk
-  no_nearer via node walk hv hn near walks most = elim (timed.near via hv (omega arith)) [
-    | inl to ↦
-        let whole = IsWalk-append arcs to.walk walk start via node to.walks walks in
-        let sum = walk_seconds-append to.walk walk in
-        elim (cases_lt (slice_index times goal) (slice_index times node)) [
-          | inl beyond ↦ let longer = timed.far node hn beyond (to.walk ++ walk) whole in absurd (omega (arith, sum, to.takes, longer))
-          | inr there ↦ elim (timed.near node hn there) [
-            | inl on ↦ let least = on.least (to.walk ++ walk) whole in omega (arith, sum, to.takes, least)
-            | inr none ↦ absurd (none.0 (to.walk ++ walk) whole)
-          ]
-        ]
-    | inr none ↦ let far = none.1 in absurd (omega (arith, far))
-  ]
+  no_nearer via node walk hv hn near walks most = search (rules, IsWalk-append, walk_seconds-append, cases_lt, slice_index)
 
   -- no node that is reached has the greatest number as its time
   pub no_walk : slice_index times goal ≡ never → HasNoWalk arcs start goal
@@ -196,10 +123,7 @@ module _ (arcs : List Arc) (n start goal : ℕ) (times : List ℕ) (among : All 
   -- a walk on which the times rise to the goal's is a shortest one
   pub is_least : (walk : List Arc) → slice_index times start + walk_seconds walk ≡ slice_index times goal
       → (other : List Arc) → IsWalk arcs start other goal → walk_seconds walk ≤ walk_seconds other
-  is_least walk takes other walks = elim (timed.near goal within (omega arith)) [
-    | inl to ↦ let least = to.least other walks in let zero_at = start_is_near in omega (arith, least, takes, zero_at)
-    | inr none ↦ absurd (none.0 other walks)
-  ]
+  is_least walk takes other walks = search rules
 
   module _ (seen : List Bool) (found : List Found) (full : IsGrowing arcs times start (slice_index times goal) (length found) seen found) where
     -- what a shortest walk to the goal comes to from a marked node is marked
@@ -220,19 +144,11 @@ module _ (arcs : List Arc) (n start goal : ℕ) (times : List ℕ) (among : All 
 
     -- the goal is found
     pub is_found : slice_index times goal < never → is_seen seen goal ≡ true
-    is_found near = elim (timed.near goal within (omega arith)) [
-      | inl to ↦
-          let first : is_seen seen start ≡ true = rw (← full.first) full.tree.first_marked in
-          follow to.walk start inside near to.walks (let t = to.takes in omega (arith, start_is_near, t)) first
-      | inr none ↦ let far = none.1 in absurd (omega arith)
-    ]
+    is_found near = search (rules, follow, start_is_near)
 
   -- a time that isn't the greatest number is below it
   pub near_unless_never : (slice_index times goal ≡ never → ⊥) → slice_index times goal < never
-  near_unless_never ne = elim (timed.near goal within (omega arith)) [
-    | inl to ↦ let short = short_walk arcs to.walk n start goal among few inside to.walks in let least = to.least short.0 short.1 in let most = short.3 in omega (arith, least, most)
-    | inr none ↦ absurd (ne none.1)
-  ]
+  near_unless_never ne = search rules
 
 pub IsWalkBack-more : (roads : Roads) (times : List ℕ) (from via to : ℕ) (steps : List WalkStep) → IsTight roads.arcs times from via → IsWalkBack roads times via to steps
     → IsWalkBack roads times from to ((record { node = slice_index roads.nodes from; seconds = slice_index times from }) ∷ steps)
@@ -254,13 +170,7 @@ pub walk_told : (roads : Roads) (from to start goal : ℕ) (times : List ℕ) �
     → IfOk answer (λ walk. MatchOption walk (HasNoWalk roads.arcs (index_in roads.nodes from) (index_in roads.nodes to)) (λ steps. IsShortestWalk roads from to (items steps)))
 walk_told roads from to start goal times among few is_start is_goal inside within timed items (Err fault) told = tt
 walk_told roads from to start goal times among few is_start is_goal inside within timed items (Ok None) told = rw (is_start, is_goal) told
-walk_told roads from to start goal times among few is_start is_goal inside within timed items (Ok (Some steps)) back =
-    record {
-      walk = back.walk;
-      walks = rw (is_start, is_goal) back.walks;
-      least = rw (is_start, is_goal) (is_least roads.arcs (length roads.nodes) start goal times among few inside within timed back.walk back.takes);
-      told = rw is_start (rw (start_is_near roads.arcs (length roads.nodes) start goal times among few inside within timed) at back.told);
-    }
+walk_told roads from to start goal times among few is_start is_goal inside within timed items (Ok (Some steps)) back = search rules
 
 pub reverse-push : (steps : List WalkStep) (step : WalkStep) → reverse (steps ++ step ∷ []) ≡ step ∷ reverse steps
 reverse-push steps step = reverse-append steps (step ∷ [])

@@ -1,6 +1,7 @@
 -- The worst wait and the worst delay that are told at the end of a day are within the limits that its entries keep.
-use Rattle.std.proofs.Common.{◌≡◌, ℕ, ◌-◌, ◌≤◌, List, [], ◌∷◌, ◌++◌, map, Option, sym, ap, ◌∙◌, subst, arith, MatchOption, refl}
-use Rattle.route_drive.proofs.Common.{AllZip, option_map_or, rounds-join, next_position, RepliesAreSteps, state_after, step, Command, Pickup, Dropoff, Entry, Reply, BookRider, State, Settings, Roads, index_in, IsTimeBetween, NumberedLanes, DayCounts, IsRun, state_after_run, DayRound, greatest, AreCounts, entries_of, IsDelayOf, dropped_among, ideal_dropoff, is_dropped, is_picked, picked_among, wait_of, EntriesKeep, EntryKeeps, IsKeptDay, IsRunOfDay, cond_both}
+use Rattle.std.proofs.lemmas.Bool.Decides.{nat_tests}
+use Rattle.std.proofs.Common.{◌≡◌, ℕ, ◌-◌, ◌≤◌, List, [], ◌∷◌, ◌++◌, map, Option, sym, ap, ◌∙◌, subst, arith, MatchOption, refl, rules}
+use Rattle.route_drive.proofs.Common.{AllZip, rounds-join, next_position, RepliesAreSteps, state_after, step, Command, Pickup, Dropoff, Entry, Reply, BookRider, State, Settings, Roads, index_in, IsTimeBetween, NumberedLanes, DayCounts, IsRun, state_after_run, DayRound, greatest, AreCounts, entries_of, IsDelayOf, dropped_among, ideal_dropoff, is_dropped, is_picked, picked_among, wait_of, EntriesKeep, EntryKeeps, IsKeptDay, IsRunOfDay, cond_both}
 use Rattle.route_drive.proofs.LeaveLemmas.{IsPickup, IsDropoff, Keeps, keeps_self, keeps_trans, riders_stay, step-leaves}
 use Rattle.route_drive.proofs.kept.Walks.{between_unique}
 
@@ -8,10 +9,7 @@ module _ (settings : Settings) (roads : Roads) where
   -- the wait of an entry that is answered `picked`, by its riders and by the riders later
   entry_wait : (s : State) (later : List BookRider) (c : Command) (reply : Reply) (lane : ℕ) → IsPickup c → EntryKeeps settings roads s c reply → Keeps s.riders later
       → wait_of later (record { lane = lane; command = c; reply = reply }) ≤ settings.wait
-  entry_wait s later (Pickup vehicle rider second) reply lane is kept keeps =
-      let there = keeps rider kept.1 kept.2 in
-      let told : wait_of later (record { lane = lane; command = Pickup vehicle rider second; reply = reply }) ≡ second - there.0.time = ap (λ (o : Option BookRider). option_map_or (λ (r : BookRider). second - r.time) o 0) there.1 in
-      omega (arith, told, ap (λ (r : BookRider). r.time) there.2, kept.3)
+  entry_wait s later (Pickup vehicle rider second) reply lane is kept keeps = search rules
   entry_wait s later command reply lane is kept keeps = absurd is
 
   -- the delay of one that is answered `dropped`
@@ -53,8 +51,7 @@ module _ (settings : Settings) (roads : Roads) where
       → ((others : List ℕ) → AllZip (IsDelayOf roads later) (dropped_among es) others → greatest others ≤ settings.delay)
       → AllZip (IsDelayOf roads later) (e ∷ dropped_among es) ds → greatest ds ≤ settings.delay
   delay_first s e es later [] is kept keeps rest are = absurd are
-  delay_first s e es later (d ∷ ds) is kept keeps rest are =
-      omega (arith, entry_delay s later d e.command e.reply e.lane is kept keeps are.0, rest ds are.1)
+  delay_first s e es later (d ∷ ds) is kept keeps rest are = grind (arith, nat_tests, (entry_delay s later d e.command e.reply e.lane is kept keeps are.0))
 
   -- the worst delay is within the delay
   delays_within : (s : State) (es : List Entry) (later : List BookRider) (ds : List ℕ) → RepliesAreSteps roads.nodes settings.wait s es → EntriesKeep settings roads s es
@@ -92,19 +89,12 @@ module _ (settings : Settings) (roads : Roads) where
   run_in_time : (s : State) (position : ℕ) (script : List NumberedLanes) (made : List DayRound) (run : DayCounts) → IsRun settings roads s position script (map (λ (r : DayRound). r.journal) made)
       → EntriesKeep settings roads s (entries_of made) → AreCounts roads (state_after_run settings roads s (map (λ (r : DayRound). r.journal) made)).riders (entries_of made) run
       → (run.worst_wait ≤ settings.wait) × (run.worst_delay ≤ settings.delay)
-  run_in_time s position script made run ran kept counts =
-      let later : List BookRider = (state_after_run settings roads s (map (λ (r : DayRound). r.journal) made)).riders in
-      let keeps : Keeps (state_after roads.nodes settings.wait s (entries_of made)).riders later =
-      subst (λ (t : State). Keeps t.riders later) (sym (run_state s made)) (keeps_self later) in
-      let replies = run_replies s position script made ran in
-      (omega (arith, waits_within s (entries_of made) later replies kept keeps, counts.wait_is), omega (arith, delays_within s (entries_of made) later counts.delays replies kept keeps counts.delays_are, counts.delay_is))
+  run_in_time s position script made run ran kept counts = search (rules, Keeps, run_state, keeps_self, run_replies, waits_within, delays_within)
 
   -- a day that keeps its promises, with its counts
   pub day_in_time : (s : State) (rounds : List NumberedLanes) (made : List DayRound) (run : DayCounts) → IsKeptDay settings roads s rounds made
       → AreCounts roads (state_after_run settings roads s (map (λ (r : DayRound). r.journal) made)).riders (entries_of made) run → IsRunOfDay settings roads s rounds made run
-  day_in_time s [] made run day counts =
-      let worst = run_in_time s 0 [] made run (rw day.driven tt) day.keeps counts in
-      record { day = day; counts = counts; in_wait = worst.0; in_delay = worst.1 }
+  day_in_time s [] made run day counts = search rules
   day_in_time s (r ∷ rounds) made run day counts =
       let worst = run_in_time s 0 (day.driven.script ++ day.driven.end ∷ []) made run day.driven.run day.keeps counts in
       record { day = day; counts = counts; in_wait = worst.0; in_delay = worst.1 }

@@ -1,5 +1,5 @@
 -- At a seal the stops of each vehicle serve, by the batch's table, its passengers and the riders promised to it.
-use Rattle.std.proofs.Common.{◌≡◌, ℕ, zero, suc, ◌+◌, ◌<◌, ◌≤◌, false, nat_eq, List, [], ◌∷◌, length, get_or, map, Option, Some, None, refl, sym, ap, ◌∙◌, arith, inl, inr, slice_get}
+use Rattle.std.proofs.Common.{◌≡◌, ℕ, suc, ◌<◌, ◌≤◌, false, nat_eq, List, [], ◌∷◌, length, get_or, map, Option, Some, None, refl, sym, ap, ◌∙◌, arith, inl, inr, slice_get}
 use Rattle.route_drive.proofs.Common.{AllByRecursion, IsDistinct, cases_eq, sum_by-cons, Passenger, Promise, Rider, look_up, KeysDiffer, shown, pool_promise, passenger_of, find_rider, BookRider, Promised, Aboard, State, Leg, leg_at, persons, IsTrip, request_at, no_request, KeysDiffer-from_rise, length-map, get_or-map, index_in, KeysRise, ne_eqb, sum_by, below_from_sorted, nat_tests, sorted_from_strictly_increasing}
 use Rattle.route_drive.proofs.kept.Walks.{index_at}
 use Rattle.std.proofs.lemmas.Map.Keys.{IsDistinct-from_apart}

@@ -1,6 +1,6 @@
 -- The rounds of a day: requests, and in lane 0 a seal before them.
-use Rattle.std.proofs.Common.{◌≡◌, ℕ, ◌+◌, ◌<◌, ◌≤◌, Bool, true, false, not, cond, ltb, List, [], ◌∷◌, ◌++◌, length, drop, get_or, Option, Some, None, unwrap_or, refl, sym, ap, ◌∙◌, subst, arith, inl, inr, append_assoc, length-append, All, option_and_then}
-use Rattle.route_drive.proofs.Common.{AllByRecursion, list_any, option_or, cases_lt, All-head, All-tail, recursion_from_All, first_fault, first_fault-each, Command, Submit, Seal, IsRound, MayStand, NumberedLanes, empty_round, lane_at, day_fault, first_seal, is_of_day, is_seal_command, lane_fault, latest_seal, round_fault, seal_of, seals_fault, fault_at, ltb-false, true≢false, get_or-append-add, take_at, get_or_past, nat_tests}
+use Rattle.std.proofs.Common.{◌≡◌, ℕ, ◌+◌, ◌<◌, ◌≤◌, Bool, true, false, not, cond, ltb, List, [], ◌∷◌, ◌++◌, length, drop, Option, Some, None, unwrap_or, refl, sym, ap, ◌∙◌, subst, arith, inl, inr, append_assoc, length-append, All, option_and_then, rules}
+use Rattle.route_drive.proofs.Common.{AllByRecursion, list_any, option_or, cases_lt, All-head, All-tail, recursion_from_All, first_fault, first_fault-each, Command, Submit, Seal, IsRound, MayStand, NumberedLanes, lane_at, day_fault, first_seal, is_of_day, is_seal_command, lane_fault, latest_seal, round_fault, seal_of, seals_fault, fault_at, ltb-false, true≢false, get_or-append-add, take_at, get_or_past, nat_tests}
 use Rattle.route_drive.proofs.DayLemmas.{latest-push}
 use Rattle.route_drive.proofs.kept.Lists.{both, all_weaker}
 use Rattle.route_drive.proofs.kept.Mixed.{IsRequest}
@@ -70,10 +70,7 @@ day_round latest before round le is none =
     }
 
 fault_front : (before : List NumberedLanes) (r : NumberedLanes) (rest : List NumberedLanes) → fault_at (before ++ r ∷ rest) (length before) ≡ round_fault (latest_seal before) r
-fault_front before r rest =
-    let here : get_or (before ++ r ∷ rest) (length before) (empty_round 0) ≡ r =
-    ap (λ k. get_or (before ++ r ∷ rest) k (empty_round 0)) (let e : length before ≡ length before + 0 = omega arith in e) ∙ get_or-append-add before (r ∷ rest) 0 (empty_round 0) in
-    ap (λ l. round_fault (latest_seal l) (get_or (before ++ r ∷ rest) (length before) (empty_round 0))) (take_at before (r ∷ rest) (length before) refl) ∙ ap (round_fault (latest_seal before)) here
+fault_front before r rest = search (rules, (get_or-append-add before (r ∷ rest) 0), (take_at before (r ∷ rest) (length before)))
 
 rounds_on : (rest before : List NumberedLanes) (latest : ℕ) → latest ≤ latest_seal before → ((k : ℕ) → k < length (before ++ rest) → fault_at (before ++ rest) k ≡ None) → All IsRound rest → AreDayRounds latest rest
 rounds_on [] before latest le none all = tt

@@ -1,5 +1,5 @@
 -- Stops that are entered: what each leaves of what the vehicles have to do.
-use Rattle.std.proofs.Common.{◌≡◌, ℕ, ◌+◌, ◌-◌, ◌≤◌, true, false, List, [], ◌∷◌, ◌++◌, length, Some, refl, sym, ap, ◌∙◌, subst, arith, inl, inr, length-append}
+use Rattle.std.proofs.Common.{◌≡◌, ℕ, ◌+◌, ◌-◌, ◌≤◌, true, false, List, [], ◌∷◌, length, Some, refl, sym, ap, ◌∙◌, subst, arith, inl, inr, length-append}
 use Rattle.route_drive.proofs.Common.{AllByRecursion, option_map_or, cases_eq, MatchBool-at_true, MatchBool-at_false, sum_by-cons, sum_by_push, persons_aboard, Passenger, Vehicle, look_up, without, KeysDiffer, with_status, passenger_of, find_rider, find_passenger, takes_in, lets_out, PlannedStop, BookRider, Status, Promised, Aboard, Delivered, without_key-absent, Settings, Roads, IsDroppedInTime, AreReached, party_at, seats_after, IsRightPickup, IsRightDropoff, IsRightStop, IsOfVehicle, calls_of, HasCalls, IsServing, sum_by, nat_tests}
 use Rattle.route_drive.proofs.kept.Lists.{both, all_weaker, all_from}
 use Rattle.route_drive.proofs.kept.Riders.{changed, find_other, find_same, same_party, seats_by_party, calls_own, calls_other, no_pickup, no_stop, right_elsewhere, serves_elsewhere}

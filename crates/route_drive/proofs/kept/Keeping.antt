@@ -1,7 +1,7 @@
 -- What entries keep, gathered one by one.
-use Rattle.std.proofs.Common.{◌≡◌, ℕ, arith, cond, List, [], ◌∷◌, ◌++◌, refl, sym, ap, subst, All, inl, inr}
-use Rattle.route_drive.proofs.Common.{All-nil, All-cons, HasSeats, state_after, step, Command, Report, Entry, PlannedStop, Reply, Placed, Picked, Dropped, BookRider, State, Settings, Roads, stop_command, EntryKeeps, EntriesKeep, IsPickedBy, StateKeeps, IsBound, IsBoundBy, IsDayState, IsDone, IsRightStop, KeepsBounds}
-use Rattle.route_drive.proofs.kept.Riders.{right_cases}
+use Rattle.std.proofs.lemmas.Bool.Decides.{nat_tests}
+use Rattle.std.proofs.Common.{◌≡◌, ℕ, arith, cond, List, [], ◌∷◌, ◌++◌, All, rules}
+use Rattle.route_drive.proofs.Common.{All-nil, All-cons, HasSeats, state_after, step, Command, Report, Entry, PlannedStop, Reply, Placed, Picked, Dropped, State, Settings, Roads, stop_command, EntryKeeps, EntriesKeep, IsPickedBy, StateKeeps, IsBound, IsDayState, IsDone, IsRightStop, KeepsBounds}
 
 -- what one entry keeps, and what it leaves to those after it
 pub record OneKeeps (settings : Settings) (roads : Roads) (s : State) (command : Command) (reply : Reply) : Type 0 where
@@ -28,10 +28,7 @@ module _ (settings : Settings) (roads : Roads) where
       (picked_by es (step roads.nodes settings.wait s e.command).0 rider limit (all.0.bounds rider limit bound) all.1)
 
   state_keeps : (es : List Entry) (s : State) → All HasSeats s.vehicles → AllKeep s es → StateKeeps s es
-  state_keeps es s seats all = record {
-    seats = seats;
-    promises = λ rider r promise found status. picked_by es s rider promise.pickup (record { of = r; found = found; bound = subst (IsBoundBy promise.pickup) (sym status) (omega arith) }) all;
-  }
+  state_keeps es s seats all = grind (arith, nat_tests, (picked_by es s))
 
   pub entries_keep : (es : List Entry) (s : State) → AllKeep s es → All HasSeats (state_after roads.nodes settings.wait s es).vehicles → EntriesKeep settings roads s es
   unfolding state_after
@@ -41,35 +38,20 @@ module _ (settings : Settings) (roads : Roads) where
   -- where the reply and the state are known
   from_done : (s t : State) (command : Command) (reply : Reply) → step roads.nodes settings.wait s command ≡ (t, reply) → EntryKeeps settings roads s command reply → All HasSeats s.vehicles
       → ((rider limit : ℕ) → IsBound s rider limit → IsPickedBy rider limit command) → KeepsBounds s t → OneKeeps settings roads s command (step roads.nodes settings.wait s command).1
-  from_done s t command reply is entry seats by bounds = record {
-    entry = subst (EntryKeeps settings roads s command) (sym (ap (λ (p : State × Reply). p.1) is)) entry;
-    seats = seats;
-    by = by;
-    bounds = subst (KeepsBounds s) (sym (ap (λ (p : State × Reply). p.0) is)) bounds;
-  }
+  from_done s t command reply is entry seats by bounds = search rules
 
   -- a vehicle's next stop
   pub stop_keeps : (s : State) (v : ℕ) (stop : PlannedStop) → IsRightStop settings roads s.riders v stop → EntryKeeps settings roads s (stop_command v stop) (cond stop.pick Picked Dropped)
-  stop_keeps s v stop own = elim (right_cases settings roads s.riders v stop own) [
-    | inl right ↦ rw right.0 (refl, right.1.rider, right.1.found, right.1.in_time)
-    | inr right ↦ rw right.0 (refl, right.1.rider, right.1.found, right.1.in_time)
-  ]
+  stop_keeps s v stop own = search rules
 
   stop_by : (s : State) (v : ℕ) (stop : PlannedStop) → IsRightStop settings roads s.riders v stop → (rider limit : ℕ) → IsBound s rider limit → IsPickedBy rider limit (stop_command v stop)
-  stop_by s v stop own rider limit bound = elim (right_cases settings roads s.riders v stop own) [
-    | inl right ↦ rw right.0 (λ same.
-        let is : bound.of ≡ right.1.rider = cc (same, right.1.found, bound.found) in
-        subst (IsBoundBy limit) right.1.status (subst (λ (r : BookRider). IsBoundBy limit r.status) is bound.bound))
-    | inr right ↦ rw right.0 tt
-  ]
+  stop_by s v stop own rider limit bound = search rules
 
   pub stop_one : (s : State) (v vehicle node time free : ℕ) (stop : PlannedStop) (stops : List PlannedStop) → IsDayState roads s → IsRightStop settings roads s.riders v stop
       → IsDone settings roads s (stop_command v stop) (cond stop.pick Picked Dropped) vehicle node time free stops
       → OneKeeps settings roads s (stop_command v stop) (step roads.nodes settings.wait s (stop_command v stop)).1
-  stop_one s v vehicle node time free stop stops day own done =
-      from_done s done.t (stop_command v stop) (cond stop.pick Picked Dropped) done.is (stop_keeps s v stop own) day.consistent.seats (stop_by s v stop own) done.bounds
+  stop_one s v vehicle node time free stop stops day own done = search rules
 
   pub report_one : (s : State) (v at second vehicle node time free : ℕ) (stops : List PlannedStop) → IsDayState roads s → IsDone settings roads s (Report v at second) Placed vehicle node time free stops
       → OneKeeps settings roads s (Report v at second) (step roads.nodes settings.wait s (Report v at second)).1
-  report_one s v at second vehicle node time free stops day done =
-      from_done s done.t (Report v at second) Placed done.is refl day.consistent.seats (λ rider limit bound. tt) done.bounds
+  report_one s v at second vehicle node time free stops day done = search rules

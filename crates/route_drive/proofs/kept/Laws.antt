@@ -1,5 +1,6 @@
 -- The laws of driven days.
-use Rattle.std.proofs.Common.{[], arith, ◌≡◌, ℕ, ◌+◌, ◌≤◌, Bool, true, false, cond, List, ◌∷◌, All, Some, ap, refl, None, IfSome}
+use Rattle.std.proofs.lemmas.Bool.Decides.{nat_tests}
+use Rattle.std.proofs.Common.{[], arith, ◌≡◌, ℕ, ◌+◌, ◌≤◌, cond, List, ◌∷◌, All, Some, ap, None, IfSome}
 use Rattle.route_drive.proofs.Common.{travel_time, AnswersWith, IsGoodOutcome, IsGoodPlan, Batch, Vehicle, after_answer, opening, find_vehicle, step, Pickup, Dropoff, Close, Answer, PlannedStop, Reply, Picked, Dropped, Closed, State, look_up-nil, reached-consistent, IsNode, state_after, BookRider, All-nil, Settings, Roads, IsKept, IsDayState, IsDone, IsServing, KeepsBounds, ShowsRiders, AreReported, IsClosedInTime, closed, planned_in, stops_with, IsFleet, Outcome}
 use Rattle.route_drive.proofs.kept.Replies.{close_is}
 use Rattle.route_drive.proofs.kept.States.{pickup_done, dropoff_done, stepped}
@@ -12,11 +13,7 @@ use Rattle.request_book.specs.declared.outcome.Answer.TheVariants as answer
 pub stops_are_answered : (settings : Settings) (roads : Roads) (s : State) (v : Vehicle) (free : ℕ) (stop : PlannedStop) (stops : List PlannedStop) → IsDayState roads s → find_vehicle v.id s.vehicles ≡ Some v
     → v.time ≤ free → IsServing settings roads s.riders v free (stop ∷ stops)
     → IsDone settings roads s (cond stop.pick (Pickup v.id stop.rider stop.second) (Dropoff v.id stop.rider stop.second)) (cond stop.pick Picked Dropped) v.id stop.node stop.second (stop.second + settings.dwell) stops
-stops_are_answered settings roads s v free stop stops day at early serves = by stop.pick refl
-  where
-    by : (b : Bool) → stop.pick ≡ b → IsDone settings roads s (cond b (Pickup v.id stop.rider stop.second) (Dropoff v.id stop.rider stop.second)) (cond b Picked Dropped) v.id stop.node stop.second (stop.second + settings.dwell) stops
-    by true e = pickup_done settings roads s day v at free stop stops early e serves
-    by false e = dropoff_done settings roads s day v at free stop stops early e serves
+stops_are_answered settings roads s v free stop stops day at early serves = grind (arith, nat_tests, (pickup_done settings roads s day v at free stop stops early), (dropoff_done settings roads s day v at free stop stops early))
 
 -- in a batch that is sealed while every vehicle serves its stops, no vehicle is late and no promise lapses
 pub no_promise_lapses : (settings : Settings) (roads : Roads) (s : State) (stops : ℕ → List PlannedStop) (b : Batch) (outcome : Outcome) → IsKept settings roads s stops → ShowsRiders s b → AreReported s b

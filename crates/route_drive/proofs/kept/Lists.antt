@@ -1,6 +1,6 @@
 -- Filters, and lists whose parts are counted.
-use Rattle.std.proofs.Common.{◌≡◌, ℕ, zero, suc, ◌+◌, ◌*◌, ◌<◌, ◌≤◌, Bool, true, false, not, List, [], ◌∷◌, length, map, filter, refl, ap, ◌∙◌, arith, inl, inr}
-use Rattle.route_drive.proofs.Common.{AllByRecursion, cases_Bool, false≢true, length-filter_both, nat_tests}
+use Rattle.std.proofs.Common.{◌≡◌, ℕ, zero, suc, ◌*◌, ◌<◌, ◌≤◌, Bool, true, false, not, List, [], ◌∷◌, length, map, filter, refl, ap, ◌∙◌, arith, inl, inr}
+use Rattle.route_drive.proofs.Common.{AllByRecursion, cases_Bool, length-filter_both, nat_tests}
 pub use Rattle.stop_orders.proofs.lemmas.DeletionLemmas.{skips, takes}
 
 -- the test of the renamed is a test of what was

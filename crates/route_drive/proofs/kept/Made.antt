@@ -1,5 +1,5 @@
 -- A close with a good plan on a driven day: the chosen trips are what the vehicles now serve, and the state after it is kept.
-use Rattle.std.proofs.Common.{◌≡◌, ◌⊎◌, ℕ, ◌+◌, ◌<◌, ◌≤◌, Bool, true, false, cond, List, [], ◌∷◌, length, get_or, map, Option, Some, None, refl, sym, ap, ◌∙◌, subst, arith, inl, inr, slice_get, is_some, option_map, unwrap_or, ◌&&◌, ◌-◌, ◌*◌, MatchBool, max, zero, suc, Contains}
+use Rattle.std.proofs.Common.{◌≡◌, ◌⊎◌, ℕ, ◌+◌, ◌<◌, ◌≤◌, Bool, true, false, cond, List, [], ◌∷◌, length, get_or, map, Option, Some, None, refl, sym, ap, ◌∙◌, subst, arith, inl, inr, slice_get, is_some, option_map, unwrap_or, ◌&&◌, ◌-◌, ◌*◌, MatchBool, max, zero, suc, Contains, rules}
 use Rattle.route_drive.proofs.Common.{AllByRecursion, cases_Bool, slice_get_within, get_or_from_slice_get, slice_get-get_or, travel_time, Times, Batch, Promise, Rider, Vehicle, HasGraphsWith, IsGoodPlan, request_at, IsSettled, shown, find_rider, find_vehicle, PlannedStop, Planned, State, Settings, Roads, index_in, Settled, vehicle_at, rider_at, AreTravelTimes, IsKept, option_map_or, cases_lt, false≢true, get_or-map, length-map, persons_aboard, Passenger, rider_id, told_stop, IsTripOf, times_served_some, times_served_found, in_choice, choice_at, riders_at, is_in, IsLegOf, no_request, IsPlaced, picks, trip_picks, after_plan, in_batch, planned_status, look_up, KeysDiffer, with_status, is_active, ChosenTrip, BookRider, Status, Waiting, Promised, Aboard, look_up-at, KeysDiffer-from_rise, has_node, Leg, Stop, Pick, Drop, Alight, IsKnown, trip_task, no_leg, leg_at, visit_at, free_seats, calls_of, and_from, and_parts, cond-true, times_chosen, ideal_second, Task, look_up-map, look_up-key, latest_of, Visit, ideal_dropoff, IsDroppedInTime, AreReached, party_at, HasSeatsFor, IsRightPickup, IsRightDropoff, IsRightStop, IsOfVehicle, HasCalls, IsServing, ShowsRiders, get_or_default, is_promised_to, Delivered, MatchBool-at_false, must_be_served, IsPromiseKept, step, Command, Reply, chosen_stops, IsBoundBy, IsBound, KeepsBounds, eq-eqb, true≢false, lt-ltb, gets, nat_tests}
 use Rattle.route_drive.proofs.kept.Batches.{found_at, same_place, IsAsking, IsRiderAboard, same_persons, other_id}
 use Rattle.route_drive.proofs.kept.Served.{passenger_at, request_rider, vehicle_found}
@@ -40,13 +40,7 @@ look_up_only key (y ∷ ys) (suc i) x at only = grind (arith, nat_tests, only 0 
 
 -- a request of the batch by its rider's id
 number_in_batch : (batch : List Rider) (id : ℕ) → in_batch batch id ≡ true → (n : ℕ) × (n < length batch) × ((request_at batch n).id ≡ id)
-number_in_batch batch id among = by (look_up (λ (r : Rider). r.id) id batch) refl among
-  where
-    by : (o : Option Rider) → look_up (λ (r : Rider). r.id) id batch ≡ o → is_some o ≡ true → (n : ℕ) × (n < length batch) × ((request_at batch n).id ≡ id)
-    by None e some = absurd (false≢true some)
-    by (Some y) e some =
-        let place = found_at (λ (r : Rider). r.id) id batch y e in
-        (place.0, place.1, ap (λ (r : Rider). r.id) (place.2 no_request) ∙ look_up-key (λ (r : Rider). r.id) id batch y e)
+number_in_batch batch id among = search (rules, is_some, found_at, no_request, look_up-key)
 
 module _ (settings : Settings) (roads : Roads) (s : State) (stops : ℕ → List PlannedStop) (b : Batch) (settled : Settled) (points : List ℕ) (times : Times)
     (kept : IsKept settings roads s stops) (shows : ShowsRiders s b) (early : (id : ℕ) (v : Vehicle) → find_vehicle id s.vehicles ≡ Some v → b.sealed_at ≤ v.time)
@@ -97,8 +91,7 @@ module _ (settings : Settings) (roads : Roads) (s : State) (stops : ℕ → List
 
   -- a rider of the trip is promised by it
   pub member_promised : (k : ℕ) (own : HasTrip k) (i : ℕ) → (h : i < length (riders_at good.graph own.is.row)) → IsPickPromised (request_at b.riders (get_or (riders_at good.graph own.is.row) i 0)).id own.t.vehicle own.t.stops.items
-  member_promised k own i h = one_promised (request_at b.riders (get_or (riders_at good.graph own.is.row) i 0)).id own.t.vehicle own.t.stops.items
-      (member_calls settings roads s stops b settled points times kept shows early limits table planned good k own.within own.x own.at own.t own.is i h)
+  member_promised k own i h = search (rules, one_promised, member_calls)
 
   member_low : (k : ℕ) (own : HasTrip k) (i : ℕ) → i < length (riders_at good.graph own.is.row) → get_or (riders_at good.graph own.is.row) i 0 < length b.riders
   member_low k own i h = (trip_is settings roads s stops b settled points times kept shows early limits table planned good k own.is.row own.within own.is.chooses).0.within i 0 h
@@ -169,8 +162,7 @@ module _ (settings : Settings) (roads : Roads) (s : State) (stops : ℕ → List
 
   -- whoever is promised something before the plan is in the batch
   promised_in_batch : (z : ℕ) (r : BookRider) (p : Promise) → find_rider z s.riders ≡ Some r → r.status ≡ Promised p → in_batch b.riders r.id ≡ true
-  promised_in_batch z r p found status =
-      ap (λ z. is_some (look_up (λ (r : Rider). r.id) z b.riders)) (found_id z s.riders r found) ∙ ap is_some (shows.promised z r p found status)
+  promised_in_batch z r p found status = search (rules, is_some, found_id)
 
   -- a rider after the plan: as before and without a promise, waiting, or promised by a trip
   data IsAfter (z : ℕ) (q : BookRider) : Type 0 where
@@ -324,11 +316,7 @@ module _ (settings : Settings) (roads : Roads) (s : State) (stops : ℕ → List
 
     dropped_in_time : (leg : Leg) (r : BookRider) (second : ℕ) → slice_get points leg.origin ≡ Some r.origin → slice_get points leg.destination ≡ Some r.destination
         → leg.ideal ≡ ideal_dropoff r.time (travel_time times leg.origin leg.destination) → leg.latest_dropoff ≡ leg.ideal + settings.delay → second ≤ leg.latest_dropoff → IsDroppedInTime roads settings.delay r second
-    dropped_in_time leg r second origin destination ideal latest le = record {
-      seconds = travel_time times leg.origin leg.destination;
-      between = time_between roads points times table leg.origin leg.destination r.origin r.destination origin destination;
-      in_time = subst (λ m. second ≤ m) (latest ∙ ap (λ m. m + settings.delay) ideal) le;
-    }
+    dropped_in_time leg r second origin destination ideal latest le = search (rules, time_between)
 
     all_told : AllByRecursion (λ stop. IsMemberPickup stop ⊎ ((stop.pick ≡ false) × IsRightDropoff roads settings.delay riders' own.x.id stop)) (told_from roads points times table riders' settled.dwell vis told (vehicle_at settled k).start (vehicle_at settled k).ready own.is.stops)
     all_told = told_all roads points times table riders' settled.dwell vis told KnownStop (λ stop. IsMemberPickup stop ⊎ ((stop.pick ≡ false) × IsRightDropoff roads settings.delay riders' own.x.id stop)) by own.is.stops (vehicle_at settled k).start (vehicle_at settled k).ready (free_seats task) all_known own.is.serves.in_time

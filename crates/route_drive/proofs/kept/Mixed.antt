@@ -1,5 +1,5 @@
 -- The entries of a round in one order: those of lane 0, with requests of any lanes between.
-use Rattle.std.proofs.Common.{◌≡◌, ◌⊎◌, ℕ, true, eqb, List, [], ◌∷◌, Option, Some, None, sym, subst, inl, inr, arith}
+use Rattle.std.proofs.Common.{◌≡◌, ◌⊎◌, ℕ, true, eqb, List, [], ◌∷◌, Option, Some, None, sym, subst, inl, inr, arith, rules}
 use Rattle.route_drive.proofs.Common.{AllByRecursion, cases_eq, RepliesAreSteps, step, Command, Submit, Entry, State, sealed_by, IsCloseOf, IsLaneRun, IsLaneRunFrom, of_lane, plain-quiet, IsPlain, eq-eqb, ne_eqb, nat_tests}
 use Rattle.route_drive.proofs.kept.Lists.{all_filtered, all_weaker, skips, takes}
 
@@ -49,9 +49,7 @@ mix (e ∷ es) o cs all run = elim (cases_eq e.lane 0) [
 -- a lane of requests has entries of requests
 asked_run : (cs : List Command) (es : List Entry) → AllByRecursion IsRequest cs → AllByRecursion IsAskedOnly es → IsLaneRunFrom None cs es → AllByRecursion IsAsked es
 asked_run [] [] all only run = tt
-asked_run (c ∷ cs) (e ∷ es) all only run =
-    let is : IsRequest e.command = subst IsRequest (sym run.0) all.0 in
-    (is, asked_run cs es all.1 only.1 (subst (λ o. IsLaneRunFrom o cs es) (only.0 is) run.1))
+asked_run (c ∷ cs) (e ∷ es) all only run = search (rules, (asked_run cs es all.1 only.1))
 asked_run cs es all only run = absurd run
 
 -- what holds of each other lane holds of the entries of other lanes
@@ -89,6 +87,4 @@ pub mixed_asked : (es : List Entry) (cs : List Command) → AllByRecursion IsReq
 mixed_asked [] cs all only is = tt
 mixed_asked (e ∷ es) [] all only is = (is.0, mixed_asked es [] tt only.1 is.1)
 mixed_asked (e ∷ es) (c ∷ cs) all only (inl two) = (two.0, mixed_asked es (c ∷ cs) all only.1 two.1)
-mixed_asked (e ∷ es) (c ∷ cs) all only (inr two) =
-    let asks : IsRequest e.command = subst IsRequest (sym two.0) all.0 in
-    (asks, mixed_asked es cs all.1 only.1 (subst (λ o. IsMixed o cs es) (only.0 asks) two.1))
+mixed_asked (e ∷ es) (c ∷ cs) all only (inr two) = search (rules, (mixed_asked es cs all.1 only.1))

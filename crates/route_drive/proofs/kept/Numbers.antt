@@ -1,5 +1,5 @@
 -- Stops by riders' ids, as an order of numbered riders and passengers.
-use Rattle.std.proofs.Common.{◌≡◌, ℕ, ◌+◌, ◌*◌, ◌<◌, ◌≤◌, Bool, true, false, cond, not, eqb, nat_eq, List, [], ◌∷◌, length, get_or, map, filter, refl, sym, ap, ◌∙◌, subst, arith}
+use Rattle.std.proofs.Common.{◌≡◌, ℕ, ◌+◌, ◌*◌, ◌<◌, ◌≤◌, Bool, true, false, cond, not, eqb, nat_eq, List, [], ◌∷◌, length, get_or, map, filter, refl, sym, ap, ◌∙◌, subst, arith, rules}
 use Rattle.route_drive.proofs.Common.{AllByRecursion, IsDistinct, false≢true, length-filter_both, PlannedStop, index_in, has_node, Stop, Pick, Drop, Alight, is_of_rider, is_of_passenger, IsKnown, IsOrder, is_stop_of, calls_of, ne_eqb, eqb-true, nat_tests}
 use Rattle.route_drive.proofs.kept.Lists.{filter_renamed, filter_filter, all_filtered, all_mapped, all_weaker, many_apart}
 use Rattle.route_drive.proofs.kept.Walks.{has_index, index_at, name_at, is_node_at}
@@ -53,23 +53,11 @@ module _ (riders passengers : List ℕ) (distinct : IsDistinct nat_eq riders) (d
   passenger_test j h stop (alights e p) = ap (is_of_passenger j) (number_alights riders passengers stop e p) ∙ index_test passengers j stop.rider distinct_passengers h p
 
   two_stops : (i : ℕ) → i < length riders → (own : List PlannedStop) → map (λ (s : PlannedStop). s.pick) own ≡ true ∷ false ∷ [] → AllByRecursion (λ (s : PlannedStop). is_stop_of (get_or riders i 0) s ≡ true) own → map number own ≡ Pick i ∷ Drop i ∷ []
-  two_stops i h (a ∷ b ∷ []) e all =
-      let pick : a.pick ≡ true = cc in
-      let drop : b.pick ≡ false = cc in
-      let first : a.rider ≡ get_or riders i 0 = eqb-true a.rider (get_or riders i 0) all.0 in
-      let second : b.rider ≡ get_or riders i 0 = eqb-true b.rider (get_or riders i 0) all.1.0 in
-      let none : has_node passengers b.rider ≡ false = ap (has_node passengers) second ∙ apart (get_or riders i 0) (is_node_at riders i h) in
-      let one : number a ≡ Pick i = number_picks riders passengers a pick ∙ ap (λ x. Pick (index_in riders x)) first ∙ ap Pick (index_at riders i distinct h) in
-      let two : number b ≡ Drop i = number_drops riders passengers b drop none ∙ ap (λ x. Drop (index_in riders x)) second ∙ ap Drop (index_at riders i distinct h) in
-      ap (λ x. x ∷ number b ∷ []) one ∙ ap (λ x. Pick i ∷ x ∷ []) two
+  two_stops i h (a ∷ b ∷ []) e all = search (rules, eqb-true, is_node_at, number, number_picks, index_at, number_drops)
   two_stops i h own e all = absurd cc
 
   one_stop : (j : ℕ) → j < length passengers → (own : List PlannedStop) → map (λ (s : PlannedStop). s.pick) own ≡ false ∷ [] → AllByRecursion (λ (s : PlannedStop). is_stop_of (get_or passengers j 0) s ≡ true) own → map number own ≡ Alight j ∷ []
-  one_stop j h (a ∷ []) e all =
-      let drop : a.pick ≡ false = cc in
-      let same : a.rider ≡ get_or passengers j 0 = eqb-true a.rider (get_or passengers j 0) all.0 in
-      let has : has_node passengers a.rider ≡ true = ap (has_node passengers) same ∙ is_node_at passengers j h in
-      ap (λ x. x ∷ []) (number_alights riders passengers a drop has ∙ ap (λ x. Alight (index_in passengers x)) same ∙ ap Alight (index_at passengers j distinct_passengers h))
+  one_stop j h (a ∷ []) e all = search (rules, eqb-true, is_node_at, number_alights, index_at)
   one_stop j h own e all = absurd cc
 
   pass : (x : ℕ) → AllByRecursion (λ (s : PlannedStop). is_stop_of x s ≡ true) (filter (is_stop_of x) stops)

@@ -1,5 +1,5 @@
 -- What is entered of a vehicle before a seal, command by command.
-use Rattle.std.proofs.Common.{◌≡◌, ◌⊎◌, ℕ, ◌+◌, ◌<◌, ◌≤◌, true, cond, List, [], ◌∷◌, ◌++◌, map, Option, Some, refl, sym, ap, ◌∙◌, subst, arith, inl, inr}
+use Rattle.std.proofs.Common.{◌≡◌, ℕ, ◌+◌, ◌<◌, ◌≤◌, true, cond, List, [], ◌∷◌, ◌++◌, map, Option, Some, refl, sym, ap, ◌∙◌, subst, arith, inl, inr, rules}
 use Rattle.route_drive.proofs.Common.{AllByRecursion, cases_lt, Vehicle, IsNode, find_rider, find_vehicle, step, Command, Report, PlannedStop, Reply, Placed, Picked, Dropped, BookRider, State, All-look_up, Settings, Roads, IsNetwork, has_node, NodeAt, IsReported, due, goal_of, standing_after, stop_command, to_come, AreReached, IsRightStop, IsServing, IsDayState, IsDone, nat_tests}
 use Rattle.route_drive.proofs.kept.Lists.{all_weaker}
 use Rattle.route_drive.proofs.kept.Riders.{right_cases}
@@ -19,8 +19,7 @@ pub data IsPending (settings : Settings) (roads : Roads) (now : ℕ) (riders : L
 -- where the first stop is later, all are
 all_later : (roads : Roads) (dwell now node free : ℕ) (stops : List PlannedStop) → now < free → AreReached roads dwell node free stops → AllByRecursion (λ stop. now < stop.second) stops
 all_later roads dwell now node free [] late reached = tt
-all_later roads dwell now node free (stop ∷ stops) late reached =
-    (omega (arith, reached.0.reached, late), all_later roads dwell now stop.node (stop.second + dwell) stops (omega (arith, reached.0.reached, late)) reached.1)
+all_later roads dwell now node free (stop ∷ stops) late reached = search (rules, (all_later roads dwell now stop.node (stop.second + dwell) stops))
 
 none_due : (now : ℕ) (stops : List PlannedStop) → AllByRecursion (λ stop. now < stop.second) stops → (due now stops ≡ []) × (to_come now stops ≡ stops)
 none_due now [] all = (refl, refl)
@@ -67,16 +66,7 @@ pub run_next : (settings : Settings) (roads : Roads) (s : State) → IsDayState 
     → find_vehicle v.id s.vehicles ≡ Some v → v.time ≤ free → IsServing settings roads s.riders v free stops → command ∷ commands ≡ map (stop_command v.id) stops
     → IsEnteredOne settings roads s v command (λ riders u. IsRunning settings roads riders u commands)
 run_next settings roads s day v free [] command commands at early serves told = absurd cc
-run_next settings roads s day v free (stop ∷ stops) command commands at early serves told =
-    let one : stop_command v.id stop ≡ command = cc in
-    let rest : commands ≡ map (stop_command v.id) stops = cc in
-    stop_next settings roads s day v free stop stops command (λ riders u. IsRunning settings roads riders u commands) at early serves one (λ riders u id node time on. record {
-      free = stop.second + settings.dwell;
-      stops = stops;
-      early = omega (arith, time);
-      serves = on;
-      told = rest ∙ ap (λ n. map (stop_command n) stops) (sym id);
-    })
+run_next settings roads s day v free (stop ∷ stops) command commands at early serves told = grind (arith, nat_tests, (stop_next settings roads s day v free stop stops command))
 
 module _ (settings : Settings) (roads : Roads) (net : IsNetwork roads) (now : ℕ) (s : State) (day : IsDayState roads s) where
   -- the stops of a vehicle are nodes of the network

@@ -1,5 +1,5 @@
 -- A driven day keeps its promises.
-use Rattle.std.proofs.Common.{◌≡◌, ℕ, eqb, List, [], ◌∷◌, ◌++◌, map, None, refl, sym, ap, ◌∙◌, subst, All}
+use Rattle.std.proofs.Common.{◌≡◌, ℕ, eqb, List, [], ◌∷◌, ◌++◌, map, None, refl, sym, ap, ◌∙◌, subst, All, rules}
 use Rattle.route_drive.proofs.Common.{length-map, Vehicle, BookView, IsBook, opening, IsNode, RepliesAreSteps, state_after, Entry, Journal, State, rounds-join, Settings, Roads, IsNetwork, IsRound, NumberedLanes, empty_round, IsRun, Course, DayRound, entries_of, day_fault, HasDrivenToTheEnd, IsDrivenDay, IsNewBook, IsPrecededBy, courses_from, first_courses, number_after, at_rest, left_commands, course_of, DaysKeep, EntriesKeep, IsKept, IsServing, AllByRecursion, lane_at, ClosesAreGood, HasSeats, IsFleet, cond_both, append-nil, map_push, flat_map-map}
 use Rattle.route_drive.proofs.kept.DayRounds.{AreDayRounds, are_day_rounds}
 use Rattle.route_drive.proofs.kept.Days.{AreOver, IsOnDay, entries_in, rounds_over}
@@ -60,9 +60,7 @@ module _ (settings : Settings) (roads : Roads) (net : IsNetwork roads) (vehicles
   -- a day without a round
   no_round : (made : List DayRound) → made ≡ [] → EntriesKeep settings roads (opening vehicles) (entries_of made)
   unfolding state_after
-  no_round made none =
-      let kept : IsKept settings roads (opening vehicles) (λ id. []) = opening_is_kept settings roads vehicles fleet named in
-      subst (λ m. EntriesKeep settings roads (opening vehicles) (entries_of m)) (sym none) (entries_keep settings roads [] (opening vehicles) tt kept.state.consistent.seats)
+  no_round made none = search rules
 
 pub days_keep : DaysKeep
 days_keep settings roads vehicles [] made net fleet named whole day driven = no_round settings roads net vehicles fleet named made driven

@@ -1,5 +1,5 @@
 -- Where a vehicle is reported at a seal, its stops to come are still reached at their seconds.
-use Rattle.std.proofs.Common.{◌≡◌, ℕ, ◌+◌, ◌<◌, ◌≤◌, Bool, true, false, cond, leb, List, [], ◌∷◌, length, get_or, max, find, Contains, Option, Some, refl, sym, ap, ◌∙◌, subst, arith}
+use Rattle.std.proofs.Common.{◌≡◌, ℕ, ◌+◌, ◌<◌, ◌≤◌, Bool, true, false, cond, leb, List, [], ◌∷◌, length, get_or, max, find, Option, Some, refl, sym, ap, ◌∙◌, subst, arith, rules}
 use Rattle.route_drive.proofs.Common.{AllByRecursion, sum_by-cons, PlannedStop, Arc, Roads, IsNetwork, index_in, has_node, IsWalk, walk_seconds, IsLeastTime, NodeAt, Stay, WalkStep, IsReported, goal_of, walk_end, steps_of, AreReached, leb-true, cond_some, goal_within}
 use Rattle.route_drive.proofs.kept.Walks.{rest_is_least, has_index, index_at, is_node_at, name_at, contains_node}
 
@@ -70,9 +70,7 @@ module _ (roads : Roads) (net : IsNetwork roads) (dwell now : ℕ) (at : Stay) (
   reported_there [] named later reached (IsReported.rests le goal is) = stands (max now at.second) [] is (omega arith) (omega arith) tt
   reported_there (s ∷ stops) named later reached (IsReported.rests le goal is) = absurd cc
   reported_there [] named later reached (IsReported.is_cut_off to le goal none is) = stands (max now at.second) [] is (omega arith) (omega arith) tt
-  reported_there (s ∷ stops) named later reached (IsReported.is_cut_off to le goal none is) =
-      let e : s.node ≡ to = cc in
-      absurd (none (contains_node roads.nodes at.node here) (subst (λ n. Contains roads.nodes n) e (contains_node roads.nodes s.node named.0)) reached.0.least.walk (subst (λ n. IsWalk roads.arcs (index_in roads.nodes at.node) reached.0.least.walk (index_in roads.nodes n)) e reached.0.least.walks))
+  reported_there (s ∷ stops) named later reached (IsReported.is_cut_off to le goal none is) = search (rules, contains_node)
   reported_there stops named later reached (IsReported.walks to steps step le goal shortest on found is) =
       let way = on_way roads (index_in roads.nodes at.node) (index_in roads.nodes to) 0 shortest.walk (λ step. leb now (at.free + step.seconds)) step shortest.walks (ap (find (λ step. leb now (at.free + step.seconds))) (sym shortest.told) ∙ found) in
       let l = step_named to way.0.before way.0.via way.0.there in
@@ -107,7 +105,4 @@ module _ (roads : Roads) (net : IsNetwork roads) (dwell now : ℕ) (at : Stay) (
   reported_there [] named later reached (IsReported.arrived to steps le goal shortest done is) =
       let l = step_named to shortest.walk (index_in roads.nodes to) shortest.walks in
       subst (IsThere roads dwell now at []) (sym is) (record { reached = tt; named = subst (λ n. has_node roads.nodes n ≡ true) (name_at roads.nodes to l) (is_node_at roads.nodes (index_in roads.nodes to) l); by = omega arith; later = omega arith })
-  reported_there (s ∷ stops) named later reached (IsReported.arrived to steps le goal shortest done is) =
-      let e : s.node ≡ to = cc in
-      let short_walk = subst (λ n. IsWalk roads.arcs (index_in roads.nodes at.node) shortest.walk (index_in roads.nodes n)) (sym e) shortest.walks in
-      absurd (omega (arith, reached.0.least.least shortest.walk short_walk, reached.0.reached, ap walk_end shortest.told ∙ end_is roads.nodes (index_in roads.nodes at.node) 0 shortest.walk, later.0, done))
+  reported_there (s ∷ stops) named later reached (IsReported.arrived to steps le goal shortest done is) = search (rules, end_is)

@@ -1,6 +1,6 @@
 -- What a change of one rider's status, or of one vehicle, leaves.
-use Rattle.std.proofs.Common.{◌≡◌, ◌⊎◌, ℕ, ◌-◌, ◌≤◌, Bool, true, false, List, [], ◌∷◌, Some, refl, sym, ap, ◌∙◌, subst, arith, inl, inr, option_map}
-use Rattle.route_drive.proofs.Common.{AllByRecursion, option_map_or, cases_Bool, cases_eq, MatchBool-at_true, MatchBool-at_false, persons_aboard, Vehicle, changed_at, with_status, find_rider, PlannedStop, BookRider, Status, Promised, Aboard, look_up-key, look_up-changed_here, look_up-changed_there, Settings, Roads, party_at, seats_after, HasSeatsFor, IsRightPickup, IsRightDropoff, IsRightStop, IsOfVehicle, calls_of, HasCalls, IsServing, nat_tests}
+use Rattle.std.proofs.Common.{◌≡◌, ◌⊎◌, ℕ, ◌-◌, ◌≤◌, Bool, true, false, List, [], ◌∷◌, Some, refl, ap, ◌∙◌, arith, inl, inr, option_map, rules}
+use Rattle.route_drive.proofs.Common.{AllByRecursion, option_map_or, cases_eq, persons_aboard, Vehicle, changed_at, with_status, find_rider, PlannedStop, BookRider, Status, Promised, Aboard, look_up-key, look_up-changed_here, look_up-changed_there, Settings, Roads, party_at, seats_after, HasSeatsFor, IsRightPickup, IsRightDropoff, IsRightStop, IsOfVehicle, calls_of, HasCalls, IsServing, nat_tests}
 use Rattle.route_drive.proofs.kept.Lists.{all_weaker}
 
 -- what is found has the id that was looked for
@@ -19,10 +19,7 @@ module _ (riders : List BookRider) (x : ℕ) (status : Status) where
   find_same r e = look_up-changed_here (λ (r : BookRider). r.id) x (with_status status) (λ r. refl) riders ∙ ap (option_map (with_status status)) e
 
   pub same_party : (stop : PlannedStop) → party_at changed stop ≡ party_at riders stop
-  same_party stop = elim (cases_eq x stop.rider) [
-    | inl e ↦ grind (arith, nat_tests, e, look_up-changed_here (λ (r : BookRider). r.id) x (with_status status) (λ r. refl) riders)
-    | inr ne ↦ ap (λ o. option_map_or (λ (r : BookRider). r.party) o 0) (find_other stop.rider ne)
-  ]
+  same_party stop = search (rules, cases_eq, nat_tests, look_up-changed_here, find_other)
 
 -- seats depend on the parties alone, and more room is room enough
 pub seats_by_party : (riders others : List BookRider) (room more : ℕ) → room ≤ more → (stops : List PlannedStop) → AllByRecursion (λ stop. party_at others stop ≡ party_at riders stop) stops
@@ -59,26 +56,17 @@ calls_of_others w status calls not = grind arith
 -- a right stop is a right pickup or a right drop-off
 pub right_cases : (settings : Settings) (roads : Roads) (riders : List BookRider) (w : ℕ) (stop : PlannedStop) → IsRightStop settings roads riders w stop
     → ((stop.pick ≡ true) × IsRightPickup settings.wait riders w stop) ⊎ ((stop.pick ≡ false) × IsRightDropoff roads settings.delay riders w stop)
-right_cases settings roads riders w stop right = elim (cases_Bool stop.pick) [
-  | inl e ↦ inl (e, MatchBool-at_true (IsRightPickup settings.wait riders w stop) (IsRightDropoff roads settings.delay riders w stop) e right)
-  | inr e ↦ inr (e, MatchBool-at_false (IsRightPickup settings.wait riders w stop) (IsRightDropoff roads settings.delay riders w stop) e right)
-]
+right_cases settings roads riders w stop right = search rules
 
 -- a right stop is of a rider of the vehicle
 pub stop_of_vehicle : (settings : Settings) (roads : Roads) (riders : List BookRider) (w : ℕ) (stop : PlannedStop) → IsRightStop settings roads riders w stop
     → (r : BookRider) × (find_rider stop.rider riders ≡ Some r) × IsOfVehicle w r.status
-stop_of_vehicle settings roads riders w stop right = elim (right_cases settings roads riders w stop right) [
-  | inl own ↦ (own.1.rider, own.1.found, subst (IsOfVehicle w) (sym own.1.status) refl)
-  | inr own ↦ (own.1.rider, own.1.found, own.1.own)
-]
+stop_of_vehicle settings roads riders w stop right = search rules
 
 -- a right stop stays so where its rider is found as before
 pub right_elsewhere : (settings : Settings) (roads : Roads) (riders others : List BookRider) (w : ℕ) (stop : PlannedStop) → find_rider stop.rider others ≡ find_rider stop.rider riders
     → IsRightStop settings roads riders w stop → IsRightStop settings roads others w stop
-right_elsewhere settings roads riders others w stop same right = elim (right_cases settings roads riders w stop right) [
-  | inl own ↦ rw own.0 (record { rider = own.1.rider; found = same ∙ own.1.found; status = own.1.status; node = own.1.node; in_time = own.1.in_time })
-  | inr own ↦ rw own.0 (record { rider = own.1.rider; found = same ∙ own.1.found; own = own.1.own; node = own.1.node; in_time = own.1.in_time })
-]
+right_elsewhere settings roads riders others w stop same right = search rules
 
 -- a status is of the vehicle, or isn't
 pub cases_of : (w : ℕ) (status : Status) → IsOfVehicle w status ⊎ (IsOfVehicle w status → ⊥)

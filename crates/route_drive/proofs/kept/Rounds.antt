@@ -1,5 +1,5 @@
 -- A round of a driven day, from its last entry to its first.
-use Rattle.std.proofs.Common.{◌≡◌, ◌⊎◌, ℕ, ◌≤◌, List, [], ◌∷◌, ◌++◌, length, map, filter, Option, Some, None, refl, sym, ap, ◌∙◌, subst, arith, inl, inr, option_and_then}
+use Rattle.std.proofs.Common.{◌≡◌, ℕ, ◌≤◌, List, [], ◌∷◌, ◌++◌, length, map, filter, Option, Some, None, refl, sym, ap, ◌∙◌, subst, arith, inl, inr, option_and_then, rules}
 use Rattle.route_drive.proofs.Common.{AllByRecursion, option_or, recursion_from_All, Batch, Vehicle, IsGoodOutcome, one_more, KeysDiffer, RepliesAreSteps, state_after, batch_of, sealed_state, find_vehicle, step, Command, Submit, Seal, Close, Entry, Answer, PlannedStop, Reply, Closed, Sealed, BookRider, State, KeysDiffer-from_rise, look_up-at, Settings, Roads, IsNetwork, sealed_by, ClosesAreGood, IsCloseOf, IsGoodClose, Course, plan_in, planned_in, AreEntered, to_come, IsClosedInTime, AreReported, IsReadyForSeal, closed, course_of, IsDayState, IsKept, KeepsBounds, LeavesAll, ShowsRiders, stops_with, IsServing, left_commands, IsEntered, closed_outcome, stop_command, IsQuiet, plain-quiet, IsPlain, append-nil}
 use Rattle.route_drive.proofs.LeaveLemmas.{step-leaves}
 use Rattle.route_drive.proofs.kept.Keeping.{AllKeep, OneKeeps}
@@ -37,12 +37,7 @@ module _ (settings : Settings) (roads : Roads) where
   ends_before : (e : Entry) (es : List Entry) (s : State) (stops : ℕ → List PlannedStop) (last : Option ℕ) → OneKeeps settings roads s e.command e.reply
       → option_and_then (λ closed. planned_in closed.1.answer) (closed_outcome e.command e.reply) ≡ None → Ends (step roads.nodes settings.wait s e.command).0 es stops last → Ends s (e ∷ es) stops last
   unfolding state_after
-  ends_before e es s stops last one none rest = record {
-    all = (one, rest.all);
-    kept = subst (λ o. IsKept settings roads (state_after roads.nodes settings.wait (step roads.nodes settings.wait s e.command).0 es) (stops_with o stops)) (sym (ap (λ o. option_or o (plan_in es)) none)) rest.kept;
-    sealed = rest.sealed;
-    last_is = rest.last_is;
-  }
+  ends_before e es s stops last one none rest = search rules
 
   -- requests
   asked_on : (s : State) (c : Command) → IsRequest c → IsDayState roads s → LeavesAll settings roads s (step roads.nodes settings.wait s c).0
@@ -61,8 +56,7 @@ module _ (settings : Settings) (roads : Roads) where
 
   asked_before : (e : Entry) (es : List Entry) (s : State) (stops : ℕ → List PlannedStop) (last : Option ℕ) → IsRequest e.command → IsDayState roads s
       → LeavesAll settings roads s (step roads.nodes settings.wait s e.command).0 → Ends (step roads.nodes settings.wait s e.command).0 es stops last → Ends s (e ∷ es) stops last
-  asked_before e es s stops last is day leaves rest =
-      ends_before e es s stops last (asked_keeps s e.command e.reply is day leaves) (plain_plan e.command e.reply (asked_plain e.command is)) rest
+  asked_before e es s stops last is day leaves rest = search (rules, ends_before, asked_keeps, plain_plan, asked_plain)
 
   asked_quiet : (s : State) (c : Command) → IsRequest c → IsQuiet s (step roads.nodes settings.wait s c)
   asked_quiet s c is = plain-quiet roads.nodes settings.wait s c (asked_plain c is)

@@ -1,5 +1,5 @@
 -- Requests and seals: what they leave of the riders on a driven day, and whom the batch shows.
-use Rattle.std.proofs.Common.{◌≡◌, ◌⊎◌, ℕ, ◌+◌, ◌<◌, ◌≤◌, Bool, true, false, List, [], ◌∷◌, ◌++◌, map, Option, Some, None, refl, sym, ap, ◌∙◌, subst, arith, inl, inr, option_map, option_and_then}
+use Rattle.std.proofs.Common.{◌≡◌, ◌⊎◌, ℕ, ◌+◌, ◌<◌, ◌≤◌, Bool, true, false, List, [], ◌∷◌, ◌++◌, map, Option, Some, None, refl, sym, ap, ◌∙◌, subst, arith, inl, inr, option_map, option_and_then, rules}
 use Rattle.route_drive.proofs.Common.{AllByRecursion, cases_eq, Rider, Vehicle, look_up, by_key, KeysDiffer, after_seal, batch_of, sealed_state, asking, find_rider, find_vehicle, step, Submit, Seal, PlannedStop, Reply, BookRider, Status, Waiting, Promised, Aboard, Delivered, Expired, State, after_seal-id, look_up-key, look_up-map, look_up-push_there, look_up-push_here, look_up-push_found, look_up-filter_map, by_key-order, KeysDiffer-map, KeysDiffer-filter_map, Settings, Roads, IsOfVehicle, IsRightStop, IsServing, IsDayState, IsKept, HasCalls, calls_of, IsBoundBy, IsBound, KeepsBounds, LeavesAll, ShowsRiders, le-ltb, le-leb, filter_map, nat_tests}
 use Rattle.route_drive.proofs.kept.Lists.{both}
 use Rattle.route_drive.proofs.kept.Riders.{serves_elsewhere}
@@ -13,12 +13,7 @@ module _ (settings : Settings) (roads : Roads) (riders : List BookRider) (q : Bo
   still_found x r e = look_up-push_found (λ (r : BookRider). r.id) x q r riders e
 
   pub found_before : (x : ℕ) (r : BookRider) → find_rider x (riders ++ q ∷ []) ≡ Some r → (r.status ≡ Waiting → ⊥) → find_rider x riders ≡ Some r
-  found_before x r e not = elim (cases_eq q.id x) [
-    | inl same ↦
-        let is : q ≡ r = cc (look_up-push_here (λ (r : BookRider). r.id) x q riders same (subst (λ k. find_rider k riders ≡ None) same new), e) in
-        absurd (not (subst (λ (r : BookRider). r.status ≡ Waiting) is waits))
-    | inr ne ↦ sym (look_up-push_there (λ (r : BookRider). r.id) x q riders ne) ∙ e
-  ]
+  found_before x r e not = search (rules, cases_eq, look_up-push_here, look_up-push_there)
 
   pub serve_still : (w : Vehicle) (free : ℕ) (stops : List PlannedStop) → IsServing settings roads riders w free stops → IsServing settings roads (riders ++ q ∷ []) w free stops
   serve_still w free stops serves = serves_elsewhere settings roads riders (riders ++ q ∷ []) w free stops
@@ -61,10 +56,7 @@ submit_done settings roads s rider origin destination time party day = by (submi
 pub first_call : (P : PlannedStop → Type 0) (x : ℕ) (b : Bool) (bs : List Bool) (stops : List PlannedStop) → calls_of x stops ≡ b ∷ bs → AllByRecursion P stops
     → (stop : PlannedStop) × (stop.rider ≡ x) × (stop.pick ≡ b) × P stop
 first_call P x b bs [] e all = absurd cc
-first_call P x b bs (stop ∷ stops) e all = elim (cases_eq stop.rider x) [
-  | inl same ↦ (stop, same, grind (arith, nat_tests), all.0)
-  | inr ne ↦ first_call P x b bs stops (grind (arith, nat_tests)) all.1
-]
+first_call P x b bs (stop ∷ stops) e all = search (rules, cases_eq, nat_tests, (first_call P x b bs stops))
 
 -- a seal on a driven day: all stops are later, and so nobody who is promised or aboard expires
 module _ (settings : Settings) (roads : Roads) (s : State) (stops : ℕ → List PlannedStop) (now : ℕ) (kept : IsKept settings roads s stops)

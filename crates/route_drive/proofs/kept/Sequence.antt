@@ -1,5 +1,5 @@
 -- All that is entered before a seal, with requests of any lanes between.
-use Rattle.std.proofs.Common.{◌≡◌, ℕ, ◌<◌, ◌≤◌, Bool, false, eqb, List, [], ◌∷◌, ◌++◌, length, map, filter, Option, Some, None, refl, sym, ap, ◌∙◌, subst, arith, inl, inr}
+use Rattle.std.proofs.Common.{◌≡◌, ℕ, ◌<◌, ◌≤◌, Bool, false, eqb, List, [], ◌∷◌, ◌++◌, length, map, filter, Option, Some, None, refl, sym, ap, ◌∙◌, subst, arith, inl, inr, rules}
 use Rattle.route_drive.proofs.Common.{AllByRecursion, cases_eq, cond-true, cond-false, option_map_or, filter-append, Vehicle, KeysDiffer, find_vehicle, step, Command, Report, Pickup, Dropoff, PlannedStop, Reply, BookRider, State, look_up-here, look_up-there, look_up-nil, Settings, Roads, IsNetwork, Course, AreEntered, IsEntered, due, stop_command, IsServing, IsDayState, course_of, IsReadyForSeal, LeavesAll, left_commands, eq-eqb, ne_eqb, cond_both, append-nil, nat_tests, look_up}
 use Rattle.route_drive.proofs.kept.Lists.{skips, takes, all_weaker}
 use Rattle.route_drive.proofs.kept.States.{vehicle_id}
@@ -43,15 +43,7 @@ EachEnters R (v ∷ vehicles) (course ∷ courses) commands =
 EachEnters R vehicles courses commands = commands ≡ []
 
 pub entered_each : (roads : Roads) (dwell now : ℕ) (vehicles : List Vehicle) (courses : List Course) (entered : List Command) → AreEntered roads dwell now vehicles courses entered → EachEnters (IsEntered roads dwell now) vehicles courses entered
-entered_each roads dwell now (v ∷ vehicles) (course ∷ courses) entered are = (
-  are.0,
-  are.1,
-  are.2,
-  subst (AllByRecursion (λ c. vehicle_in c ≡ Some v.id)) (sym are.2.told)
-      (all_append (λ c. vehicle_in c ≡ Some v.id) (map (stop_command v.id) (due now course.stops.items)) (Report v.id are.2.there.node are.2.there.second ∷ []) (stops_for v.id (due now course.stops.items)) (refl, tt)),
-  entered_each roads dwell now vehicles courses are.1 are.3,
-  are.4,
-)
+entered_each roads dwell now (v ∷ vehicles) (course ∷ courses) entered are = search (rules, all_append, stops_for, (entered_each roads dwell now vehicles courses are.1 are.3))
 entered_each roads dwell now vehicles courses entered are = are
 
 pub left_each : (vehicles : List Vehicle) (courses : List Course) → EachEnters (λ v course own. own ≡ map (stop_command v.id) course.stops.items) vehicles courses (left_commands vehicles courses)
@@ -198,7 +190,5 @@ finished settings roads now target left s day pending = record {
 -- everything that is entered is of a vehicle that there is
 pub owners : (s : State) (R : Vehicle → Course → List Command → Type 0) (vehicles : List Vehicle) (courses : List Course) (entered : List Command) → AllByRecursion (λ v. find_vehicle v.id s.vehicles ≡ Some v) vehicles
     → EachEnters R vehicles courses entered → AllByRecursion (IsOwned s) entered
-owners s R (v ∷ vehicles) (course ∷ courses) entered all are =
-    subst (AllByRecursion (IsOwned s)) (sym are.5)
-    (all_append (IsOwned s) are.0 are.1 (all_weaker (λ c. vehicle_in c ≡ Some v.id) (IsOwned s) (λ c e. (v.id, v, e, all.0)) are.0 are.3) (owners s R vehicles courses are.1 all.1 are.4))
+owners s R (v ∷ vehicles) (course ∷ courses) entered all are = search (rules, all_append, all_weaker, (owners s R vehicles courses are.1 all.1 are.4))
 owners s R vehicles courses entered all are = subst (AllByRecursion (IsOwned s)) (sym are) tt

@@ -1,6 +1,7 @@
 -- What an entry of a driven day leaves of a state: a stop that is entered, a report, a request.
+use Rattle.std.proofs.lemmas.Bool.Decides.{nat_tests}
 use Rattle.std.proofs.Common.{◌≡◌, ℕ, ◌+◌, ◌-◌, ◌≤◌, true, false, List, ◌∷◌, Some, refl, sym, ap, ◌∙◌, subst, arith, inl, inr, option_map, option_and_then}
-use Rattle.route_drive.proofs.Common.{option_map_or, cases_eq, persons_aboard, HasSeats, Promise, Vehicle, IsConsistent, NamesNodes, seat_in, KeysDiffer, with_status, passenger_of, find_rider, find_vehicle, find_passenger, step, rider_becomes, vehicle_becomes, stands_at, takes_in, lets_out, Command, Report, Pickup, Dropoff, PlannedStop, Reply, Placed, Picked, Dropped, BookRider, Status, Promised, Aboard, Delivered, State, step-consistent, step-named, look_up-key, look_up-changed_here, look_up-changed_there, All-look_up, Settings, Roads, has_node, AreReached, party_at, IsOfVehicle, IsServing, IsPromiseKept, IsDayState, IsBoundBy, KeepsBounds, LeavesOthers, IsDone, eq-eqb}
+use Rattle.route_drive.proofs.Common.{option_map_or, cases_eq, persons_aboard, HasSeats, Promise, Vehicle, seat_in, KeysDiffer, with_status, passenger_of, find_rider, find_vehicle, find_passenger, step, rider_becomes, vehicle_becomes, stands_at, takes_in, lets_out, Command, Report, Pickup, Dropoff, PlannedStop, Reply, Placed, Picked, Dropped, BookRider, Status, Promised, Aboard, Delivered, State, step-consistent, step-named, look_up-key, look_up-changed_here, look_up-changed_there, All-look_up, Settings, Roads, has_node, AreReached, party_at, IsOfVehicle, IsServing, IsPromiseKept, IsDayState, IsBoundBy, KeepsBounds, LeavesOthers, IsDone, eq-eqb}
 use Rattle.route_drive.proofs.kept.Riders.{changed, find_other, find_same, found_id, of_one}
 use Rattle.route_drive.proofs.kept.Enter.{others_serve, picked_up_right, dropped_right, serves_on_picked, dropped_is_aboard, serves_on_dropped}
 use Rattle.route_drive.proofs.kept.Replies.{pickup_is, dropoff_is, report_is}
@@ -11,11 +12,7 @@ vehicle_id id vehicles v e = look_up-key (λ (v : Vehicle). v.id) id vehicles v 
 -- the state after a step, where its promises are kept
 pub stepped : (settings : Settings) (roads : Roads) (s t : State) (command : Command) → IsDayState roads s → (step roads.nodes settings.wait s command).0 ≡ t
     → ((x : ℕ) (r : BookRider) (promise : Promise) → find_rider x t.riders ≡ Some r → r.status ≡ Promised promise → IsPromiseKept t r promise) → IsDayState roads t
-stepped settings roads s t command day is promises = record {
-  consistent = subst IsConsistent is (step-consistent roads.nodes settings.wait s command day.consistent);
-  named = subst (NamesNodes roads.nodes) is (step-named roads.nodes settings.wait s command day.consistent day.named);
-  promises = promises;
-}
+stepped settings roads s t command day is promises = grind (arith, nat_tests, (step-consistent roads.nodes settings.wait s command day.consistent), (step-named roads.nodes settings.wait s command day.consistent day.named))
 
 -- the state after a change of a rider's status and of a vehicle
 module _ (settings : Settings) (roads : Roads) (s : State) (day : IsDayState roads s) (x : ℕ) (r : BookRider) (status : Status) (vehicle : ℕ) (v : Vehicle) (f : Vehicle → Vehicle)

@@ -1,6 +1,7 @@
 -- Stops that are reached by shortest walks, as visits of a task over a table of travel times.
+use Rattle.std.proofs.lemmas.Bool.Decides.{nat_tests}
 use Rattle.std.proofs.Common.{◌≡◌, ℕ, ◌+◌, ◌<◌, ◌≤◌, Bool, true, cond, ltb, List, [], ◌∷◌, length, get_or, map, filter, Some, sym, ap, ◌∙◌, subst, arith, inl, inr, slice_get}
-use Rattle.route_drive.proofs.Common.{AllByRecursion, cases_Bool, get_or-map, length-map, slice_get_within, get_or_from_slice_get, never, IsTravelTime, travel_time, Times, ideal_second, PlannedStop, BookRider, Roads, index_in, IsTimeBetween, AtLeastAsSoon, soon_over, soon_there, Stop, Visit, place_of, latest_of, boarding_of, room_after, ServesFrom, AreTravelTimes, ideal_dropoff, AreReached, party_at, seats_after, HasSeatsFor}
+use Rattle.route_drive.proofs.Common.{AllByRecursion, cases_Bool, get_or-map, length-map, slice_get_within, get_or_from_slice_get, never, IsTravelTime, travel_time, Times, ideal_second, PlannedStop, BookRider, Roads, index_in, IsTimeBetween, AtLeastAsSoon, soon_over, soon_there, Stop, Visit, place_of, boarding_of, room_after, ServesFrom, AreTravelTimes, ideal_dropoff, AreReached, party_at, HasSeatsFor}
 use Rattle.stop_orders.specs.declared.visit.Visit.TheVariants.{Pickup, Dropoff}
 use Rattle.route_drive.proofs.kept.Lists.{takes, skips}
 use Rattle.route_drive.proofs.kept.Walks.{between_unique}
@@ -38,22 +39,7 @@ module _ (roads : Roads) (points : List ℕ) (times : Times) (table : AreTravelT
       → AreReached roads dwell node free stops → HasSeatsFor riders room stops → AllByRecursion (λ stop. IsSeen points riders stop (vis stop)) stops
       → ServesFrom (travel_time times) dwell place free room (map vis stops)
   serves_by_table riders dwell vis [] place node free room at reached seats seen = tt
-  serves_by_table riders dwell vis (stop ∷ stops) place node free room at reached seats seen =
-      let tau : travel_time times place seen.0.place ≡ reached.0.seconds = time_is place seen.0.place node stop.node reached.0.seconds at seen.0.node (inl reached.0.least) in
-      let where_ : place_of (vis stop) ≡ seen.0.place = grind (arith, seen.0.is) in
-      let until : latest_of (vis stop) ≡ seen.0.latest = grind (arith, seen.0.is) in
-      let left : room_after (vis stop) room ≡ seats_after riders stop room = grind (arith, seen.0.is) in
-      let hop : travel_time times place (place_of (vis stop)) ≡ reached.0.seconds = ap (travel_time times place) where_ ∙ tau in
-      let then : free + travel_time times place (place_of (vis stop)) + dwell ≡ stop.second + dwell = omega (arith, hop, reached.0.reached) in
-      let in_time = seen.0.in_time in (
-        omega (arith, hop, reached.0.short),
-        omega (arith, hop, reached.0.reached, in_time, until),
-        grind (arith, seen.0.is, seats.0),
-        subst (λ p. ServesFrom (travel_time times) dwell p (free + travel_time times place (place_of (vis stop)) + dwell) (room_after (vis stop) room) (map vis stops)) (sym where_)
-            (subst (λ f. ServesFrom (travel_time times) dwell seen.0.place f (room_after (vis stop) room) (map vis stops)) (sym then)
-            (subst (λ r. ServesFrom (travel_time times) dwell seen.0.place (stop.second + dwell) r (map vis stops)) (sym left)
-            (serves_by_table riders dwell vis stops seen.0.place stop.node (stop.second + dwell) (seats_after riders stop room) seen.0.node reached.1 seats.1 seen.1))),
-      )
+  serves_by_table riders dwell vis (stop ∷ stops) place node free room at reached seats seen = grind (arith, nat_tests, (time_is place seen.0.place node stop.node reached.0.seconds at seen.0.node (inl reached.0.least)), (serves_by_table riders dwell vis stops seen.0.place stop.node (stop.second + dwell)))
 
 -- of a serving order, the stops where nobody gets in serve without the others
 pub sub_serves : (points : ℕ) (tau : ℕ → ℕ → ℕ) (dwell : ℕ) (vis : Stop → Visit) (keep : Stop → Bool) → IsTravelTime points tau → ((s : Stop) → keep s ≡ true → boarding_of (vis s) ≡ 0)

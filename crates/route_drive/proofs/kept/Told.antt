@@ -1,5 +1,5 @@
 -- The stops that a plan tells of a serving order: their seconds, their seats, whose they are, and what they promise.
-use Rattle.std.proofs.Common.{◌≡◌, ℕ, zero, suc, ◌+◌, ◌≤◌, Bool, true, false, List, [], ◌∷◌, ◌++◌, length, map, filter, Some, None, refl, sym, ap, ◌∙◌, subst, arith, inl, inr, slice_get}
+use Rattle.std.proofs.Common.{◌≡◌, ℕ, zero, suc, ◌+◌, ◌≤◌, Bool, true, false, List, [], ◌∷◌, ◌++◌, length, map, filter, Some, None, refl, sym, ap, ◌∙◌, subst, arith, inl, inr, slice_get, rules}
 use Rattle.route_drive.proofs.Common.{AllByRecursion, cases_eq, travel_time, Times, trip_picks, look_up, PlannedStop, BookRider, look_up-nil, Roads, index_in, Stop, Visit, place_of, latest_of, boarding_of, room_after, seconds_from, ServesFrom, AreTravelTimes, AreReached, party_at, seats_after, HasSeatsFor, is_stop_of, calls_of, true≢false, zip, flat_map, nat_tests}
 use Rattle.request_book.specs.Closing.{Pick}
 use Rattle.stop_orders.specs.declared.stop.Stop.TheVariants.{Pick as PickStop}
@@ -29,37 +29,18 @@ module _ (roads : Roads) (points : List ℕ) (times : Times) (table : AreTravelT
   pub told_reached : (stops : List Stop) (place node free room : ℕ) → AllByRecursion (IsTold points riders vis told) stops → slice_get points place ≡ Some node
       → ServesFrom (travel_time times) dwell place free room (map vis stops) → AreReached roads dwell node free (told_from place free stops)
   told_reached [] place node free room are at serves = tt
-  told_reached (s ∷ stops) place node free room are at serves =
-      let is : (told (s, free + travel_time times place (place_of (vis s)))).second ≡ free + travel_time times place (place_of (vis s)) = are.0.second (free + travel_time times place (place_of (vis s))) in
-      let there = are.0.node (free + travel_time times place (place_of (vis s))) in
-      let between = time_between roads points times table place (place_of (vis s)) node (told (s, free + travel_time times place (place_of (vis s)))).node at there in (
-        record {
-          seconds = travel_time times place (place_of (vis s));
-          least = least_between roads.arcs (index_in roads.nodes node) (index_in roads.nodes (told (s, free + travel_time times place (place_of (vis s)))).node) (travel_time times place (place_of (vis s))) between serves.0;
-          short = serves.0;
-          reached = is;
-        },
-        subst (λ f. AreReached roads dwell (told (s, free + travel_time times place (place_of (vis s)))).node f (told_from (place_of (vis s)) (free + travel_time times place (place_of (vis s)) + dwell) stops)) (ap (λ n. n + dwell) (sym is))
-            (told_reached stops (place_of (vis s)) (told (s, free + travel_time times place (place_of (vis s)))).node (free + travel_time times place (place_of (vis s)) + dwell) (room_after (vis s) room) are.1 there serves.3),
-      )
+  told_reached (s ∷ stops) place node free room are at serves = search (rules, time_between, least_between, (told_reached stops))
 
   pub told_seats : (stops : List Stop) (place free room : ℕ) → AllByRecursion (IsTold points riders vis told) stops
       → ServesFrom (travel_time times) dwell place free room (map vis stops) → HasSeatsFor riders room (told_from place free stops)
   told_seats [] place free room are serves = tt
-  told_seats (s ∷ stops) place free room are serves = (
-    λ pick. let e = are.0.boards (free + travel_time times place (place_of (vis s))) pick in let h = serves.2 in omega (arith, e, h),
-    subst (λ r. HasSeatsFor riders r (told_from (place_of (vis s)) (free + travel_time times place (place_of (vis s)) + dwell) stops)) (are.0.room (free + travel_time times place (place_of (vis s))) room)
-        (told_seats stops (place_of (vis s)) (free + travel_time times place (place_of (vis s)) + dwell) (room_after (vis s) room) are.1 serves.3),
-  )
+  told_seats (s ∷ stops) place free room are serves = search (rules, (told_seats stops))
 
   -- what holds of each stop that is told at a second in time holds of all that are told
   pub told_all : (P : Stop → Type 0) (Q : PlannedStop → Type 0) → ((s : Stop) (second : ℕ) → P s → second ≤ latest_of (vis s) → Q (told (s, second)))
       → (stops : List Stop) (place free room : ℕ) → AllByRecursion P stops → ServesFrom (travel_time times) dwell place free room (map vis stops) → AllByRecursion Q (told_from place free stops)
   told_all P Q each [] place free room all serves = tt
-  told_all P Q each (s ∷ stops) place free room all serves = (
-    each s (free + travel_time times place (place_of (vis s))) all.0 serves.1,
-    told_all P Q each stops (place_of (vis s)) (free + travel_time times place (place_of (vis s)) + dwell) (room_after (vis s) room) all.1 serves.3,
-  )
+  told_all P Q each (s ∷ stops) place free room all serves = search (rules, (told_all P Q each stops))
 
   pub told_length : (stops : List Stop) (place free : ℕ) → length (told_from place free stops) ≡ length stops
   told_length [] place free = refl
@@ -69,14 +50,7 @@ module _ (roads : Roads) (points : List ℕ) (times : Times) (table : AreTravelT
   pub told_calls : (x : ℕ) (test : Stop → Bool) (P : Stop → Type 0) → ((s : Stop) (second : ℕ) → P s → is_stop_of x (told (s, second)) ≡ test s) → ((s : Stop) (second : ℕ) → P s → (told (s, second)).pick ≡ is_pick s)
       → (stops : List Stop) (place free : ℕ) → AllByRecursion P stops → calls_of x (told_from place free stops) ≡ map is_pick (filter test stops)
   told_calls x test P same kind [] place free all = refl
-  told_calls x test P same kind (s ∷ stops) place free all =
-      grind (
-        arith,
-        nat_tests,
-        told_calls x test P same kind stops (place_of (vis s)) (free + travel_time times place (place_of (vis s)) + dwell) all.1,
-        same s (free + travel_time times place (place_of (vis s))) all.0,
-        kind s (free + travel_time times place (place_of (vis s))) all.0,
-      )
+  told_calls x test P same kind (s ∷ stops) place free all = search (rules, nat_tests, (told_calls x test P same kind stops))
 
 -- what the pick stops of a vehicle promise
 abbrev pub pick_of : ℕ → PlannedStop → Pick

@@ -1,7 +1,7 @@
 -- On a driven day a good plan has no late vehicle and no lapsed promise; and of the trips that it chooses: whose stops they
 -- are, and what they promise.
-use Rattle.std.proofs.Common.{◌≡◌, ℕ, ◌+◌, ◌<◌, ◌≤◌, true, false, not, List, [], ◌∷◌, length, get_or, map, filter, Option, Some, None, refl, sym, ap, ◌∙◌, subst, arith, inl, inr, All, slice_get, is_some, zero, suc, eqb, nat_eq, Bool, Contains}
-use Rattle.route_drive.proofs.Common.{AllByRecursion, AllZip, range_with_len, recursion_from_All, All-from_get_or, length-range_with_len, get_or-range_with_len, slice_get_within, slice_get-get_or, slice_get_cases, travel_time, Times, Batch, Promise, Vehicle, HasGraphsWith, IsGoodPlan, IsLate, request_at, is_promised_to, promised_to, filter_range_has, IsLive, IsSettled, IsHeld, find_vehicle, PlannedStop, Planned, State, Settings, Roads, index_in, Settled, vehicle_at, rider_at, no_rider, no_vehicle, AreTravelTimes, IsKept, ShowsRiders, IsDistinct, cases_eq, rider_id, IsTripOf, times_served_as_count, choice_at, riders_at, no_row, is_in, IsRowOf, no_request, ChosenTrip, has_node, IsTrip, false≢true, get_or-map, length-map, Passenger, told_stop, IsPlaced, BookRider, Aboard, look_up-at, Stop, Pick, Drop, Alight, is_of_rider, is_of_passenger, IsKnown, trip_task, visit_at, is_stop_of, calls_of, pool_promise, find_passenger, eq-eqb, ne_eqb, zip, gets, nat_tests}
+use Rattle.std.proofs.Common.{◌≡◌, ℕ, ◌<◌, ◌≤◌, true, false, not, List, [], ◌∷◌, length, get_or, map, filter, Option, Some, None, refl, sym, ap, ◌∙◌, subst, arith, inl, inr, All, slice_get, is_some, zero, suc, eqb, nat_eq, Bool, Contains, rules}
+use Rattle.route_drive.proofs.Common.{AllByRecursion, AllZip, range_with_len, recursion_from_All, All-from_get_or, length-range_with_len, get_or-range_with_len, slice_get_within, slice_get-get_or, slice_get_cases, travel_time, Times, Batch, Promise, Vehicle, HasGraphsWith, IsGoodPlan, IsLate, request_at, is_promised_to, promised_to, filter_range_has, IsLive, IsSettled, IsHeld, find_vehicle, PlannedStop, Planned, State, Settings, Roads, index_in, Settled, vehicle_at, rider_at, no_rider, no_vehicle, AreTravelTimes, IsKept, ShowsRiders, IsDistinct, cases_eq, rider_id, IsTripOf, times_served_as_count, choice_at, riders_at, is_in, IsRowOf, no_request, ChosenTrip, has_node, IsTrip, false≢true, get_or-map, length-map, Passenger, told_stop, IsPlaced, BookRider, Aboard, look_up-at, Stop, Pick, Drop, Alight, is_of_rider, is_of_passenger, IsKnown, trip_task, visit_at, is_stop_of, calls_of, pool_promise, find_passenger, eq-eqb, ne_eqb, zip, gets, nat_tests}
 use Rattle.route_drive.proofs.kept.Lists.{filter_none, filter_all}
 use Rattle.route_drive.proofs.kept.Batches.{found_at, distinct_from_differ, ids_distinct, other_id, IsRiderAboard}
 use Rattle.route_drive.proofs.kept.States.{vehicle_id}
@@ -19,11 +19,7 @@ none_zip R xs ys e zip = grind arith
 
 -- what holds below a number holds along the range
 pub along_range : (P : ℕ → Type 0) (n : ℕ) → ((k : ℕ) → k < n → P k) → AllByRecursion P (range_with_len 0 n)
-along_range P n each = recursion_from_All P (range_with_len 0 n) (All-from_get_or P (range_with_len 0 n) 0 (λ i h.
-    let l = length-range_with_len 0 n in
-    let e : get_or (range_with_len 0 n) i 0 ≡ 0 + i = get_or-range_with_len 0 n i 0 (omega (arith, h, l)) in
-    let f : i ≡ get_or (range_with_len 0 n) i 0 = omega (arith, e) in
-    subst P f (each i (omega (arith, h, l)))))
+along_range P n each = search (rules, recursion_from_All, All-from_get_or, length-range_with_len, get_or-range_with_len)
 
 zip_get : {A B : Type 0} (R : A → B → Type 0) (xs : List A) (ys : List B) (i : ℕ) (a : A) → AllZip R xs ys → slice_get xs i ≡ Some a → (b : B) × (slice_get ys i ≡ Some b) × R a b
 zip_get R (x ∷ xs) (y ∷ ys) zero a zip e = let is : x ≡ a = cc in (y, refl, subst (λ a. R a y) is zip.0)
@@ -137,9 +133,7 @@ module _ (settings : Settings) (roads : Roads) (s : State) (stops : ℕ → List
     row_of k row h e = let c = good.exact.vehicle_total in plan_choice good.graph (good.holds point.Plan).chosen k row lawful.plan (omega (arith, c, h)) e
 
     pub trip_is : (k row : ℕ) → k < length settled.vehicles → choice_at (good.holds point.Plan).chosen k ≡ Some row → IsTrip (length b.riders) (riders_at good.graph row) × (length (riders_at good.graph row) ≤ settings.trip)
-    trip_is k row h e =
-        let right = good.exact.right row no_row (row_of k row h e).within in
-        (subst (λ n. IsTrip n (riders_at good.graph row)) limits.rider_count right.served.riders, right.served.size)
+    trip_is k row h e = search rules
 
     -- no rider is in two trips
     pub one_trip : (k j row other r : ℕ) → k < length settled.vehicles → j < length settled.vehicles → choice_at (good.holds point.Plan).chosen k ≡ Some row → choice_at (good.holds point.Plan).chosen j ≡ Some other

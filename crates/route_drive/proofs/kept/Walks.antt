@@ -1,5 +1,5 @@
 -- Shortest walks: their seconds are one number, and what is left of one is one.
-use Rattle.std.proofs.Common.{◌≡◌, ℕ, zero, suc, ◌+◌, ◌<◌, ◌≤◌, true, false, eqb, List, [], ◌∷◌, ◌++◌, length, get_or, Contains, nat_eq, refl, sym, ◌∙◌, subst, arith, inl, inr}
+use Rattle.std.proofs.Common.{◌≡◌, ℕ, zero, suc, ◌+◌, ◌<◌, ◌≤◌, true, false, eqb, List, [], ◌∷◌, length, get_or, Contains, nat_eq, refl, sym, ◌∙◌, arith, inl, inr, rules}
 use Rattle.route_drive.proofs.Common.{IsDistinct, false≢true, All-from_recursion, Contains-get_or, passes_at_first, never, Arc, IsWalk, walk_seconds, IsLeastTime, IsTimeBetween, index_in, has_node, eqb-true, eq-eqb, IsWalk-append, walk_seconds-append, nat_tests}
 
 pub between_unique : (arcs : List Arc) (a b s t : ℕ) → IsTimeBetween arcs a b s → IsTimeBetween arcs a b t → s ≡ t
@@ -17,12 +17,7 @@ least_between arcs a b s (inr one) short = absurd (omega (arith, one.1))
 pub rest_is_least : (arcs before rest : List Arc) (start via goal : ℕ) → IsWalk arcs start before via → IsWalk arcs via rest goal
     → ((other : List Arc) → IsWalk arcs start other goal → walk_seconds before + walk_seconds rest ≤ walk_seconds other)
     → IsLeastTime arcs via goal (walk_seconds rest)
-rest_is_least arcs before rest start via goal there onward least = record {
-  walk = rest;
-  walks = onward;
-  takes = refl;
-  least = λ other walks. omega (arith, least (before ++ other) (IsWalk-append arcs before other start via goal there walks), walk_seconds-append before other);
-}
+rest_is_least arcs before rest start via goal there onward least = search (rules, IsWalk-append, walk_seconds-append)
 
 -- a node that is among the nodes has an index
 pub has_index : (nodes : List ℕ) (node : ℕ) → has_node nodes node ≡ true → index_in nodes node < length nodes
@@ -46,6 +41,4 @@ pub name_at : (nodes : List ℕ) (node : ℕ) → index_in nodes node < length n
 name_at nodes node h = sym (eqb-true node (get_or nodes (index_in nodes node) 0) (passes_at_first (λ x. eqb node x) nodes 0 h))
 
 pub contains_node : (nodes : List ℕ) (node : ℕ) → has_node nodes node ≡ true → Contains nodes node
-contains_node nodes node h =
-    let lt : index_in nodes node < length nodes = has_index nodes node h in
-    subst (λ n. Contains nodes n) (name_at nodes node lt) (Contains-get_or nodes (index_in nodes node) 0 lt)
+contains_node nodes node h = search (rules, (has_index nodes node h), (name_at nodes node), (Contains-get_or nodes))
