@@ -1,5 +1,8 @@
-use Rattle.std.proofs.Common.{◌≡◌, ℕ, true, false, List, map, sym, ap, ◌∙◌, arith}
-use Rattle.outcome_check.proofs.Common.{both_ways, rider_id}
+use Rattle.std.proofs.lemmas.Bool.Decides.{nat_tests}
+use Rattle.std.proofs.Common.{rules, IsTrue, ◌≡◌, ℕ, true, false, List, map, sym, ap, ◌∙◌, arith}
+use Rattle.outcome_check.proofs.Common.{both_ways, rider_id, vehicle_at}
+use Rattle.plan_rules.specs.declared.row.TripRow.{TripRow}
+use Rattle.request_book.specs.declared.outcome.RowLine.{RowLine}
 use Rattle.outcome_check.proofs.graphs.tells_graphs.Goals as goal
 
 pub rv_lines-requires-clause-riders : goal.rv_lines-requires-clause-riders
@@ -19,4 +22,23 @@ returns-then-not-are_same_pairs c =
       λ holds. absurd (both_ways _ c.if-not-are_same_pairs.true (c.are_same_pairs.ensures.1
           (c.deref-3.ensures.value ∙ c.in_ok-pairs.ensures ∙ ap (λ (pairs : List (ℕ × ℕ)). map (λ (pair : ℕ × ℕ). (rider_id settled pair.0, rider_id settled pair.1)) pairs) c.all.ensures
           ∙ sym holds.2 ∙ sym c.as_slice-3.ensures))),
+    )
+
+pub returns : goal.returns
+returns c =
+    let settled = c.args.graphs.now.instance.now.settled.now in
+    let line : TripRow → RowLine = λ row. record { vehicle = (vehicle_at settled row.vehicle).id; riders = record { items = map (rider_id settled) row.riders.items }; cost = row.cost } in
+    let told : c.deref-4.result.now ≡ map line c.args.graphs.now.graph.now.rows =
+    c.deref-4.ensures.value ∙ c.in_ok-rows.ensures ∙ ap (λ (rows : List TripRow). map line rows) c.rows.ensures.value in
+    let first : IsTrue c.are_same_riders.result = first_of (search rules, grind (arith, nat_tests)) in
+    let second : IsTrue c.are_same_edges.result = first_of (search rules, grind (arith, nat_tests)) in
+    let third : IsTrue c.are_same_pairs.result = first_of (search rules, grind (arith, nat_tests)) in (
+      λ yes. (
+        sym c.as_slice.ensures ∙ sym (c.are_same_riders.ensures.0 first) ∙ c.deref.ensures.value ∙ c.in_ok-lapsed.ensures,
+        sym c.as_slice-2.ensures ∙ sym (c.are_same_edges.ensures.0 second) ∙ c.deref-2.ensures.value ∙ c.in_ok-edges.ensures,
+        sym c.as_slice-3.ensures ∙ sym (c.are_same_pairs.ensures.0 third) ∙ c.deref-3.ensures.value ∙ c.in_ok-pairs.ensures
+            ∙ ap (λ (pairs : List (ℕ × ℕ)). map (λ (pair : ℕ × ℕ). (rider_id settled pair.0, rider_id settled pair.1)) pairs) c.all.ensures,
+        sym c.as_slice-4.ensures ∙ sym (c.are_same_rows.ensures.0 yes) ∙ told,
+      ),
+      λ holds. c.are_same_rows.ensures.1 (told ∙ sym holds.3 ∙ sym c.as_slice-4.ensures),
     )
