@@ -15,6 +15,7 @@ pub use Rattle.dispatch_engine.specs.Progress.{AreDone, HaveCome, IsNext, IsNext
 pub use Rattle.dispatch_engine.specs.Run.{IsRoundRun, IsRun, journal_of, position_after_run, state_after_run}
 pub use Rattle.dispatch_engine.specs.declared.stand.LaneStand.{LaneStand}
 pub use Rattle.dispatch_report.specs.Entry.{command_text, entry_line, refusal_text, reply_text, rider_status_text}
+pub use Rattle.dispatch_report.specs.Fits.{TellsEnd}
 pub use Rattle.dispatch_report.specs.Head.{head_text}
 unfoldable pub use Rattle.dispatch_report.specs.Lines.{lines_text}
 unfoldable pub use Rattle.dispatch_report.specs.Round.{end_text, entries_lines, round_text}
@@ -37,7 +38,7 @@ pub use Rattle.report_audit.specs.work.Place.{with_entry}
 pub use Rattle.report_audit.specs.work.Rest.{EndsBehind, GoesOn, IsRestOfRounds, IsWrong, StopsAt, StopsHere, entries_text, with_more}
 pub use Rattle.report_audit.specs.work.Rounds.{EntriesSoFar, EntriesStop, HasReadEntries, HasReadRound, HasRoundLine, IsNoRoundLine, IsRoundStart, RoundStops, WhereRoundStops}
 pub use Rattle.report_audit.specs.work.Steps.{BeginsWithEntry, EntryRead, HasNoNext, HasRead, IsBookOf, IsEntryOf, IsWithin, MayBegin, StopsBehind, StopsWithin, Waits}
-pub use Rattle.report_audit.specs.work.Taking.{CommandStops, TakesCommand, TellsEnd}
+pub use Rattle.report_audit.specs.work.Taking.{CommandStops, TakesCommand}
 pub use Rattle.report_audit.specs.work.Whole.{AllStops, HasComeTo, HasReadAll, WhereAllStops}
 pub use Rattle.report_lines.proofs.lemmas.NextLemmas.{no_entry_done, no_entry_round, one_kind}
 pub use Rattle.report_lines.proofs.lemmas.OneBlock.{append_one_line, cut_once, no_one_line, numbered_one_line, spaced_one_line, two_line}

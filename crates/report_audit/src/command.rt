@@ -2,7 +2,7 @@
 ghost use Rattle.std.specs.Prelude.{◌≡◌, ◌≢◌, ◌↔◌, IfOk, IsTrue, MatchOption};
 ghost use Rattle.dispatch_engine.specs.Lane.{last_sealed};
 ghost use Rattle.dispatch_report.specs.Entry.{entry_line};
-ghost use Rattle.report_lines.specs.Reply.{IsReply};
+ghost use Rattle.dispatch_report.specs.Fits.{IsReply};
 ghost use Rattle.request_book.specs.Book.{IsApplied, next_position};
 ghost use Rattle.request_book.specs.Command.{IsNoClose};
 ghost use Rattle.request_book.specs.declared.reply.Reply.{Reply as OneReply};

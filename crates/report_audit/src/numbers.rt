@@ -1,9 +1,6 @@
 //! That the numbers of commands and replies are within their types.
-ghost use Rattle.report_lines.specs.Command.{IsBatch, IsCommand};
-ghost use Rattle.report_lines.specs.Reply.{IsReply, IsRefusal};
-ghost use Rattle.report_lines.specs.lemmas.Replies.{OrNone};
-ghost use Rattle.report_audit.specs.work.Taking.{TellsEnd};
-ghost use Rattle.report_lines.specs.Ids.{IsId};
+ghost use Rattle.std.specs.Prelude.{IfSome};
+ghost use Rattle.dispatch_report.specs.Fits.{IsBatch, IsCommand, IsId, IsRefusal, IsReply, TellsEnd};
 ghost use Rattle.request_book.specs.declared.reply.Reply.TheVariants.{Refused as RefusedFor};
 
 use pool_base::VehicleId;
@@ -90,7 +87,7 @@ fn fits_refusal(refusal: &BookRefusal)
 }
 
 fn fits_holder(holder: &Option<VehicleId>)
-    ensures { OrNone IsId holder.now }
+    ensures { IfSome holder.now IsId }
 {
     if let Some(vehicle) = holder {
         let _number = vehicle.get();
@@ -98,7 +95,7 @@ fn fits_holder(holder: &Option<VehicleId>)
 }
 
 fn fits_current(current: &Option<u64>)
-    ensures { OrNone IsBatch current.now }
+    ensures { IfSome current.now IsBatch }
 {
     if let Some(batch) = current {
         let _number = *batch;

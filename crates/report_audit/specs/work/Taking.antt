@@ -2,26 +2,18 @@
 use Rattle.std.specs.Prelude.{◌≡◌, ◌≢◌, ℕ, List, Option}
 use Rattle.batch_snapshot.specs.Batch.{Batch}
 use Rattle.dispatch_report.specs.Entry.{entry_line}
-use Rattle.report_lines.specs.Command.{IsCommand}
-use Rattle.report_lines.specs.Reply.{IsEnded, IsReply}
+use Rattle.dispatch_report.specs.Fits.{IsCommand, IsReply}
 use Rattle.dispatch_engine.specs.Progress.{IsNext, stand_at}
 use Rattle.dispatch_engine.specs.declared.stand.LaneStand.{LaneStand}
 use Rattle.request_book.specs.Book.{BookView, IsApplied, next_position}
 use Rattle.request_book.specs.Step.{step}
 use Rattle.request_book.specs.declared.command.Command.{Command}
-use Rattle.request_book.specs.declared.reply.BookRefusal.TheVariants.{Ended}
 use Rattle.request_book.specs.declared.reply.Reply.{Reply}
-use Rattle.request_book.specs.declared.reply.Reply.TheVariants.{Refused}
 use Rattle.script_rows.specs.Round.{NumberedLanes, lane_at}
 use Rattle.shared_book.specs.Locked.{snapshot_before}
 use Rattle.report_audit.specs.declared.stop.LineFault.TheVariants as wrong
 use Rattle.report_audit.specs.declared.stop.Stop.{Stop}
 use Rattle.report_audit.specs.declared.stop.Stop.TheVariants.{OutOfMemory, Line, Block}
-
--- where the reply tells how a rider's request ended, it did
-abbrev pub TellsEnd : Reply → Type 0
-TellsEnd (Refused (Ended status)) = IsEnded status
-TellsEnd _ = Unit {0}
 
 -- the line is that of the lane's next command and the book's reply, and the command was taken into the book
 pub record TakesCommand (round : NumberedLanes) (lanes : List LaneStand) (old : BookView) (lane : ℕ) (line : List ℕ) (new : BookView) (sealed : Option Batch) (reply : Reply) : Type 0 where
