@@ -1,5 +1,5 @@
 -- The searches of one node, put together.
-use Rattle.std.proofs.Common.{◌≡◌, ◌≢◌, ℕ, ◌<◌, ◌≤◌, ◌⊎◌, List, [], length, get_or, slice_index, All, Contains, sym, ap, ◌∙◌, subst, inl, inr, arith}
+use Rattle.std.proofs.Common.{rules, ◌≡◌, ◌≢◌, ℕ, ◌<◌, ◌≤◌, ◌⊎◌, List, [], length, get_or, slice_index, All, Contains, sym, ap, ◌∙◌, subst, inl, inr, arith}
 use Rattle.hub_labels.proofs.Cited.{get_or_default, never, longest, Arc, Hop, IsArcAmong, Hub, AreNodeHops, IsLabelBelow, AreLabelsBelow, IsRankedHub, IsPruned, IsSpread, HasSpread, GainsHub, HandsOver, AddsHub}
 use Rattle.hub_labels.proofs.Times.{times_of, start_within}
 use Rattle.hub_labels.proofs.Turned.{own_label}
@@ -23,15 +23,7 @@ spread_of_label n rank IsHub bound label via each below spread = record {
 pub handed : (n start : ℕ) (via taken seconds : List ℕ) (labels : List (List Hub)) (after : List ℕ) (labels' : List (List Hub)) → length seconds ≡ n → ((node : ℕ) → node < n → (slice_index seconds node ≡ never) ⊎ (slice_index seconds node ≤ longest))
     → ((node : ℕ) → node < length seconds → slice_index seconds node < never → Contains taken node) → HandsOver start via taken (length taken) seconds labels after labels'
     → (node : ℕ) → node < n → (slice_index after node ≡ never) × GainsHub start via (slice_index seconds node) (get_or labels node []) (get_or labels' node [])
-handed n start via taken seconds labels after labels' each range noted hands node h = elim (hands.each node (omega (arith, h, each))) [
-  | inl done ↦ done
-  | inr left ↦ elim (range node h) [
-    | inl far ↦ (left.0 ∙ far, inl (inl far, left.1))
-    | inr found ↦
-        let has = noted node (omega (arith, h, each)) (omega (arith, found)) in
-        absurd (left.2 has.0 has.1 has.1 (get_or_default taken has.0 0 node has.1 ∙ has.2))
-  ]
-]
+handed n start via taken seconds labels after labels' each range noted hands node h = search (rules, get_or_default)
 
 pub found_range : (arcs : List Arc) (n start : ℕ) (labels : List (List Hub)) (via seconds : List ℕ) → IsPruned arcs n start labels via seconds → (node : ℕ) → node < n → (slice_index seconds node ≡ never) ⊎ (slice_index seconds node ≤ longest)
 found_range arcs n start labels via seconds pruned node h = elim (pruned.sound node h) [ inl far ↦ inl far | inr found ↦ inr found.0 ]

@@ -1,5 +1,5 @@
 -- Degrees, counted node by node.
-use Rattle.std.proofs.Common.{◌≡◌, ℕ, ◌+◌, ◌<◌, ◌≤◌, ◌&&◌, Bool, true, false, cond, eqb, ltb, List, [], ◌∷◌, length, map, count_by, All, refl, arith}
+use Rattle.std.proofs.Common.{rules, ◌≡◌, ℕ, ◌+◌, ◌<◌, ◌≤◌, ◌&&◌, Bool, true, false, cond, eqb, ltb, List, [], ◌∷◌, length, map, count_by, All, refl, arith}
 use Rattle.hub_labels.proofs.Cited.{nat_tests, All-head, All-tail, sum_by-cons, length-filter, count_by-le-length, Arc, Hop, IsArcAmong, hop_of, leaving, degree, reaching_before, lt-ltb, le-ltb}
 
 -- 1 where a test passes
@@ -24,10 +24,7 @@ kept false node arc rest = omega arith
 
 pub reaching_none : (arcs : List Arc) (node : ℕ) → reaching_before arcs 0 node ≡ 0
 reaching_none [] node = refl
-reaching_none (arc ∷ rest) node =
-    let more : reaching_before (arc ∷ rest) 0 node ≡ cond (eqb arc.to node && ltb arc.from 0) 1 0 + reaching_before rest 0 node = sum_by-cons (λ (a : Arc). cond (eqb a.to node && ltb a.from 0) 1 0) arc rest in
-    let zero_here : one_if (eqb arc.to node && ltb arc.from 0) ≡ 0 = elim (eqb arc.to node) as (λ b. one_if (b && ltb arc.from 0) ≡ 0) [ true ↦ none_below arc.from | false ↦ refl ] in
-    omega (arith, more, reaching_none rest node, zero_here)
+reaching_none (arc ∷ rest) node = search (rules, sum_by-cons, none_below, (reaching_none rest node))
 
 pub reaching_more : (arcs : List Arc) (k node : ℕ) → reaching_before arcs (k + 1) node ≡ reaching_before arcs k node + count_by (λ (hop : Hop). eqb hop.to node) (map hop_of (leaving k arcs))
 reaching_more [] k node = refl
@@ -52,6 +49,4 @@ pub reaching_few : (arcs : List Arc) (k node : ℕ) → reaching_before arcs k n
 reaching_few arcs k node = count_by-le-length (λ (a : Arc). eqb a.to node && ltb a.from k) arcs
 
 pub degree_is : (arcs : List Arc) (n node : ℕ) → All (IsArcAmong n) arcs → length (leaving node arcs) + reaching_before arcs n node ≡ degree arcs node
-degree_is arcs n node among =
-    let a = length-filter (λ (a : Arc). eqb a.from node) arcs in
-    omega (arith, a, reaching_all arcs n node among)
+degree_is arcs n node among = search (rules, length-filter, reaching_all)

@@ -1,5 +1,5 @@
 -- A merge of two labels by rank.
-use Rattle.std.proofs.Common.{◌≡◌, ℕ, ◌+◌, ◌<◌, ◌≤◌, ◌⊎◌, min, List, length, get_or, slice_index, ap, inl, inr, arith}
+use Rattle.std.proofs.Common.{rules, ◌≡◌, ℕ, ◌+◌, ◌<◌, ◌≤◌, ◌⊎◌, min, List, length, get_or, slice_index, ap, inl, inr, arith}
 use Rattle.hub_labels.proofs.Cited.{cases_eq, cases_lt, get_or_default, never, Hub, IsRising, IsLeastInCommon}
 
 abbrev pub no_hub : Hub
@@ -101,10 +101,4 @@ module _ {rank : List ℕ} {forward backward : List Hub} (ahead : IsRising rank 
       }
 
 pub merged : (forward backward : List Hub) (i j best : ℕ) → IsMerging forward backward i j best → (length forward ≤ i) ⊎ (length backward ≤ j) → IsLeastInCommon forward backward best
-merged forward backward i j best so_far ends = record {
-  given = so_far.given;
-  least = λ x y d hx hy e.
-      rw (get_or_default forward x d no_hub hx, get_or_default backward y d no_hub hy)
-      (so_far.passed x y hx hy (elim ends [ inl p ↦ inl (omega arith) | inr q ↦ inr (omega arith) ])
-      (rw (get_or_default forward x d no_hub hx, get_or_default backward y d no_hub hy) at e));
-}
+merged forward backward i j best so_far ends = search (rules, get_or_default)

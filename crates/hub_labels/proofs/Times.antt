@@ -1,5 +1,5 @@
 -- Travel times exist: a search that ends gives them. So a lemma may speak of the travel time between any two nodes.
-use Rattle.std.proofs.Common.{◌≡◌, ℕ, zero, suc, ◌+◌, ◌<◌, ◌≤◌, ◌⊎◌, Bool, true, false, List, [], ◌∷◌, length, get_or, slice_index, set, replicate, map, All, refl, inl, inr, arith}
+use Rattle.std.proofs.Common.{rules, ◌≡◌, ℕ, zero, suc, ◌+◌, ◌<◌, ◌≤◌, ◌⊎◌, Bool, true, false, List, [], ◌∷◌, length, get_or, slice_index, set, replicate, map, All, refl, inl, inr, arith}
 use Rattle.hub_labels.proofs.Cited.{cases_lt, All-contains, get_or_default, get_or-replicate, length-replicate, never, longest, Arc, Hop, IsWalk, walk_seconds, IsLeastTime, IsTimeBetween, IsArcAmong, hop_of, leaving, waits, work_left, IsNextTaken, RelaxesHops, IsSearching, short_walk, time_range, time_to_itself, time_triangle, RelaxesHops-take, RelaxesHops-skip, IsSearching-start, IsSearching-step, IsNextTaken-set, IsTimeBetween-settled, hops_among, none_waits, length-set}
 
 -- a node waits, or none does
@@ -14,8 +14,7 @@ first_waiting (false ∷ rest) = elim (first_waiting rest) [
 -- hops can be relaxed
 relax_exists : (hops : List Hop) (count here : ℕ) (s : List ℕ) (w : List Bool) → length w ≡ length s → All (λ hop. (hop.to < length s) × (hop.seconds ≤ 10000)) hops → count ≤ length hops
     → (s' : List ℕ) × (w' : List Bool) × RelaxesHops hops count here s w s' w'
-relax_exists hops zero here s w lengths among within =
-    (s, w, record { seconds_length = refl; waiting_length = refl; no_later = λ node. omega arith; from = λ node. inl (refl, refl); relaxed = λ k d lt h. absurd (omega arith); less = omega arith })
+relax_exists hops zero here s w lengths among within = search rules
 relax_exists hops (suc count) here s w lengths among within =
     let before = relax_exists hops count here s w lengths among (omega arith) in
     let inv = before.2 in

@@ -1,4 +1,5 @@
 -- Arcs the other way round: walks lead back, in the same time.
+use Rattle.std.proofs.lemmas.Bool.Decides.{nat_tests}
 use Rattle.std.proofs.Common.{◌≡◌, ℕ, ◌+◌, ◌<◌, ◌≤◌, Bool, true, false, List, [], ◌∷◌, ◌++◌, length, get_or, slice_index, map, All, Contains, refl, sym, ap, ◌∙◌, subst, arith}
 use Rattle.hub_labels.proofs.Cited.{length-map, get_or-map, All-map, sum_by-cons, Arc, IsWalk, walk_seconds, IsLeastTime, IsArcAmong, IsWalk-push, walk_seconds-push, Hub, turned, directed, IsRankedHub, AreLabelsBelow}
 use Rattle.hub_labels.proofs.Times.{AreTimes, start_within, time_is, least_is}
@@ -39,12 +40,7 @@ walk_seconds-turned (arc ∷ rest) = omega (arith, walk_seconds-push (turned_wal
 
 -- the least time is the same the other way round
 pub IsLeastTime-turned : (arcs others : List Arc) (a b s : ℕ) → IsTurnOf arcs others → IsTurnOf others arcs → IsLeastTime arcs a b s → IsLeastTime others b a s
-IsLeastTime-turned arcs others a b s turn back least = record {
-  walk = turned_walk least.walk;
-  walks = IsWalk-turned arcs others least.walk a b turn least.walks;
-  takes = walk_seconds-turned least.walk ∙ least.takes;
-  least = λ other walks. omega (arith, least.least (turned_walk other) (IsWalk-turned others arcs other b a back walks), walk_seconds-turned other);
-}
+IsLeastTime-turned arcs others a b s turn back least = grind (arith, nat_tests, (IsWalk-turned arcs others), (IsWalk-turned others arcs), walk_seconds-turned)
 
 -- the label of the other direction is the start's own
 pub own_label : (arcs others : List Arc) (n : ℕ) (time : ℕ → ℕ → ℕ) (rank : List ℕ) (h bound : ℕ) (labels : List (List Hub)) → IsTurnOf arcs others → IsTurnOf others arcs → All (IsArcAmong n) arcs → All (IsArcAmong n) others → n ≤ 100000 → AreTimes arcs n time

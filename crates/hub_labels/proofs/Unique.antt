@@ -1,5 +1,5 @@
 -- The definition names one label: lists by rank that have the same hubs are the same.
-use Rattle.std.proofs.Common.{◌≡◌, ℕ, zero, suc, ◌<◌, ◌⊎◌, List, [], ◌∷◌, length, get_or, Contains, refl, sym, ap, ◌∙◌, subst, inl, inr, arith}
+use Rattle.std.proofs.Common.{rules, ◌≡◌, ℕ, zero, suc, ◌<◌, ◌⊎◌, List, [], ◌∷◌, length, get_or, Contains, refl, sym, ap, ◌∙◌, subst, inl, inr, arith}
 use Rattle.hub_labels.proofs.Cited.{Arc, Hub, IsOfLowerRank, IsFirstWrong, IsLabel, IsFirstDifference}
 
 -- of two nodes at most one is of lower rank
@@ -58,10 +58,4 @@ one_label arcs IsHub one other a b = same_by_rank arcs one other a.by_rank b.by_
 -- where lists first differ from the labels, they are first wrong
 pub first_wrong : (arcs : List Arc) (n : ℕ) (IsHub : ℕ → ℕ → ℕ → Type 0) (labels others : List (List Hub)) (node : ℕ) → length labels ≡ n → ((a : ℕ) → a < n → IsLabel arcs (IsHub a) (get_or labels a [])) → IsFirstDifference labels others node
     → IsFirstWrong n (λ a. IsLabel arcs (IsHub a) (get_or others a [])) node
-first_wrong arcs n IsHub labels others node each right differs =
-    let within : node < n = omega (arith, each, differs.within) in
-    record {
-      within = within;
-      wrong = λ other. differs.differ (one_label arcs (IsHub node) (get_or labels node []) (get_or others node []) (right node within) other);
-      before = λ k lt. subst (λ (label : List Hub). IsLabel arcs (IsHub k) label) (differs.before k lt) (right k (omega arith));
-    }
+first_wrong arcs n IsHub labels others node each right differs = search (rules, one_label)
