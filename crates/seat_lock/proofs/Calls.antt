@@ -1,5 +1,5 @@
 -- The calls of a lane in a log that grows by one entry.
-use Rattle.std.proofs.Common.{◌≡◌, ◌≢◌, ℕ, suc, ◌+◌, ◌<◌, ◌==◌, cond, List, [], ◌∷◌, ◌++◌, length, filter, sym, ap, ◌∙◌, arith, eq-eqb, ne_eqb, append-nil}
+use Rattle.std.proofs.Common.{rules, ◌≡◌, ◌≢◌, ℕ, suc, ◌+◌, ◌<◌, ◌==◌, cond, List, [], ◌∷◌, ◌++◌, length, filter, sym, ap, ◌∙◌, arith, eq-eqb, ne_eqb, append-nil}
 use Rattle.seat_lock.proofs.Common.{enumerate_from, LoggedCall, Claim, calls_of, Claimed, Laned, lane_weight}
 use Rattle.std.proofs.lemmas.List.Elements.{filter-append}
 use Rattle.seat_lock.proofs.Totals.{at, at-same}
@@ -13,8 +13,7 @@ module _ {C R : Type 0} where
   mine lane p = p.1.lane == lane
 
   pub calls-push : (lane : ℕ) (es : List (LoggedCall C R)) (e : LoggedCall C R) → calls_of lane (es ++ e ∷ []) ≡ calls_of lane es ++ filter (mine lane) ((length es, e) ∷ [])
-  calls-push lane es e = ap (filter (mine lane)) (enumerate-push 0 es e) ∙ filter-append (mine lane) (enumerate_from 0 es) ((0 + length es, e) ∷ [])
-      ∙ ap (λ (k : ℕ). calls_of lane es ++ filter (mine lane) ((k, e) ∷ [])) (let z : 0 + length es ≡ length es = omega arith in z)
+  calls-push lane es e = search (rules, enumerate-push, filter-append)
 
   -- a call of the lane is one more, at the end of the log
   pub calls-own : (lane : ℕ) (es : List (LoggedCall C R)) (e : LoggedCall C R) → e.lane ≡ lane → calls_of lane (es ++ e ∷ []) ≡ calls_of lane es ++ (length es, e) ∷ []
@@ -27,10 +26,7 @@ module _ {C R : Type 0} where
   -- claims of other lanes stay as they are
   pub Claimed-push : (lane : ℕ) (es : List (LoggedCall C R)) (e : LoggedCall C R) (claims : List (Claim C R)) → e.lane ≡ lane → lane_weight (at lane) claims ≡ 0 → Claimed es claims → Claimed (es ++ e ∷ []) claims
   Claimed-push lane es e [] is none_here k = tt
-  Claimed-push lane es e (c ∷ cs) is none_here k = (
-    k.0 ∙ sym (calls-other c.lane es e (λ same. let hit : at lane c.lane ≡ 1 = at-same lane c.lane (sym same ∙ is) in omega arith)),
-    Claimed-push lane es e cs is (omega arith) k.1,
-  )
+  Claimed-push lane es e (c ∷ cs) is none_here k = search (rules, calls-other, at-same, (Claimed-push lane es e cs is))
 
   pub Claimed-append : (es : List (LoggedCall C R)) (a b : List (Claim C R)) → Claimed es a → Claimed es b → Claimed es (a ++ b)
   Claimed-append es [] b p q = q

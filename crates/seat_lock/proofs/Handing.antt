@@ -1,5 +1,6 @@
 -- Passes as they are handed out and taken back.
-use Rattle.std.proofs.Common.{◌≡◌, ℕ, zero, suc, ◌+◌, ◌-◌, ◌<◌, List, [], ◌∷◌, ◌++◌, map, length, get_or, All, Option, Some, sym, refl, ap, ◌∙◌, subst, arith}
+use Rattle.std.proofs.lemmas.Bool.Decides.{nat_tests}
+use Rattle.std.proofs.Common.{rules, ◌≡◌, ℕ, zero, suc, ◌+◌, ◌-◌, ◌<◌, List, [], ◌∷◌, ◌++◌, map, length, get_or, All, Option, Some, sym, refl, ap, ◌∙◌, subst, arith}
 use Rattle.std.specs.List.{Contains}
 use Rattle.std.proofs.lemmas.List.{get_or_append_left, length-map}
 use Rattle.std.proofs.lemmas.List.Elements.{All-contains, Contains-append_left, Contains-push}
@@ -22,11 +23,7 @@ module _ {A : Type 0} where
 module _ {B C R : Type 0} where
   -- the seat of one lane is the seat of a pass
   pub IsPass-at : (s : Seat (Option B) (View B C R)) (start : B) (lane : ℕ) (calls : List (ℕ × LoggedCall C R)) (seen : ℕ) → s.me ≡ (lane_view start lane calls seen Idle, []) → IsPass s lane
-  IsPass-at s start lane calls seen e = record {
-    rests = ap (λ m. m.0.stage) e;
-    claims = subst (λ (m : Me (Option B) (View B C R)). m.0.claims ≡ claim lane (calls_in m.0.claims) ∷ []) (sym e) refl;
-    empty_handed = ap (λ m. m.1) e;
-  }
+  IsPass-at s start lane calls seen e = search rules
 
   pub pass_value-at : (s : Seat (Option B) (View B C R)) (start : B) (lane : ℕ) (calls : List (ℕ × LoggedCall C R)) (seen : ℕ) → s.me ≡ (lane_view start lane calls seen Idle, [])
       → pass_value s lane ≡ record { table = s.table_id; start = Some start; lane = lane; calls = calls; seen = seen }
@@ -40,8 +37,7 @@ module _ {B C R : Type 0} where
   given_is m m' start lane lanes is lt e = e ∙ ap (λ (n : Me (Option B) (View B C R)). (lane_given n.0, [])) (lanes_left m start lane lanes is lt)
 
   pub kept_is : (m m' : Me (Option B) (View B C R)) (start : B) (lane lanes : ℕ) → m ≡ (lanes_view start lane (lanes - lane), []) → lane < lanes → m' ≡ (lanes_kept m.0, m.1) → m' ≡ (lanes_view start (lane + 1) (lanes - (lane + 1)), [])
-  kept_is m m' start lane lanes is lt e =
-      e ∙ ap (λ (n : Me (Option B) (View B C R)). (lanes_kept n.0, n.1)) (lanes_left m start lane lanes is lt) ∙ ap (λ (n : ℕ). (lanes_view start n (lanes - (lane + 1)), [])) (let z : suc lane ≡ lane + 1 = omega arith in z)
+  kept_is m m' start lane lanes is lt e = grind (arith, nat_tests, (lanes_left m start lane lanes is lt))
 
   -- the claims of passes, one by one
   pub claimed_each : (entries : List (LoggedCall C R)) (passes : List (PassValue B C R)) → Claimed entries (map claim_of passes) → (k : ℕ) (d : PassValue B C R) → k < length passes → (get_or passes k d).calls ≡ calls_of (get_or passes k d).lane entries

@@ -1,5 +1,6 @@
 -- Each move keeps the lock's rule.
-use Rattle.std.proofs.Common.{◌≡◌, ◌≢◌, ℕ, zero, suc, ◌+◌, ◌%◌, ◌^◌, ◌<◌, ◌≤◌, ◌⊎◌, List, [], ◌∷◌, ◌++◌, length, drop, set, get_or, Option, Some, sym, refl, ap, ◌∙◌, subst, inl, inr, ⊎_elim, arith, le_refl, append-nil, length-append, mod-eq_of_lt}
+use Rattle.std.proofs.lemmas.Bool.Decides.{nat_tests}
+use Rattle.std.proofs.Common.{rules, ◌≡◌, ◌≢◌, ℕ, zero, suc, ◌+◌, ◌%◌, ◌^◌, ◌<◌, ◌≤◌, ◌⊎◌, List, [], ◌∷◌, ◌++◌, length, drop, set, get_or, Option, Some, sym, refl, ap, ◌∙◌, subst, inl, inr, ⊎_elim, arith, le_refl, append-nil, length-append, mod-eq_of_lt}
 use Rattle.seat_lock.proofs.Common.{drop-append_seam, some, none, some-injective, some-ne-none, dite, ℕ_discrete, get_elem?, State, Me, step, keeps, takes, gives, stepped, Allows, Splits, Joins, opening, Final, Seen, LoggedCall, View, Claim, Idle, Waiting, InTurn, calls_of, fresh_claims, first_claim, other_claims, with_stage, in_turn, lane_view, first_view, spent_view, lane_given, lanes_kept, lanes_joined, total, below, ticket_weight, lane_weight, IsInTurn, Claimed, Laned, Knows, Agrees, Sound, IsHome, IsOut, Kept, since, drew, LooksAt, looked, noted, gave_way, IsClosed, CanNote, CanServe}
 use Rattle.std.proofs.Math.Nat.{mod-add-mod}
 use Rattle.std.proofs.lemmas.List.{set-get_or}
@@ -63,8 +64,7 @@ module _ {B C R Root : Type 0} (root : B → Root) (log : B → List (LoggedCall
   -- a seat out of turn has a new view out of turn
   slot_stays : (es : Es) (homes : Homes) (views : List V) (id : ℕ) (v w : V) → get_elem? views id ≡ some v → ¬ IsInTurn v.stage → ¬ IsInTurn w.stage → Slot es homes views → Slot es homes (set views id w)
   slot_stays es homes views id v w here out out' (inl h) = inl record { value = h.value; lies = h.lies; sound = h.sound; nobody = each_set (λ u. ¬ IsInTurn u.stage) views id w out' (λ j u _ e. h.nobody j u e) }
-  slot_stays es homes views id v w here out out' (inr h) =
-      inr record { lies = h.lies; who = h.who; view = h.view; at = set_else views id h.who w (λ same. out (subst (λ (u : V). IsInTurn u.stage) (same_at views id h.view v (subst (λ (k : ℕ). get_elem? views k ≡ some h.view) same h.at) here) h.turn)) ∙ h.at; turn = h.turn }
+  slot_stays es homes views id v w here out out' (inr h) = search (rules, set_else, same_at)
 
   -- a ticket stands in one view
   one_ticket : (s : St) → Rule s → (i j : ℕ) (v w : V) (x : ℕ) → get_elem? s.views i ≡ some v → get_elem? s.views j ≡ some w → ticket_weight (at x) v.stage ≡ 1 → ticket_weight (at x) w.stage ≡ 1 → i ≡ j
@@ -73,10 +73,7 @@ module _ {B C R Root : Type 0} (root : B → Root) (log : B → List (LoggedCall
 
   -- a ticket out is a number from the one served on
   ticket_range : (s : St) (r : Rule s) (i : ℕ) (v : V) (x : ℕ) → get_elem? s.views i ≡ some v → ticket_weight (at x) v.stage ≡ 1 → (r.served ≤ x) × (x < r.drawn)
-  ticket_range s r i v x a p = let one = term-le (λ (u : V). ticket_weight (at x) u.stage) s.views i v a in let all = r.queue (at x) in let most = below-most x r.drawn in (
-    dite (native.Mathlib.Decide.dec_le r.served x) (λ le. le) (λ nle. let hit = below-hit x r.served (omega arith) in absurd (omega (arith, one, all, most, p, hit))),
-    dite (native.Mathlib.Decide.dec_le (suc x) r.drawn) (λ le. le) (λ nle. let past = below-past x r.drawn (omega arith) in absurd (omega (arith, one, all, past, p))),
-  )
+  ticket_range s r i v x a p = grind (arith, nat_tests, term-le, (below-most x), (below-hit x), (below-past x))
 
   -- no more tickets are out than there are lanes
   crowd : (s : St) (r : Rule s) → r.drawn ≤ r.served + 16
@@ -399,14 +396,7 @@ module _ {B C R Root : Type 0} (root : B → Root) (log : B → List (LoggedCall
     pub laned : Laned lanes entries
 
   pub closes : (v : V) (xs : List (Option B)) (r : Option B) (b : B) → Closes v xs → get_elem? xs 0 ≡ some r → r ≡ Some b → IsClosed root log start lanes v.claims b
-  closes v xs r b e at_zero is =
-      let same : e.value ≡ b = (let z : Some e.value ≡ r = some-injective _ _ (sym e.lies ∙ at_zero) in cc) in record {
-        entries = e.entries;
-        rooted = subst (λ (k : B). root k ≡ root start) same e.sound.rooted;
-        logged = subst (λ (k : B). log k ≡ log start ++ e.entries) same e.sound.logged;
-        claimed = e.claimed;
-        laned = e.laned;
-      }
+  closes v xs r b e at_zero is = search rules
 
   pub ends : (id : ℕ) (v : V) (ws : List ℕ) (xs : List (Option B)) → v.stage ≡ Idle → length v.claims ≡ lanes → Final (Seen Rule id v) ws xs → Closes v xs
   ends id v ws xs idle every (s, seen, is, wide, values) =

@@ -74,6 +74,4 @@ module _ {C R : Type 0} (n : ℕ) where
 -- a number below the length of the log is the position of one call, and another is that of none
 pub each_once : {A C R : Type 0} (n : ℕ) (since : List (LoggedCall C R)) (calls : A → List (ℕ × LoggedCall C R)) (passes : List A) → ((k : ℕ) (d : A) → k < length passes → calls (get_or passes k d) ≡ calls_of k since) → Laned (length passes) since
     → sum_by (λ p. count_by (λ c. c.0 == n) (calls p)) passes ≡ (if nat_lt n (length since) then 1 else 0)
-each_once {A} n since calls passes cut laned =
-    sum-below (λ (p : A). calls_at n (calls p)) (λ k. calls_at n (calls_of k since)) passes (λ k d lt. ap (calls_at n) (cut k d lt)) ∙ all_hits n 0 since (length passes) laned
-    ∙ in_range-is n 0 (length since) (omega arith) ∙ ap (λ (k : ℕ). if nat_lt n k then 1 else 0) (let z : 0 + length since ≡ length since = omega arith in z)
+each_once {A} n since calls passes cut laned = grind (arith, nat_tests, sum-below, (all_hits n 0 since), (in_range-is n 0))

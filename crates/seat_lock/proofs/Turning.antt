@@ -1,5 +1,6 @@
 -- What a seat knows in the course of a turn.
-use Rattle.std.proofs.Common.{◌≡◌, ℕ, List, [], ◌∷◌, ◌++◌, length, Option, Some, None, sym, ap, ◌∙◌, subst}
+use Rattle.std.proofs.lemmas.Bool.Decides.{nat_tests}
+use Rattle.std.proofs.Common.{rules, arith, ◌≡◌, ℕ, List, [], ◌∷◌, ◌++◌, length, Option, Some, None, sym, ap, ◌∙◌, subst}
 use Rattle.seat_lock.proofs.Common.{drop-append_seam, Me, rest, LoggedCall, View, Idle, Waiting, InTurn, calls_of, claim, calls_in, with_stage, in_turn, lane_view, since, held, NotesAt}
 use mathlib.Core.List.{append_assoc}
 use Rattle.seat_lock.proofs.Calls.{calls-own}
@@ -13,9 +14,7 @@ module _ {B C R : Type 0} where
   pub back_in_slot : (v : View B C R) (m1 m2 m3 m4 : Me (Option B) (View B C R)) (start value after : B) (lane x0 x : ℕ) (calls : List (ℕ × LoggedCall C R)) (entries : List (LoggedCall C R)) (cs : List (ℕ × Option B))
       → m1 ≡ (with_stage (Waiting x0) v, cs) → v.claims ≡ claim lane calls ∷ [] → m1.0.start ≡ Some start → m2 ≡ (in_turn x entries (length entries) m1.0, (0, Some value) ∷ []) → m3 ≡ (m2.0, (0, None) ∷ []) → m4 ≡ (m3.0, (0, Some after) ∷ [])
       → m4 ≡ (lane_view start lane calls (length entries) (InTurn x entries), (0, Some after) ∷ [])
-  back_in_slot v m1 m2 m3 m4 start value after lane x0 x calls entries cs waits claims opened turn out back =
-      back ∙ ap (λ (u : View B C R). (u, (0, Some after) ∷ [])) (ap (λ (m : Me (Option B) (View B C R)). m.0) out ∙ ap (λ (m : Me (Option B) (View B C R)). m.0) turn
-      ∙ (λ i. record { start = opened i; claims = (ap (λ (m : Me (Option B) (View B C R)). m.0.claims) waits ∙ claims) i; seen = length entries; stage = InTurn x entries }))
+  back_in_slot v m1 m2 m3 m4 start value after lane x0 x calls entries cs waits claims opened turn out back = search rules
 
   -- what the seat knows of a log that has grown by one entry
   since-grown : (log : B → List (LoggedCall C R)) (start b : B) (entries : List (LoggedCall C R)) (e : LoggedCall C R) → log b ≡ (log start ++ entries) ++ e ∷ [] → since log start b ≡ entries ++ e ∷ []
@@ -25,7 +24,4 @@ module _ {B C R : Type 0} where
   pub calls_grown : (log : B → List (LoggedCall C R)) (start b : B) (m4 m5 m6 : Me (Option B) (View B C R)) (lane seen x position : ℕ) (calls : List (ℕ × LoggedCall C R)) (entries : List (LoggedCall C R)) (e : LoggedCall C R)
       → m4 ≡ (lane_view start lane calls seen (InTurn x entries), (0, Some b) ∷ []) → NotesAt log m4.0.start (held m4.1) m4.0.claims m4.0.stage position m5 → m6 ≡ (with_stage Idle m5.0, rest m5.1)
       → log b ≡ (log start ++ entries) ++ e ∷ [] → e.lane ≡ lane → calls ≡ calls_of lane entries → calls_in m6.0.claims ≡ calls ++ (position, e) ∷ []
-  calls_grown log start b m4 m5 m6 lane seen x position calls entries e is noted served grown own known =
-      let n = subst (λ (m : Me (Option B) (View B C R)). NotesAt log m.0.start (held m.1) m.0.claims m.0.stage position m5) is noted in
-      ap (λ (m : Me (Option B) (View B C R)). calls_in m.0.claims) served ∙ ap (λ (m : Me (Option B) (View B C R)). calls_in m.0.claims) n.1 ∙ ap (calls_of lane) (since-grown log start b entries e grown)
-      ∙ calls-own lane entries e own ∙ (λ i. sym known i ++ (sym n.0 i, e) ∷ [])
+  calls_grown log start b m4 m5 m6 lane seen x position calls entries e is noted served grown own known = grind (arith, nat_tests, (since-grown log start b entries e grown), (calls-own lane entries e own))
