@@ -1,4 +1,4 @@
-use Rattle.std.proofs.Common.{◌≡◌, ℕ, List, refl, sym, subst, inl, inr}
+use Rattle.std.proofs.Common.{rules, ◌≡◌, ℕ, List, refl, sym, subst, inl, inr}
 use Rattle.std.proofs.lemmas.Bool.{cases_order}
 use Rattle.pool_base.specs.TimesFault.{IsFirst, IsFirstPair, IsFirstTriple, IsFirstFault}
 use Rattle.pool_base.specs.declared.times.TimesFault.{TimesFault}
@@ -6,11 +6,7 @@ use Rattle.pool_base.specs.declared.times.TimesFault.TheVariants.{Size, TooLong,
 
 -- there is one first place
 pub IsFirst-unique : (n : ℕ) (P : ℕ → Type 0) (a b : ℕ) → IsFirst n P a → IsFirst n P b → a ≡ b
-IsFirst-unique n P a b f g =
-    elim (cases_order a b) [
-      | inl e ↦ e
-      | inr o ↦ elim o [ inl lt ↦ absurd (g.before a lt f.holds) | inr lt ↦ absurd (f.before b lt g.holds) ]
-    ]
+IsFirst-unique n P a b f g = search (rules, cases_order)
 
 -- there is one first pair
 pub IsFirstPair-unique : (n : ℕ) (P : ℕ → ℕ → Type 0) (a b i j : ℕ) → IsFirstPair n P a b → IsFirstPair n P i j → (a ≡ i) × (b ≡ j)
@@ -43,9 +39,7 @@ IsFirstFault-unique n cells (TooLong a b) (Diagonal i) p q = absurd (q.1 a b p.1
 IsFirstFault-unique n cells (TooLong a b) (Triangle i j k) p q = absurd (q.1 a b p.1.first.within p.1.second.within p.1.second.holds)
 IsFirstFault-unique n cells (Diagonal a) Size p q = absurd (q p.0)
 IsFirstFault-unique n cells (Diagonal a) (TooLong i j) p q = absurd (p.1 i j q.1.first.within q.1.second.within q.1.second.holds)
-IsFirstFault-unique n cells (Diagonal a) (Diagonal i) p q =
-    let same = IsFirst-unique n _ a i p.2 q.2 in
-    cc
+IsFirstFault-unique n cells (Diagonal a) (Diagonal i) p q = search (rules, IsFirst-unique)
 IsFirstFault-unique n cells (Diagonal a) (Triangle i j k) p q = absurd (q.2 a p.2.within p.2.holds)
 IsFirstFault-unique n cells (Triangle a b c) Size p q = absurd (q p.0)
 IsFirstFault-unique n cells (Triangle a b c) (TooLong i j) p q = absurd (p.1 i j q.1.first.within q.1.second.within q.1.second.holds)

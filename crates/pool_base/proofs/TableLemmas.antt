@@ -1,4 +1,4 @@
-use Rattle.std.proofs.Common.{◌≡◌, ℕ, zero, suc, ◌+◌, ◌*◌, ◌<◌, ◌≤◌, ◌^◌, List, length, get_or, arith, inl, inr}
+use Rattle.std.proofs.Common.{rules, ◌≡◌, ℕ, zero, suc, ◌+◌, ◌*◌, ◌<◌, ◌≤◌, ◌^◌, List, length, get_or, arith, inl, inr}
 use Rattle.std.proofs.lemmas.Bool.{cases_lt}
 use Rattle.pool_base.specs.TravelTime.{never, longest, cell_of, IsTable}
 use Rattle.pool_base.specs.TimesFault.{IsDetourShorter, NoneTooLong, NoneOffZero}
@@ -23,49 +23,11 @@ module _ (n : ℕ) (cells : List ℕ) (square : length cells ≡ n * n) (fits : 
       ]
 
   cell_of-range : NoneTooLong n cells → (a b : ℕ) → cell_of n cells a b < never → cell_of n cells a b ≤ longest
-  cell_of-range none a b below =
-      elim (cases_lt a n) [
-        | inl ha ↦
-            elim (cases_lt b n) [
-              | inl hb ↦
-                  elim (cases_lt longest (cell_of n cells a b)) [
-                    | inl above ↦ absurd (none a b ha hb (above, below))
-                    | inr short ↦ short
-                  ]
-              | inr hb ↦ omega (arith, cell_of-to_outside n cells a b hb)
-            ]
-        | inr ha ↦ omega (arith, cell_of-from_outside n cells a b ha)
-      ]
+  cell_of-range none a b below = search (rules, cell_of-to_outside, cell_of-from_outside)
 
   cell_of-triangle : ((a b c : ℕ) → a < n → b < n → c < n → IsDetourShorter n cells a b c → ⊥) → (a b c : ℕ) → cell_of n cells a c ≤ cell_of n cells a b + cell_of n cells b c
-  cell_of-triangle none a b c =
-      elim (cases_lt (cell_of n cells a b + cell_of n cells b c) (cell_of n cells a c)) [
-        | inr fine ↦ fine
-        | inl short ↦
-            elim (cases_lt a n) [
-              | inl ha ↦
-                  elim (cases_lt b n) [
-                    | inl hb ↦
-                        elim (cases_lt c n) [
-                          | inl hc ↦ absurd (none a b c ha hb hc short)
-                          | inr hc ↦ omega (arith, cell_of-to_outside n cells b c hc, cell_of-to_outside n cells a c hc)
-                        ]
-                    | inr hb ↦ omega (arith, cell_of-to_outside n cells a b hb, cell_of-most a c)
-                  ]
-              | inr ha ↦ omega (arith, cell_of-from_outside n cells a b ha, cell_of-from_outside n cells a c ha)
-            ]
-      ]
+  cell_of-triangle none a b c = search (rules, cell_of-to_outside, cell_of-most, cell_of-from_outside)
 
   -- cells in which nothing is wrong are a table
   pub IsTable-from_none : NoneTooLong n cells → NoneOffZero n cells → ((a b c : ℕ) → a < n → b < n → c < n → IsDetourShorter n cells a b c → ⊥) → IsTable n cells
-  IsTable-from_none short zeros detours = record {
-    square = square;
-    times = record {
-      diagonal = λ a ha. zero_from (cell_of n cells a a) (zeros a ha);
-      triangle = cell_of-triangle detours;
-      range = cell_of-range short;
-      most = cell_of-most;
-      from_outside = cell_of-from_outside n cells;
-      to_outside = cell_of-to_outside n cells;
-    };
-  }
+  IsTable-from_none short zeros detours = search (rules, zero_from, cell_of-triangle, cell_of-range, cell_of-most, cell_of-from_outside, cell_of-to_outside)

@@ -1,5 +1,6 @@
 -- Numbers, each once.
-use Rattle.std.proofs.Common.{◌≡◌, ◌≢◌, ℕ, ◌≤◌, Bool, true, false, not, ◌||◌, cond, eqb, List, [], ◌∷◌, ◌++◌, length, refl, sym, ap, ◌∙◌, inl, inr, arith}
+use Rattle.std.proofs.lemmas.Bool.Decides.{nat_tests}
+use Rattle.std.proofs.Common.{rules, ◌≡◌, ◌≢◌, ℕ, ◌≤◌, Bool, true, false, not, ◌||◌, cond, eqb, List, [], ◌∷◌, ◌++◌, length, refl, sym, ap, ◌∙◌, inl, inr, arith}
 use Rattle.std.specs.List.{All, filter, list_any}
 use Rattle.std.proofs.lemmas.Bool.{cases_Bool, or_cases, or_parts, or_left, or_right, eq-eqb, eqb-true, eqb-false, ne_eqb}
 use Rattle.std.proofs.lemmas.List.{append-nil}
@@ -9,9 +10,7 @@ use Rattle.pool_base.specs.Distinct.{distinct}
 -- where no number passes for m, none is m
 none_is : (ns : List ℕ) (m : ℕ) → list_any (λ n. eqb n m) ns ≡ false → All (λ n. n ≢ m) ns
 none_is [] m none = All-nil (λ n. n ≢ m)
-none_is (n ∷ ns) m none =
-    let parts = or_parts (eqb n m) (list_any (λ k. eqb k m) ns) none in
-    All-cons (λ k. k ≢ m) n ns (eqb-false n m parts.0) (none_is ns m parts.1)
+none_is (n ∷ ns) m none = search (rules, or_parts, All-cons, eqb-false, (none_is ns m))
 
 -- a number that passes is found behind the others
 pub any-more : (p : ℕ → Bool) (ns : List ℕ) (m : ℕ) → p m ≡ true → list_any p (ns ++ m ∷ []) ≡ true
@@ -32,57 +31,25 @@ distinct-push_new (n ∷ ns) m new =
 -- one more number that was there changes nothing
 pub distinct-push_old : (ns : List ℕ) (m : ℕ) → list_any (λ n. eqb n m) ns ≡ true → distinct (ns ++ m ∷ []) ≡ distinct ns
 distinct-push_old [] m old = absurd cc
-distinct-push_old (n ∷ ns) m old =
-    elim (cases_Bool (list_any (λ k. eqb k m) ns)) [
-      | inl later ↦ ap (λ ks. n ∷ filter (λ k. not (eqb k n)) ks) (distinct-push_old ns m later)
-      | inr none ↦
-          let first : n ≡ m = elim (or_cases (eqb n m) (list_any (λ k. eqb k m) ns) old) [ inl is ↦ eqb-true n m is | inr later ↦ absurd cc ] in
-          let same : eqb m n ≡ true = eq-eqb m n (sym first) in
-          ap (λ ks. n ∷ filter (λ k. not (eqb k n)) ks) (distinct-push_new ns m (none_is ns m none))
-          ∙ ap (λ ks. n ∷ ks) (filter-append (λ k. not (eqb k n)) (distinct ns) (m ∷ []))
-          ∙ ap (λ b. n ∷ (filter (λ k. not (eqb k n)) (distinct ns) ++ cond (not b) (m ∷ []) [])) same
-          ∙ ap (λ ks. n ∷ ks) (append-nil (filter (λ k. not (eqb k n)) (distinct ns)))
-    ]
+distinct-push_old (n ∷ ns) m old = search (rules, cases_Bool, or_cases, eqb-true, eq-eqb, distinct-push_new, none_is, filter-append, append-nil, (distinct-push_old ns m))
 
 -- one more number, new or not
 pub distinct-push : (ns : List ℕ) (m : ℕ) → distinct (ns ++ m ∷ []) ≡ cond (list_any (λ n. eqb n m) ns) (distinct ns) (distinct ns ++ m ∷ [])
-distinct-push ns m =
-    elim (cases_Bool (list_any (λ n. eqb n m) ns)) [
-      | inl old ↦ distinct-push_old ns m old ∙ sym (ap (λ b. cond b (distinct ns) (distinct ns ++ m ∷ [])) old)
-      | inr new ↦ distinct-push_new ns m (none_is ns m new) ∙ sym (ap (λ b. cond b (distinct ns) (distinct ns ++ m ∷ [])) new)
-    ]
+distinct-push ns m = search (rules, cases_Bool, distinct-push_old, distinct-push_new, none_is)
 
 -- without a number that doesn't pass, as many pass
 any-without : (p : ℕ → Bool) (n : ℕ) (ms : List ℕ) → p n ≡ false → list_any p (filter (λ m. not (eqb m n)) ms) ≡ list_any p ms
 any-without p n [] fails = refl
-any-without p n (m ∷ ms) fails =
-    let rest : List ℕ = filter (λ k. not (eqb k n)) ms in
-    elim (cases_Bool (eqb m n)) [
-      | inl same ↦
-          ap (λ b. list_any p (cond (not b) (m ∷ rest) rest)) same ∙ any-without p n ms fails
-          ∙ ap (λ b. b || list_any p ms) (sym (ap p (eqb-true m n same) ∙ fails))
-      | inr other ↦
-          ap (λ b. list_any p (cond (not b) (m ∷ rest) rest)) other ∙ ap (λ b. p m || b) (any-without p n ms fails)
-    ]
+any-without p n (m ∷ ms) fails = search (rules, cases_Bool, eqb-true, (any-without p n ms fails))
 
 -- a number is found among the distinct ones just where it is found at all
 pub any-distinct : (p : ℕ → Bool) (ns : List ℕ) → list_any p (distinct ns) ≡ list_any p ns
 any-distinct p [] = refl
-any-distinct p (n ∷ ns) =
-    let rest : List ℕ = filter (λ k. not (eqb k n)) (distinct ns) in
-    elim (cases_Bool (p n)) [
-      | inl passes ↦ ap (λ b. b || list_any p rest) passes ∙ sym (ap (λ b. b || list_any p ns) passes)
-      | inr fails ↦ ap (λ b. p n || b) (any-without p n (distinct ns) fails ∙ any-distinct p ns)
-    ]
+any-distinct p (n ∷ ns) = grind (arith, nat_tests, cases_Bool, (any-without p n), (any-distinct p ns))
 
 fewer : (p : ℕ → Bool) (ns : List ℕ) → length (filter p ns) ≤ length ns
 fewer p [] = omega arith
-fewer p (n ∷ ns) =
-    let rest = fewer p ns in
-    elim (cases_Bool (p n)) [
-      | inl passes ↦ omega (arith, rest, ap (λ b. length (cond b (n ∷ filter p ns) (filter p ns))) passes)
-      | inr fails ↦ omega (arith, rest, ap (λ b. length (cond b (n ∷ filter p ns) (filter p ns))) fails)
-    ]
+fewer p (n ∷ ns) = search (rules, cases_Bool, (fewer p ns))
 
 -- there are at most as many distinct numbers
 pub length-distinct : (ns : List ℕ) → length (distinct ns) ≤ length ns

@@ -1,5 +1,5 @@
 -- What comes first among so many places.
-use Rattle.std.proofs.Common.{◌≡◌, ℕ, zero, suc, ◌+◌, ◌<◌, Bool, true, false, List, [], ◌∷◌, ◌++◌, Option, Some, None, Result, Ok, Err, refl, ap, subst, ◌∙◌, inl, inr, arith}
+use Rattle.std.proofs.Common.{rules, ◌≡◌, ℕ, zero, suc, ◌+◌, ◌<◌, Bool, true, false, List, [], ◌∷◌, ◌++◌, Option, Some, None, Result, Ok, Err, refl, ap, subst, ◌∙◌, inl, inr, arith}
 use Rattle.std.specs.Option.{option_or}
 use Rattle.std.proofs.lemmas.Bool.{cases_eq}
 use Rattle.pool_base.specs.InOrder.{◌>>=◌, refused_where, all_or_first, first_fault}
@@ -16,21 +16,12 @@ refused_where-passed false fault u is = refl
 
 -- one more place that gives
 pub all_or_first-ok : {A F : Type 0} (at : ℕ → Result A F) (n : ℕ) (xs : List A) (x : A) → all_or_first at n ≡ Ok xs → at n ≡ Ok x → all_or_first at (n + 1) ≡ Ok (xs ++ x ∷ [])
-all_or_first-ok at n xs x before here =
-    let next : n + 1 ≡ suc n = omega arith in
-    ap (all_or_first at) next ∙ ap (λ r. r >>= λ ys. at n >>= λ y. Ok (ys ++ y ∷ [])) before ∙ ap (λ r. r >>= λ y. Ok (xs ++ y ∷ [])) here
+all_or_first-ok at n xs x before here = search rules
 
 -- the first place that refuses
 pub all_or_first-err : {A F : Type 0} (at : ℕ → Result A F) (n place : ℕ) (xs : List A) (fault : F) → place < n → all_or_first at place ≡ Ok xs → at place ≡ Err fault → all_or_first at n ≡ Err fault
 all_or_first-err at zero place xs fault below before here = absurd (omega (arith, below))
-all_or_first-err at (suc n) place xs fault below before here =
-    elim (cases_eq place n) [
-      | inl same ↦
-          ap (λ r. r >>= λ ys. at n >>= λ y. Ok (ys ++ y ∷ [])) (subst (λ k. all_or_first at k ≡ Ok xs) same before)
-          ∙ ap (λ r. r >>= λ y. Ok (xs ++ y ∷ [])) (subst (λ k. at k ≡ Err fault) same here)
-      | inr other ↦
-          ap (λ r. r >>= λ ys. at n >>= λ y. Ok (ys ++ y ∷ [])) (all_or_first-err at n place xs fault (omega (arith, below, other)) before here)
-    ]
+all_or_first-err at (suc n) place xs fault below before here = search (rules, (all_or_first-err at n place xs fault))
 
 -- where every place gives, all are given
 pub all_or_first-all : {A F : Type 0} (at : ℕ → Result A F) (n : ℕ) → ((k : ℕ) → k < n → (x : A) × (at k ≡ Ok x)) → (xs : List A) × (all_or_first at n ≡ Ok xs)
@@ -43,26 +34,17 @@ all_or_first-all at (suc n) gives =
 
 -- one more place without a fault
 pub first_fault-none : {F : Type 0} (at : ℕ → Option F) (n : ℕ) → first_fault at n ≡ None → at n ≡ None → first_fault at (n + 1) ≡ None
-first_fault-none at n before here =
-    let next : n + 1 ≡ suc n = omega arith in
-    ap (first_fault at) next ∙ ap (λ o. option_or o (at n)) before ∙ here
+first_fault-none at n before here = search rules
 
 -- the first place with a fault
 pub first_fault-some : {F : Type 0} (at : ℕ → Option F) (n place : ℕ) (fault : F) → place < n → first_fault at place ≡ None → at place ≡ Some fault → first_fault at n ≡ Some fault
 first_fault-some at zero place fault below before here = absurd (omega (arith, below))
-first_fault-some at (suc n) place fault below before here =
-    elim (cases_eq place n) [
-      | inl same ↦
-          ap (λ o. option_or o (at n)) (subst (λ k. first_fault at k ≡ None) same before) ∙ subst (λ k. at k ≡ Some fault) same here
-      | inr other ↦
-          ap (λ o. option_or o (at n)) (first_fault-some at n place fault (omega (arith, below, other)) before here)
-    ]
+first_fault-some at (suc n) place fault below before here = search (rules, (first_fault-some at n place fault))
 
 -- where no place has a fault, there is none
 pub first_fault-all : {F : Type 0} (at : ℕ → Option F) (n : ℕ) → ((k : ℕ) → k < n → at k ≡ None) → first_fault at n ≡ None
 first_fault-all at zero none = refl
-first_fault-all at (suc n) none =
-    ap (λ o. option_or o (at n)) (first_fault-all at n (λ k below. none k (omega (arith, below)))) ∙ none n (omega arith)
+first_fault-all at (suc n) none = search (rules, (first_fault-all at n))
 
 no_fault_first : {F : Type 0} (a b : Option F) → option_or a b ≡ None → a ≡ None
 no_fault_first None b none = refl
@@ -75,8 +57,4 @@ no_fault_second (Some x) b none = absurd cc
 -- where there is no fault, no place has one
 pub first_fault-each : {F : Type 0} (at : ℕ → Option F) (n place : ℕ) → first_fault at n ≡ None → place < n → at place ≡ None
 first_fault-each at zero place none below = absurd (omega (arith, below))
-first_fault-each at (suc n) place none below =
-    elim (cases_eq place n) [
-      | inl same ↦ ap at same ∙ no_fault_second (first_fault at n) (at n) none
-      | inr other ↦ first_fault-each at n place (no_fault_first (first_fault at n) (at n) none) (omega (arith, below, other))
-    ]
+first_fault-each at (suc n) place none below = search (rules, no_fault_second, no_fault_first, (first_fault-each at n place))

@@ -1,4 +1,5 @@
-use Rattle.std.proofs.Common.{◌≡◌, ◌≢◌, ◌↔◌, ℕ, zero, suc, ◌+◌, ◌<◌, ◌≤◌, ◌^◌, true, false, ◌&&◌, cond, List, [], ◌∷◌, Option, Some, None, unwrap_or, get_or, Result, Ok, Err, IsErr, length, slice_index, nat_le, refl, sym, ap, ◌∙◌, inl, inr, arith}
+use Rattle.std.proofs.lemmas.Bool.Decides.{nat_tests}
+use Rattle.std.proofs.Common.{rules, ◌≡◌, ◌≢◌, ◌↔◌, ℕ, zero, suc, ◌+◌, ◌<◌, ◌≤◌, ◌^◌, true, false, ◌&&◌, cond, List, [], ◌∷◌, Option, Some, None, unwrap_or, get_or, Result, Ok, Err, IsErr, length, slice_index, nat_le, refl, sym, ap, ◌∙◌, inl, inr, arith}
 use Rattle.std.specs.List.{list_all}
 use Rattle.std.specs.Char.{is_ascii_digit}
 use Rattle.std.specs.Option.{ok_or}
@@ -13,13 +14,7 @@ digit_passes : (c : ℕ) → IsDigit c → is_ascii_digit c ≡ true
 digit_passes c digit = and_from (nat_le 48 c) (nat_le c 57) (le-leb 48 c digit.0) (le-leb c 57 digit.1)
 
 other_fails : (c : ℕ) → (IsDigit c → ⊥) → is_ascii_digit c ≡ false
-other_fails c other =
-    elim (cases_Bool (is_ascii_digit c)) [
-      | inl passes ↦
-          let parts = and_parts (nat_le 48 c) (nat_le c 57) passes in
-          absurd (other (leb-true 48 c parts.0, leb-true c 57 parts.1))
-      | inr fails ↦ fails
-    ]
+other_fails c other = search (rules, cases_Bool, and_parts, leb-true)
 
 digits_pass : (text : List ℕ) → AllDigits text → list_all is_ascii_digit text ≡ true
 digits_pass [] digits = refl
@@ -30,8 +25,7 @@ digits_pass (c ∷ cs) digits =
 other_shows : (text : List ℕ) (k : ℕ) → k < length text → (IsDigit (slice_index text k) → ⊥) → list_all is_ascii_digit text ≡ false
 other_shows [] k within other = absurd (omega arith)
 other_shows (c ∷ cs) zero within other = and_left (is_ascii_digit c) (list_all is_ascii_digit cs) (other_fails c other)
-other_shows (c ∷ cs) (suc k) within other =
-    and_right (is_ascii_digit c) (list_all is_ascii_digit cs) (other_shows cs k (omega arith) other)
+other_shows (c ∷ cs) (suc k) within other = search (rules, and_right, (other_shows cs k))
 
 -- digits, one or more, are a numeral
 pub is_numeral-digits : (text : List ℕ) → text ≢ [] → AllDigits text → is_numeral text ≡ true
@@ -46,20 +40,17 @@ is_numeral-other (c ∷ cs) k within other = other_shows (c ∷ cs) k within oth
 -- a numeral of at most so much gives its value
 pub number_up_to-given : (most : ℕ) (text : List ℕ) → is_numeral text ≡ true → value_of text ≤ most → number_up_to most text ≡ Some (value_of text)
 unfolding number_up_to
-number_up_to-given most text numeral within =
-    ap (λ b. cond b (Some (value_of text)) None) (and_from (is_numeral text) (nat_le (value_of text) most) numeral (le-leb (value_of text) most within))
+number_up_to-given most text numeral within = search (rules, and_from, le-leb)
 
 -- a greater value gives nothing
 pub number_up_to-large : (most : ℕ) (text : List ℕ) → most < value_of text → number_up_to most text ≡ None
 unfolding number_up_to
-number_up_to-large most text large =
-    ap (λ b. cond b (Some (value_of text)) None) (and_right (is_numeral text) (nat_le (value_of text) most) (lt-leb (value_of text) most large))
+number_up_to-large most text large = search (rules, and_right, lt-leb)
 
 -- a text that is no numeral gives nothing
 pub number_up_to-other : (most : ℕ) (text : List ℕ) → is_numeral text ≡ false → number_up_to most text ≡ None
 unfolding number_up_to
-number_up_to-other most text other =
-    ap (λ b. cond b (Some (value_of text)) None) (and_left (is_numeral text) (nat_le (value_of text) most) other)
+number_up_to-other most text other = search (rules, and_left)
 
 -- what is given is the value of a numeral, and at most so much
 pub record IsNumberUpTo (most : ℕ) (text : List ℕ) (n : ℕ) : Type 0 where
@@ -69,45 +60,19 @@ pub record IsNumberUpTo (most : ℕ) (text : List ℕ) (n : ℕ) : Type 0 where
 
 pub number_up_to-some : (most : ℕ) (text : List ℕ) (n : ℕ) → number_up_to most text ≡ Some n → IsNumberUpTo most text n
 unfolding number_up_to
-number_up_to-some most text n given =
-    elim (cases_Bool (is_numeral text && nat_le (value_of text) most)) [
-      | inl holds ↦
-          let parts = and_parts (is_numeral text) (nat_le (value_of text) most) holds in
-          let is : Some (value_of text) ≡ Some n = sym (ap (λ b. cond b (Some (value_of text)) None) holds) ∙ given in
-          let value : value_of text ≡ n = cc in
-          let within : value_of text ≤ most = leb-true (value_of text) most parts.1 in
-          record { numeral = parts.0; value = sym value; within = omega arith }
-      | inr fails ↦
-          let none : None ≡ Some n = sym (ap (λ b. cond b (Some (value_of text)) None) fails) ∙ given in
-          cc
-    ]
+number_up_to-some most text n given = search (rules, cases_Bool, and_parts, leb-true)
 
 -- a text that `read_number` refuses gives nothing
 pub number_up_to-refused : (most : ℕ) (text : List ℕ) (r : Result ℕ NumberFault) → most < 2 ^ 64 → IsErr r → (IsErrOf r Empty ↔ (text ≡ [])) → ((place : ℕ) → IsErrOf r (NotDigit place) ↔ IsFirstNoDigit text place) → (IsErrOf r TooLarge ↔ (AllDigits text × (2 ^ 64 ≤ value_of text))) → number_up_to most text ≡ None
 number_up_to-refused most text (Ok n) small err empty not_digit too_large = cc
-number_up_to-refused most text (Err Empty) small err empty not_digit too_large =
-    number_up_to-other most text (ap is_numeral (empty.0 refl))
-number_up_to-refused most text (Err (NotDigit place)) small err empty not_digit too_large =
-    let first = (not_digit place).0 refl in
-    number_up_to-other most text (is_numeral-other text place first.within first.other)
-number_up_to-refused most text (Err TooLarge) small err empty not_digit too_large =
-    let large : 2 ^ 64 ≤ value_of text = (too_large.0 refl).1 in
-    number_up_to-large most text (omega arith)
+number_up_to-refused most text (Err Empty) small err empty not_digit too_large = search (rules, number_up_to-other)
+number_up_to-refused most text (Err (NotDigit place)) small err empty not_digit too_large = grind (arith, nat_tests, (number_up_to-other most text), (is_numeral-other text place))
+number_up_to-refused most text (Err TooLarge) small err empty not_digit too_large = search (rules, number_up_to-large)
 
 -- the number that a column gives is the number in it
 pub number_in-at : {F : Type 0} (fault : ℕ → ℕ → F) (row : ℕ) (fields : List (List ℕ)) (column n : ℕ) → number_in fault row fields column ≡ Ok n → n ≡ number_at fields column
-number_in-at fault row fields column n given = by_number (number_up_to 1000000000 (get_or fields column [])) given
-  where
-    by_number : (o : Option ℕ) → ok_or o (fault row (column + 1)) ≡ Ok n → n ≡ unwrap_or o 0
-    by_number None given = absurd cc
-    by_number (Some m) given = cc
+number_in-at fault row fields column n given = search rules
 
 -- and at most 1,000,000,000
 pub number_in-within : {F : Type 0} (fault : ℕ → ℕ → F) (row : ℕ) (fields : List (List ℕ)) (column n : ℕ) → number_in fault row fields column ≡ Ok n → n ≤ 1000000000
-number_in-within fault row fields column n given = by_number (number_up_to 1000000000 (get_or fields column [])) refl given
-  where
-    by_number : (o : Option ℕ) → number_up_to 1000000000 (get_or fields column []) ≡ o → ok_or o (fault row (column + 1)) ≡ Ok n → n ≤ 1000000000
-    by_number None here given = absurd cc
-    by_number (Some m) here given =
-        let same : m ≡ n = cc in
-        omega (arith, (number_up_to-some 1000000000 (get_or fields column []) m here).within, same)
+number_in-within fault row fields column n given = search (rules, number_up_to-some)

@@ -1,4 +1,4 @@
-use Rattle.std.proofs.Common.{◌≡◌, ℕ, suc, ◌+◌, ◌*◌, ◌<◌, ◌≤◌, List, length, slice_index_or, refl, sym, ◌∙◌, arith}
+use Rattle.std.proofs.Common.{rules, ◌≡◌, ℕ, suc, ◌+◌, ◌*◌, ◌<◌, ◌≤◌, List, length, slice_index_or, refl, sym, ◌∙◌, arith}
 use Rattle.std.proofs.Math.Nat.{mul-le-mul_right}
 use Rattle.std.proofs.lemmas.Bool.{lt-ltb, le-ltb, and_right}
 use Rattle.std.proofs.lemmas.List.{get_or_default}
@@ -21,18 +21,12 @@ cell_of-to_outside n cells a b hb = rw (le-ltb b n hb, and_right _ _ refl)
 
 -- the place of a cell lies within the cells
 pub cell_place_within : (n a b : ℕ) → a < n → b < n → a * n + b < n * n
-cell_place_within n a b ha hb =
-    let row : suc a * n ≤ n * n = mul-le-mul_right n ha in
-    omega (arith, row)
+cell_place_within n a b ha hb = search (rules, mul-le-mul_right)
 
 -- what a read of the cells gives is the travel time
 pub cell_of-read : (n : ℕ) (cells : List ℕ) (a b x : ℕ) → IsTable n cells → a < n → b < n → x ≡ slice_index_or cells (a * n + b) x → x ≡ cell_of n cells a b
-cell_of-read n cells a b x table ha hb read =
-    let place : a * n + b < length cells = rw table.square (cell_place_within n a b ha hb) in
-    read ∙ get_or_default cells (a * n + b) x never place ∙ sym (cell_of-within n cells a b ha hb)
+cell_of-read n cells a b x table ha hb read = search (rules, cell_place_within, get_or_default, cell_of-within)
 
 -- the same, of cells that are known only to be square, read with 0 past their end
 pub cell_of-place : (n : ℕ) (cells : List ℕ) (a b : ℕ) → length cells ≡ n * n → a < n → b < n → slice_index_or cells (a * n + b) 0 ≡ cell_of n cells a b
-cell_of-place n cells a b square ha hb =
-    let place : a * n + b < length cells = rw square (cell_place_within n a b ha hb) in
-    get_or_default cells (a * n + b) 0 never place ∙ sym (cell_of-within n cells a b ha hb)
+cell_of-place n cells a b square ha hb = search (rules, cell_place_within, get_or_default, cell_of-within)
