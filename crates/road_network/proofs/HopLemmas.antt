@@ -1,11 +1,9 @@
 -- The hops that leave a node are its arcs: what a search over a network's nodes cites.
-use Rattle.std.proofs.Common.{◌≡◌, ℕ, ◌==◌, true, Bool, List, [], ◌∷◌, filter, ap, inl, inr, arith, All, Contains}
+use Rattle.std.proofs.Common.{rules, ◌≡◌, ℕ, ◌==◌, true, Bool, List, [], ◌∷◌, filter, ap, inl, inr, arith, All, Contains}
 use Rattle.road_network.proofs.Common.{cases_Bool, nat_tests, All-nil, All-cons, All-weaker, Contains-append_right, Contains-get_or, Arc, hop_of, arc_from}
 
 from_is : (node : ℕ) (arc : Arc) → (arc.from == node) ≡ true → arc_from node (hop_of arc) ≡ arc
-from_is node arc test =
-    let same : node ≡ arc.from = grind (arith, nat_tests) in
-    ap (λ (n : ℕ). arc_from n (hop_of arc)) same
+from_is node arc test = search rules
 
 -- what passes a filter is in what it keeps
 kept_by_filter : {A : Type 0} (p : A → Bool) (xs : List A) → All (λ x. p x ≡ true → Contains (filter p xs) x) xs

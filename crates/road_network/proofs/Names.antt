@@ -26,9 +26,7 @@ any_is-Contains nodes name = (
 
 pub named_at : (found : Option ℕ) (nodes : List ℕ) (name : ℕ) → found ≡ position (eqb name) nodes → IfSome found (λ index. slice_get nodes index ≡ Some name)
 named_at None nodes name e = tt
-named_at (Some index) nodes name e =
-    let at = position-Some (eqb name) nodes index name (sym e) in
-    slice_get-get_or nodes index name at.0 ∙ ap Some (same_name name (get_or nodes index name) at.1)
+named_at (Some index) nodes name e = grind (arith, nat_tests, position-Some, (slice_get-get_or nodes index name), (same_name name))
 
 -- where names are distinct, the index of the name at a place is the place
 pub position-own : (nodes : List ℕ) (index name : ℕ) → IsDistinct eqb nodes → index < length nodes → name ≡ get_or nodes index 0 → position (eqb name) nodes ≡ Some index
@@ -39,8 +37,4 @@ position-own nodes index name distinct within is =
     rw (first, test) refl
 
 pub All-with_node : (P : ℕ → Type 0) (nodes : List ℕ) (name : ℕ) → All P nodes → P name → All P (with_node nodes name)
-All-with_node P nodes name all here =
-    elim (cases_Bool (list_any (eqb name) nodes)) [
-      | inl known ↦ rw known all
-      | inr new ↦ rw new (All-push P nodes name all here)
-    ]
+All-with_node P nodes name all here = grind (arith, nat_tests, cases_Bool, (All-push P nodes name all here))

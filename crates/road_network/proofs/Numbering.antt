@@ -1,5 +1,5 @@
 -- Nodes that are numbered keep their indexes.
-use Rattle.std.proofs.Common.{◌≡◌, ℕ, ◌+◌, ◌<◌, ◌==◌, true, false, Bool, List, [], ◌∷◌, ◌++◌, length, map, refl, ap, ◌∙◌, arith, length-append, All}
+use Rattle.std.proofs.Common.{rules, ◌≡◌, ℕ, ◌+◌, ◌<◌, ◌==◌, true, false, Bool, List, [], ◌∷◌, ◌++◌, length, map, refl, ap, ◌∙◌, arith, length-append, All}
 use Rattle.road_network.proofs.Common.{false≢true, nat_tests, All-head, All-tail, list_any, position_or_len, Arc, index_in, arc_in, number_at, with_row, with_node}
 
 pub any_found : {A : Type 0} (p : A → Bool) (xs : List A) → list_any p xs ≡ true → position_or_len p xs < length xs
@@ -24,17 +24,11 @@ last_found (n ∷ nodes) name none = grind (arith, nat_tests, last_found nodes n
 
 -- a name that is added is numbered, by the index that it had or gets
 pub with_node-numbers : (nodes : List ℕ) (name : ℕ) → (index_in (with_node nodes name) name ≡ index_in nodes name) × IsNumbered (with_node nodes name) name
-with_node-numbers nodes name =
-    let last = last_found nodes name in
-    let none = none_found (λ node. name == node) nodes in
-    let some = any_found (λ node. name == node) nodes in
-    (grind (arith, last, none), grind (arith, last, some, length-append nodes (name ∷ [])))
+with_node-numbers nodes name = search (rules, last_found, none_found, any_found, length-append)
 
 -- and every other name keeps its index
 pub with_node-keeps : (nodes : List ℕ) (name other : ℕ) → IsNumbered nodes other → (index_in (with_node nodes name) other ≡ index_in nodes other) × IsNumbered (with_node nodes name) other
-with_node-keeps nodes name other numbered =
-    let same = position-append (λ node. other == node) nodes (name ∷ []) numbered in
-    (grind (arith, same), grind (arith, same, length-append nodes (name ∷ [])))
+with_node-keeps nodes name other numbered = search (rules, position-append, length-append)
 
 -- both nodes of a row are numbered
 abbrev pub IsRowNumbered : List ℕ → List (List ℕ) → Type 0
@@ -43,17 +37,10 @@ IsRowNumbered nodes fields = IsNumbered nodes (number_at fields 0) × IsNumbered
 -- the nodes of a row are numbered after it, with these indexes
 pub with_row-numbers : (nodes : List ℕ) (fields : List (List ℕ)) → IsRowNumbered (with_row nodes fields) fields
     × (index_in (with_row nodes fields) (number_at fields 0) ≡ index_in (with_node nodes (number_at fields 0)) (number_at fields 0))
-with_row-numbers nodes fields =
-    let first = with_node-numbers nodes (number_at fields 0) in
-    let kept = with_node-keeps (with_node nodes (number_at fields 0)) (number_at fields 1) (number_at fields 0) first.1 in
-    let second = with_node-numbers (with_node nodes (number_at fields 0)) (number_at fields 1) in
-    ((kept.1, second.1), kept.0)
+with_row-numbers nodes fields = search (rules, with_node-numbers, with_node-keeps)
 
 with_row-keeps : (nodes : List ℕ) (fields : List (List ℕ)) (other : ℕ) → IsNumbered nodes other → (index_in (with_row nodes fields) other ≡ index_in nodes other) × IsNumbered (with_row nodes fields) other
-with_row-keeps nodes fields other numbered =
-    let first = with_node-keeps nodes (number_at fields 0) other numbered in
-    let second = with_node-keeps (with_node nodes (number_at fields 0)) (number_at fields 1) other first.1 in
-    (second.0 ∙ first.0, second.1)
+with_row-keeps nodes fields other numbered = search (rules, with_node-keeps)
 
 pub All-numbered : (nodes : List ℕ) (fields : List (List ℕ)) (rows : List (List (List ℕ))) → All (IsRowNumbered nodes) rows → All (IsRowNumbered (with_row nodes fields)) rows
 All-numbered nodes fields rows all = λ k d below. ((with_row-keeps nodes fields _ (all k d below).0).1, (with_row-keeps nodes fields _ (all k d below).1).1)

@@ -1,5 +1,5 @@
 -- The first refusal, row by row.
-use Rattle.std.proofs.Common.{◌≡◌, ℕ, ◌+◌, ◌<◌, ◌≤◌, cond, List, [], Some, None, Ok, Err, true, false, length, get_or, take, sym, ap, ◌∙◌, refl, arith, nat_lt}
+use Rattle.std.proofs.Common.{rules, ◌≡◌, ℕ, ◌+◌, ◌<◌, ◌≤◌, cond, List, [], Some, None, Ok, Err, true, false, length, get_or, take, sym, ap, ◌∙◌, refl, arith, nat_lt}
 use Rattle.road_network.proofs.Common.{nat_tests, first_fault, most_nodes, most_arcs, nodes_of, field_refusal, refusal_at, network_of, first_refusal, roads_of, with_row, TooManyArcs, TooManyNodes}
 use Rattle.std.specs.Option.{option_or}
 use Rattle.std.proofs.lemmas.Bool.{le-ltb, lt-ltb}
@@ -15,31 +15,22 @@ refusal_at-parts rows row = grind arith
 -- a row whose fields are accepted is refused where it brings too many nodes
 refusal_at-accepted : (rows : List (List (List ℕ))) (row : ℕ) (nodes : List ℕ) → row < length rows → nodes ≡ nodes_of (take row rows) → field_refusal (row + 1) (get_or rows row []) ≡ None
     → refusal_at rows row ≡ cond (nat_lt most_nodes (length (with_row nodes (get_or rows row [])))) (Some (TooManyNodes (row + 1))) None
-refusal_at-accepted rows row nodes within so_far accepted =
-    refusal_at-parts rows row
-    ∙ ap (λ o. option_or o (cond (nat_lt most_nodes (length (nodes_of (take (row + 1) rows)))) (Some (TooManyNodes (row + 1))) None)) accepted
-    ∙ ap (λ (ns : List ℕ). cond (nat_lt most_nodes (length ns)) (Some (TooManyNodes (row + 1))) None) (sym (nodes_of-more rows row nodes within so_far))
+refusal_at-accepted rows row nodes within so_far accepted = search (rules, refusal_at-parts, nodes_of-more)
 
 -- a row that is accepted
 pub first_refusal-next : (rows : List (List (List ℕ))) (row : ℕ) (nodes : List ℕ) → row < length rows → nodes ≡ nodes_of (take row rows) → field_refusal (row + 1) (get_or rows row []) ≡ None → length (with_row nodes (get_or rows row [])) ≤ most_nodes
     → first_fault (refusal_at rows) row ≡ None → first_fault (refusal_at rows) (row + 1) ≡ None
-first_refusal-next rows row nodes within so_far accepted few before =
-    first_fault-none (refusal_at rows) row before
-    (refusal_at-accepted rows row nodes within so_far accepted ∙ ap (λ b. cond b (Some (TooManyNodes (row + 1))) None) (le-ltb most_nodes (length (with_row nodes (get_or rows row []))) few))
+first_refusal-next rows row nodes within so_far accepted few before = grind (arith, nat_tests, first_fault-none, (refusal_at-accepted rows row nodes within so_far accepted), le-ltb)
 
 -- a row whose fields are refused
 pub first_refusal-field : (rows : List (List (List ℕ))) (row : ℕ) (fault : NetworkFault) → row < length rows → field_refusal (row + 1) (get_or rows row []) ≡ Some fault
     → first_fault (refusal_at rows) row ≡ None → first_refusal rows ≡ Some fault
-first_refusal-field rows row fault within refused before =
-    first_fault-some (refusal_at rows) (length rows) row fault within before
-    (refusal_at-parts rows row ∙ ap (λ o. option_or o (cond (nat_lt most_nodes (length (nodes_of (take (row + 1) rows)))) (Some (TooManyNodes (row + 1))) None)) refused)
+first_refusal-field rows row fault within refused before = search (rules, first_fault-some, refusal_at-parts)
 
 -- a row that brings too many nodes
 pub first_refusal-nodes : (rows : List (List (List ℕ))) (row : ℕ) (nodes : List ℕ) → row < length rows → nodes ≡ nodes_of (take row rows) → field_refusal (row + 1) (get_or rows row []) ≡ None → most_nodes < length (with_row nodes (get_or rows row []))
     → first_fault (refusal_at rows) row ≡ None → first_refusal rows ≡ Some (TooManyNodes (row + 1))
-first_refusal-nodes rows row nodes within so_far accepted many before =
-    first_fault-some (refusal_at rows) (length rows) row (TooManyNodes (row + 1)) within before
-    (refusal_at-accepted rows row nodes within so_far accepted ∙ ap (λ b. cond b (Some (TooManyNodes (row + 1))) None) (lt-ltb most_nodes (length (with_row nodes (get_or rows row []))) many))
+first_refusal-nodes rows row nodes within so_far accepted many before = grind (arith, nat_tests, first_fault-some, (refusal_at-accepted rows row nodes within so_far accepted), lt-ltb)
 
 -- no row is left
 pub first_refusal-end : (rows : List (List (List ℕ))) (row : ℕ) → length rows ≤ row → first_fault (refusal_at rows) row ≡ None → first_refusal rows ≡ None
@@ -48,18 +39,12 @@ first_refusal-end rows row all none =
 
 pub network_of-refused : (rows : List (List (List ℕ))) (fault : NetworkFault) → length rows ≤ most_arcs → first_refusal rows ≡ Some fault → network_of rows ≡ Err fault
 unfolding network_of
-network_of-refused rows fault few refused =
-    let test : nat_lt most_arcs (length rows) ≡ false = grind (arith, nat_tests) in
-    rw (test, refused) refl
+network_of-refused rows fault few refused = search rules
 
 pub network_of-accepted : (rows : List (List (List ℕ))) → length rows ≤ most_arcs → first_refusal rows ≡ None → network_of rows ≡ Ok (roads_of rows)
 unfolding network_of
-network_of-accepted rows few accepted =
-    let test : nat_lt most_arcs (length rows) ≡ false = grind (arith, nat_tests) in
-    rw (test, accepted) refl
+network_of-accepted rows few accepted = search rules
 
 pub network_of-too_many : (rows : List (List (List ℕ))) → most_arcs < length rows → network_of rows ≡ Err TooManyArcs
 unfolding network_of
-network_of-too_many rows many =
-    let test : nat_lt most_arcs (length rows) ≡ true = grind (arith, nat_tests) in
-    rw test refl
+network_of-too_many rows many = search rules

@@ -1,5 +1,5 @@
 -- One more row of a network.
-use Rattle.std.proofs.Common.{◌≡◌, ◌==◌, ◌||◌, ℕ, cond, ◌+◌, ◌<◌, ◌≤◌, List, [], ◌∷◌, ◌++◌, length, get_or, take, map, refl, sym, ap, ◌∙◌, arith, All}
+use Rattle.std.proofs.Common.{rules, ◌≡◌, ◌==◌, ◌||◌, ℕ, cond, ◌+◌, ◌<◌, ◌≤◌, List, [], ◌∷◌, ◌++◌, length, get_or, take, map, refl, sym, ap, ◌∙◌, arith, All}
 use Rattle.road_network.proofs.Common.{list_any, nat_tests, flat_map_more, map_more, take_more, All-map, All-more, Arc, IsArcAmong, index_in, longest_arc, arc_in, nodes_of, arc_seconds, names_in, number_at, with_row, with_node}
 use Rattle.std.specs.List.{flat_map}
 use Rattle.std.proofs.lemmas.List.{append_assoc}
@@ -10,15 +10,11 @@ use Rattle.road_network.proofs.Numbering.{IsRowNumbered, All-numbered, map-arc_i
 -- the two ways to ask for a name
 any_flip : (name : ℕ) (nodes : List ℕ) → list_any (λ node. name == node) nodes ≡ list_any (λ node. node == name) nodes
 any_flip name [] = refl
-any_flip name (node ∷ nodes) =
-    let same : (name == node) ≡ (node == name) = grind (arith, nat_tests) in
-    ap (λ b. b || list_any (λ n. name == n) nodes) same ∙ ap (λ b. (node == name) || b) (any_flip name nodes)
+any_flip name (node ∷ nodes) = search (rules, (any_flip name nodes))
 
 -- one more name among distinct ones
 with_node-distinct : (names : List ℕ) (name : ℕ) → with_node (distinct names) name ≡ distinct (names ++ name ∷ [])
-with_node-distinct names name =
-    ap (λ b. cond b (distinct names) (distinct names ++ name ∷ [])) (any_flip name (distinct names) ∙ any-distinct (λ node. node == name) names)
-    ∙ sym (distinct-push names name)
+with_node-distinct names name = search (rules, any_flip, any-distinct, distinct-push)
 
 -- the nodes with one more row
 pub nodes_of-more : (rows : List (List (List ℕ))) (row : ℕ) (nodes : List ℕ) → row < length rows → nodes ≡ nodes_of (take row rows) → with_row nodes (get_or rows row []) ≡ nodes_of (take (row + 1) rows)
