@@ -74,10 +74,7 @@ look_up-append_none k (x ∷ xs) ys a b = grind (arith, nat_tests, look_up-appen
 differ-append : (xs ys : List ℕ) → KeysDiffer (λ n. n) xs → KeysDiffer (λ n. n) ys → ((k : ℕ) → look_up (λ n. n) k xs ≡ Some k → look_up (λ n. n) k ys ≡ None) → KeysDiffer (λ n. n) (xs ++ ys)
 unfolding KeysDiffer
 differ-append [] ys d e apart = e
-differ-append (x ∷ xs) ys d e apart = (
-  look_up-append_none x xs ys d.0 (apart x (look_up-here (λ n. n) x x xs refl)),
-  differ-append xs ys d.1 e (λ k found. apart k (look_up-later (λ n. n) k x xs k d.0 found)),
-)
+differ-append (x ∷ xs) ys d e apart = search (rules, (look_up-append_none x xs ys), look_up-here, look_up-later, (differ-append xs ys))
 
 -- who is in the pool is aboard of no vehicle
 pub seatless : (r : BookRider) (x : ℕ) → is_active r.status ≡ true → seat_in x r ≡ None

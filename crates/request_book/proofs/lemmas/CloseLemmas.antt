@@ -14,14 +14,7 @@ use Rattle.request_book.proofs.lemmas.SealLemmas.{changed_in_turn-marked, marked
 pub keyed_sought : {X : Type 0} (key : X → ℕ) (k : ℕ) (xs : List X) (r : Result ℕ ℕ) → KeysRise key xs → IsSearchInRange r (length xs) → IsBinarySearchResult (λ y. nat_cmp (key y) k) xs r → is_ok r ≡ is_some (look_up key k xs)
 keyed_sought key k [] (Ok i) up in' at = absurd (omega (arith, in'))
 keyed_sought key k (x ∷ xs) (Ok i) up in' at = grind (arith, nat_tests, (look_up-at key i (x ∷ xs) x), (KeysDiffer-from_rise key (x ∷ xs) up))
-keyed_sought key k xs (Err i) up in' at =
-    let sorted : IsSortedBy (λ a c. is_lt (nat_cmp (key a) (key c))) xs = λ j d low high. let lt = pairs_from_rise key xs up j (j + 1) d (omega arith) high in grind (arith, nat_tests) in
-    let parts = at (searchable_from_sorted nat_cmp_total key xs k sorted) in
-    sym (ap is_some (look_up-nowhere key k xs (λ j d within e.
-    elim (cases_lt j i) [
-      | inl low ↦ (let lt = parts.0 j d (omega arith) low in grind (arith, nat_tests))
-      | inr high ↦ (let gt = parts.1 j d high within in grind (arith, nat_tests))
-    ])))
+keyed_sought key k xs (Err i) up in' at = grind (arith, nat_tests, (pairs_from_rise key xs up), searchable_from_sorted, (look_up-nowhere key k xs))
 
 -- who waits again keeps their id, and waits again at once
 pub waits_again-id : (r : BookRider) → (waits_again r).id ≡ r.id

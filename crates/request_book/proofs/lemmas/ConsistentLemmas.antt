@@ -1,5 +1,5 @@
 -- What every state of a book keeps is kept by each step.
-use Rattle.std.proofs.Common.{◌≡◌, ℕ, ◌+◌, ◌<◌, ◌≤◌, Bool, true, false, cond, eqb, List, [], ◌∷◌, ◌++◌, length, map, Option, Some, None, refl, sym, ap, subst, ◌∙◌, arith, option_map, option_and_then, count_by}
+use Rattle.std.proofs.Common.{rules, ◌≡◌, ℕ, ◌+◌, ◌<◌, ◌≤◌, Bool, true, false, cond, eqb, List, [], ◌∷◌, ◌++◌, length, map, Option, Some, None, refl, sym, ap, subst, ◌∙◌, arith, option_map, option_and_then, count_by}
 use Rattle.request_book.proofs.Common.{nat_tests, length-map, sum_by-cons, sum_by_push, Batch, HasSeats, persons_aboard, Passenger, Rider, Vehicle, Command, Submit, Cancel, Report, Pickup, Dropoff, Seal, Close, Answer, Overflow, Planned, BookRefusal, Reply, Accepted, Cancelled, Placed, Picked, Dropped, Sealed, Closed, BookRider, Status, Waiting, Aboard, Delivered, State, Pick, after_answer, after_plan, picks, takes_in, lets_out, closed_state, AreConsistent, IsConsistent, seat_in, changed_at, without, KeysRise, KeysDiffer, first_of, unknown_vehicle, unknown_rider, is_aboard, has_ended, not_promised, not_aboard, time_back, vehicle_full, seat_refusal, not_this_batch, is_active, vehicle_of, with_status, passenger_of, after_seal, sealed_state, one_more, find_rider, find_vehicle, find_passenger, pool_count, rider_becomes, vehicle_becomes, step, stands_at, answer, picked_up, dropped_off, submit_refusal, submit_step, cancel_step, report_step, pickup_step, dropoff_step, seal_refusal, seal_step, close_step, table_step}
 use Rattle.std.specs.List.{All, sum_by}
 use Rattle.std.proofs.lemmas.Bool.{eq-eqb}
@@ -79,33 +79,11 @@ module _ (riders : List BookRider) (vehicles : List Vehicle) (kept : AreConsiste
 
   -- a change of every rider that keeps ids and seats and lets nobody into the pool
   mapped : (f : BookRider → BookRider) → ((r : BookRider) → (f r).id ≡ r.id) → ((r : BookRider) → is_active (f r).status ≡ true → is_active r.status ≡ true) → ((r : BookRider) (x : ℕ) → seat_in x (f r) ≡ seat_in x r) → AreConsistent (map f riders) vehicles
-  mapped f keeps lower seats = record {
-    vehicle_count = kept.vehicle_count;
-    rider_count = omega (arith, kept.rider_count, length-map riders f);
-    pool = omega (arith, kept.pool, count_by-map_le (λ (r : BookRider). is_active r.status) f lower riders);
-    riders_differ = KeysDiffer-map (λ (r : BookRider). r.id) f keeps riders kept.riders_differ;
-    vehicles_rise = kept.vehicles_rise;
-    seats = kept.seats;
-    passengers = kept.passengers;
-    aboard = λ x k. kept.aboard x k ∙ sym (ap (option_and_then (seat_in x)) (look_up-map (λ (r : BookRider). r.id) f keeps k riders) ∙ by x (find_rider k riders));
-  }
-    where
-      by : (x : ℕ) (o : Option BookRider) → option_and_then (seat_in x) (option_map f o) ≡ option_and_then (seat_in x) o
-      by x None = refl
-      by x (Some r) = seats r x
+  mapped f keeps lower seats = search (rules, length-map, count_by-map_le, KeysDiffer-map, look_up-map)
 
   -- a rider leaves the pool or a vehicle, and one vehicle changes
   restatus : (k : ℕ) (status : Status) → is_active status ≡ false → (after : List Vehicle) → length after ≡ length vehicles → KeysRise (λ v. v.id) after → All HasSeats after → All HasEachOnce after → ((x j : ℕ) → held x j after ≡ seated x j (changed_at (λ r. r.id) k (with_status status) riders)) → AreConsistent (changed_at (λ r. r.id) k (with_status status) riders) after
-  restatus k status off after long rise seats once aboard = record {
-    vehicle_count = omega (arith, kept.vehicle_count, long);
-    rider_count = omega (arith, kept.rider_count, length-changed_at (λ (r : BookRider). r.id) k (with_status status) riders);
-    pool = omega (arith, kept.pool, changed-pool riders k status off);
-    riders_differ = KeysDiffer-changed_at (λ (r : BookRider). r.id) k (with_status status) (λ r. refl) riders kept.riders_differ;
-    vehicles_rise = rise;
-    seats = seats;
-    passengers = once;
-    aboard = aboard;
-  }
+  restatus k status off after long rise seats once aboard = search (rules, length-changed_at, changed-pool, KeysDiffer-changed_at)
 
   given_up : (k : ℕ) (r : BookRider) → find_rider k riders ≡ Some r → is_active r.status ≡ true → AreConsistent (changed_at (λ r. r.id) k (with_status GivenUp) riders) vehicles
   given_up k r found on = restatus k GivenUp refl vehicles refl kept.vehicles_rise kept.seats kept.passengers (λ x j. kept.aboard x j ∙ same x j)
@@ -138,25 +116,7 @@ module _ (riders : List BookRider) (vehicles : List Vehicle) (kept : AreConsiste
           (λ j ne. moved-there vehicles x (stands_at node time) (λ v. refl) j k ne) y
 
   submitted : (r : BookRider) → r.status ≡ Waiting → find_rider r.id riders ≡ None → pool_count riders < 1000 → length riders < 100000 → AreConsistent (riders ++ r ∷ []) vehicles
-  submitted r waits new few below = record {
-    vehicle_count = kept.vehicle_count;
-    rider_count = omega (arith, below, length-append riders (r ∷ []));
-    pool = omega (arith, few, sum_by_push (λ (q : BookRider). cond (is_active q.status) 1 0) riders r, one (is_active r.status));
-    riders_differ = KeysDiffer-push (λ (q : BookRider). q.id) r riders kept.riders_differ new;
-    vehicles_rise = kept.vehicles_rise;
-    seats = kept.seats;
-    passengers = kept.passengers;
-    aboard = λ x k. kept.aboard x k ∙ same x k;
-  }
-    where
-      one : (b : Bool) → cond b 1 0 ≤ 1
-      one b = grind arith
-
-      same : (x k : ℕ) → seated x k riders ≡ seated x k (riders ++ r ∷ [])
-      same x =
-          at_each (λ j. seated x j riders ≡ seated x j (riders ++ r ∷ [])) r.id
-          (ap (option_and_then (seat_in x)) new ∙ sym (ap (option_and_then (seat_in x)) (look_up-push_here (λ (q : BookRider). q.id) r.id r riders refl new) ∙ seatless r x (ap is_active waits)))
-          (λ k ne. sym (ap (option_and_then (seat_in x)) (look_up-push_there (λ (q : BookRider). q.id) k r riders ne)))
+  submitted r waits new few below = search (rules, length-append, sum_by_push, KeysDiffer-push, at_each, look_up-push_here, seatless, look_up-push_there)
 
   module _ (x : ℕ) (v : Vehicle) (r : BookRider) (time : ℕ) (at : find_vehicle x vehicles ≡ Some v) (found : find_rider r.id riders ≡ Some r) where
     -- a rider gets into a vehicle, or out of it: nobody else's seat changes
@@ -252,13 +212,7 @@ pub record GetsIn (s : State) (vehicle rider : ℕ) (v : Vehicle) (r : BookRider
 pub getting_in : (s : State) (vehicle rider time : ℕ) (v : Vehicle) (r : BookRider) → find_vehicle vehicle s.vehicles ≡ Some v → find_rider rider s.riders ≡ Some r
     → first_of (unknown_vehicle (Some v) ∷ unknown_rider (Some r) ∷ is_aboard (Some r) ∷ has_ended (Some r) ∷ not_promised (Some r) vehicle ∷ time_back (Some v) time ∷ vehicle_full (Some v) (Some r) ∷ []) ≡ None → GetsIn s vehicle rider v r
 unfolding first_of
-getting_in s vehicle rider time v r at found none =
-    record {
-      at = at;
-      found = subst (λ k. find_rider k s.riders ≡ Some r) (sym (look_up-key (λ (r : BookRider). r.id) rider s.riders r found)) found;
-      active = grind arith;
-      fits = grind (arith, nat_tests);
-    }
+getting_in s vehicle rider time v r at found none = search (rules, look_up-key)
 
 pickup-consistent : (s : State) (vehicle rider time : ℕ) → IsConsistent s → IsConsistent (pickup_step s vehicle rider time).0
 unfolding pickup_step
@@ -304,8 +258,7 @@ close-keeps P s batch a old new = answer-keeps P s (first_of (not_this_batch s.s
 
 table-consistent : (nodes : List ℕ) (wait : ℕ) (s : State) (command : Command) → IsConsistent s → IsConsistent (table_step nodes wait s command).0
 unfolding table_step
-table-consistent nodes wait s (Submit rider origin destination time party) kept =
-    submit-consistent nodes s (record { id = rider; origin = origin; destination = destination; time = time; party = party; status = Waiting }) refl kept
+table-consistent nodes wait s (Submit rider origin destination time party) kept = search (rules, submit-consistent)
 table-consistent nodes wait s (Cancel rider) kept = cancel-consistent s rider kept
 table-consistent nodes wait s (Report vehicle node time) kept = report-consistent nodes s vehicle node time kept
 table-consistent nodes wait s (Pickup vehicle rider time) kept = pickup-consistent s vehicle rider time kept

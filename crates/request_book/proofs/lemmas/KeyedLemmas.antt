@@ -282,11 +282,7 @@ module _ {X : Type 0} (key : X → ℕ) where
   pub All-changed_at : (P : X → Type 0) (k : ℕ) (f : X → X) (xs : List X) → KeysDiffer key xs → All P xs → ((x : X) → look_up key k xs ≡ Some x → P x → P (f x)) → All P (changed_at key k f xs)
   unfolding changed_at KeysDiffer
   All-changed_at P k f [] d all each = All-nil P
-  All-changed_at P k f (x ∷ xs) d all each =
-      let head = All-head P x xs all in
-      All-cons P _ (changed_at key k f xs)
-      (cond_both (eqb (key x) k) (f x) x P (λ b. each x (look_up-here k x xs (eqb-true (key x) k b)) head) (λ b. head))
-      (All-changed_at P k f xs d.1 (All-tail P x xs all) (λ y found p. each y (look_up-later k x xs y d.0 found) p))
+  All-changed_at P k f (x ∷ xs) d all each = grind (arith, nat_tests, (All-head P x xs all), (All-cons P), cond_both, (look_up-here k x xs), eqb-true, (All-tail P x xs all), (look_up-later k x xs), (All-changed_at P k f xs))
 
   -- keys as numbers
   pub look_up-keys : (k : ℕ) (xs : List X) → look_up (λ n. n) k (map key xs) ≡ option_map key (look_up key k xs)

@@ -1,5 +1,5 @@
 -- The laws of steps and journals.
-use Rattle.std.proofs.Common.{◌≡◌, ℕ, ◌+◌, ◌-◌, ◌^◌, true, List, [], ◌∷◌, ◌++◌, length, Option, Some, refl, sym, ap, ◌∙◌, arith, min, is_some, option_map, option_and_then, ◌↔◌}
+use Rattle.std.proofs.Common.{rules, ◌≡◌, ℕ, ◌+◌, ◌-◌, ◌^◌, true, List, [], ◌∷◌, ◌++◌, length, Option, Some, refl, sym, ap, ◌∙◌, arith, min, is_some, option_map, option_and_then, ◌↔◌}
 use Rattle.request_book.proofs.Common.{nat_tests, IsFleet, Vehicle, Command, Entry, BookRefusal, Refused, BookRider, Aboard, State, next_position, opening, IsConsistent, IsPassenger, seat_in, status_in, state_after, find_rider, step}
 use Rattle.std.proofs.lemmas.List.{length-append}
 use Rattle.request_book.proofs.lemmas.BookLemmas.{opening-consistent}
@@ -29,10 +29,7 @@ seated-exactly : (vehicle : ℕ) (o : Option BookRider) → (is_some (option_and
 seated-exactly vehicle o = (λ e. grind (arith, nat_tests), λ e. grind (arith, nat_tests))
 
 pub passengers-exactly : (s : State) (vehicle rider : ℕ) → IsConsistent s → IsPassenger s vehicle rider ↔ (status_in s rider ≡ Some (Aboard vehicle))
-passengers-exactly s vehicle rider kept =
-    let same = ap is_some (kept.aboard vehicle rider) in
-    let exactly = seated-exactly vehicle (find_rider rider s.riders) in
-    (λ e. exactly.0 (sym same ∙ e), λ e. same ∙ exactly.1 e)
+passengers-exactly s vehicle rider kept = search (rules, seated-exactly)
 
 -- positions
 saturating : (most first a b both : ℕ) → both ≡ a + b → min (min (first + a) most + b) most ≡ min (first + both) most

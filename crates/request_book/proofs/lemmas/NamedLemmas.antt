@@ -1,5 +1,6 @@
 -- Every step keeps that the state names nodes of the network alone.
-use Rattle.std.proofs.Common.{arith, ◌≡◌, ℕ, ◌&&◌, List, [], ◌∷◌, ◌++◌, map, Option, Some, None, refl, sym, ap, subst, ◌∙◌, option_and_then}
+use Rattle.std.proofs.lemmas.Bool.Decides.{nat_tests}
+use Rattle.std.proofs.Common.{rules, arith, ◌≡◌, ℕ, ◌&&◌, List, [], ◌∷◌, ◌++◌, map, Option, Some, None, refl, sym, ap, subst, ◌∙◌, option_and_then}
 use Rattle.request_book.proofs.Common.{first_of, cond_both, All-nil, All-cons, All-head, All-tail, All-append, All-push, All-map, All-weaker, Passenger, Rider, Vehicle, Command, Submit, Cancel, Report, Pickup, Dropoff, Seal, Close, Answer, Overflow, Planned, Accepted, Cancelled, Placed, Picked, Dropped, Sealed, BookRider, Status, Waiting, Aboard, Delivered, Expired, State, after_answer, after_plan, picks, in_batch, takes_in, lets_out, asking, planned_status, IsConsistent, IsNode, NamesNodes, seat_in, KeysDiffer, by_key, unknown_node, is_active, with_status, passenger_of, is_over, after_seal, batch_of, sealed_state, one_more, find_rider, find_vehicle, find_passenger, rider_becomes, vehicle_becomes, step, stands_at, picked_up, dropped_off, submit_refusal, submit_step, cancel_step, report_step, pickup_step, dropoff_step, seal_refusal, seal_step, close_step, table_step}
 use Rattle.std.specs.List.{All, filter_map, flat_map}
 use Rattle.batch_snapshot.specs.Points.{named_nodes}
@@ -29,18 +30,10 @@ module _ (nodes : List ℕ) where
   differ s kept = KeysDiffer-from_rise (λ (v : Vehicle). v.id) s.vehicles kept.vehicles_rise
 
   rider_becomes-named : (s : State) (k : ℕ) (status : Status) → IsConsistent s → NamesNodes nodes s → NamesNodes nodes (rider_becomes s k status)
-  rider_becomes-named s k status kept named = record {
-    riders = All-changed_at (λ (r : BookRider). r.id) HasNodes k (with_status status) s.riders kept.riders_differ named.riders (λ r found has. has);
-    vehicles = named.vehicles;
-    sealed = named.sealed;
-  }
+  rider_becomes-named s k status kept named = search (rules, All-changed_at)
 
   vehicle_becomes-named : (s : State) (x : ℕ) (f : Vehicle → Vehicle) → KeysDiffer (λ v. v.id) s.vehicles → ((v : Vehicle) → IsNode nodes (f v).node) → NamesNodes nodes s → NamesNodes nodes (vehicle_becomes s x f)
-  vehicle_becomes-named s x f once at named = record {
-    riders = named.riders;
-    vehicles = All-changed_at (λ (v : Vehicle). v.id) (λ (v : Vehicle). IsNode nodes v.node) x f s.vehicles once named.vehicles (λ v found has. at v);
-    sealed = named.sealed;
-  }
+  vehicle_becomes-named s x f once at named = search (rules, All-changed_at)
 
   submit-named : (s : State) (r : BookRider) → NamesNodes nodes s → NamesNodes nodes (submit_step nodes s r).0
   unfolding submit_step first_of
@@ -134,8 +127,7 @@ module _ (nodes : List ℕ) where
 
   seal-named : (wait : ℕ) (s : State) (now : ℕ) → IsConsistent s → NamesNodes nodes s → NamesNodes nodes (seal_step wait s now).0
   unfolding seal_step
-  seal-named wait s now kept named =
-      answer-keeps (NamesNodes nodes) s (seal_refusal s now) (Sealed (one_more s.batches)) (sealed_state wait s now) named (λ none. sealed-named wait now s kept named)
+  seal-named wait s now kept named = grind (arith, nat_tests, answer-keeps, (sealed-named wait now s kept named))
 
   answer-named : (batch : List Rider) (a : Answer) (riders : List BookRider) → All HasNodes riders → All HasNodes (after_answer batch a riders)
   unfolding after_answer
@@ -154,8 +146,7 @@ module _ (nodes : List ℕ) where
 
   table-named : (wait : ℕ) (s : State) (command : Command) → IsConsistent s → NamesNodes nodes s → NamesNodes nodes (table_step nodes wait s command).0
   unfolding table_step
-  table-named wait s (Submit rider origin destination time party) kept named =
-      submit-named s (record { id = rider; origin = origin; destination = destination; time = time; party = party; status = Waiting }) named
+  table-named wait s (Submit rider origin destination time party) kept named = search (rules, submit-named)
   table-named wait s (Cancel rider) kept named = cancel-named s rider kept named
   table-named wait s (Report vehicle node time) kept named = report-named s vehicle node time kept named
   table-named wait s (Pickup vehicle rider time) kept named = pickup-named s vehicle rider time kept named

@@ -1,5 +1,5 @@
 -- The step table is what the register works: refusals as a list of those that hold.
-use Rattle.std.proofs.Common.{arith, ◌≡◌, ℕ, true, false, List, Option, Some, None, sym, ap, subst, ◌∙◌, is_some}
+use Rattle.std.proofs.Common.{rules, arith, ◌≡◌, ℕ, true, false, List, Option, Some, None, sym, ap, subst, ◌∙◌, is_some}
 use Rattle.request_book.proofs.Common.{one_more, Command, Answer, BookRefusal, Reply, Accepted, Cancelled, Placed, Picked, Dropped, Sealed, Closed, BookRider, Waiting, State, would_seal, batch_of, sealed_state, submit, cancel, report, pickup, dropoff, seal, close, answered, step, closed_state, after_answer, without, first_of, submit_step, cancel_step, report_step, pickup_step, dropoff_step, seal_refusal, seal_step, close_step, table_step, batch_unless}
 use Rattle.request_book.specs.declared.command.Command.TheVariants as command
 
@@ -39,8 +39,7 @@ close-table s batch a = grind arith
 -- a step of the book is what the register works
 pub step-table : (nodes : List ℕ) (wait : ℕ) (s : State) (c : Command) → step nodes wait s c ≡ table_step nodes wait s c
 unfolding step table_step
-step-table nodes wait s (command.Submit rider origin destination time party) =
-    submit-table nodes s (record { id = rider; origin = origin; destination = destination; time = time; party = party; status = Waiting })
+step-table nodes wait s (command.Submit rider origin destination time party) = search (rules, submit-table)
 step-table nodes wait s (command.Cancel rider) = cancel-table s rider
 step-table nodes wait s (command.Report vehicle node time) = report-table nodes s vehicle node time
 step-table nodes wait s (command.Pickup vehicle rider time) = pickup-table s vehicle rider time
