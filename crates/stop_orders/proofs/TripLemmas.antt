@@ -117,27 +117,7 @@ module _ (k points : ℕ) (tau : ℕ → ℕ → ℕ) (settled : Settled) (t : I
   from_first : IsTask points pair_alone → (i : ℕ) (rest : List Stop) → i < 2 → Serves tau pair_alone (Pick i ∷ rest)
       → Serves tau (pair_task settled (leg_at ((rider_at settled a).leg ∷ (rider_at settled b).leg ∷ []) i).origin a b) (Pick i ∷ rest)
   unfolding alone pair_alone
-  from_first valid i rest two serves =
-      let legs = (rider_at settled a).leg ∷ (rider_at settled b).leg ∷ [] in
-      let place = (leg_at legs i).origin in
-      let pair = pair_task settled place a b in
-      let inside : place < points = (valid.riders i no_leg two).origin in
-      let still : tau place place ≡ 0 = t.diagonal place inside in
-      let ready : settled.now ≤ (vehicle_at settled v).ready = (sound.each v vehicle).ready in
-      let seats : (vehicle_at settled v).seats ≤ settled.most_seats = omega (arith, greatest-most settled.vehicles v vehicle, sound.most_seats) in
-      let here = serves.in_time in
-      let party = (leg_at legs i).party in
-      let first : settled.now + tau place place ≤ (leg_at legs i).latest_pickup = omega (arith, still, ready, here.1) in
-      let board : party ≤ free_seats pair = omega (arith, here.2, seats) in
-      let more : free_seats pair_alone - party ≤ free_seats pair - party = omega (arith, seats) in
-      let earlier : settled.now + tau place place + settled.dwell ≤ (vehicle_at settled v).ready + tau (vehicle_at settled v).start place + settled.dwell = omega (arith, still, ready) in
-      let later = ServesFrom-soon tau settled.dwell (visits_of pair_alone rest) place (settled.now + tau place place + settled.dwell) (free_seats pair - party) place ((vehicle_at settled v).ready + tau (vehicle_at settled v).start place + settled.dwell) (free_seats pair_alone - party)
-      (soon_there tau place (settled.now + tau place place + settled.dwell) ((vehicle_at settled v).ready + tau (vehicle_at settled v).start place + settled.dwell) earlier) more here.3 in
-      let reach : tau place place < never = omega (arith, still) in
-      record {
-        order = serves.order;
-        in_time = (reach, first, board, subst (λ vs. ServesFrom tau settled.dwell place (settled.now + tau place place + settled.dwell) (free_seats pair - party) vs) (visits_same pair_alone pair refl refl rest) later.0);
-      }
+  from_first valid i rest two serves = search (rules, greatest-most, pair_alone, ServesFrom-soon, soon_there, visits_same)
 
   edge_of : (i : ℕ) (rest : List Stop) → i < 2 → Serves tau (pair_task settled (leg_at ((rider_at settled a).leg ∷ (rider_at settled b).leg ∷ []) i).origin a b) (Pick i ∷ rest)
       → IsServable tau (pair_task settled (rider_at settled a).leg.origin a b) ⊎ IsServable tau (pair_task settled (rider_at settled b).leg.origin a b)

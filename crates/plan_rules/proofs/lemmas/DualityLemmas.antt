@@ -80,7 +80,4 @@ riders_le g ms chosen lawful = grind (arith, nat_tests, (int_sum_le g.riders), (
 -- weak duality
 pub leaf_value_le : (g : Graph) (usable : Usable) (ms : List ℤ) (chosen : List (Option ℕ)) → IsGoodGraph g → IsLawful g chosen → is_within g usable chosen ≡ true → leaf_value g usable ms ≤ℤ pos (1024 * cost_of g chosen)
 unfolding leaf_value cost_of
-leaf_value_le g usable ms chosen good lawful within =
-    let vehicles = vehicles_le g usable ms chosen good lawful within in
-    let riders = riders_le g ms chosen lawful in
-    omega (arith, ints)
+leaf_value_le g usable ms chosen good lawful within = grind (arith, nat_tests, (vehicles_le g usable ms chosen good lawful within), (riders_le g ms chosen lawful))

@@ -69,14 +69,7 @@ along_alone g path i n d old new l e before now k low = grind (arith, nat_tests,
 pub along_without : (g : Graph) (path : List Decision) (i n : ℕ) (d : Decision) (old : List Bool) → i < length path → (get_or path i d).alone ≡ false → (get_or path i d).row < length old
     → ((k : ℕ) → k < n → get_or old k false ≡ (standing_of g (take i path)).usable k)
     → (k : ℕ) → k < n → get_or (set old (get_or path i d).row false) k false ≡ (standing_of g (take (i + 1) path)).usable k
-along_without g path i n d old l e inside before k low =
-    written
-    ∙ sym (usable_without g (standing_of g (take i path)) (get_or path i d) k e)
-    ∙ sym (ap (λ (s : Standing). s.usable k) (standing_more g path i d l))
-  where
-    written : get_or (set old (get_or path i d).row false) k false ≡ ((standing_of g (take i path)).usable k && not (k == (get_or path i d).row))
-    written =
-        grind (arith, nat_tests, before k low, get_or-set_other old (get_or path i d).row k false false, λ (here : k ≡ (get_or path i d).row). ap (λ (q : ℕ). get_or (set old (get_or path i d).row false) q false) here ∙ get_or-set_same old (get_or path i d).row false false inside)
+along_without g path i n d old l e inside before k low = grind (arith, nat_tests, (usable_without g), (standing_more g path i d l), (get_or-set_other old), (get_or-set_same old))
 
 -- the next subtree after an end, where the last decision is one for a row alone
 pub leave_next : (g : Graph) (path : List Decision) (depth : ℕ) (x last : Decision) → 1 ≤ depth → depth ≤ length path → x ≡ get_or path (depth - 1) x → x.alone ≡ true

@@ -156,8 +156,4 @@ least_leaf_le g chosen good lawful [] some none = absurd (omega (arith, some))
 least_leaf_le g chosen good lawful (p ∷ ps) some none = least_leaf_step g chosen good lawful p.node p.usable ps (least_leaf_le g chosen good lawful ps) some none
 
 pub tree_value_bounds : (g : Graph) (nodes : List Node) → IsGoodGraph g → IsWholeTree g nodes → IsBound g (value_read g nodes)
-tree_value_bounds g nodes good sound chosen lawful =
-    let one = each_plan_at_one_end g nodes chosen good sound lawful.plan in
-    let none = no_plan_at_dead_ends g nodes chosen good sound lawful in
-    let w = least_leaf_le g chosen good lawful (places_read g nodes) (omega (arith, one)) none in
-    omega (arith, ints, ap (λ (o : Option ℤ). unwrap_or o (pos 0)) w.1, w.2)
+tree_value_bounds g nodes good sound chosen lawful = grind (arith, nat_tests, (each_plan_at_one_end g nodes chosen good sound lawful.plan), (no_plan_at_dead_ends g nodes chosen good sound lawful), (least_leaf_le g chosen good lawful))

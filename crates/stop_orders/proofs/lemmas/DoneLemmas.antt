@@ -42,51 +42,9 @@ alight_left false j rest e = (refl, cc)
 module _ (riders passengers done : ℕ) (few : riders ≤ 6) where
   -- what may stand in front of a rest, and what the rest then completes
   pub Completes-front : (s : Stop) (rest : List Stop) → Completes riders passengers done (s ∷ rest) → IsNextStop riders passengers done s × Completes riders passengers (with_stop done s) rest
-  Completes-front (Pick i) rest c =
-      let own = pick_left (has done i) (has done (6 + i)) i (filter (is_of_rider i) rest) (sym (takes (is_of_rider i) (Pick i) rest (same i)) ∙ c.rides i c.known.0) in
-      let below : i < riders = c.known.0 in (
-        (below, own.0, own.1),
-        record {
-          rides = λ k h. elim (cases_eq i k) [
-            | inl e ↦ subst (λ n. filter (is_of_rider n) rest ≡ left_of_rider (has (with_bit done i) n) (has (with_bit done i) (6 + n)) n) e
-                (own.2 ∙ sym (rw (has-with_same done i, has-with_other done i (6 + i) (λ q. omega arith), own.1) refl))
-            | inr ne ↦ sym (skips (is_of_rider k) (Pick i) rest (ne_eqb i k ne)) ∙ c.rides k h
-                ∙ sym (rw (has-with_other done i k (λ q. ne (sym q)), has-with_other done i (6 + k) (λ q. omega arith)) refl)
-          ];
-          alights = λ j h. c.alights j h ∙ sym (rw (has-with_other done i (12 + j) (λ q. omega arith)) refl);
-          known = c.known.1;
-        },
-      )
-  Completes-front (Drop i) rest c =
-      let own = drop_left (has done i) (has done (6 + i)) i (filter (is_of_rider i) rest) (sym (takes (is_of_rider i) (Drop i) rest (same i)) ∙ c.rides i c.known.0) in
-      let below : i < riders = c.known.0 in (
-        (below, own.0, own.1),
-        record {
-          rides = λ k h. elim (cases_eq i k) [
-            | inl e ↦ subst (λ n. filter (is_of_rider n) rest ≡ left_of_rider (has (with_bit done (6 + i)) n) (has (with_bit done (6 + i)) (6 + n)) n) e
-                (own.2 ∙ sym (rw (has-with_same done (6 + i)) refl))
-            | inr ne ↦ sym (skips (is_of_rider k) (Drop i) rest (ne_eqb i k ne)) ∙ c.rides k h
-                ∙ sym (rw (has-with_other done (6 + i) k (λ q. omega arith), has-with_other done (6 + i) (6 + k) (λ q. ne (omega arith))) refl)
-          ];
-          alights = λ j h. c.alights j h ∙ sym (rw (has-with_other done (6 + i) (12 + j) (λ q. omega arith)) refl);
-          known = c.known.1;
-        },
-      )
-  Completes-front (Alight j) rest c =
-      let own = alight_left (has done (12 + j)) j (filter (is_of_passenger j) rest) (sym (takes (is_of_passenger j) (Alight j) rest (same j)) ∙ c.alights j c.known.0) in
-      let below : j < passengers = c.known.0 in (
-        (below, own.0),
-        record {
-          rides = λ k h. c.rides k h ∙ sym (rw (has-with_other done (12 + j) k (λ q. omega arith), has-with_other done (12 + j) (6 + k) (λ q. omega arith)) refl);
-          alights = λ k h. elim (cases_eq j k) [
-            | inl e ↦ subst (λ n. filter (is_of_passenger n) rest ≡ left_of_passenger (has (with_bit done (12 + j)) (12 + n)) n) e
-                (own.1 ∙ sym (rw (has-with_same done (12 + j)) refl))
-            | inr ne ↦ sym (skips (is_of_passenger k) (Alight j) rest (ne_eqb j k ne)) ∙ c.alights k h
-                ∙ sym (rw (has-with_other done (12 + j) (12 + k) (λ q. ne (omega arith))) refl)
-          ];
-          known = c.known.1;
-        },
-      )
+  Completes-front (Pick i) rest c = grind (arith, nat_tests, pick_left, takes, (same i), has-with_same, has-with_other, skips, (ne_eqb i))
+  Completes-front (Drop i) rest c = grind (arith, nat_tests, drop_left, takes, (same i), has-with_same, skips, (ne_eqb i), has-with_other)
+  Completes-front (Alight j) rest c = grind (arith, nat_tests, alight_left, takes, (same j), has-with_other, has-with_same, skips, (ne_eqb j))
 
   -- a stop that may come next in front of a rest that completes what is done with it
   pub Completes-back : (s : Stop) (rest : List Stop) → IsNextStop riders passengers done s → Completes riders passengers (with_stop done s) rest → Completes riders passengers done (s ∷ rest)
