@@ -4,7 +4,7 @@ use Rattle.std.specs.Prelude.{Bool, Result, Ok, Err, IfOk, false}
 use Rattle.dispatch_report.specs.declared.fault.ReportFault.{ReportFault}
 use Rattle.request_book.specs.Book.{BookView}
 use Rattle.live_desk.specs.Desk.{DeskView, Outputs}
-use Rattle.live_batch.specs.Phase.{desk_after}
+use Rattle.live_batch.specs.Phase.{desk_after, commands_in, row_command, GoesOn, RanRows}
 use Rattle.std.specs.Result.{is_err}
 use Rattle.std.proofs.lemmas.Bool.{false≢true}
 use Rattle.std.proofs.lemmas.List.{map-append}
@@ -16,7 +16,6 @@ use Rattle.seat_lock.specs.declared.logged.LoggedCall.{LoggedCall}
 use Rattle.script_rows.specs.declared.line.Line.{Line}
 use Rattle.live_rows.specs.Rows.{TakesRows}
 use Rattle.live_batch.proofs.lemmas.RowLemmas.{takes-more}
-use Rattle.live_batch.specs.Phase.{commands_in, row_command, GoesOn, RanRows}
 
 -- rows were run so far
 abbrev pub HasRun : {B : Type 0} → ℕ → Option (List Line) → Option (List Line) → PassValue B LaneCommand LockedReply → Type 0

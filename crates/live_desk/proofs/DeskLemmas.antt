@@ -5,9 +5,9 @@ use Rattle.std.specs.Io.KnownBytes.{Appends}
 use Rattle.std.proofs.lemmas.Bool.{false≢true}
 use Rattle.std.specs.Prelude.{is_some, false, cond, OnOk}
 use Rattle.std.proofs.lemmas.List.{length-map}
-use Rattle.shared_book.specs.Locked.{log_of}
-use Rattle.shared_book.proofs.lemmas.LockedLemmas.{calls-length}
-use Rattle.live_desk.specs.Desk.{desk_call, desk_log}
+use Rattle.shared_book.specs.Locked.{log_of, snapshot_before}
+use Rattle.shared_book.proofs.lemmas.LockedLemmas.{calls-length, applied-call, applied-fits}
+use Rattle.live_desk.specs.Desk.{desk_call, desk_log, HasEntered, entries_text, text_of, notices_in, DeskView, IsDesk, IsPassedOn, Outputs}
 use Rattle.pool_io.specs.Faults.{Rose}
 use Rattle.pool_io.specs.Sink.{AppendsPart}
 use Rattle.request_book.specs.Book.{BookView, next_position, IsApplied, IsBook}
@@ -27,10 +27,7 @@ use Rattle.dispatch_report.specs.Round.{entries_lines, entry_text}
 use Rattle.dispatch_report.specs.declared.fault.ReportFault.{ReportFault}
 use Rattle.dispatch_report.specs.declared.fault.ReportFault.TheVariants.{WriteFault}
 use Rattle.batch_snapshot.specs.Batch.{Batch}
-use Rattle.shared_book.specs.Locked.{snapshot_before}
-use Rattle.shared_book.proofs.lemmas.LockedLemmas.{applied-call, applied-fits}
 use Rattle.live_desk.proofs.lemmas.EntryLemmas.{entries-append, notices-append, one-notices, one-text}
-use Rattle.live_desk.specs.Desk.{HasEntered, entries_text, text_of, notices_in, DeskView, IsDesk, IsPassedOn, Outputs}
 use Rattle.live_desk.specs.work.Telling.{TellsClose, WroteLast, is_closed}
 
 -- a command that wasn't answered `closed` has no notices, and no other command than a close has any

@@ -1,8 +1,7 @@
 -- What is entered, stop by stop and vehicle by vehicle.
 use Rattle.std.proofs.Common.{◌≡◌, ℕ, zero, suc, ◌+◌, ◌<◌, ◌≤◌, Bool, true, false, List, [], ◌∷◌, ◌++◌, length, get_or, map, filter, take, drop, Some, Result, Ok, Err, refl, sym, ap, ◌∙◌, inl, subst, arith, append_assoc, append-nil, length-append, IsSome, All, Contains, IfOk, MatchResult, find, IfErr, min, rules}
 use Rattle.route_drive.proofs.Common.{AllZip, cond-true, cond-false, take_more, get_or_append_left, All-nil, All-cons, All-push, Vehicle, Command, PlannedStop, Roads, NumberedLanes, Course, NodeAt, Stay, WalkStep, longest, Pickup, Dropoff, Report, AreEntered, EntersTooLate, IsInTime, due, left_commands, standing_after, stop_command, walk_end, step_from, ArePlaced, heading_of, headings_of, told_by, told_of, Adds, second_of, cond_both, le-leb, drop_more, flat_map_more, length-take, map_push, filter_more, length-zip, nat_tests}
-use Rattle.std.specs.List.{Any}
-use Rattle.std.specs.List.{flat_map, zip}
+use Rattle.std.specs.List.{Any, flat_map, zip}
 use Rattle.std.proofs.lemmas.List.Quantifiers.{Any-push}
 use Rattle.std.proofs.lemmas.Bool.Decides.{leb_tells}
 

@@ -1,7 +1,6 @@
 use Rattle.std.proofs.Common.{◌≡◌, ◌<◌, None, List, length, get_or, sym, ap, subst, ◌∙◌}
 use Rattle.request_book.proofs.Common.{Passenger, Vehicle, find_passenger}
-use Rattle.request_book.proofs.lemmas.KeyedLemmas.{without_key-absent}
-use Rattle.request_book.proofs.lemmas.KeyedLemmas.{remove-without_key}
+use Rattle.request_book.proofs.lemmas.KeyedLemmas.{without_key-absent, remove-without_key}
 use Rattle.request_book.proofs.riding.let_out.Goals.{in-Some, in_default}
 use Rattle.request_book.proofs.riding.let_out.Goals as goal
 
