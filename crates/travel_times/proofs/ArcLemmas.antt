@@ -1,4 +1,4 @@
-use Rattle.std.proofs.Common.{◌≡◌, ℕ, zero, suc, ◌+◌, ◌-◌, ◌<◌, ◌≤◌, ⊎_elim, List, [], ◌∷◌, ◌++◌, length, take, drop, map, slice_index, slice_range, add-one, refl, ap, ◌∙◌, arith}
+use Rattle.std.proofs.Common.{rules, ◌≡◌, ℕ, zero, suc, ◌+◌, ◌-◌, ◌<◌, ◌≤◌, ⊎_elim, List, [], ◌∷◌, ◌++◌, length, take, drop, map, slice_index, slice_range, add-one, refl, ap, ◌∙◌, arith}
 use Rattle.travel_times.proofs.Common.{cases_lt, take-append-le, drop-append-le, get_or_append_left, get_or_push, Arc, Hop, hop_of, leaving}
 use Rattle.std.proofs.lemmas.List.{length-append, length-drop, take_all}
 use Rattle.std.proofs.Math.Seq.{drop-append_seam}
@@ -7,15 +7,11 @@ use Rattle.travel_times.specs.Arcs.{AreArcsOf}
 
 -- a part of a list is a part of a longer one
 slice_range-append : {X : Type 0} (xs ys : List X) (a b : ℕ) → a ≤ b → b ≤ length xs → slice_range (xs ++ ys) a b ≡ slice_range xs a b
-slice_range-append xs ys a b order within =
-    ap (take (b - a)) (drop-append-le a xs ys (omega (arith, order, within)))
-    ∙ take-append-le (b - a) (drop a xs) ys (rw (length-drop a xs) (omega (arith, order, within)))
+slice_range-append xs ys a b order within = search (rules, drop-append-le, take-append-le, length-drop)
 
 -- what is put behind a list is its last part
 slice_range-pushed : {X : Type 0} (xs ys : List X) → slice_range (xs ++ ys) (length xs) (length (xs ++ ys)) ≡ ys
-slice_range-pushed xs ys =
-    ap (take (length (xs ++ ys) - length xs)) (drop-append_seam xs ys)
-    ∙ take_all (length (xs ++ ys) - length xs) ys (let e = length-append xs ys in omega (arith, e))
+slice_range-pushed xs ys = search (rules, drop-append_seam, take_all, length-append)
 
 start_at-push : (ends : List ℕ) (end node : ℕ) → node ≤ length ends → start_at (ends ++ end ∷ []) node ≡ start_at ends node
 start_at-push ends end zero within = refl

@@ -1,5 +1,5 @@
 -- A table is written by pieces, each of whole rows.
-use Rattle.std.proofs.Common.{◌≡◌, ℕ, ◌+◌, ◌-◌, ◌*◌, ◌/◌, ◌%◌, ◌<◌, ◌≤◌, ◌⊎◌, min, List, length, slice_index, drop, All, sym, ap, ◌∙◌, subst, inl, inr, arith}
+use Rattle.std.proofs.Common.{rules, ◌≡◌, ℕ, ◌+◌, ◌-◌, ◌*◌, ◌/◌, ◌%◌, ◌<◌, ◌≤◌, ◌⊎◌, min, List, length, slice_index, drop, All, sym, ap, ◌∙◌, subst, inl, inr, arith}
 use Rattle.travel_times.proofs.Common.{IsChunk, slice_chunk, cases_lt, mul-add-lt, never, Arc, IsTimeBetween, AreRows, IsRowAt, IsUnwritten, AreWritten, IsPiece, IsPieceWritten, WritesRow}
 use Rattle.std.proofs.Math.Nat.{mul-le-mul_right, mod-eq-sub-div-mul, div-mul-le_self, lt-div-mul-add, mul-div_cancel}
 use Rattle.std.proofs.lemmas.List.{get_or-take, get_or-drop, length-take, length-drop}
@@ -82,16 +82,10 @@ module _ (arcs : List Arc) (points : List ℕ) (start : ℕ) (before : List ℕ)
 
   -- nothing was written yet
   pub writing_none : IsWriting arcs points (start / length points) (length before / length points) 0 before
-  writing_none = record {
-    size = piece.size ∙ ap (λ x. x * length points) (sym (numbers_of piece.from piece.count piece.begins piece.size).1);
-    computed = λ i lt. absurd (omega arith);
-    rest = λ k le lt. piece.unwritten k 0 lt;
-  }
+  writing_none = search (rules, numbers_of)
 
   pub row_within : (row : ℕ) → row < length before / length points → start / length points + row < length points
-  row_within row lt =
-      let e = numbers_of piece.from piece.count piece.begins piece.size in
-      omega (arith, e.0, e.1, lt, piece.within)
+  row_within row lt = search (rules, numbers_of)
 
   -- what was written so far is right
   pub writing_ends : (row : ℕ) (after : List ℕ) → row ≤ length before / length points → IsWriting arcs points (start / length points) (length before / length points) row after → IsPieceWritten arcs points start before after
@@ -129,10 +123,4 @@ writing_more arcs points seconds from count row nodes before after lt within kno
 
 -- where each row tells of a way from its point to itself, all are computed
 pub rows_of_written : (arcs : List Arc) (points cells : List ℕ) → AreWritten arcs points 0 (length points) cells → ((i : ℕ) → i < length points → slice_index cells (i * length points + i) ≡ never → ⊥) → AreRows arcs points 0 (length points) cells
-rows_of_written arcs points cells w all = record {
-  size = w.size;
-  times = λ i j hi hj. elim (w.each i hi) [
-    | inl right ↦ right j hj
-    | inr left ↦ absurd (all i hi (subst (λ x. slice_index cells (i * length points + x) ≡ never) (let e : 0 + i ≡ i = omega arith in e) left))
-  ];
-}
+rows_of_written arcs points cells w all = search rules

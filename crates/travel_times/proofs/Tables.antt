@@ -1,4 +1,4 @@
-use Rattle.std.proofs.Common.{◌≡◌, ℕ, ◌+◌, ◌-◌, ◌*◌, ◌<◌, ◌≤◌, ◌⊎◌, List, [], ◌++◌, length, slice_index, map, All, Bool, true, false, nat_lt, Some, None, refl, ap, ◌∙◌, inl, inr, arith}
+use Rattle.std.proofs.Common.{rules, ◌≡◌, ℕ, ◌+◌, ◌-◌, ◌*◌, ◌<◌, ◌≤◌, ◌⊎◌, List, [], ◌++◌, length, slice_index, map, All, Bool, true, false, nat_lt, Some, None, refl, ap, ◌∙◌, inl, inr, arith}
 use Rattle.travel_times.proofs.Common.{position_or_len, cases_lt, nat_tests, mul-add-lt, get_or_append_left, get_or-append_right, get_or-map, length-map, get_or_default, never, longest, cell_of, IsTable, Arc, IsTimeBetween, IsArcAmong, AreRows}
 use Rattle.std.specs.List.{position}
 use Rattle.std.proofs.lemmas.List.{length-append}
@@ -39,40 +39,8 @@ position-is p xs i h = grind (arith, nat_tests)
 
 -- a cell of the rows from every point is the travel time
 pub time_in_rows : (arcs : List Arc) (points cells : List ℕ) → AreRows arcs points 0 (length points) cells → (a b : ℕ) → a < length points → b < length points → IsTimeBetween arcs (slice_index points a) (slice_index points b) (cell_of (length points) cells a b)
-time_in_rows arcs points cells rows a b ha hb =
-    let inside : a * length points + b < length cells = omega (arith, mul-add-lt a (length points) b (length points) ha hb, rows.size) in
-    let first : 0 + a ≡ a = omega arith in
-    rw (cell_of-within (length points) cells a b ha hb, get_or_default cells (a * length points + b) never 0 inside) (rw first at (rows.times a b ha hb))
+time_in_rows arcs points cells rows a b ha hb = search (rules, mul-add-lt, cell_of-within, get_or_default)
 
 -- rows of travel times from every point make a table
 pub IsTable-from_rows : (arcs : List Arc) (n : ℕ) (points cells : List ℕ) → All (IsArcAmong n) arcs → n ≤ 100000 → All (λ point. point < n) points → AreRows arcs points 0 (length points) cells → IsTable (length points) cells
-IsTable-from_rows arcs n points cells among few known rows =
-    let p : ℕ → ℕ = slice_index points in
-    let time = time_in_rows arcs points cells rows in
-    let from = cell_of-from_outside (length points) cells in
-    let to = cell_of-to_outside (length points) cells in
-    let range : (a b : ℕ) → (cell_of (length points) cells a b ≤ longest) ⊎ (cell_of (length points) cells a b ≡ never) = λ a b. elim (cases_lt a (length points)) [
-      | inl ha ↦ elim (cases_lt b (length points)) [ inl hb ↦ time_range arcs n (p a) (p b) (cell_of (length points) cells a b) among few (known a 0 ha) (time a b ha hb) | inr hb ↦ inr (to a b hb) ]
-      | inr ha ↦ inr (from a b ha)
-    ] in
-    let most : (a b : ℕ) → cell_of (length points) cells a b ≤ never = λ a b. elim (range a b) [ inl h ↦ omega (arith, h) | inr e ↦ omega (arith, e) ] in
-    record {
-      square = rows.size;
-      times = record {
-        diagonal = λ a ha. time_to_itself arcs (p a) (cell_of (length points) cells a a) (time a a ha ha);
-        triangle = λ a b c. elim (cases_lt a (length points)) [
-          | inl ha ↦ elim (cases_lt b (length points)) [
-            | inl hb ↦ elim (cases_lt c (length points)) [
-              | inl hc ↦ time_triangle arcs (p a) (p b) (p c) (cell_of (length points) cells a b) (cell_of (length points) cells b c) (cell_of (length points) cells a c) (time a b ha hb) (time b c hb hc) (time a c ha hc) (most a c)
-              | inr hc ↦ omega (arith, to b c hc, most a c)
-            ]
-            | inr hb ↦ omega (arith, to a b hb, most a c)
-          ]
-          | inr ha ↦ omega (arith, from a b ha, most a c)
-        ];
-        range = λ a b less. elim (range a b) [ inl h ↦ h | inr e ↦ absurd (omega (arith, e)) ];
-        most = most;
-        from_outside = from;
-        to_outside = to;
-      };
-    }
+IsTable-from_rows arcs n points cells among few known rows = grind (arith, nat_tests, (time_in_rows arcs points cells rows), cell_of-from_outside, cell_of-to_outside, (time_range arcs n), (time_to_itself arcs), (time_triangle arcs))

@@ -1,4 +1,4 @@
-use Rattle.std.proofs.Common.{◌≡◌, ◌≢◌, ℕ, zero, suc, ◌+◌, ◌*◌, ◌<◌, ◌≤◌, ◌⊎◌, Bool, true, false, cond, eqb, Option, None, Some, IfSome, List, [], ◌∷◌, ◌++◌, length, get_or, slice_index, set, replicate, map, filter, sum, count_by, All, Contains, refl, sym, ap, ◌∙◌, inl, inr, arith}
+use Rattle.std.proofs.Common.{rules, ◌≡◌, ◌≢◌, ℕ, zero, suc, ◌+◌, ◌*◌, ◌<◌, ◌≤◌, ◌⊎◌, Bool, true, false, cond, eqb, Option, None, Some, IfSome, List, [], ◌∷◌, ◌++◌, length, get_or, slice_index, set, replicate, map, filter, sum, count_by, All, Contains, refl, sym, ap, ◌∙◌, inl, inr, arith}
 use Rattle.travel_times.proofs.Common.{cases_eq, cases_lt, cases_Bool, get_or-map, length-map, get_or_default, get_or_past, get_or-replicate, length-replicate, nat_tests, All-contains, All-contains_itself, All-filter, sum_by-set, sum_by-cons, never, longest, Arc, Hop, IsWalk, walk_seconds, IsTimeBetween, IsArcAmong, hop_of, leaving, AreTimesUpTo, reach, waits, IsNextTaken, IsHopRelaxed, RelaxesHops, HasWalkOf, IsSearching}
 use Rattle.std.proofs.lemmas.Bool.{eqb-true, eq-eqb}
 use Rattle.std.proofs.lemmas.List.{length-set, get_or-set_same, get_or-set_other}
@@ -33,67 +33,20 @@ hop_of_arc arcs node arc among from =
 
 -- every hop of a node leads to a node, in at most the longest arc's seconds
 pub hops_among : (arcs : List Arc) (n node : ℕ) → All (IsArcAmong n) arcs → All (λ (hop : Hop). (hop.to < n) × (hop.seconds ≤ 10000)) (map hop_of (leaving node arcs))
-hops_among arcs n node among k d h =
-    let hop : Hop = get_or (map hop_of (leaving node arcs)) k d in
-    let arc = arc_of_hop arcs node k hop h (get_or_default (map hop_of (leaving node arcs)) k hop d h) in
-    let ends = All-contains (IsArcAmong n) arcs arc.0 among arc.1 in
-    rw (← arc.3) (ends.1, ends.2)
+hops_among arcs n node among k d h = search (rules, arc_of_hop, get_or_default, All-contains)
 
 -- a node that waited is taken
 pub IsNextTaken-set : (waiting : List Bool) (node : ℕ) → node < length waiting → waits waiting node ≡ true → IsNextTaken waiting (set waiting node false) node
-IsNextTaken-set waiting node within waited = record {
-  within = within;
-  waited = waited;
-  same_length = length-set waiting node false;
-  taken = get_or-set_same waiting node false false within;
-  others = λ other ne. get_or-set_other waiting node other false false ne;
-  fewer = omega (arith, rw waited at (sum_by-set (λ (w : Bool). cond w 1 0) waiting node false false within));
-}
+IsNextTaken-set waiting node within waited = search (rules, length-set, get_or-set_same, get_or-set_other, sum_by-set)
 
 module _ {hops : List Hop} {count here : ℕ} {s : List ℕ} {w : List Bool} {s' : List ℕ} {w' : List Bool} (inv : RelaxesHops hops count here s w s' w') {hop : Hop} (inside : count < length hops) (read : hop ≡ get_or hops count hop) where
   -- the hop gives fewer seconds
   pub RelaxesHops-take : {through : ℕ} → through ≡ here + hop.seconds → through ≤ longest → through < slice_index s' hop.to → hop.to < length s' → length w' ≡ length s' → RelaxesHops hops (count + 1) here s w (set s' hop.to through) (set w' hop.to true)
-  RelaxesHops-take {through} is short less within lengths =
-      let in_w : hop.to < length w' = omega arith in
-      let here_is : slice_index (set s' hop.to through) hop.to ≡ through = get_or-set_same s' hop.to through 0 within in
-      let other : (node : ℕ) → node ≢ hop.to → slice_index (set s' hop.to through) node ≡ slice_index s' node = λ node ne. get_or-set_other s' hop.to node through 0 ne in
-      let falls : (node : ℕ) → slice_index (set s' hop.to through) node ≤ slice_index s' node = λ node. elim (cases_eq node hop.to) [ inl e ↦ rw (e, here_is) (omega arith) | inr ne ↦ omega (arith, other node ne) ] in
-      record {
-        seconds_length = length-set s' hop.to through ∙ inv.seconds_length;
-        waiting_length = length-set w' hop.to true ∙ inv.waiting_length;
-        no_later = λ node. omega (arith, falls node, inv.no_later node);
-        from = λ node. elim (cases_eq node hop.to) [
-          | inl e ↦
-              let at : slice_index (set s' hop.to through) node ≡ through = rw e here_is in
-              let was : slice_index s' node ≡ slice_index s' hop.to = ap (slice_index s') e in
-              inr (rw e (get_or-set_same w' hop.to true false in_w), omega arith, omega (arith, inv.no_later node), (count, hop, omega arith, inside, sym read, sym e, at ∙ is))
-          | inr ne ↦
-              let waiting = get_or-set_other w' hop.to node true false ne in
-              elim (inv.from node) [
-                | inl same ↦ inl (other node ne ∙ same.0, waiting ∙ same.1)
-                | inr changed ↦ rw (other node ne) (inr (waiting ∙ changed.0, changed.1, changed.2, (changed.3.0, changed.3.1, omega (arith, changed.3.2), changed.3.3, changed.3.4, changed.3.5, changed.3.6)))
-              ]
-        ];
-        relaxed = λ k d lt h. elim (cases_eq k count) [
-          | inl e ↦ rw (ap (λ i. get_or hops i d) e ∙ get_or_default hops count d hop inside ∙ sym read, here_is) (inl (omega arith))
-          | inr ne ↦ elim (inv.relaxed k d (omega arith) h) [ inl le ↦ inl (omega (arith, le, falls (get_or hops k d).to)) | inr past ↦ inr past ]
-        ];
-        less = omega (arith, sum_by-set (λ x. x) s' hop.to through 0 within, sum_by-set (λ (b : Bool). cond b 1 0) w' hop.to true false in_w, inv.less);
-      }
+  RelaxesHops-take {through} is short less within lengths = search (rules, get_or-set_same, get_or-set_other, length-set, get_or_default, sum_by-set)
 
   -- the hop gives no fewer seconds, or leads past the longest time
   pub RelaxesHops-skip : (slice_index s' hop.to ≤ here + hop.seconds) ⊎ (longest < here + hop.seconds) → RelaxesHops hops (count + 1) here s w s' w'
-  RelaxesHops-skip done = record {
-    seconds_length = inv.seconds_length;
-    waiting_length = inv.waiting_length;
-    no_later = inv.no_later;
-    from = λ node. elim (inv.from node) [ inl same ↦ inl same | inr changed ↦ inr (changed.0, changed.1, changed.2, (changed.3.0, changed.3.1, omega (arith, changed.3.2), changed.3.3, changed.3.4, changed.3.5, changed.3.6)) ];
-    relaxed = λ k d lt h. elim (cases_eq k count) [
-      | inl e ↦ rw (ap (λ i. get_or hops i d) e ∙ get_or_default hops count d hop inside ∙ sym read) done
-      | inr ne ↦ inv.relaxed k d (omega arith) h
-    ];
-    less = inv.less;
-  }
+  RelaxesHops-skip done = search (rules, get_or_default)
 
 -- one node is taken and its arcs are relaxed
 pub IsSearching-step : (arcs : List Arc) (n start node : ℕ) (s s' : List ℕ) (w w' w'' : List Bool) → All (IsArcAmong n) arcs
@@ -192,21 +145,7 @@ IsTimeBetween-settled arcs n start s w among few inv settled goal hg =
 -- the search begins at its start
 pub IsSearching-start : (arcs : List Arc) (n start : ℕ) (s : List ℕ) (w : List Bool) → length s ≡ n → length w ≡ n → start < n
     → ((node : ℕ) → node < n → slice_index s node ≡ never) → ((node : ℕ) → waits w node ≡ false) → IsSearching arcs n start (set s start 0) (set w start true)
-IsSearching-start arcs n start s w es ew hs far none =
-    let at : slice_index (set s start 0) start ≡ 0 = get_or-set_same s start 0 0 (omega arith) in
-    let other : (node : ℕ) → node < n → node ≢ start → slice_index (set s start 0) node ≡ never = λ node hn ne. get_or-set_other s start node 0 0 ne ∙ far node hn in
-    record {
-      seconds_length = length-set s start 0 ∙ es;
-      waiting_length = length-set w start true ∙ ew;
-      start_within = hs;
-      start_zero = at;
-      sound = λ node hn. elim (cases_eq node start) [ inl e ↦ rw (e, at) (inr (omega arith, ([], refl, refl))) | inr ne ↦ inl (other node hn ne) ];
-      reached = λ node h. elim (cases_eq node start) [ inl e ↦ rw (e, at) (omega arith) | inr ne ↦ absurd (let a = get_or-set_other w start node true false ne in let b = none node in cc) ];
-      relaxed = λ node arc hn settled finite here from. elim (cases_eq node start) [
-        | inl e ↦ absurd (let a = get_or-set_same w start true false (omega arith) in let b = ap (waits (set w start true)) (sym e) in cc)
-        | inr ne ↦ absurd (omega (arith, other node hn ne))
-      ];
-    }
+IsSearching-start arcs n start s w es ew hs far none = search (rules, get_or-set_same, get_or-set_other, length-set)
 
 -- at the start no node waits
 pub none_waits : (n node : ℕ) → waits (replicate n false) node ≡ false

@@ -1,4 +1,4 @@
-use Rattle.std.proofs.Common.{◌≡◌, ℕ, ◌+◌, ◌*◌, ◌<◌, ◌≤◌, ◌⊎◌, Bool, true, false, eqb, List, [], ◌∷◌, ◌++◌, length, All, Contains, refl, sym, ◌∙◌, subst, inl, inr, arith}
+use Rattle.std.proofs.Common.{rules, ◌≡◌, ℕ, ◌+◌, ◌*◌, ◌<◌, ◌≤◌, ◌⊎◌, Bool, true, false, eqb, List, [], ◌∷◌, ◌++◌, length, All, Contains, refl, sym, ◌∙◌, subst, inl, inr, arith}
 use Rattle.travel_times.proofs.Common.{IsDistinct, list_any, AllByRecursion, cases_Bool, cases_eq, nat_tests, or_parts, All-contains, sum_by-cons, sum_by_push, sum_by-append, never, longest, Arc, IsWalk, IsTimeBetween, walk_seconds, IsArcAmong}
 use Rattle.std.proofs.lemmas.Map.Steps.{length-le_from_distinct_below}
 
@@ -72,8 +72,7 @@ simple_walk arcs (arc ∷ rest) start goal walks =
 -- a walk of a network passes only its nodes
 passes_within : (arcs walk : List Arc) (n start goal : ℕ) → All (IsArcAmong n) arcs → IsWalk arcs start walk goal → start < n → (node : ℕ) → passes node start walk ≡ true → node < n
 passes_within arcs [] n start goal among walks within node on = grind (arith, nat_tests)
-passes_within arcs (arc ∷ rest) n start goal among walks within node on =
-    grind (arith, nat_tests, passes_within arcs rest n arc.to goal among walks.2 ((All-contains (IsArcAmong n) arcs arc among walks.0).1) node)
+passes_within arcs (arc ∷ rest) n start goal among walks within node on = search (rules, All-contains, (passes_within arcs rest n arc.to goal among walks.2))
 
 -- the arcs of a walk take at most the longest arc's seconds each
 walk_seconds-most : (arcs walk : List Arc) (n start goal : ℕ) → All (IsArcAmong n) arcs → IsWalk arcs start walk goal → walk_seconds walk ≤ length walk * 10000
@@ -92,9 +91,7 @@ short_walk arcs walk n start goal among few within walks =
 -- a travel time is at most the longest one, or `never`
 pub time_range : (arcs : List Arc) (n a b seconds : ℕ) → All (IsArcAmong n) arcs → n ≤ 100000 → a < n → IsTimeBetween arcs a b seconds → (seconds ≤ longest) ⊎ (seconds ≡ never)
 time_range arcs n a b seconds among few ha (inr none) = inr none.1
-time_range arcs n a b seconds among few ha (inl least) =
-    let short = short_walk arcs least.walk n a b among few ha least.walks in
-    inl (omega (arith, short.3, least.least short.0 short.1))
+time_range arcs n a b seconds among few ha (inl least) = grind (arith, nat_tests, (short_walk arcs least.walk n a b among few ha least.walks))
 
 -- a travel time to the place itself is 0
 pub time_to_itself : (arcs : List Arc) (node seconds : ℕ) → IsTimeBetween arcs node node seconds → seconds ≡ 0
@@ -105,9 +102,4 @@ time_to_itself arcs node seconds (inr none) = absurd (none.0 [] refl)
 pub time_triangle : (arcs : List Arc) (a b c ab bc ac : ℕ) → IsTimeBetween arcs a b ab → IsTimeBetween arcs b c bc → IsTimeBetween arcs a c ac → ac ≤ never → ac ≤ ab + bc
 time_triangle arcs a b c ab bc ac (inr none) second third most = omega (arith, none.1)
 time_triangle arcs a b c ab bc ac (inl first) (inr none) third most = omega (arith, none.1)
-time_triangle arcs a b c ab bc ac (inl first) (inl second) third most =
-    let both = IsWalk-append arcs first.walk second.walk a b c first.walks second.walks in
-    elim third [
-      | inl least ↦ omega (arith, least.least (first.walk ++ second.walk) both, walk_seconds-append first.walk second.walk, first.takes, second.takes)
-      | inr none ↦ absurd (none.0 (first.walk ++ second.walk) both)
-    ]
+time_triangle arcs a b c ab bc ac (inl first) (inl second) third most = grind (arith, nat_tests, (IsWalk-append arcs first.walk second.walk a b c first.walks second.walks), (walk_seconds-append first.walk second.walk))
