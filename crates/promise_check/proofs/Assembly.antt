@@ -1,7 +1,7 @@
-use Rattle.std.proofs.Common.{◌≡◌, ℕ, suc, ◌+◌, ◌<◌, ◌≤◌, inl, inr, true, false, eqb, List, [], ◌∷◌, length, map, get_or, Some, None, Option, ◌⊎◌, Bool, MatchBool, refl, sym, ap, ◌∙◌, subst, arith, ⊎_elim}
+use Rattle.std.proofs.Common.{rules, ◌≡◌, ℕ, suc, ◌+◌, ◌<◌, ◌≤◌, inl, inr, true, false, eqb, List, [], ◌∷◌, length, map, get_or, Some, None, Option, ◌⊎◌, Bool, MatchBool, refl, sym, ap, ◌∙◌, subst, arith, ⊎_elim}
 use Rattle.promise_check.proofs.Common.{range_with_len, option_map_or, length-map, get_or-map, get_or_default, filter_passes, slice_get-get_or, Promise, Rider, Vehicle, Batch, Leg, SettledRider, SettledVehicle, IsLeg, IsServable, no_rider, no_vehicle, greatest, IsTrip, vehicle_task, IsShort, IsSound, IsSoundVehicle, Settings, request_at, no_request, kept_leg, ArePlain, is_promised_to, promised_to, kept_legs, IsLive, kept_rider, IsHeld, AreKept, HoldsPromised, HasRightLimit, IsLegOf, IsSettled, IsSettledVehicle, AreSettledVehicles, slice_get_within}
 use Rattle.std.specs.List.{All, Contains, slice_get}
-use Rattle.std.proofs.lemmas.Bool.Decides.{Decides-eqb}
+use Rattle.std.proofs.lemmas.Bool.Decides.{nat_tests, Decides-eqb}
 use Rattle.pool_base.specs.TravelTime.{longest}
 use Rattle.batch_snapshot.specs.Kept.{IsKept}
 use Rattle.stop_orders.specs.declared.settled.Settled.{Settled}
@@ -28,9 +28,7 @@ one_vehicle (Some p) a b h k = sym ((Decides-eqb p.vehicle a).0 h) ∙ (Decides-
 
 -- who is promised to a vehicle is promised to it
 promised_passes : (id : ℕ) (requests : List Rider) (r : ℕ) → Contains (promised_to id requests) r → is_promised_to id (request_at requests r) ≡ true
-promised_passes id requests r c =
-    subst (λ (k : ℕ). is_promised_to id (request_at requests k) ≡ true) c.2
-    (filter_passes (λ k. is_promised_to id (request_at requests k)) (range_with_len 0 (length requests)) c.0 r c.1)
+promised_passes id requests r c = search (rules, filter_passes)
 
 none_in_nil : {X : Type 0} (x : X) → Contains [] x → ⊥
 none_in_nil x c = let lt = c.1 in omega arith
@@ -57,10 +55,7 @@ module _ (settings : Settings) (points : List ℕ) (tau : ℕ → ℕ → ℕ) (
       (λ w. absurd (let none : length (get_or vehicles v no_vehicle).held.items ≡ 0 = ap length w.1 in omega arith)) (av.each v at.0 at.1).held
 
   pub held_numbers : All (λ (v : SettledVehicle). All (λ k. k < length batch.riders) v.held.items) vehicles
-  held_numbers k d lt =
-      let is : get_or vehicles k no_vehicle ≡ get_or vehicles k d = get_or_default vehicles k no_vehicle d lt in
-      subst (λ (v : SettledVehicle). All (λ r. r < length batch.riders) v.held.items) is
-      (λ i e h. subst (λ (n : ℕ). n < length batch.riders) (get_or_default (get_or vehicles k no_vehicle).held.items i 0 e h) (held_below k lt i h))
+  held_numbers k d lt = grind (arith, nat_tests, get_or_default, (held_below k lt))
 
 module _ (settings : Settings) (points : List ℕ) (tau : ℕ → ℕ → ℕ) (batch : Batch) (plain : List SettledRider) (vehicles : List SettledVehicle) (riders : List SettledRider)
     (pl : ArePlain settings points tau batch.riders plain)

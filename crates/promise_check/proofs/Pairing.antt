@@ -1,4 +1,4 @@
-use Rattle.std.proofs.Common.{◌≡◌, ℕ, ◌+◌, ◌<◌, ◌≤◌, List, [], ◌∷◌, ◌++◌, length, get_or, Some, ap, ◌∙◌, inl, inr, arith}
+use Rattle.std.proofs.Common.{rules, ◌≡◌, ℕ, ◌+◌, ◌<◌, ◌≤◌, List, [], ◌∷◌, ◌++◌, length, get_or, Some, ap, ◌∙◌, inl, inr, arith}
 use Rattle.promise_check.proofs.Common.{cases_lt, get_or_append_left, get_or_push, slice_get_within}
 use Rattle.std.proofs.lemmas.Option.{get_or_from_slice_get}
 use Rattle.std.specs.List.{slice_get}
@@ -9,14 +9,7 @@ module _ {X Y : Type 0} (R : X → Y → Type 0) (d : Y) where
   Pairs n xs ys = (k : ℕ) (x : X) → k < n → slice_get xs k ≡ Some x → R x (get_or ys k d)
 
   pub pairs_more : (n : ℕ) (xs : List X) (ys : List Y) (x : X) (y : Y) → n < length xs → x ≡ get_or xs n x → length ys ≡ n → R x y → Pairs n xs ys → Pairs (n + 1) xs (ys ++ y ∷ [])
-  pairs_more n xs ys x y h is count good upto k z lt e =
-      elim (cases_lt k n) [
-        | inl low ↦ rw (get_or_append_left ys (y ∷ []) d k (omega arith)) (upto k z low e)
-        | inr high ↦
-            let here : n ≡ k = omega arith in
-            let same : x ≡ z = is ∙ ap (λ v. get_or xs v x) here ∙ get_or_from_slice_get xs k z x e in
-            rw (get_or_push ys y d k (omega arith), ← same) good
-      ]
+  pairs_more n xs ys x y h is count good upto k z lt e = search (rules, get_or_append_left, get_or_from_slice_get, get_or_push)
 
   pub pairs_all : (n : ℕ) (xs : List X) (ys : List Y) → length xs ≤ n → Pairs n xs ys → (k : ℕ) (x : X) → slice_get xs k ≡ Some x → R x (get_or ys k d)
   pairs_all n xs ys h upto k x e = upto k x (let lt = slice_get_within xs k x e in omega arith) e

@@ -1,4 +1,5 @@
-use Rattle.std.proofs.Common.{◌≡◌, ℕ, ◌+◌, ◌<◌, ◌≤◌, List, [], ◌∷◌, ◌++◌, length, map, get_or, ap, ◌∙◌, arith, zero-add}
+use Rattle.std.proofs.lemmas.Bool.Decides.{nat_tests}
+use Rattle.std.proofs.Common.{rules, ◌≡◌, ℕ, ◌+◌, ◌<◌, ◌≤◌, List, [], ◌∷◌, ◌++◌, length, map, get_or, ap, ◌∙◌, arith, zero-add}
 use Rattle.promise_check.proofs.Common.{length-map, get_or-map, Rider, Leg, SettledRider, SettledVehicle, IsLeg, IsTask, no_rider, vehicle_task, slice_get-get_or, Settings, request_at, no_request, kept_leg, ArePlain, CanBeKept, promised_limit, kept_legs}
 use Rattle.std.specs.List.{All, sum_by}
 use Rattle.std.proofs.lemmas.List.Sums.{sum_by-append}
@@ -11,46 +12,21 @@ pub promised_limit_under : (wait : ℕ) (r : Rider) → promised_limit wait r �
 promised_limit_under wait r = grind arith
 
 pub kept_leg_valid : (points wait : ℕ) (request : Rider) (leg : Leg) → CanBeKept points wait request leg → IsLeg points (kept_leg wait request leg)
-kept_leg_valid points wait request leg can =
-    let valid = can.valid in
-    record {
-      origin = valid.origin;
-      destination = valid.destination;
-      latest_pickup = (let under = promised_limit_under wait request in let most = valid.latest_pickup in let is = can.latest in omega arith);
-      ideal = valid.ideal;
-      latest_dropoff = valid.latest_dropoff;
-      someone = valid.someone;
-      party = valid.party;
-    }
+kept_leg_valid points wait request leg can = search (rules, promised_limit_under)
 
 -- all legs of a list that is made of valid ones are valid
 pub legs_valid : (points : ℕ) (f : ℕ → Leg) (trip : List ℕ) → All (λ k. IsLeg points (f k)) trip → All (IsLeg points) (map f trip)
-legs_valid points f trip h k d lt =
-    let within : k < length trip = (let n = length-map trip f in omega arith) in
-    rw (get_or-map f trip k 0 d within) (h k 0 within)
+legs_valid points f trip h k d lt = grind (arith, nat_tests, (length-map trip f), (get_or-map f trip k 0 d))
 
 pub kept_legs_valid : (points wait : ℕ) (requests : List Rider) (riders : List SettledRider) (trip : List ℕ)
     → ((k : ℕ) → k < length requests → CanBeKept points wait (request_at requests k) (get_or riders k no_rider).leg)
     → All (λ k. k < length requests) trip → All (IsLeg points) (kept_legs wait requests riders trip)
-kept_legs_valid points wait requests riders trip can within =
-    legs_valid points (λ k. kept_leg wait (request_at requests k) (get_or riders k no_rider).leg) trip
-    (λ k d lt. kept_leg_valid points wait (request_at requests (get_or trip k d)) (get_or riders (get_or trip k d) no_rider).leg (can (get_or trip k d) (within k d lt)))
+kept_legs_valid points wait requests riders trip can within = search (rules, legs_valid, kept_leg_valid)
 
 -- a vehicle's task with valid legs is valid
 pub task_with_legs : (points dwell : ℕ) (v : SettledVehicle) (legs : List Leg) → IsTask points (vehicle_task dwell v []) → All (IsLeg points) legs → length legs ≤ 6
     → IsTask points (vehicle_task dwell v legs)
-task_with_legs points dwell v legs task valid few =
-    record {
-      start = task.start;
-      ready = task.ready;
-      dwell = task.dwell;
-      seats = task.seats;
-      seated = task.seated;
-      passenger_count = task.passenger_count;
-      rider_count = few;
-      passengers = task.passengers;
-      riders = valid;
-    }
+task_with_legs points dwell v legs task valid few = search rules
 
 -- a plain rider's leg can have its pickup changed
 pub plain_can_be_kept : (settings : Settings) (points : List ℕ) (tau : ℕ → ℕ → ℕ) (requests : List Rider) (riders : List SettledRider) → ArePlain settings points tau requests riders

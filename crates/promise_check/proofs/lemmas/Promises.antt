@@ -1,4 +1,5 @@
-use Rattle.std.proofs.Common.{◌≡◌, ℕ, zero, suc, ◌+◌, ◌<◌, ◌≤◌, ◌⊎◌, inl, inr, List, [], ◌∷◌, ◌++◌, length, take, get_or, set, refl, sym, ap, ◌∙◌, subst, arith, Bool, true, false, cond, ⊎_elim, Some}
+use Rattle.std.proofs.lemmas.Bool.Decides.{nat_tests}
+use Rattle.std.proofs.Common.{rules, ◌≡◌, ℕ, zero, suc, ◌+◌, ◌<◌, ◌≤◌, ◌⊎◌, inl, inr, List, [], ◌∷◌, ◌++◌, length, take, get_or, set, refl, sym, ap, ◌∙◌, subst, arith, Bool, true, false, cond, ⊎_elim, Some}
 use Rattle.promise_check.proofs.Common.{range_with_len, IsStrictlyIncreasing, cases_lt, cases_eq, length_push, get_or_append_left, get_or_push, take_more, get_or_default, Contains-append_left, Contains-push, Contains-push_cases, filter-append, All-filter, All-from_get_or, Rider, SettledRider, SettledVehicle, no_rider, no_vehicle, IsTrip, request_at, no_request, is_promised_to, promised_to, kept_rider, AreKept, IsHeld}
 use Rattle.std.specs.List.{All, Contains, filter, slice_get}
 use Rattle.std.proofs.lemmas.List.{length-append, length-set, get_or-set_same, get_or-set_other, map-id, append-nil, take-append-drop}
@@ -14,8 +15,7 @@ some_at (x ∷ xs) (suc k) h = some_at xs k (omega arith)
 
 -- in a rising list no number stands twice
 pub rising_once : (xs : List ℕ) → IsStrictlyIncreasing xs → (i j : ℕ) → i < length xs → j < length xs → get_or xs i 0 ≡ get_or xs j 0 → i ≡ j
-rising_once xs up i j hi hj e =
-    grind (arith, AllPairs-from_increasing xs up i j 0, AllPairs-from_increasing xs up j i 0)
+rising_once xs up i j hi hj e = search (rules, AllPairs-from_increasing)
 
 -- one more number that passes, or not
 pub filter_range_more : (p : ℕ → Bool) (n : ℕ) → filter p (range_with_len 0 (n + 1)) ≡ filter p (range_with_len 0 n) ++ cond (p n) (n ∷ []) []
@@ -30,14 +30,11 @@ filter_has p (x ∷ xs) r (suc k, within, is) passed =
 
 -- a number that passes stands among them
 pub filter_range_has : (p : ℕ → Bool) (n r : ℕ) → r < n → p r ≡ true → Contains (filter p (range_with_len 0 n)) r
-filter_range_has p n r h passed =
-    filter_has p (range_with_len 0 n) r (r, omega (arith, length-range_with_len 0 n), (let at = get_or-range_with_len 0 n r r h in omega arith)) passed
+filter_range_has p n r h passed = grind (arith, nat_tests, (filter_has p), (length-range_with_len 0 n), (get_or-range_with_len 0 n r r h))
 
 -- the numbers that pass rise, and are those of the range
 pub filter_range_rises : (p : ℕ → Bool) (n : ℕ) → IsStrictlyIncreasing (filter p (range_with_len 0 n))
-filter_range_rises p n = IsStrictlyIncreasing-filter p (range_with_len 0 n) (λ k h.
-    let e = length-range_with_len 0 n in
-    let a = get_or-range_with_len 0 n k 0 (omega arith) in let b = get_or-range_with_len 0 n (k + 1) 0 (omega arith) in omega arith)
+filter_range_rises p n = search (rules, IsStrictlyIncreasing-filter, length-range_with_len, get_or-range_with_len)
 
 pub filter_range_below : (p : ℕ → Bool) (n : ℕ) → All (λ r. r < n) (filter p (range_with_len 0 n))
 filter_range_below p n = All-filter p (λ r. r < n) (range_with_len 0 n)
@@ -45,9 +42,7 @@ filter_range_below p n = All-filter p (λ r. r < n) (range_with_len 0 n)
 
 -- the riders promised to a vehicle are a trip
 pub promised_trip : (id : ℕ) (requests : List Rider) → IsTrip (length requests) (promised_to id requests)
-promised_trip id requests =
-    let named = λ (k : ℕ). is_promised_to id (request_at requests k) in
-    record { rising = filter_range_rises named (length requests); within = filter_range_below named (length requests) }
+promised_trip id requests = search (rules, filter_range_rises, filter_range_below)
 
 pub filter_range_skips : (p : ℕ → Bool) (n : ℕ) → p n ≡ false → filter p (range_with_len 0 (n + 1)) ≡ filter p (range_with_len 0 n)
 filter_range_skips p n e = filter_range_more p n ∙ ap (λ (b : Bool). filter p (range_with_len 0 n) ++ cond b (n ∷ []) []) e ∙ append-nil (filter p (range_with_len 0 n))
