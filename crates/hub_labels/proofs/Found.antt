@@ -1,5 +1,5 @@
 -- A pruned search from a node finds exactly the nodes that the node is a hub of.
-use Rattle.std.proofs.Common.{◌≡◌, ℕ, suc, ◌+◌, ◌<◌, ◌≤◌, ◌⊎◌, List, [], ◌∷◌, get_or, slice_index, All, Contains, sym, ◌∙◌, inl, inr, arith}
+use Rattle.std.proofs.Common.{rules, ◌≡◌, ℕ, suc, ◌+◌, ◌<◌, ◌≤◌, ◌⊎◌, List, [], ◌∷◌, get_or, slice_index, All, Contains, sym, ◌∙◌, inl, inr, arith}
 use Rattle.hub_labels.proofs.Cited.{get_or_default, All-contains, sum_by-cons, never, longest, Arc, IsWalk, walk_seconds, IsArcAmong, goal_within, Hub, IsRankedHub, AreLabelsBelow, IsToldAt, IsPruned, IsSpread}
 use Rattle.hub_labels.proofs.Times.{AreTimes, metric_of, start_within, time_is, time_least, least_is}
 use Rattle.hub_labels.proofs.Cover.{IsClear, cover}
@@ -84,10 +84,7 @@ module _ {arcs : List Arc} {n : ℕ} {time : ℕ → ℕ → ℕ} {rank : List �
 
       -- no number is below the travel time
       no_earlier : (b : ℕ) → b < n → slice_index seconds b < never → (time h b ≤ slice_index seconds b) × (time h b ≤ longest) × (slice_index seconds b ≤ longest)
-      no_earlier b hb finite = elim (pruned.sound b hb) [
-        | inl far ↦ absurd (omega (arith, far))
-        | inr found ↦ let least = time_least among few are h b found.1.0 hh hb found.1.1 in (omega (arith, least.0, found.1.2), least.1, found.0)
-      ]
+      no_earlier b hb finite = search (rules, time_least)
 
       -- a node that the start is a hub of is found, and not told of before
       pub hub_found : (b t : ℕ) → b < n → IsRankedHub arcs rank b h t → (slice_index seconds b ≡ t) × (t ≤ longest) × (IsToldAt labels via b t → ⊥)

@@ -1,4 +1,5 @@
 -- A merge of two labels by rank.
+use Rattle.std.proofs.lemmas.Bool.Decides.{nat_tests}
 use Rattle.std.proofs.Common.{rules, ◌≡◌, ℕ, ◌+◌, ◌<◌, ◌≤◌, ◌⊎◌, min, List, length, get_or, slice_index, ap, inl, inr, arith}
 use Rattle.hub_labels.proofs.Cited.{cases_eq, cases_lt, get_or_default, never, Hub, IsRising, IsLeastInCommon}
 
@@ -18,10 +19,7 @@ pub record IsMerging (forward backward : List Hub) (i j best : ℕ) : Type 0 whe
 
 -- a later hub is of no lower rank
 no_lower : {rank : List ℕ} {label : List Hub} → IsRising rank label → (i x : ℕ) → x < length label → i ≤ x → slice_index rank (get_or label i no_hub).node ≤ slice_index rank (get_or label x no_hub).node
-no_lower {rank} {label} rises i x within le = elim (cases_eq i x) [
-  | inl e ↦ rw e (omega arith)
-  | inr ne ↦ omega (arith, rises.rising i x no_hub (omega arith) within)
-]
+no_lower {rank} {label} rises i x within le = grind (arith, nat_tests)
 
 -- one of two was passed before, or the first is at the place that is passed now
 passed_or_here : (x y i j : ℕ) → (x < i + 1) ⊎ (y < j) → ((x < i) ⊎ (y < j)) ⊎ ((i ≡ x) × (j ≤ y))

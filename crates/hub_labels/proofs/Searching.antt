@@ -1,5 +1,5 @@
 -- Steps of a pruned search.
-use Rattle.std.proofs.Common.{◌≡◌, ℕ, ◌+◌, ◌<◌, ◌≤◌, ◌⊎◌, Bool, true, List, [], ◌∷◌, ◌++◌, length, get_or, slice_index, All, Contains, refl, sym, ap, ◌∙◌, subst, inl, inr, arith}
+use Rattle.std.proofs.Common.{rules, ◌≡◌, ℕ, ◌+◌, ◌<◌, ◌≤◌, ◌⊎◌, Bool, true, List, [], ◌∷◌, ◌++◌, length, get_or, slice_index, All, Contains, refl, sym, ap, ◌∙◌, subst, inl, inr, arith}
 use Rattle.hub_labels.proofs.Cited.{cases_eq, All-contains, Contains-append_left, Contains-push, never, Arc, Hop, IsWalk, IsArcAmong, hop_of, waits, IsNextTaken, IsHopRelaxed, RelaxesHops, HasWalkOf, IsWalk-push, walk_seconds-push, Hub, arc_from, AreHopsOf, IsToldAt, IsPruning}
 
 -- hops of a network's arcs lead to its nodes, in at most the longest arc's seconds
@@ -8,10 +8,7 @@ hops_within arcs n node hops among are k d h = let a = All-contains (IsArcAmong 
 
 module _ {arcs : List Arc} {n start node : ℕ} {labels : List (List Hub)} {via s : List ℕ} {w w' : List Bool} {taken : List ℕ} (inv : IsPruning arcs n start labels via s w taken) (next : IsNextTaken w w' node) where
   old_waits : (other : ℕ) → waits w' other ≡ true → waits w other ≡ true
-  old_waits other h = elim (cases_eq other node) [
-    | inl e ↦ absurd (let off = ap (waits w') e ∙ next.taken in cc)
-    | inr ne ↦ sym (next.others other ne) ∙ h
-  ]
+  old_waits other h = search rules
 
   noted_more : (other : ℕ) → other < n → slice_index s other < never → (waits w' other ≡ true) ⊎ Contains (taken ++ node ∷ []) other
   noted_more other h finite = elim (cases_eq other node) [
@@ -21,16 +18,7 @@ module _ {arcs : List Arc} {n start node : ℕ} {labels : List (List Hub)} {via 
 
   -- a node is taken that labels tell of already
   pub prune_step : IsToldAt labels via node (slice_index s node) → IsPruning arcs n start labels via s w' (taken ++ node ∷ [])
-  prune_step told = record {
-    seconds_length = inv.seconds_length;
-    waiting_length = next.same_length ∙ inv.waiting_length;
-    start_within = inv.start_within;
-    start_zero = inv.start_zero;
-    sound = inv.sound;
-    reached = λ other h. inv.reached other (old_waits other h);
-    noted = noted_more;
-    relaxed = λ other h settled finite. elim (cases_eq other node) [ inl e ↦ inl (rw e told) | inr ne ↦ inv.relaxed other h (sym (next.others other ne) ∙ settled) finite ];
-  }
+  prune_step told = search (rules, old_waits, noted_more)
 
   -- a node is taken, and its arcs are relaxed
   pub relax_step : {hops : List Hop} {s' : List ℕ} {w'' : List Bool} → AreHopsOf arcs node hops → RelaxesHops hops (length hops) (slice_index s node) s w' s' w'' → IsPruning arcs n start labels via s' w'' (taken ++ node ∷ [])

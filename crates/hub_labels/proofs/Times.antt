@@ -87,10 +87,7 @@ module _ {arcs : List Arc} {n : ℕ} {time : ℕ → ℕ → ℕ} (among : All (
 
   -- a least time is the travel time
   pub time_is : (a b s : ℕ) → a < n → b < n → IsLeastTime arcs a b s → (s ≡ time a b) × (time a b ≤ longest)
-  time_is a b s ha hb least = elim (are a b ha hb) [
-    | inl other ↦ (omega (arith, least.least other.walk other.walks, other.least least.walk least.walks, other.takes, least.takes), (time_least a b least.walk ha hb least.walks).1)
-    | inr none ↦ absurd (none.0 least.walk least.walks)
-  ]
+  time_is a b s ha hb least = search (rules, time_least)
 
   -- a travel time is a least time
   pub least_is : (a b : ℕ) → a < n → b < n → time a b ≤ longest → IsLeastTime arcs a b (time a b)
