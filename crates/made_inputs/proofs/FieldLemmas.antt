@@ -1,4 +1,4 @@
-use Rattle.std.proofs.Common.{◌≡◌, ℕ, suc, ◌<◌, ◌≤◌, ◌^◌, false, cond, List, [], ◌∷◌, ◌++◌, Some, map, length, decimal, refl, ap, ◌∙◌, arith}
+use Rattle.std.proofs.Common.{rules, ◌≡◌, ℕ, suc, ◌<◌, ◌≤◌, ◌^◌, false, cond, List, [], ◌∷◌, ◌++◌, Some, map, length, decimal, refl, ap, ◌∙◌, arith}
 use Rattle.made_inputs.proofs.Common.{list_any, or_from, next_record, default_config, number_up_to, Field, field_text, csv_line}
 use Rattle.std.proofs.lemmas.Bool.{ne_eqb}
 use Rattle.std.proofs.lemmas.List.{append-nil, append_assoc}
@@ -18,20 +18,11 @@ own = numerals_by_fold AllDigits tells_by_index value_after (record { empty = λ
 
 -- what is written for a number is a numeral of it
 pub numeral : (n : ℕ) → n < 2 ^ 64 → IsNumeralOf n (decimal n)
-numeral n small =
-    let some : 0 < length (decimal n) = decimal_nonempty n small in
-    record {
-      some = λ e. let f : List ℕ → ℕ = length in let zero_long : length (decimal n) ≡ 0 = rw e in omega arith;
-      digits = digits_decimal own n small;
-      value = digits_value-decimal own n small;
-    }
+numeral n small = search (rules, decimal_nonempty, digits_decimal, own, digits_value-decimal)
 
 -- a number's text is read as the number
 pub number_up_to-decimal : (most n : ℕ) → n ≤ most → most < 2 ^ 64 → number_up_to most (decimal n) ≡ Some n
-number_up_to-decimal most n within small =
-    let is = numeral n (omega arith) in
-    number_up_to-given most (decimal n) (is_numeral-digits (decimal n) is.some is.digits) (omega (arith, is.value))
-    ∙ ap (λ v. Some v) is.value
+number_up_to-decimal most n within small = search (rules, numeral, number_up_to-given, is_numeral-digits)
 
 -- the text of a number of the files
 pub small_number : (n : ℕ) → n ≤ 1000000000 → number_up_to 1000000000 (decimal n) ≡ Some n
@@ -47,9 +38,7 @@ AllFit [] = Unit {0}
 AllFit (field ∷ fields) = Fits field × AllFit fields
 
 digit_is_plain : (c : ℕ) → IsDigit c → needs_byte default_writer c ≡ false
-digit_is_plain c digit =
-    let low : 48 ≤ c = digit.0 in
-    rw (ne_eqb c 44 (λ e. omega arith), ne_eqb c 34 (λ e. omega arith), ne_eqb c 13 (λ e. omega arith), ne_eqb c 10 (λ e. omega arith)) refl
+digit_is_plain c digit = search (rules, ne_eqb)
 
 digits_are_plain : (cs : List ℕ) → AllDigits cs → list_any (needs_byte default_writer) cs ≡ false
 digits_are_plain [] digits = refl
@@ -67,16 +56,12 @@ written_as field fits = ap (λ b. cond b (quoted default_writer (field_text fiel
 rest_written : (field : Field) (fields : List Field) → AllFit (field ∷ fields) → 44 ∷ csv_line (field ∷ fields) ≡ fields_text default_writer (map field_text (field ∷ fields)) ++ 10 ∷ []
 unfolding fields_text
 rest_written field [] fit = rw (written_as field fit.0, append-nil (field_text field)) refl
-rest_written field (next ∷ fields) fit =
-    rw (rest_written next fields fit.1, written_as field fit.0, append_assoc (field_text field) (fields_text default_writer (map field_text (next ∷ fields))) (10 ∷ [])) refl
+rest_written field (next ∷ fields) fit = search (rules, written_as, append_assoc, (rest_written next fields fit.1))
 
 row_written : (first second : Field) (fields : List Field) → AllFit (first ∷ second ∷ fields) → csv_line (first ∷ second ∷ fields) ≡ written_row default_writer (map field_text (first ∷ second ∷ fields))
 unfolding is_blank
-row_written first second fields fit =
-    rw (rest_written second fields fit.1, written_as first fit.0, append_assoc (field_text first) (fields_text default_writer (map field_text (second ∷ fields))) (10 ∷ [])) refl
+row_written first second fields fit = search (rules, rest_written, written_as, append_assoc)
 
 -- a row of two fields or more is read as its fields
 pub row_read : (first second : Field) (fields : List Field) (tail : List ℕ) → AllFit (first ∷ second ∷ fields) → next_record default_config st.StartRecord [] [] (csv_line (first ∷ second ∷ fields) ++ tail) ≡ Some (map field_text (first ∷ second ∷ fields), st.StartRecord, tail)
-row_read first second fields tail fit =
-    ap (λ (t : List ℕ). next_record default_config st.StartRecord [] [] (t ++ tail)) (row_written first second fields fit)
-    ∙ read-write-many (field_text first) (field_text second) (map field_text fields) tail
+row_read first second fields tail fit = search (rules, row_written, read-write-many)

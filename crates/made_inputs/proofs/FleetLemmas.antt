@@ -1,4 +1,4 @@
-use Rattle.std.proofs.Common.{◌≡◌, ℕ, zero, suc, ◌+◌, ◌*◌, ◌%◌, ◌<◌, ◌≤◌, ◌==◌, true, false, cond, List, [], ◌∷◌, Result, Ok, Err, map, length, take, get_or, refl, sym, ap, subst, ◌∙◌, arith}
+use Rattle.std.proofs.Common.{rules, ◌≡◌, ℕ, zero, suc, ◌+◌, ◌*◌, ◌%◌, ◌<◌, ◌≤◌, ◌==◌, true, false, cond, List, [], ◌∷◌, Result, Ok, Err, map, length, take, get_or, refl, sym, ap, subst, ◌∙◌, arith}
 use Rattle.made_inputs.proofs.Common.{get_or_default, length-map, get_or-map, list_any, list_any_none, mod_below, Stream, next_u64, all_or_first, all_or_first-ok, number_at, nodes_of, has_node, LoadShape, Field, draw, draws_of, fleet_part, network_part, drawn_node, vehicle_row}
 use Rattle.std.specs.List.Sorted.{IsStrictlyIncreasing}
 use Rattle.std.proofs.lemmas.Bool.{le-ltb, ne_eqb}
@@ -33,17 +33,11 @@ VehicleStep nodes first row next = IsVehicle nodes first row × (next ≡ first 
 -- a node that is drawn is a node of the network
 drawn_known : (shape : LoadShape) (s : Stream) → 2 ≤ shape.side → shape.side ≤ 100 → has_node (nodes_of (map fields_of (network_rows shape))) (drawn_node shape.side s).0 ≡ true
 unfolding drawn_node draw
-drawn_known shape s two small =
-    let area : 2 * 2 ≤ shape.side * shape.side = mul-le-mul two two in
-    node_known shape ((next_u64 s).0 % (shape.side * shape.side)) two small (mod_below (next_u64 s).0 (shape.side * shape.side) (omega (arith, area)))
+drawn_known shape s two small = search (rules, mul-le-mul, node_known, mod_below)
 
 pub drawn_small : (side : ℕ) (s : Stream) → 2 ≤ side → side ≤ 100 → (drawn_node side s).0 ≤ 1000000000
 unfolding drawn_node draw
-drawn_small side s two small =
-    let least : 2 * 2 ≤ side * side = mul-le-mul two two in
-    let most : side * side ≤ 100 * 100 = mul-le-mul small small in
-    let below : (next_u64 s).0 % (side * side) < side * side = mod_below (next_u64 s).0 (side * side) (omega (arith, least)) in
-    omega (arith, most, below)
+drawn_small side s two small = search (rules, mul-le-mul, mod_below)
 
 -- the rows of the vehicles, whose ids rise by one from 1
 IsVehicles : (shape : LoadShape) → 2 ≤ shape.side → shape.side ≤ 100 → shape.vehicles ≤ 500 → IsPart (VehicleStep (nodes_of (map fields_of (network_rows shape)))) (0 + 1) (shape.vehicles + 1) (shape.vehicles * 1) (fleet_part shape)
@@ -63,23 +57,19 @@ IsVehicles shape two small few =
     })
 
 vehicle_fits : (nodes : List ℕ) (first next : ℕ) (row : List Field) → VehicleStep nodes first row next → (length row ≡ 4) × AllFit row
-vehicle_fits nodes first next row step =
-    let vehicle : IsVehicle nodes first row = step.0 in
-    (ap length vehicle.is, subst AllFit (sym vehicle.is) (vehicle.id_small, (omega arith, (vehicle.node_small, (omega arith, tt)))))
+vehicle_fits nodes first next row step = search (rules, AllFit)
 
 -- the row of a vehicle is accepted
 row_given : (nodes : List ℕ) (earlier : List (List (List ℕ))) (number id : ℕ) (row : List Field) → IsVehicle nodes id row → list_any (λ before. number_at before 0 == id) earlier ≡ false
     → vehicle_in nodes earlier number (fields_of row) ≡ Ok (empty_vehicle id 4 (number_at (fields_of row) 2) 0)
 unfolding vehicle_in
-row_given nodes earlier number id row vehicle new =
-    rw (vehicle.is, small_number id vehicle.id_small, small_number 4 (omega arith), small_number vehicle.node vehicle.node_small, small_number 0 (omega arith), vehicle.known, new) refl
+row_given nodes earlier number id row vehicle new = search (rules, small_number)
 
 -- rows of vehicles, place by place
 vehicle_at : (nodes : List ℕ) (first high : ℕ) (rows : List (List Field)) (k : ℕ) → Lead (VehicleStep nodes) first high rows → k < length rows → IsVehicle nodes (first + k) (get_or rows k [])
 vehicle_at nodes first high [] k all below = absurd (omega (arith, below))
 vehicle_at nodes first high (row ∷ rows) zero all below = subst (λ n. IsVehicle nodes n row) (omega arith) all.1.0
-vehicle_at nodes first high (row ∷ rows) (suc k) all below =
-    subst (λ n. IsVehicle nodes n (get_or rows k [])) (omega (arith, all.1.1)) (vehicle_at nodes all.0 high rows k all.2 (omega (arith, below)))
+vehicle_at nodes first high (row ∷ rows) (suc k) all below = search (rules, (vehicle_at nodes all.0 high rows k all.2))
 
 -- the id in a row
 id_at : (nodes : List ℕ) (high : ℕ) (rows : List (List Field)) (k : ℕ) → Lead (VehicleStep nodes) 1 high rows → k < length rows → number_at (get_or (map fields_of rows) k []) 0 ≡ 1 + k
@@ -110,11 +100,7 @@ row_made nodes high rows k all below =
 
 all_given : {A F : Type 0} (at : ℕ → Result A F) (give : ℕ → A) (n : ℕ) → ((k : ℕ) → k < n → at k ≡ Ok (give k)) → all_or_first at n ≡ Ok (map give (range_with_len 0 n))
 all_given at give zero gives = refl
-all_given at give (suc n) gives =
-    let next : n + 1 ≡ suc n = omega arith in
-    subst (λ m. all_or_first at m ≡ Ok (map give (range_with_len 0 m))) next
-    (all_or_first-ok at n (map give (range_with_len 0 n)) (give n) (all_given at give n (λ k below. gives k (omega (arith, below)))) (gives n (omega arith))
-    ∙ ap (λ xs. Ok xs) (sym (map-range_with_len_more give 0 n n (omega arith))))
+all_given at give (suc n) gives = search (rules, all_or_first-ok, map-range_with_len_more, (all_given at give n))
 
 -- ids that rise by one rise
 rising : (records : List (List (List ℕ))) (n : ℕ) → IsStrictlyIncreasing (map (λ (v : Vehicle). v.id) (map (made_vehicle records) (range_with_len 0 n)))

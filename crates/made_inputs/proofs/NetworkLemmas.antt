@@ -1,4 +1,5 @@
-use Rattle.std.proofs.Common.{◌≡◌, ℕ, zero, suc, ◌+◌, ◌*◌, ◌<◌, ◌≤◌, ◌%◌, ◌^◌, Bool, cond, ltb, List, [], ◌∷◌, Some, None, Ok, Err, map, length, take, get_or, ◌-◌, refl, sym, ap, subst, ◌∙◌, arith}
+use Rattle.std.proofs.lemmas.Bool.Decides.{nat_tests}
+use Rattle.std.proofs.Common.{rules, ◌≡◌, ℕ, zero, suc, ◌+◌, ◌*◌, ◌<◌, ◌≤◌, ◌%◌, ◌^◌, Bool, cond, ltb, List, [], ◌∷◌, Some, None, Ok, Err, map, length, take, get_or, ◌-◌, refl, sym, ap, subst, ◌∙◌, arith}
 use Rattle.made_inputs.proofs.Common.{option_or, length-map, get_or-map, mod_below, next_u64, length-distinct, first_fault-all, most_nodes, most_arcs, longest_arc, greatest_name, nodes_of, field_refusal, refusal_at, network_of, unless_refused, names_in, roads_of, first_refusal, LoadShape, Field, draw, both, draws_of, nothing, arcs_right, arcs_down, arcs_of_row, network_part, node_id, arcs_between}
 use Rattle.std.specs.List.{flat_map}
 use Rattle.std.proofs.lemmas.Bool.{le-ltb}
@@ -26,26 +27,10 @@ ArcStep low row next = IsArc row
 
 IsArcs-between : (a b : ℕ) → a ≤ greatest_name → b ≤ greatest_name → IsPart ArcStep 0 0 2 (arcs_between a b)
 unfolding arcs_between draw
-IsArcs-between a b a_small b_small = record {
-  lead = λ s.
-      let time : ℕ = 20 + (next_u64 s).0 % 41 in
-      let short : time ≤ longest_arc = (let below : (next_u64 s).0 % 41 < 41 = mod_below (next_u64 s).0 41 (omega arith) in omega (arith, below)) in (
-        0,
-        record { from = a; to = b; seconds = time; is = refl; from_small = a_small; to_small = b_small; short = short },
-        (
-          0,
-          record { from = b; to = a; seconds = time; is = refl; from_small = b_small; to_small = a_small; short = short },
-          refl,
-        ),
-      );
-  few = λ s. omega arith;
-}
+IsArcs-between a b a_small b_small = search (rules, mod_below)
 
 pub node_small : (side i j : ℕ) → side ≤ 100 → i ≤ side → j ≤ side → node_id side i j ≤ greatest_name
-node_small side i j small row column =
-    let low : i ≤ 100 = omega arith in
-    let area : i * side ≤ 100 * 100 = mul-le-mul low small in
-    omega (arith, area)
+node_small side i j small row column = search (rules, mul-le-mul)
 
 -- the arcs of a node to its neighbour, where the square goes on there
 IsArcs-where : (c : Bool) (a b : ℕ) → a ≤ greatest_name → b ≤ greatest_name → IsPart ArcStep 0 0 2 (cond c (arcs_between a b) nothing)
@@ -68,24 +53,17 @@ IsArcs-network shape small =
 
 -- a row of an arc has three fields, whose numbers are numbers of the files
 arc_fits : (low next : ℕ) (row : List Field) → IsArc row → (length row ≡ 3) × AllFit row
-arc_fits low next row arc =
-    let short : arc.seconds ≤ 10000 = arc.short in
-    (ap length arc.is, subst AllFit (sym arc.is) (arc.from_small, (arc.to_small, (omega arith, tt))))
+arc_fits low next row arc = search (rules, AllFit)
 
 -- no field of an arc is refused
 no_field : (number : ℕ) (row : List Field) → IsArc row → field_refusal number (fields_of row) ≡ None
 unfolding field_refusal
-no_field number row arc =
-    let one = number_up_to-decimal greatest_name arc.from arc.from_small (omega arith) in
-    let two = number_up_to-decimal greatest_name arc.to arc.to_small (omega arith) in
-    rw (arc.is, one, two, number_up_to-decimal (2 ^ 64 - 1) arc.seconds (omega arith) (omega arith), le-ltb longest_arc arc.seconds arc.short) refl
+no_field number row arc = search (rules, number_up_to-decimal, le-ltb)
 
 -- a row names two nodes
 two_names : (rows : List (List (List ℕ))) → length (flat_map names_in rows) ≡ 2 * length rows
 two_names [] = refl
-two_names (fields ∷ rows) =
-    let size : length (fields ∷ rows) ≡ suc (length rows) = refl in
-    length-append (names_in fields) (flat_map names_in rows) ∙ omega (arith, two_names rows, size)
+two_names (fields ∷ rows) = search (rules, length-append, (two_names rows))
 
 -- rows of arcs, place by place
 arc_at : (low high : ℕ) (rows : List (List Field)) (k : ℕ) → Lead ArcStep low high rows → k < length rows → IsArc (get_or rows k [])
@@ -110,12 +88,7 @@ no_refusal rows k all few below =
 
 network_given : (rows : List (List Field)) → Lead ArcStep 0 0 rows → length rows ≤ 40000 → network_of (map fields_of rows) ≡ Ok (roads_of (map fields_of rows))
 unfolding network_of
-network_given rows all few =
-    let size : length (map fields_of rows) ≡ length rows = length-map rows fields_of in
-    let none : first_refusal (map fields_of rows) ≡ None =
-    first_fault-all (refusal_at (map fields_of rows)) (length (map fields_of rows)) (λ k below. no_refusal rows k all (omega (arith, few)) (omega (arith, below, size))) in
-    ap (λ b. cond b (Err TooManyArcs) (unless_refused (first_refusal (map fields_of rows)) (roads_of (map fields_of rows)))) (le-ltb most_arcs (length (map fields_of rows)) (omega (arith, size, few)))
-    ∙ ap (λ o. unless_refused o (roads_of (map fields_of rows))) none
+network_given rows all few = search (rules, fields_of, length-map, first_fault-all, no_refusal, le-ltb)
 
 -- the rows of the network of a shape
 abbrev pub network_rows : LoadShape → List (List Field)
@@ -130,6 +103,4 @@ network_few shape small =
 
 -- the rows of a shape's network give a network
 pub network_accepted : (shape : LoadShape) → shape.side ≤ 100 → RowsFit 3 (network_rows shape) × (network_of (map fields_of (network_rows shape)) ≡ Ok (roads_of (map fields_of (network_rows shape))))
-network_accepted shape small =
-    let all : Lead ArcStep 0 0 (network_rows shape) = (IsArcs-network shape small).lead (draws_of shape.seed) in
-    (Lead-fit ArcStep 3 arc_fits 0 0 (network_rows shape) all, network_given (network_rows shape) all (network_few shape small))
+network_accepted shape small = grind (arith, nat_tests, Lead, (IsArcs-network shape small), Lead-fit, (arc_fits 0 0), network_given, (network_few shape small))

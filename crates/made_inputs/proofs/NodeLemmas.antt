@@ -1,4 +1,4 @@
-use Rattle.std.proofs.Common.{◌≡◌, ℕ, zero, suc, ◌+◌, ◌*◌, ◌/◌, ◌%◌, ◌<◌, ◌≤◌, ◌==◌, Bool, true, false, ◌||◌, List, [], ◌∷◌, map, inl, inr, unwrap_or, refl, ap, subst, ◌∙◌, arith}
+use Rattle.std.proofs.Common.{rules, ◌≡◌, ℕ, zero, suc, ◌+◌, ◌*◌, ◌/◌, ◌%◌, ◌<◌, ◌≤◌, ◌==◌, Bool, true, false, ◌||◌, List, [], ◌∷◌, map, inl, inr, unwrap_or, refl, ap, subst, ◌∙◌, arith}
 use Rattle.made_inputs.proofs.Common.{list_any, cases_eq, false≢true, list_any-append, mod_below, Stream, number_at, has_node, greatest_name, nodes_of, names_in, any-distinct, LoadShape, Field, draw, Part, both, each, draws_of, arcs_right, arcs_down, arcs_of_row, network_part, node_id, arcs_between}
 use Rattle.std.specs.List.{flat_map}
 use Rattle.std.proofs.lemmas.Bool.{lt-ltb, eq-eqb}
@@ -19,15 +19,10 @@ abbrev pub Naming : ℕ → Part → Type 0
 Naming n part = (s : Stream) → list_any (starts_at n) (part s).0 ≡ true
 
 Naming-left : (n : ℕ) (first second : Part) → Naming n first → Naming n (both first second)
-Naming-left n first second here s =
-    list_any-append (starts_at n) (first s).0 (second (first s).1).0
-    ∙ ap (λ b. b || list_any (starts_at n) (second (first s).1).0) (here s)
+Naming-left n first second here s = search (rules, list_any-append)
 
 Naming-right : (n : ℕ) (first second : Part) → Naming n second → Naming n (both first second)
-Naming-right n first second rest s =
-    list_any-append (starts_at n) (first s).0 (second (first s).1).0
-    ∙ ap (λ b. list_any (starts_at n) (first s).0 || b) (rest (first s).1)
-    ∙ or-true (list_any (starts_at n) (first s).0)
+Naming-right n first second rest s = search (rules, list_any-append, or-true)
 
 Naming-each : (n : ℕ) (parts : ℕ → Part) (k count : ℕ) → k < count → Naming n (parts k) → Naming n (each parts count)
 Naming-each n parts k zero inside is = absurd (omega arith)
@@ -67,8 +62,7 @@ Naming-row side i (suc k) two small row column =
 
 Naming-network : (shape : LoadShape) (i j : ℕ) → 2 ≤ shape.side → shape.side ≤ 100 → i < shape.side → j < shape.side → Naming (node_id shape.side i j) (network_part shape)
 unfolding network_part
-Naming-network shape i j two small row column =
-    Naming-each (node_id shape.side i j) (arcs_of_row shape.side) i shape.side row (Naming-row shape.side i j two small row column)
+Naming-network shape i j two small row column = search (rules, Naming-each, Naming-row)
 
 Naming-number : (shape : LoadShape) (m : ℕ) → 2 ≤ shape.side → shape.side ≤ 100 → m < shape.side * shape.side → Naming (1 + m) (network_part shape)
 Naming-number shape m two small inside =
@@ -85,6 +79,4 @@ named (row ∷ rows) n is = grind (arith, named rows n)
 
 -- each number of the square is a node of the network
 pub node_known : (shape : LoadShape) (m : ℕ) → 2 ≤ shape.side → shape.side ≤ 100 → m < shape.side * shape.side → has_node (nodes_of (map fields_of (network_rows shape))) (1 + m) ≡ true
-node_known shape m two small inside =
-    any-distinct (λ node. node == 1 + m) (flat_map names_in (map fields_of (network_rows shape)))
-    ∙ named (network_rows shape) (1 + m) (Naming-number shape m two small inside (draws_of shape.seed))
+node_known shape m two small inside = search (rules, any-distinct, fields_of, network_rows, named, Naming-number)

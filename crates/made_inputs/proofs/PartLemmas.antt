@@ -1,4 +1,4 @@
-use Rattle.std.proofs.Common.{◌≡◌, ℕ, zero, suc, ◌+◌, ◌*◌, ◌<◌, ◌≤◌, Bool, true, false, cond, List, [], ◌∷◌, ◌++◌, length, refl, sym, subst, arith}
+use Rattle.std.proofs.Common.{rules, ◌≡◌, ℕ, zero, suc, ◌+◌, ◌*◌, ◌<◌, ◌≤◌, Bool, true, false, cond, List, [], ◌∷◌, ◌++◌, length, refl, sym, subst, arith}
 use Rattle.made_inputs.proofs.Common.{Stream, Field, Part, both, each, nothing}
 use Rattle.std.proofs.lemmas.List.{length-append}
 use Rattle.std.proofs.Math.Nat.{suc-mul}
@@ -21,9 +21,7 @@ Lead-append step low mid high (row ∷ xs) ys left right = (left.0, left.1, Lead
 -- rows whose fields are as many, and numbers of the files
 pub Lead-fit : (step : Step) (k : ℕ) → ((low next : ℕ) (row : List Field) → step low row next → (length row ≡ k) × AllFit row) → (low high : ℕ) (rows : List (List Field)) → Lead step low high rows → RowsFit k rows
 Lead-fit step k fits low high [] lead = tt
-Lead-fit step k fits low high (row ∷ rows) lead =
-    let here = fits low lead.0 row lead.1 in
-    (here.0, here.1, Lead-fit step k fits lead.0 high rows lead.2)
+Lead-fit step k fits low high (row ∷ rows) lead = search (rules, (Lead-fit step k fits lead.0 high rows lead.2))
 
 -- a part of so many such rows at the most
 pub record IsPart (step : Step) (low high most : ℕ) (part : Part) : Type 0 where
@@ -34,10 +32,7 @@ pub IsPart-nothing : (step : Step) (n most : ℕ) → IsPart step n n most nothi
 IsPart-nothing step n most = record { lead = λ s. refl; few = λ s. omega arith }
 
 pub IsPart-both : (step : Step) (low mid high m n : ℕ) (first second : Part) → IsPart step low mid m first → IsPart step mid high n second → IsPart step low high (m + n) (both first second)
-IsPart-both step low mid high m n first second here rest = record {
-  lead = λ s. Lead-append step low mid high (first s).0 (second (first s).1).0 (here.lead s) (rest.lead (first s).1);
-  few = λ s. omega (arith, here.few s, rest.few (first s).1, length-append (first s).0 (second (first s).1).0);
-}
+IsPart-both step low mid high m n first second here rest = search (rules, Lead-append, length-append)
 
 -- parts, each of which goes on at the number where the one before ended
 pub IsPart-each : (step : Step) (at : ℕ → ℕ) (most : ℕ) (parts : ℕ → Part) (n : ℕ) → ((k : ℕ) → k < n → IsPart step (at k) (at (suc k)) most (parts k)) → IsPart step (at 0) (at n) (n * most) (each parts n)

@@ -1,4 +1,4 @@
-use Rattle.std.proofs.Common.{◌≡◌, ℕ, zero, suc, ◌+◌, ◌-◌, ◌*◌, ◌%◌, ◌<◌, ◌≤◌, Bool, true, false, cond, ltb, List, [], ◌∷◌, Ok, Err, map, length, get_or, unwrap_or, refl, sym, ap, ◌∙◌, arith}
+use Rattle.std.proofs.Common.{rules, ◌≡◌, ℕ, zero, suc, ◌+◌, ◌-◌, ◌*◌, ◌%◌, ◌<◌, ◌≤◌, Bool, true, false, cond, ltb, List, [], ◌∷◌, Ok, Err, map, length, get_or, unwrap_or, refl, sym, ap, ◌∙◌, arith}
 use Rattle.made_inputs.proofs.Common.{length-map, mod_below, Stream, next_u64, ◌>>=◌, all_or_first, number_at, all_or_first-all, LoadShape, Field, draw, plain, both, each, draws_of, nothing, all_reports, other_than, seal_row, reports, submits, script_part, fleet_part, network_part, drawn_node, report_row, submit_row, batch_rows}
 use Rattle.std.proofs.lemmas.Bool.{le-ltb}
 use Rattle.std.proofs.Math.Nat.{mul-le-mul}
@@ -150,9 +150,7 @@ IsLines-script shape two small vehicles riders rounds =
     IsPart-each LineStep (λ k. 2 * k) (shape.vehicles * 1 + (shape.riders * 1 + 1)) (batch_rows shape) shape.rounds (λ k below. IsLines-batch shape k two small vehicles riders (omega arith))
 
 line_fits : (low next : ℕ) (row : List Field) → LineStep low row next → (length row ≡ 7) × AllFit row
-line_fits low next row step =
-    let line : IsLine step.0 row = step.3 in
-    (line.long, line.fits)
+line_fits low next row step = search rules
 
 -- the round before a row, where the rows stand behind a row of this round
 abbrev round_behind : ℕ → List (List (List ℕ)) → ℕ → ℕ
@@ -174,10 +172,7 @@ lines_given last low high [] number k behind lead below = absurd (omega (arith, 
 lines_given last low high (row ∷ rows) number zero behind lead below =
     let line : IsLine lead.1.0 row = lead.1.3 in
     (record { round = lead.1.0; lane = line.lane; command = line.command }, line.given number last (omega (arith, behind, lead.1.1)))
-lines_given last low high (row ∷ rows) number (suc k) behind lead below =
-    let line : IsLine lead.1.0 row = lead.1.3 in
-    let rest = lines_given lead.1.0 lead.0 high rows number k lead.1.2 lead.2 (omega (arith, below)) in
-    (rest.0, ap (λ before. line_in One number before (get_or (map fields_of rows) k [])) (sym (behind_first last lead.1.0 row rows k line.named)) ∙ rest.1)
+lines_given last low high (row ∷ rows) number (suc k) behind lead below = search (rules, fields_of, behind_first, (lines_given lead.1.0 lead.0 high rows number k lead.1.2 lead.2))
 
 -- the rounds that rows give
 script_given : (high : ℕ) (rows : List (List Field)) → Lead LineStep 0 high rows → length rows ≤ 200000 → (rounds : List NumberedLanes) × (script_of One (map fields_of rows) ≡ Ok rounds)

@@ -1,4 +1,5 @@
-use Rattle.std.proofs.Common.{◌≡◌, ◌≢◌, ℕ, zero, suc, ◌+◌, ◌<◌, ◌≤◌, true, not, cond, eqb, List, [], ◌∷◌, ◌++◌, Some, None, Ok, Err, map, length, refl, ap, ◌∙◌, add-one, arith}
+use Rattle.std.proofs.lemmas.Bool.Decides.{nat_tests}
+use Rattle.std.proofs.Common.{rules, ◌≡◌, ◌≢◌, ℕ, zero, suc, ◌+◌, ◌<◌, ◌≤◌, true, not, cond, eqb, List, [], ◌∷◌, ◌++◌, Some, None, Ok, Err, map, length, refl, ap, ◌∙◌, add-one, arith}
 use Rattle.made_inputs.proofs.Common.{position_from, option_map_or, length-map, next_record, default_config, records_from, records_next, records, strip_bom, rows_under, table_of, Field, field_text, text_under, csv_line, csv_lines, script_header, fleet_header, network_header}
 use Rattle.std.proofs.lemmas.Bool.{eq-eqb}
 use Rattle.std.proofs.lemmas.List.{length-append}
@@ -23,11 +24,7 @@ some_byte (field ∷ next ∷ fields) some = omega (arith, length-append (field_
 
 rows_long : (k : ℕ) (rows : List (List Field)) → 2 ≤ k → RowsFit k rows → length rows ≤ length (csv_lines rows)
 rows_long k [] two fit = omega arith
-rows_long k (row ∷ rows) two fit =
-    let size : length row ≡ k = fit.0 in
-    let one : 1 ≤ length (csv_line row) = some_byte row (λ e. let none : length row ≡ 0 = ap length e in omega arith) in
-    let rest : length rows ≤ length (csv_lines rows) = rows_long k rows two fit.2 in
-    omega (arith, one, rest, length-append (csv_line row) (csv_lines rows))
+rows_long k (row ∷ rows) two fit = search (rules, some_byte, length-append, (rows_long k rows two fit.2))
 
 -- rows are read as their fields
 rows_read : (k n : ℕ) (rows : List (List Field)) → 2 ≤ k → length rows < n → RowsFit k rows → records_from default_config n st.StartRecord (csv_lines rows) ≡ map fields_of rows
@@ -36,9 +33,7 @@ rows_read k zero rows two fuel fit = absurd (omega arith)
 rows_read k (suc n) [] two fuel fit = refl
 rows_read k (suc n) ([] ∷ rows) two fuel fit = (let size : 0 ≡ k = fit.0 in absurd (omega arith))
 rows_read k (suc n) ((first ∷ []) ∷ rows) two fuel fit = (let size : suc 0 ≡ k = fit.0 in absurd (omega arith))
-rows_read k (suc n) ((first ∷ second ∷ fields) ∷ rows) two fuel fit =
-    ap (records_next (records_from default_config n)) (row_read first second fields (csv_lines rows) fit.1)
-    ∙ ap (λ (rs : List (List (List ℕ))). fields_of (first ∷ second ∷ fields) ∷ rs) (rows_read k n rows two (omega arith) fit.2)
+rows_read k (suc n) ((first ∷ second ∷ fields) ∷ rows) two fuel fit = search (rules, row_read, (rows_read k n rows two))
 
 -- rows of one length are even
 even : (k row : ℕ) (rows : List (List Field)) → RowsFit k rows → position_from (λ fields. not (eqb (length fields) k)) row (map fields_of rows) ≡ None
@@ -69,21 +64,8 @@ IsHeader-script = record { read = λ tail. refl; marked = λ tail. refl; same = 
 
 records_of-under : (header : List ℕ) (k : ℕ) (rows : List (List Field)) → IsHeader header k → 2 ≤ k → RowsFit k rows → records_of (text_under header rows) ≡ header_fields header ∷ map fields_of rows
 unfolding records_from
-records_of-under header k rows is two fit =
-    let text : List ℕ = text_under header rows in
-    let size : length text ≡ length header + suc (length (csv_lines rows)) = length-append header (10 ∷ csv_lines rows) in
-    let long : length rows ≤ length (csv_lines rows) = rows_long k rows two fit in
-    ap (records default_config) (is.marked (csv_lines rows))
-    ∙ ap (λ n. records_from default_config n st.StartRecord text) (add-one (length text))
-    ∙ ap (records_next (records_from default_config (length text))) (is.read (csv_lines rows))
-    ∙ ap (λ (rs : List (List (List ℕ))). header_fields header ∷ rs) (rows_read k (length text) rows two (omega (arith, size, long)) fit)
+records_of-under header k rows is two fit = search (rules, length-append, rows_long, add-one, rows_read)
 
 -- a made text is read as its rows
 pub table_of-under : (header : List ℕ) (k : ℕ) (rows : List (List Field)) → IsHeader header k → 2 ≤ k → RowsFit k rows → table_of header (text_under header rows) ≡ Ok (record { columns = k; records = map fields_of rows })
-table_of-under header k rows is two fit =
-    let names : List (List ℕ) = header_fields header in
-    let made : List (List (List ℕ)) = map fields_of rows in
-    ap (rows_under names) (records_of-under header k rows is two fit)
-    ∙ ap (λ b. cond b (even_rows (length names) made) (Err (Header (length names)))) is.same
-    ∙ ap (λ n. even_rows n made) is.columns
-    ∙ ap (λ o. option_map_or (λ row. Err (UnequalLength row)) o (Ok (record { columns = k; records = made }))) (even k 1 rows fit)
+table_of-under header k rows is two fit = grind (arith, nat_tests, (records_of-under header k rows is two fit), (even k 1 rows fit))
