@@ -1,7 +1,7 @@
 -- Rank as a number.
 use Rattle.std.proofs.lemmas.Bool.Decides.{nat_tests}
-use Rattle.std.proofs.Common.{rules, ℕ, ◌+◌, ◌-◌, ◌*◌, ◌<◌, ◌≤◌, ◌↔◌, eqb, List, length, ap, inl, inr, arith}
-use Rattle.hub_labels.proofs.Cited.{cases_eq, cases_lt, count_by-le-length, Arc, degree, IsOfLowerRank, key_of, mul-le-mul_right}
+use Rattle.std.proofs.Common.{rules, ℕ, ◌+◌, ◌-◌, ◌*◌, ◌<◌, ◌≤◌, ◌↔◌, eqb, List, length, arith}
+use Rattle.hub_labels.proofs.Cited.{count_by-le-length, Arc, degree, IsOfLowerRank, key_of, mul-le-mul_right}
 
 -- no degree is above twice the number of arcs
 pub degree_most : (arcs : List Arc) (node : ℕ) → length arcs ≤ 400000 → degree arcs node ≤ 800000

@@ -1,5 +1,5 @@
 -- Steps of a pruned search.
-use Rattle.std.proofs.Common.{rules, ◌≡◌, ℕ, ◌+◌, ◌<◌, ◌≤◌, ◌⊎◌, Bool, true, List, [], ◌∷◌, ◌++◌, length, get_or, slice_index, All, Contains, refl, sym, ap, ◌∙◌, subst, inl, inr, arith}
+use Rattle.std.proofs.Common.{rules, ◌≡◌, ℕ, ◌+◌, ◌<◌, ◌≤◌, ◌⊎◌, Bool, true, List, [], ◌∷◌, ◌++◌, length, get_or, slice_index, All, Contains, refl, sym, ◌∙◌, subst, inl, inr, arith}
 use Rattle.hub_labels.proofs.Cited.{cases_eq, All-contains, Contains-append_left, Contains-push, never, Arc, Hop, IsWalk, IsArcAmong, hop_of, waits, IsNextTaken, IsHopRelaxed, RelaxesHops, HasWalkOf, IsWalk-push, walk_seconds-push, Hub, arc_from, AreHopsOf, IsToldAt, IsPruning}
 
 -- hops of a network's arcs lead to its nodes, in at most the longest arc's seconds

@@ -1,5 +1,5 @@
-use Rattle.std.proofs.Common.{rules, ◌≡◌, ℕ, zero, suc, ◌+◌, ◌*◌, ◌%◌, ◌<◌, ◌≤◌, ◌==◌, true, false, cond, List, [], ◌∷◌, Result, Ok, Err, map, length, take, get_or, refl, sym, ap, subst, ◌∙◌, arith}
-use Rattle.made_inputs.proofs.Common.{get_or_default, length-map, get_or-map, list_any, list_any_none, mod_below, Stream, next_u64, all_or_first, all_or_first-ok, number_at, nodes_of, has_node, LoadShape, Field, draw, draws_of, fleet_part, network_part, drawn_node, vehicle_row}
+use Rattle.std.proofs.Common.{rules, ◌≡◌, ℕ, zero, suc, ◌+◌, ◌*◌, ◌<◌, ◌≤◌, ◌==◌, true, false, cond, List, [], ◌∷◌, Result, Ok, Err, map, length, take, get_or, refl, ap, subst, ◌∙◌, arith}
+use Rattle.made_inputs.proofs.Common.{get_or_default, length-map, get_or-map, list_any, list_any_none, mod_below, Stream, all_or_first, all_or_first-ok, number_at, nodes_of, has_node, LoadShape, Field, draw, draws_of, fleet_part, network_part, drawn_node, vehicle_row}
 use Rattle.std.specs.List.Sorted.{IsStrictlyIncreasing}
 use Rattle.std.proofs.lemmas.Bool.{le-ltb, ne_eqb}
 use Rattle.std.proofs.lemmas.List.{get_or-take, length-take-le}

@@ -1,11 +1,11 @@
 use Rattle.std.proofs.lemmas.Bool.Decides.{nat_tests}
-use Rattle.std.proofs.Common.{rules, ◌≡◌, ℕ, zero, suc, ◌+◌, ◌*◌, ◌<◌, ◌≤◌, ◌%◌, ◌^◌, Bool, cond, ltb, List, [], ◌∷◌, Some, None, Ok, Err, map, length, take, get_or, ◌-◌, refl, sym, ap, subst, ◌∙◌, arith}
-use Rattle.made_inputs.proofs.Common.{option_or, length-map, get_or-map, mod_below, next_u64, length-distinct, first_fault-all, most_nodes, most_arcs, longest_arc, greatest_name, nodes_of, field_refusal, refusal_at, network_of, unless_refused, names_in, roads_of, first_refusal, LoadShape, Field, draw, both, draws_of, nothing, arcs_right, arcs_down, arcs_of_row, network_part, node_id, arcs_between}
+use Rattle.std.proofs.Common.{rules, ◌≡◌, ℕ, zero, suc, ◌+◌, ◌*◌, ◌<◌, ◌≤◌, Bool, cond, ltb, List, [], ◌∷◌, Some, None, Ok, map, length, take, get_or, ◌-◌, refl, ap, ◌∙◌, arith}
+use Rattle.made_inputs.proofs.Common.{option_or, length-map, get_or-map, mod_below, length-distinct, first_fault-all, most_nodes, longest_arc, greatest_name, nodes_of, field_refusal, refusal_at, network_of, names_in, roads_of, LoadShape, Field, draw, both, draws_of, nothing, arcs_right, arcs_down, arcs_of_row, network_part, node_id, arcs_between}
 use Rattle.std.specs.List.{flat_map}
 use Rattle.std.proofs.lemmas.Bool.{le-ltb}
 use Rattle.std.proofs.lemmas.List.{length-append, length-take-le}
 use Rattle.std.proofs.Math.Nat.{mul-le-mul}
-use Rattle.road_network.specs.declared.fault.NetworkFault.TheVariants.{TooManyArcs, TooManyNodes}
+use Rattle.road_network.specs.declared.fault.NetworkFault.TheVariants.{TooManyNodes}
 use Rattle.made_inputs.proofs.FieldLemmas.{AllFit, number_up_to-decimal}
 use Rattle.made_inputs.proofs.TextLemmas.{fields_of, RowsFit}
 use Rattle.made_inputs.proofs.PartLemmas.{Step, Lead, Lead-fit, IsPart, IsPart-nothing, IsPart-both, IsPart-each, IsPart-cond}

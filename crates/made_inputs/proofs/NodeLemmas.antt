@@ -1,5 +1,5 @@
-use Rattle.std.proofs.Common.{rules, ◌≡◌, ℕ, zero, suc, ◌+◌, ◌*◌, ◌/◌, ◌%◌, ◌<◌, ◌≤◌, ◌==◌, Bool, true, false, ◌||◌, List, [], ◌∷◌, map, inl, inr, unwrap_or, refl, ap, subst, ◌∙◌, arith}
-use Rattle.made_inputs.proofs.Common.{list_any, cases_eq, false≢true, list_any-append, mod_below, Stream, number_at, has_node, greatest_name, nodes_of, names_in, any-distinct, LoadShape, Field, draw, Part, both, each, draws_of, arcs_right, arcs_down, arcs_of_row, network_part, node_id, arcs_between}
+use Rattle.std.proofs.Common.{rules, ◌≡◌, ℕ, zero, suc, ◌+◌, ◌*◌, ◌/◌, ◌%◌, ◌<◌, ◌≤◌, ◌==◌, Bool, true, List, [], ◌∷◌, map, inl, inr, unwrap_or, refl, ap, subst, ◌∙◌, arith}
+use Rattle.made_inputs.proofs.Common.{list_any, cases_eq, false≢true, list_any-append, mod_below, Stream, number_at, has_node, greatest_name, nodes_of, names_in, any-distinct, LoadShape, Field, draw, Part, both, each, arcs_right, arcs_down, arcs_of_row, network_part, node_id, arcs_between}
 use Rattle.std.specs.List.{flat_map}
 use Rattle.std.proofs.lemmas.Bool.{lt-ltb, eq-eqb}
 use Rattle.std.proofs.lemmas.Nat.{div-add-mod'}

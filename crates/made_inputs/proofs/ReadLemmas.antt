@@ -1,5 +1,5 @@
 use Rattle.std.proofs.Common.{rules, ◌≡◌, ℕ, List, sym, subst}
-use Rattle.made_inputs.proofs.Common.{Roads, Texts, AreReadable, IsNetworkText, IsFleetText, IsScriptText}
+use Rattle.made_inputs.proofs.Common.{Roads, Texts, AreReadable, IsNetworkText, IsScriptText}
 use Rattle.made_inputs.specs.work.Some.{AreSomeRounds, IsSomeFleet, IsSomeNetwork}
 
 -- a text is read as one network alone

@@ -1,10 +1,9 @@
 use Rattle.std.proofs.lemmas.Bool.Decides.{nat_tests}
-use Rattle.std.proofs.Common.{rules, ◌≡◌, ◌≢◌, ℕ, zero, suc, ◌+◌, ◌<◌, ◌≤◌, true, not, cond, eqb, List, [], ◌∷◌, ◌++◌, Some, None, Ok, Err, map, length, refl, ap, ◌∙◌, add-one, arith}
-use Rattle.made_inputs.proofs.Common.{position_from, option_map_or, length-map, next_record, default_config, records_from, records_next, records, strip_bom, rows_under, table_of, Field, field_text, text_under, csv_line, csv_lines, script_header, fleet_header, network_header}
+use Rattle.std.proofs.Common.{rules, ◌≡◌, ◌≢◌, ℕ, zero, suc, ◌+◌, ◌<◌, ◌≤◌, true, not, cond, eqb, List, [], ◌∷◌, ◌++◌, Some, None, Ok, map, length, refl, ap, ◌∙◌, add-one, arith}
+use Rattle.made_inputs.proofs.Common.{position_from, length-map, next_record, default_config, records_from, records, strip_bom, table_of, Field, field_text, text_under, csv_line, csv_lines, script_header, fleet_header, network_header}
 use Rattle.std.proofs.lemmas.Bool.{eq-eqb}
 use Rattle.std.proofs.lemmas.List.{length-append}
-use Rattle.pool_io.specs.declared.records.RowFault.TheVariants.{Header, UnequalLength}
-use Rattle.pool_io.specs.lemmas.Records.{header_fields, records_of, is_record, even_rows}
+use Rattle.pool_io.specs.lemmas.Records.{header_fields, records_of, is_record}
 use Rattle.made_inputs.proofs.FieldLemmas.{AllFit, row_read}
 use Rattle.csv.specs.declared.parser.State.TheVariants as st
 

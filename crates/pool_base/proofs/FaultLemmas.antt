@@ -1,4 +1,4 @@
-use Rattle.std.proofs.Common.{rules, ◌≡◌, ℕ, List, refl, sym, subst, inl, inr}
+use Rattle.std.proofs.Common.{rules, ◌≡◌, ℕ, List, refl, sym, subst}
 use Rattle.std.proofs.lemmas.Bool.{cases_order}
 use Rattle.pool_base.specs.TimesFault.{IsFirst, IsFirstPair, IsFirstTriple, IsFirstFault}
 use Rattle.pool_base.specs.declared.times.TimesFault.{TimesFault}

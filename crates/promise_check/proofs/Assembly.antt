@@ -1,5 +1,5 @@
 use Rattle.std.proofs.Common.{rules, ◌≡◌, ℕ, suc, ◌+◌, ◌<◌, ◌≤◌, inl, inr, true, false, eqb, List, [], ◌∷◌, length, map, get_or, Some, None, Option, ◌⊎◌, Bool, MatchBool, refl, sym, ap, ◌∙◌, subst, arith, ⊎_elim}
-use Rattle.promise_check.proofs.Common.{range_with_len, option_map_or, length-map, get_or-map, get_or_default, filter_passes, slice_get-get_or, Promise, Rider, Vehicle, Batch, Leg, SettledRider, SettledVehicle, IsLeg, IsServable, no_rider, no_vehicle, greatest, IsTrip, vehicle_task, IsShort, IsSound, IsSoundVehicle, Settings, request_at, no_request, kept_leg, ArePlain, is_promised_to, promised_to, kept_legs, IsLive, kept_rider, IsHeld, AreKept, HoldsPromised, HasRightLimit, IsLegOf, IsSettled, IsSettledVehicle, AreSettledVehicles, slice_get_within}
+use Rattle.promise_check.proofs.Common.{option_map_or, length-map, get_or-map, get_or_default, filter_passes, slice_get-get_or, Promise, Rider, Vehicle, Batch, Leg, SettledRider, SettledVehicle, IsLeg, IsServable, no_rider, no_vehicle, greatest, IsTrip, vehicle_task, IsShort, IsSound, IsSoundVehicle, Settings, request_at, no_request, kept_leg, ArePlain, is_promised_to, promised_to, kept_legs, IsLive, kept_rider, IsHeld, AreKept, HoldsPromised, HasRightLimit, IsLegOf, IsSettled, IsSettledVehicle, AreSettledVehicles, slice_get_within}
 use Rattle.std.specs.List.{All, Contains, slice_get}
 use Rattle.std.proofs.lemmas.Bool.Decides.{nat_tests, Decides-eqb}
 use Rattle.pool_base.specs.TravelTime.{longest}

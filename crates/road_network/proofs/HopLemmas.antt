@@ -1,6 +1,6 @@
 -- The hops that leave a node are its arcs: what a search over a network's nodes cites.
-use Rattle.std.proofs.Common.{rules, ◌≡◌, ℕ, ◌==◌, true, Bool, List, [], ◌∷◌, filter, ap, inl, inr, arith, All, Contains}
-use Rattle.road_network.proofs.Common.{cases_Bool, nat_tests, All-nil, All-cons, All-weaker, Contains-append_right, Contains-get_or, Arc, hop_of, arc_from}
+use Rattle.std.proofs.Common.{rules, ◌≡◌, ℕ, ◌==◌, true, Bool, List, [], ◌∷◌, filter, inl, inr, arith, All, Contains}
+use Rattle.road_network.proofs.Common.{cases_Bool, All-nil, All-cons, All-weaker, Contains-append_right, Contains-get_or, Arc, hop_of, arc_from}
 
 from_is : (node : ℕ) (arc : Arc) → (arc.from == node) ≡ true → arc_from node (hop_of arc) ≡ arc
 from_is node arc test = search rules

@@ -1,5 +1,5 @@
 -- Names and their indexes in a list of nodes.
-use Rattle.std.proofs.Common.{◌≡◌, ℕ, ◌<◌, eqb, true, false, List, length, get_or, Option, Some, None, slice_get, position, refl, sym, ap, ◌∙◌, arith, inl, inr, All, Contains, IfSome, nat_lt}
+use Rattle.std.proofs.Common.{◌≡◌, ℕ, ◌<◌, eqb, true, false, List, length, get_or, Option, Some, None, slice_get, position, refl, ap, ◌∙◌, arith, All, Contains, IfSome, nat_lt}
 use Rattle.road_network.proofs.Common.{IsDistinct, list_any, position_or_len, cases_Bool, nat_tests, passes_at_first, position_or_len_is, All-push, with_node}
 use Rattle.std.proofs.lemmas.Option.{slice_get-get_or}
 use Rattle.std.proofs.lemmas.List.Quantifiers.{position-Some}

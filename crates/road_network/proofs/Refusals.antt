@@ -1,5 +1,5 @@
 -- The first refusal, row by row.
-use Rattle.std.proofs.Common.{rules, ◌≡◌, ℕ, ◌+◌, ◌<◌, ◌≤◌, cond, List, [], Some, None, Ok, Err, true, false, length, get_or, take, sym, ap, ◌∙◌, refl, arith, nat_lt}
+use Rattle.std.proofs.Common.{rules, ◌≡◌, ℕ, ◌+◌, ◌<◌, ◌≤◌, cond, List, [], Some, None, Ok, Err, length, get_or, take, arith, nat_lt}
 use Rattle.road_network.proofs.Common.{nat_tests, first_fault, most_nodes, most_arcs, nodes_of, field_refusal, refusal_at, network_of, first_refusal, roads_of, with_row, TooManyArcs, TooManyNodes}
 use Rattle.std.specs.Option.{option_or}
 use Rattle.std.proofs.lemmas.Bool.{le-ltb, lt-ltb}

@@ -1,6 +1,6 @@
 -- One more row of a network.
-use Rattle.std.proofs.Common.{rules, ◌≡◌, ◌==◌, ◌||◌, ℕ, cond, ◌+◌, ◌<◌, ◌≤◌, List, [], ◌∷◌, ◌++◌, length, get_or, take, map, refl, sym, ap, ◌∙◌, arith, All}
-use Rattle.road_network.proofs.Common.{list_any, nat_tests, flat_map_more, map_more, take_more, All-map, All-more, Arc, IsArcAmong, index_in, longest_arc, arc_in, nodes_of, arc_seconds, names_in, number_at, with_row, with_node}
+use Rattle.std.proofs.Common.{rules, ◌≡◌, ◌==◌, ℕ, ◌+◌, ◌<◌, ◌≤◌, List, [], ◌∷◌, ◌++◌, length, get_or, take, map, refl, sym, ap, ◌∙◌, All}
+use Rattle.road_network.proofs.Common.{list_any, flat_map_more, map_more, take_more, All-map, All-more, Arc, IsArcAmong, index_in, longest_arc, arc_in, nodes_of, arc_seconds, names_in, number_at, with_row, with_node}
 use Rattle.std.specs.List.{flat_map}
 use Rattle.std.proofs.lemmas.List.{append_assoc}
 use Rattle.pool_base.specs.Distinct.{distinct}

@@ -1,5 +1,5 @@
 -- The calls of a lane in a log that grows by one entry.
-use Rattle.std.proofs.Common.{rules, ◌≡◌, ◌≢◌, ℕ, suc, ◌+◌, ◌<◌, ◌==◌, cond, List, [], ◌∷◌, ◌++◌, length, filter, sym, ap, ◌∙◌, arith, eq-eqb, ne_eqb, append-nil}
+use Rattle.std.proofs.Common.{rules, ◌≡◌, ◌≢◌, ℕ, suc, ◌+◌, ◌<◌, ◌==◌, cond, List, [], ◌∷◌, ◌++◌, length, filter, ap, ◌∙◌, arith, eq-eqb, ne_eqb, append-nil}
 use Rattle.seat_lock.proofs.Common.{enumerate_from, LoggedCall, Claim, calls_of, Claimed, Laned, lane_weight}
 use Rattle.std.proofs.lemmas.List.Elements.{filter-append}
 use Rattle.seat_lock.proofs.Totals.{at, at-same}

@@ -1,11 +1,11 @@
 -- Passes as they are handed out and taken back.
 use Rattle.std.proofs.lemmas.Bool.Decides.{nat_tests}
-use Rattle.std.proofs.Common.{rules, ◌≡◌, ℕ, zero, suc, ◌+◌, ◌-◌, ◌<◌, List, [], ◌∷◌, ◌++◌, map, length, get_or, All, Option, Some, sym, refl, ap, ◌∙◌, subst, arith}
+use Rattle.std.proofs.Common.{rules, ◌≡◌, ℕ, zero, suc, ◌+◌, ◌-◌, ◌<◌, List, [], ◌∷◌, ◌++◌, map, length, get_or, All, Option, Some, ap, ◌∙◌, subst, arith}
 use Rattle.std.specs.List.{Contains}
 use Rattle.std.proofs.lemmas.List.{get_or_append_left, length-map}
 use Rattle.std.proofs.lemmas.List.Elements.{All-contains, Contains-append_left, Contains-push}
 use Rattle.std.proofs.Math.Seq.{get_or-append_seam}
-use Rattle.seat_lock.proofs.Common.{Me, LoggedCall, View, Idle, PassValue, calls_of, claim, calls_in, lane_view, lanes_view, lane_given, lanes_kept, pass_value, IsPass, Claimed, Laned, claim_of}
+use Rattle.seat_lock.proofs.Common.{Me, LoggedCall, View, Idle, PassValue, calls_of, calls_in, lane_view, lanes_view, lane_given, lanes_kept, pass_value, IsPass, Claimed, Laned, claim_of}
 use Rattle.atomic_table.specs.declared.shared.Seat.{Seat}
 
 module _ {A : Type 0} where

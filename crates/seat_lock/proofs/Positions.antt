@@ -1,5 +1,5 @@
 -- Each position of a log is that of one call of one lane.
-use Rattle.std.proofs.Common.{◌≡◌, ℕ, zero, suc, ◌+◌, ◌<◌, ◌≤◌, ◌==◌, if◌then◌else◌, cond, Bool, List, [], ◌∷◌, length, get_or, filter, count_by, sum_by, nat_lt, sym, refl, ap, ◌∙◌, arith}
+use Rattle.std.proofs.Common.{◌≡◌, ℕ, zero, suc, ◌+◌, ◌<◌, ◌≤◌, ◌==◌, if◌then◌else◌, cond, Bool, List, [], ◌∷◌, length, get_or, filter, count_by, sum_by, nat_lt, sym, refl, ◌∙◌, arith}
 use Rattle.std.proofs.lemmas.Bool.Decides.{nat_tests}
 use Rattle.seat_lock.proofs.Common.{enumerate_from, LoggedCall, calls_of, below, Laned}
 use Rattle.std.proofs.lemmas.List.Sums.{sum_by-cons}

@@ -1,6 +1,6 @@
 -- What a seat knows in the course of a turn.
 use Rattle.std.proofs.lemmas.Bool.Decides.{nat_tests}
-use Rattle.std.proofs.Common.{rules, arith, ◌≡◌, ℕ, List, [], ◌∷◌, ◌++◌, length, Option, Some, None, sym, ap, ◌∙◌, subst}
+use Rattle.std.proofs.Common.{rules, arith, ◌≡◌, ℕ, List, [], ◌∷◌, ◌++◌, length, Option, Some, None, sym, ap, ◌∙◌}
 use Rattle.seat_lock.proofs.Common.{drop-append_seam, Me, rest, LoggedCall, View, Idle, Waiting, InTurn, calls_of, claim, calls_in, with_stage, in_turn, lane_view, since, held, NotesAt}
 use mathlib.Core.List.{append_assoc}
 use Rattle.seat_lock.proofs.Calls.{calls-own}

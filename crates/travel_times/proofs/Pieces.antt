@@ -1,5 +1,5 @@
 -- A table is written by pieces, each of whole rows.
-use Rattle.std.proofs.Common.{rules, ◌≡◌, ℕ, ◌+◌, ◌-◌, ◌*◌, ◌/◌, ◌%◌, ◌<◌, ◌≤◌, ◌⊎◌, min, List, length, slice_index, drop, All, sym, ap, ◌∙◌, subst, inl, inr, arith}
+use Rattle.std.proofs.Common.{rules, ◌≡◌, ℕ, ◌+◌, ◌-◌, ◌*◌, ◌/◌, ◌<◌, ◌≤◌, ◌⊎◌, min, List, length, slice_index, drop, All, sym, ap, ◌∙◌, subst, inl, inr, arith}
 use Rattle.travel_times.proofs.Common.{IsChunk, slice_chunk, cases_lt, mul-add-lt, never, Arc, IsTimeBetween, AreRows, IsRowAt, IsUnwritten, AreWritten, IsPiece, IsPieceWritten, WritesRow}
 use Rattle.std.proofs.Math.Nat.{mul-le-mul_right, mod-eq-sub-div-mul, div-mul-le_self, lt-div-mul-add, mul-div_cancel}
 use Rattle.std.proofs.lemmas.List.{get_or-take, get_or-drop, length-take, length-drop}

@@ -1,5 +1,5 @@
-use Rattle.std.proofs.Common.{rules, ◌≡◌, ℕ, ◌+◌, ◌-◌, ◌*◌, ◌<◌, ◌≤◌, ◌⊎◌, List, [], ◌++◌, length, slice_index, map, All, Bool, true, false, nat_lt, Some, None, refl, ap, ◌∙◌, inl, inr, arith}
-use Rattle.travel_times.proofs.Common.{position_or_len, cases_lt, nat_tests, mul-add-lt, get_or_append_left, get_or-append_right, get_or-map, length-map, get_or_default, never, longest, cell_of, IsTable, Arc, IsTimeBetween, IsArcAmong, AreRows}
+use Rattle.std.proofs.Common.{rules, ◌≡◌, ℕ, ◌+◌, ◌-◌, ◌*◌, ◌<◌, ◌≤◌, List, ◌++◌, length, slice_index, map, All, Bool, Some, ap, ◌∙◌, inl, inr, arith}
+use Rattle.travel_times.proofs.Common.{position_or_len, cases_lt, nat_tests, mul-add-lt, get_or_append_left, get_or-append_right, get_or-map, length-map, get_or_default, cell_of, IsTable, Arc, IsTimeBetween, IsArcAmong, AreRows}
 use Rattle.std.specs.List.{position}
 use Rattle.std.proofs.lemmas.List.{length-append}
 use Rattle.pool_base.proofs.lemmas.TravelTimeLemmas.{cell_of-within, cell_of-from_outside, cell_of-to_outside}

@@ -1,5 +1,5 @@
 -- The leaves and dead ends of a sound tree part the plans, and its value is a bound.
-use Rattle.std.proofs.Common.{◌≡◌, ℕ, ◌+◌, ◌*◌, ◌<◌, ◌≤◌, Bool, true, false, cond, List, [], ◌∷◌, length, Option, Some, None, count_by, ℤ, pos, negsuc, ◌≤ℤ◌, refl, sym, ap, ◌∙◌, inl, inr, ⊎_elim, arith, unwrap_or, rules}
+use Rattle.std.proofs.Common.{◌≡◌, ℕ, ◌+◌, ◌*◌, ◌<◌, ◌≤◌, Bool, true, false, cond, List, [], ◌∷◌, length, Option, Some, None, count_by, ℤ, pos, negsuc, ◌≤ℤ◌, refl, sym, ap, ◌∙◌, inl, inr, ⊎_elim, arith, rules}
 use Rattle.plan_rules.proofs.Common.{same_Some, ints, sum_by-cons, cases_eq, cases_Bool, both_ways, false_from_ne_true, all_below, lesser, Graph, row_at, has_rider, IsRowOf, choice_at, is_in, IsGraphRow, IsGoodGraph, IsPlan, IsLawful, cost_of, IsBound, Usable, leaf_value, every_row, only_row, without_row, CanBranch, IsSoleRow, IsDeadEnd, Clash, Stranded, Place, rounded_up, least_leaf, is_choice_usable, is_within, belongs_to_end, belongs_to_dead_end, ReadsTo, places_from, IsWholeTree, places_read, value_read, Node, Branch, Leaf, Dead, nat_tests}
 use Rattle.plan_rules.proofs.lemmas.SumLemmas.{flag, flag-true, flag-false, all_below_at, all_below_from, all_below_fails, all_below_same, count_below_two, lesser-le_left, lesser-le_right}
 use Rattle.plan_rules.proofs.lemmas.GraphLemmas.{vehicle_below, times_served_as_count, times_served_found, in_choice}

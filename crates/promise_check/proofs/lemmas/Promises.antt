@@ -1,6 +1,6 @@
 use Rattle.std.proofs.lemmas.Bool.Decides.{nat_tests}
 use Rattle.std.proofs.Common.{rules, ◌≡◌, ℕ, zero, suc, ◌+◌, ◌<◌, ◌≤◌, ◌⊎◌, inl, inr, List, [], ◌∷◌, ◌++◌, length, take, get_or, set, refl, sym, ap, ◌∙◌, subst, arith, Bool, true, false, cond, ⊎_elim, Some}
-use Rattle.promise_check.proofs.Common.{range_with_len, IsStrictlyIncreasing, cases_lt, cases_eq, length_push, get_or_append_left, get_or_push, take_more, get_or_default, Contains-append_left, Contains-push, Contains-push_cases, filter-append, All-filter, All-from_get_or, Rider, SettledRider, SettledVehicle, no_rider, no_vehicle, IsTrip, request_at, no_request, is_promised_to, promised_to, kept_rider, AreKept, IsHeld}
+use Rattle.promise_check.proofs.Common.{range_with_len, IsStrictlyIncreasing, cases_lt, cases_eq, length_push, get_or_append_left, get_or_push, take_more, get_or_default, Contains-append_left, Contains-push, Contains-push_cases, filter-append, All-filter, All-from_get_or, Rider, SettledRider, SettledVehicle, no_rider, no_vehicle, IsTrip, request_at, no_request, promised_to, kept_rider, AreKept, IsHeld}
 use Rattle.std.specs.List.{All, Contains, filter, slice_get}
 use Rattle.std.proofs.lemmas.List.{length-append, length-set, get_or-set_same, get_or-set_other, map-id, append-nil, take-append-drop}
 use Rattle.std.proofs.lemmas.Bool.{cond_both}

@@ -1,9 +1,7 @@
 -- What a close makes of the riders.
-use Rattle.std.proofs.Common.{◌≡◌, ℕ, ◌+◌, ◌<◌, ◌≤◌, true, false, cond, eqb, List, [], ◌∷◌, ◌++◌, length, get_or, drop, map, Some, None, Result, Ok, Err, refl, sym, ap, ◌∙◌, inl, inr, arith, is_some, is_ok, rules}
-use Rattle.request_book.proofs.Common.{cons_option, nat_tests, IsBinarySearchResult, IsSearchInRange, cases_lt, at_drop_more, drop_all, searchable_from_sorted, Rider, ChosenTrip, PlannedStop, BookRider, Pick, picks, trip_picks, after_plan, after_answer, waits_again, takes_promise, promised_in_turn, Answer, Overflow, pool_id, look_up, changed_at, KeysRise, KeysDiffer, changed_in_turn, is_active}
-use Rattle.std.specs.List.Sorted.{IsSortedBy}
-use Rattle.std.specs.Ordering.{nat_cmp, is_lt}
-use Rattle.std.specs.Cmp.{nat_cmp_total}
+use Rattle.std.proofs.Common.{◌≡◌, ℕ, ◌+◌, ◌<◌, ◌≤◌, true, false, cond, eqb, List, [], ◌∷◌, ◌++◌, length, get_or, drop, map, Some, None, Result, Ok, Err, refl, sym, ap, ◌∙◌, arith, is_some, is_ok, rules}
+use Rattle.request_book.proofs.Common.{cons_option, nat_tests, IsBinarySearchResult, IsSearchInRange, at_drop_more, drop_all, searchable_from_sorted, Rider, ChosenTrip, PlannedStop, BookRider, Pick, picks, trip_picks, after_plan, after_answer, waits_again, takes_promise, promised_in_turn, Answer, Overflow, pool_id, look_up, changed_at, KeysRise, KeysDiffer, changed_in_turn, is_active}
+use Rattle.std.specs.Ordering.{nat_cmp}
 use Rattle.std.proofs.lemmas.List.{append-nil, append_assoc}
 use Rattle.request_book.specs.declared.outcome.Answer.TheVariants.{Planned as Plan}
 use Rattle.request_book.proofs.lemmas.IndexLemmas.{IsPool, IsPool-map}

@@ -1,6 +1,6 @@
 -- The laws of steps and journals.
-use Rattle.std.proofs.Common.{rules, ◌≡◌, ℕ, ◌+◌, ◌-◌, ◌^◌, true, List, [], ◌∷◌, ◌++◌, length, Option, Some, refl, sym, ap, ◌∙◌, arith, min, is_some, option_map, option_and_then, ◌↔◌}
-use Rattle.request_book.proofs.Common.{nat_tests, IsFleet, Vehicle, Command, Entry, BookRefusal, Refused, BookRider, Aboard, State, next_position, opening, IsConsistent, IsPassenger, seat_in, status_in, state_after, find_rider, step}
+use Rattle.std.proofs.Common.{rules, ◌≡◌, ℕ, ◌+◌, ◌-◌, ◌^◌, true, List, [], ◌∷◌, ◌++◌, length, Option, Some, refl, arith, min, is_some, option_map, option_and_then, ◌↔◌}
+use Rattle.request_book.proofs.Common.{nat_tests, IsFleet, Vehicle, Command, Entry, BookRefusal, Refused, BookRider, Aboard, State, next_position, opening, IsConsistent, IsPassenger, seat_in, status_in, state_after, step}
 use Rattle.std.proofs.lemmas.List.{length-append}
 use Rattle.request_book.proofs.lemmas.BookLemmas.{opening-consistent}
 use Rattle.request_book.proofs.lemmas.ConsistentLemmas.{step-consistent}

@@ -1,6 +1,6 @@
 -- The step table is what the register works: refusals as a list of those that hold.
 use Rattle.std.proofs.Common.{rules, arith, ◌≡◌, ℕ, true, false, List, Option, Some, None, sym, ap, subst, ◌∙◌, is_some}
-use Rattle.request_book.proofs.Common.{one_more, Command, Answer, BookRefusal, Reply, Accepted, Cancelled, Placed, Picked, Dropped, Sealed, Closed, BookRider, Waiting, State, would_seal, batch_of, sealed_state, submit, cancel, report, pickup, dropoff, seal, close, answered, step, closed_state, after_answer, without, first_of, submit_step, cancel_step, report_step, pickup_step, dropoff_step, seal_refusal, seal_step, close_step, table_step, batch_unless}
+use Rattle.request_book.proofs.Common.{one_more, Command, Answer, BookRefusal, Reply, Accepted, Cancelled, Placed, Picked, Dropped, Sealed, Closed, BookRider, State, would_seal, batch_of, sealed_state, submit, cancel, report, pickup, dropoff, seal, close, answered, step, closed_state, after_answer, without, first_of, submit_step, cancel_step, report_step, pickup_step, dropoff_step, seal_refusal, seal_step, close_step, table_step, batch_unless}
 use Rattle.request_book.specs.declared.command.Command.TheVariants as command
 
 submit-table : (nodes : List ℕ) (s : State) (r : BookRider) → answered s Accepted (submit nodes s r) ≡ submit_step nodes s r

@@ -1,5 +1,5 @@
-use Rattle.std.proofs.Common.{rules, ◌≡◌, ◌≢◌, ℕ, zero, suc, ◌+◌, ◌*◌, ◌<◌, ◌≤◌, ◌⊎◌, Bool, true, false, cond, eqb, Option, None, Some, IfSome, List, [], ◌∷◌, ◌++◌, length, get_or, slice_index, set, replicate, map, filter, sum, count_by, All, Contains, refl, sym, ap, ◌∙◌, inl, inr, arith}
-use Rattle.travel_times.proofs.Common.{cases_eq, cases_lt, cases_Bool, get_or-map, length-map, get_or_default, get_or_past, get_or-replicate, length-replicate, nat_tests, All-contains, All-contains_itself, All-filter, sum_by-set, sum_by-cons, never, longest, Arc, Hop, IsWalk, walk_seconds, IsTimeBetween, IsArcAmong, hop_of, leaving, AreTimesUpTo, reach, waits, IsNextTaken, IsHopRelaxed, RelaxesHops, HasWalkOf, IsSearching}
+use Rattle.std.proofs.Common.{rules, ◌≡◌, ℕ, zero, suc, ◌+◌, ◌<◌, ◌≤◌, ◌⊎◌, Bool, true, false, eqb, Option, None, Some, IfSome, List, [], ◌∷◌, ◌++◌, length, get_or, slice_index, set, replicate, map, filter, All, Contains, sym, ap, ◌∙◌, inl, inr, arith}
+use Rattle.travel_times.proofs.Common.{cases_eq, cases_lt, cases_Bool, get_or-map, length-map, get_or_default, get_or_past, get_or-replicate, length-replicate, All-contains, All-contains_itself, All-filter, sum_by-set, sum_by-cons, never, longest, Arc, Hop, IsWalk, walk_seconds, IsTimeBetween, IsArcAmong, hop_of, leaving, AreTimesUpTo, reach, waits, IsNextTaken, IsHopRelaxed, RelaxesHops, HasWalkOf, IsSearching}
 use Rattle.std.proofs.lemmas.Bool.{eqb-true, eq-eqb}
 use Rattle.std.proofs.lemmas.List.{length-set, get_or-set_same, get_or-set_other}
 use Rattle.std.proofs.lemmas.List.Elements.{filter_passes}

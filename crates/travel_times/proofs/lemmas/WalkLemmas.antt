@@ -1,4 +1,4 @@
-use Rattle.std.proofs.Common.{rules, ◌≡◌, ℕ, ◌+◌, ◌*◌, ◌<◌, ◌≤◌, ◌⊎◌, Bool, true, false, eqb, List, [], ◌∷◌, ◌++◌, length, All, Contains, refl, sym, ◌∙◌, subst, inl, inr, arith}
+use Rattle.std.proofs.Common.{rules, ◌≡◌, ℕ, ◌+◌, ◌*◌, ◌<◌, ◌≤◌, ◌⊎◌, Bool, true, false, eqb, List, [], ◌∷◌, ◌++◌, length, All, Contains, refl, ◌∙◌, inl, inr, arith}
 use Rattle.travel_times.proofs.Common.{IsDistinct, list_any, AllByRecursion, cases_Bool, cases_eq, nat_tests, or_parts, All-contains, sum_by-cons, sum_by_push, sum_by-append, never, longest, Arc, IsWalk, IsTimeBetween, walk_seconds, IsArcAmong}
 use Rattle.std.proofs.lemmas.Map.Steps.{length-le_from_distinct_below}
 
