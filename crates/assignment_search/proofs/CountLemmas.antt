@@ -1,5 +1,5 @@
 -- How many choices there are, and how long a tree can be.
-use Rattle.std.proofs.Common.{◌≡◌, ◌==◌, ◌&&◌, ◌||◌, not, ℕ, zero, suc, ◌+◌, ◌*◌, ◌<◌, ◌≤◌, max, Bool, true, List, [], ◌∷◌, length, take, drop, get_or, ℤ, refl, sym, ap, ◌∙◌, arith, rules}
+use Rattle.std.proofs.Common.{◌≡◌, ◌==◌, ◌&&◌, ◌||◌, not, ℕ, zero, suc, ◌+◌, ◌*◌, ◌<◌, ◌≤◌, max, Bool, List, [], ◌∷◌, length, take, drop, get_or, ℤ, refl, sym, ap, ◌∙◌, arith, rules}
 use Rattle.assignment_search.proofs.Common.{cases_eq, count_below, Graph, IsRowOf, row_vehicle, Usable, is_usable_by, every_row, only_row, without_row, CanBranch, ReadsTo, Node, Branch, Leaf, Dead, flag, sum_below_same, sum_below_plus, count_below_some, product_below, choice_count, nat_tests}
 use Rattle.std.proofs.Math.Nat.{add-mul, mul-add, le-max_left}
 use Rattle.assignment_search.proofs.GrowthLemmas.{IsSplit, grown_reads}
@@ -30,12 +30,6 @@ max_one n l = omega arith
 
 flag_parts : (a b c : Bool) → flag (a && b) ≡ flag (a && (b && (not a || c))) + flag (a && (b && not c))
 flag_parts a b c = grind (arith, nat_tests)
-
-other_only : (a b q c : Bool) → (a ≡ true → q ≡ true → ⊥) → (a && b) ≡ (a && (b && (not q || c)))
-other_only a b q c apart = grind (arith, nat_tests)
-
-other_without : (a b c : Bool) → (a ≡ true → c ≡ true → ⊥) → (a && b) ≡ (a && (b && not c))
-other_without a b c apart = grind (arith, nat_tests)
 
 -- how many rows the vehicle may use
 abbrev usable_count : Graph → Usable → ℕ → ℕ

@@ -11,8 +11,8 @@ unfoldable pub use Rattle.csv.specs.Reading.{Reached, records_from}
 pub use Rattle.csv.specs.Reading.{ReadRecord, default_config, strip_bom}
 pub use Rattle.csv.specs.Records.{field_at, fields_of, partial_of}
 pub use Rattle.csv.specs.declared.reader.Reader.{Reader}
-pub use Rattle.pool_io.specs.Table.{Table, rows_under, table_of}
-pub use Rattle.pool_io.specs.declared.records.RowFault.TheVariants.{Header, OutOfMemory, UnequalLength}
+pub use Rattle.pool_io.specs.Table.{Table, table_of}
+pub use Rattle.pool_io.specs.declared.records.RowFault.TheVariants.{OutOfMemory, UnequalLength}
 pub use Rattle.pool_io.specs.lemmas.Records.{even_rows, header_fields, is_record, records_of}
 pub use Rattle.pool_io.specs.work.Cutting.{cut_rows}
 pub use Rattle.pool_io.specs.work.Progress.{HasRead}

@@ -1,5 +1,5 @@
 use Rattle.std.proofs.lemmas.Bool.Decides.{nat_tests}
-use Rattle.std.proofs.Common.{◌≡◌, ◌≢◌, ℕ, ◌+◌, ◌<◌, ◌≤◌, List, [], ◌∷◌, ◌++◌, length, slice_index, get_or, map, All, Any, sum_by, ℤ, pos, neg_ℤ, ◌+ℤ◌, ◌-ℤ◌, ◌≤ℤ◌, ⊎_elim, arith, rules}
+use Rattle.std.proofs.Common.{◌≡◌, ◌≢◌, ℕ, ◌+◌, ◌<◌, ◌≤◌, List, [], ◌∷◌, ◌++◌, length, slice_index, get_or, map, All, sum_by, ℤ, pos, neg_ℤ, ◌+ℤ◌, ◌-ℤ◌, ◌≤ℤ◌, ⊎_elim, arith, rules}
 use Rattle.rebalancing.proofs.Common.{cases_eq, ints, length-map, get_or-map, All-push, Contains-append_left, Contains-push, never, Matching, pair_seconds, IsMatching, pair_worth, potential, ArePotentials, weight_of, IsPricedMatching, weight_in, IsChosen, seconds_in}
 use Rattle.std.proofs.lemmas.Bool.{lt-ltb}
 use Rattle.std.proofs.lemmas.List.Quantifiers.{all_pairs_push}
@@ -68,13 +68,6 @@ module _ (tau : ℕ → ℕ → ℕ) (idle wanted : List ℕ) (s : Matching) (pa
 
   to_at : (j : ℕ) → j < length wanted → potential (map negated s.rider_price.items) j ≡ negated (slice_index s.rider_price.items j)
   to_at j h = get_or-map negated s.rider_price.items j 0 (pos 0) (rw (priced.prices.b_length, riders) h)
-
-  -- a vehicle of no chosen pair has price 0
-  from_free : (i : ℕ) → i < length idle → (Any (λ (p : ℕ × ℕ). p.0 ≡ i) pairs → ⊥) → slice_index s.vehicle_price.items i ≡ 0
-  from_free i h unchosen = search rules
-
-  to_free : (j : ℕ) → j < length wanted → (Any (λ (p : ℕ × ℕ). p.1 ≡ j) pairs → ⊥) → slice_index s.rider_price.items j ≡ 0
-  to_free j h unchosen = search rules
 
   pub ArePotentials-chosen : ArePotentials tau idle wanted pairs (map negated s.vehicle_price.items) (map negated s.rider_price.items)
   ArePotentials-chosen = grind (arith, nat_tests, length-map, negated, from_at, negated-most, to_at, negated-at_most, slice_index, weight_of-is, within, negated-equal)

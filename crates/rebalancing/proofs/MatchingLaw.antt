@@ -1,6 +1,6 @@
 use Rattle.std.proofs.lemmas.Bool.Decides.{nat_tests}
-use Rattle.std.proofs.Common.{◌≡◌, ℕ, suc, ◌+◌, ◌*◌, ◌<◌, ◌≤◌, List, length, get_or, map, replicate, All, Any, sum, sum_by, ℤ, pos, negsuc, neg_ℤ, ◌+ℤ◌, ◌-ℤ◌, ◌≤ℤ◌, refl, ap, ◌∙◌, arith, rules}
-use Rattle.rebalancing.proofs.Common.{ints, length-map, get_or-map, length-replicate, get_or-replicate, sum_by-le, never, longest, pair_seconds, IsMatching, IsBestMatching, pair_worth, potential, ArePotentials}
+use Rattle.std.proofs.Common.{◌≡◌, ℕ, suc, ◌+◌, ◌*◌, ◌<◌, ◌≤◌, List, length, get_or, map, replicate, All, Any, sum, sum_by, ℤ, pos, negsuc, ◌+ℤ◌, ◌-ℤ◌, ◌≤ℤ◌, refl, ap, ◌∙◌, arith, rules}
+use Rattle.rebalancing.proofs.Common.{length-map, get_or-map, length-replicate, get_or-replicate, sum_by-le, never, longest, pair_seconds, IsMatching, IsBestMatching, pair_worth, potential, ArePotentials}
 use Rattle.std.proofs.lemmas.List.Folds.{sum_by-replicate}
 use Rattle.rebalancing.proofs.PlaceSums.{sum_over_different, sum_over_covering, sum_at_least, sum_exactly}
 
@@ -59,11 +59,6 @@ best_by_prices tau from to pairs a b range few m prices = grind (arith, nat_test
 abbrev pub fall_of : ℤ → ℕ
 fall_of (pos n) = 0
 fall_of (negsuc n) = suc n
-
--- a number that is at most 0 is its fall, negated
-pub neg-fall_of : (z : ℤ) → z ≤ℤ pos 0 → z ≡ neg_ℤ (pos (fall_of z))
-neg-fall_of (pos n) h = omega (arith, ints, h)
-neg-fall_of (negsuc n) h = refl
 
 falls_cover : (u v : ℤ) (s w : ℕ) → u ≤ℤ pos 0 → v ≤ℤ pos 0 → (u +ℤ v) ≤ℤ (pos s -ℤ pos w) → w ≤ s + fall_of u + fall_of v
 falls_cover u v s w hu hv h = search rules

@@ -1,4 +1,4 @@
-use Rattle.std.proofs.Common.{◌≡◌, ◌≢◌, ℕ, ◌+◌, ◌<◌, ◌≤◌, ◌⊎◌, List, length, slice_index, arith, rules}
+use Rattle.std.proofs.Common.{◌≡◌, ◌≢◌, ℕ, ◌+◌, ◌<◌, ◌≤◌, ◌⊎◌, List, length, slice_index, rules}
 use Rattle.rebalancing.proofs.Common.{Improves}
 
 -- the riders below i are relaxed, and `nearest` is the nearest of them
@@ -23,12 +23,6 @@ module _ (row price place : List ℕ) (offset position : ℕ) (ta po ta' po' : L
 
   module _ (ta'' po'' : List ℕ) (when nearest' : ℕ) (better : Improves i when position ta' po' ta'' po'') (fits : slice_index row i + when ≡ offset + slice_index price i) (out_i : slice_index place i ≡ 0) (im : i < m)
       (next : ((nearest' ≡ i) × ((nearest ≡ m) ⊎ (slice_index ta'' i ≤ slice_index ta'' nearest))) ⊎ ((nearest' ≡ nearest) × (nearest ≢ m) × (slice_index ta'' nearest ≤ slice_index ta'' i))) where
-    -- what is unchanged below i
-    same_below : (j : ℕ) → j < i → slice_index ta'' j ≡ slice_index ta' j
-    same_below j h = better.others j (λ e. omega arith)
-
-    nearest_least : (j : ℕ) → j < i + 1 → slice_index place j ≡ 0 → slice_index ta'' nearest' ≤ slice_index ta'' j
-    nearest_least j h out = search rules
 
     -- a rider outside the tree is taken into account
     pub IsRelaxing-more : IsRelaxing row price place offset position ta po ta'' po'' (i + 1) m nearest'

@@ -2,7 +2,7 @@
 pub use Rattle.std.proofs.lemmas.Bool.{cases_Bool, cases_eq, cases_lt, false≢true}
 pub use Rattle.std.proofs.lemmas.Bool.Decides.{nat_tests}
 pub use Rattle.std.proofs.lemmas.List.{flat_map_more, get_or-replicate, get_or_append_left, get_or_default, get_or_push, get_or_read, length-map, length-replicate, map_more, map_push, take_more}
-pub use Rattle.std.proofs.lemmas.List.Elements.{All-append, All-cons, All-drop, All-head, All-map, All-more, All-nil, All-push, All-same, All-set, All-tail, All-take, All-weaker, Contains-append_right, Contains-get_or, filter-append, filter_more}
+pub use Rattle.std.proofs.lemmas.List.Elements.{All-append, All-drop, All-head, All-map, All-more, All-nil, All-push, All-same, All-set, All-tail, All-take, filter-append, filter_more}
 pub use Rattle.std.proofs.lemmas.List.Sums.{count_by-le-length, count_by_more_no, count_by_more_yes, length-filter, passes_at_first, position_or_len_is, sum_by-cons, sum_by-le-sum_by, sum_by-take-le}
 pub use Rattle.std.specs.List.{IsDistinct, list_any, position_or_len}
 pub use Rattle.pool_base.specs.InOrder.{first_fault}

@@ -40,9 +40,6 @@ at k n = if n == k then 1 else 0
 pub at-same : (k n : ℕ) → n ≡ k → at k n ≡ 1
 at-same k n e = grind (arith, nat_tests)
 
-pub at-other : (k n : ℕ) → n ≢ k → at k n ≡ 0
-at-other k n ne = grind (arith, nat_tests)
-
 pub below-past : (k n : ℕ) → n ≤ k → below (at k) n ≡ 0
 below-past k zero le = refl
 below-past k (suc n) le = grind (arith, nat_tests, below-past k n)

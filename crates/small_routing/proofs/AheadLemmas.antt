@@ -11,13 +11,6 @@ sum_below-le_one : (f g : ℕ → ℕ) (n i x : ℕ) → i < n → ((k : ℕ) �
 sum_below-le_one f g zero i x b h one = absurd (omega arith)
 sum_below-le_one f g (suc n) i x b h one = search (rules, cases_eq, sum_below-le, (sum_below-le_one f g n i x))
 
--- who is sooner can still serve whom the other can, with no more delay
-pub still_soon : (tau : ℕ → ℕ → ℕ) (dwell : ℕ) (leg : Leg) (picked dropped : Bool) (p f q g : ℕ) → AtLeastAsSoon tau p f q g → CanStill tau dwell leg picked dropped q g
-    → CanStill tau dwell leg picked dropped p f × (late_at_once tau dwell leg picked dropped p f ≤ late_at_once tau dwell leg picked dropped q g)
-still_soon tau dwell leg picked true p f q g soon can = (tt, omega arith)
-still_soon tau dwell leg true false p f q g soon can = search rules
-still_soon tau dwell leg false false p f q g soon can = search rules
-
 -- .. and where the stops of the rider that are done are the same
 still_same : (tau : ℕ → ℕ → ℕ) (dwell : ℕ) (leg : Leg) (picked dropped picked' dropped' : Bool) (p f q g : ℕ) → picked' ≡ picked → dropped' ≡ dropped → AtLeastAsSoon tau p f q g → CanStill tau dwell leg picked' dropped' q g
     → CanStill tau dwell leg picked dropped p f × (late_at_once tau dwell leg picked dropped p f ≤ late_at_once tau dwell leg picked' dropped' q g)

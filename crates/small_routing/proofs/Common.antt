@@ -8,7 +8,7 @@ pub use Rattle.pool_base.specs.TravelTime.{IsTravelTime, never}
 pub use Rattle.small_routing.specs.declared.candidate.Candidate.{Candidate}
 pub use Rattle.small_routing.specs.declared.label.Label.{Label}
 pub use Rattle.small_routing.specs.work.Ahead.{CanStill, PassengerCan, RiderCan, late_at_once, least_ahead, passenger_late, rider_late}
-pub use Rattle.small_routing.specs.work.Cost.{IsCostFound, IsNextOf, IsOnlyStop, IsPersonTried, Priced, person_of, route_of}
+pub use Rattle.small_routing.specs.work.Cost.{IsCostFound, IsNextOf, IsOnlyStop, IsPersonTried, Priced, route_of}
 pub use Rattle.small_routing.specs.work.Kept.{IsDominated, IsLabelPlaced, labels_of, no_label}
 pub use Rattle.small_routing.specs.work.Label.{CanVisit, GoesOn, IsRoutable, IsRoutableLeg, IsSmallLabel, first_label, label_at, next_label, rest_delay, second_at, task_passengers, task_riders}
 pub use Rattle.small_routing.specs.work.Search.{AddsStop, AreCandidates, IsCandidate, IsExhausted, IsLabelDone, IsTried, LeadsTo, Searched}
@@ -18,9 +18,9 @@ pub use Rattle.stop_orders.proofs.lemmas.DoneLemmas.{Completes-front, Completes-
 pub use Rattle.stop_orders.proofs.lemmas.PlainLemmas.{IsAllDone-at, IsAllDone-not_at, MakesOrders-all, MakesOrders-next, MakesOrders-none, append_one, path_back}
 pub use Rattle.stop_orders.specs.Done.{IsAllDone, IsNextStop, has, with_stop}
 pub use Rattle.stop_orders.specs.Order.{IsKnown, IsOrder}
-pub use Rattle.stop_orders.specs.Task.{IsLeastDelay, IsLeg, IsOrderOf, IsServable, IsTask, ReachesAll, Serves, leg_at, no_leg, order_delay, persons, visit_at, visits_of}
+pub use Rattle.stop_orders.specs.Task.{IsLeastDelay, IsOrderOf, IsServable, IsTask, ReachesAll, Serves, leg_at, no_leg, order_delay, persons, visit_at, visits_of}
 pub use Rattle.stop_orders.specs.lemmas.Named.{free_seats}
-pub use Rattle.stop_orders.specs.Visit.{Reaches, ServesFrom, boarding_of, delay_from, lateness, latest_of, place_of, room_after}
+pub use Rattle.stop_orders.specs.Visit.{Reaches, ServesFrom, boarding_of, delay_from, lateness, latest_of, place_of}
 pub use Rattle.stop_orders.specs.declared.leg.Leg.{Leg}
 pub use Rattle.stop_orders.specs.declared.route.Route.{Route}
 pub use Rattle.stop_orders.specs.declared.stop.Stop.{Stop}

@@ -1,13 +1,8 @@
 use Rattle.std.proofs.Common.{◌≡◌, ℕ, ◌+◌, ◌<◌, ◌≤◌, List, [], ◌∷◌, ◌++◌, Option, None, Some, refl, sym, ap, ◌∙◌, subst, inl, inr, arith, All, IfSome, IfNone, rules}
-use Rattle.small_routing.proofs.Common.{cases_lt, IsTravelTime, Route, Task, Stop, Pick, ServesFrom, visits_of, free_seats, order_delay, IsServable, IsLeastDelay, IsNextStop, IsAllDone, left_count, NoneBetter, StaysGood, IsAllDone-from_nil, left_count-falls, MakesOrders-all, Label, IsRoutable, task_riders, task_passengers, first_label, CanVisit, second_at, label_at, next_label, rest_delay, IsSmallLabel, RiderCan, PassengerCan, LeadsTo, IsExhausted, IsTried, IsLabelDone, route_of, IsCostFound, person_of, IsOnlyStop, IsPersonTried, IsNextOf, Priced}
+use Rattle.small_routing.proofs.Common.{cases_lt, IsTravelTime, Route, Task, Stop, ServesFrom, visits_of, free_seats, order_delay, IsServable, IsLeastDelay, IsNextStop, IsAllDone, left_count, NoneBetter, StaysGood, IsAllDone-from_nil, left_count-falls, MakesOrders-all, Label, IsRoutable, task_riders, task_passengers, first_label, CanVisit, second_at, label_at, next_label, rest_delay, IsSmallLabel, RiderCan, PassengerCan, LeadsTo, IsExhausted, IsTried, IsLabelDone, route_of, IsCostFound, IsOnlyStop, IsPersonTried, IsNextOf, Priced}
 use Rattle.std.proofs.lemmas.List.{append-nil}
 use Rattle.small_routing.proofs.LabelLemmas.{leads_first, leads_next, small_next}
 use Rattle.small_routing.proofs.SearchLemmas.{good_better, settled_good, exhausted_all, exhausted_none, tried_exhausted, least_none}
-
--- a person's number is below their count
-person_below : (riders passengers done : ℕ) (s : Stop) → IsNextStop riders passengers done s → person_of riders s < riders + passengers
-person_below riders passengers done (Pick i) next = omega (arith, next.0)
-person_below riders passengers done _ next = omega (arith, next.0)
 
 -- what holds in the loop over the persons
 pub record PricesAll (points : ℕ) (tau : ℕ → ℕ → ℕ) (task : Task) (label : Label) (person : ℕ) (first best : Option ℕ) (labels : List Label) : Type 0 where

@@ -1,11 +1,5 @@
 use Rattle.std.proofs.Common.{◌≡◌, ℕ, ◌+◌, ◌<◌, ◌≤◌, List, [], ◌∷◌, ◌++◌, length, ap, arith, rules}
-use Rattle.small_routing.proofs.Common.{IsTravelTime, Leg, Task, Stop, Pick, Drop, Alight, IsKnown, place_of, room_after, lateness, no_leg, IsLeg, IsTask, visit_at, free_seats, IsNextStop, left_count, left_count-most, MakesOrders-next, MakesOrders-none, append_one, Label, IsRoutable, IsRoutableLeg, task_riders, task_passengers, first_label, second_at, CanVisit, next_label, IsSmallLabel, LeadsTo}
-use Rattle.stop_orders.specs.declared.visit.Visit.{Visit}
-use Rattle.stop_orders.specs.declared.visit.Visit.TheVariants.{Pickup, Dropoff}
-
--- a valid leg can be searched
-pub routable_leg : (points : ℕ) (leg : Leg) → IsLeg points leg → IsRoutableLeg points leg
-routable_leg points leg h = record { origin = h.origin; destination = h.destination; party = h.party }
+use Rattle.small_routing.proofs.Common.{IsTravelTime, Task, Stop, Pick, Drop, Alight, IsKnown, place_of, no_leg, IsTask, visit_at, free_seats, IsNextStop, left_count, left_count-most, MakesOrders-next, MakesOrders-none, append_one, Label, IsRoutable, task_riders, task_passengers, first_label, second_at, CanVisit, next_label, IsSmallLabel, LeadsTo}
 
 -- a valid task can be searched
 pub routable : (points : ℕ) (task : Task) → IsTask points task → IsRoutable points task
@@ -16,20 +10,11 @@ pub known_next : (riders passengers done : ℕ) (s : Stop) → IsNextStop riders
 known_next riders passengers done (Pick i) next = next.0
 known_next riders passengers done _ next = next.0
 
-lateness-most : (v : Visit) (second : ℕ) → lateness v second ≤ second
-lateness-most (Pickup place latest party) second = omega arith
-lateness-most (Dropoff place latest ideal party) second = omega arith
-
 module _ (points : ℕ) (tau : ℕ → ℕ → ℕ) (t : IsTravelTime points tau) (task : Task) (valid : IsRoutable points task) where
   place_in : (s : Stop) → IsKnown (task_riders task) (task_passengers task) s → place_of (visit_at task s) < points
   place_in (Pick i) h = (valid.riders i no_leg h).origin
   place_in (Drop i) h = (valid.riders i no_leg h).destination
   place_in (Alight j) h = (valid.passengers j no_leg h).destination
-
-  room_most : (s : Stop) → IsKnown (task_riders task) (task_passengers task) s → (room : ℕ) → room_after (visit_at task s) room ≤ room + 6
-  room_most (Pick i) h room = omega arith
-  room_most (Drop i) h room = omega (arith, (valid.riders i no_leg h).party)
-  room_most (Alight j) h room = omega (arith, (valid.passengers j no_leg h).party)
 
   -- a stop is reached at a small second
   pub second_most : (label : Label) (s : Stop) (second : ℕ) → label.free ≤ 30000000000 → CanVisit tau task label s → second ≡ second_at tau task label s → second ≤ 40000000000

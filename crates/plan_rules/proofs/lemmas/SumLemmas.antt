@@ -48,9 +48,6 @@ flag-or false b h = omega arith
 pub count_below_more : (n : ℕ) (p : ℕ → Bool) → count_below (n + 1) p ≡ count_below n p + flag (p n)
 count_below_more n p = sum_below_more n (λ k. flag (p k))
 
-pub count_below_same : (n : ℕ) (p q : ℕ → Bool) → ((k : ℕ) → k < n → p k ≡ q k) → count_below n p ≡ count_below n q
-count_below_same n p q e = search (rules, sum_below_same)
-
 -- where none passes, none is counted
 pub count_below_none : (n : ℕ) (p : ℕ → Bool) → ((k : ℕ) → k < n → p k ≡ false) → count_below n p ≡ 0
 count_below_none zero p e = refl

@@ -1,5 +1,5 @@
 -- The rounds of a day: requests, and in lane 0 a seal before them.
-use Rattle.std.proofs.Common.{◌≡◌, ℕ, ◌+◌, ◌<◌, ◌≤◌, Bool, true, false, not, cond, ltb, List, [], ◌∷◌, ◌++◌, length, drop, Option, Some, None, unwrap_or, refl, sym, ap, ◌∙◌, subst, arith, inl, inr, append_assoc, length-append, All, option_and_then, rules}
+use Rattle.std.proofs.Common.{◌≡◌, ℕ, ◌+◌, ◌<◌, ◌≤◌, Bool, false, not, cond, ltb, List, [], ◌∷◌, ◌++◌, length, drop, Option, Some, None, unwrap_or, refl, sym, ap, ◌∙◌, subst, arith, inl, inr, append_assoc, length-append, All, option_and_then, rules}
 use Rattle.route_drive.proofs.Common.{AllByRecursion, list_any, option_or, cases_lt, All-head, All-tail, recursion_from_All, first_fault, first_fault-each, Command, Submit, Seal, IsRound, MayStand, NumberedLanes, lane_at, day_fault, first_seal, is_of_day, is_seal_command, lane_fault, latest_seal, round_fault, seal_of, seals_fault, fault_at, ltb-false, true≢false, get_or-append-add, take_at, get_or_past, nat_tests}
 use Rattle.route_drive.proofs.DayLemmas.{latest-push}
 use Rattle.route_drive.proofs.kept.Lists.{both, all_weaker}

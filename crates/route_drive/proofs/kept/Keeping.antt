@@ -1,6 +1,6 @@
 -- What entries keep, gathered one by one.
 use Rattle.std.proofs.lemmas.Bool.Decides.{nat_tests}
-use Rattle.std.proofs.Common.{◌≡◌, ℕ, arith, cond, List, [], ◌∷◌, ◌++◌, All, rules}
+use Rattle.std.proofs.Common.{ℕ, arith, cond, List, [], ◌∷◌, ◌++◌, All, rules}
 use Rattle.route_drive.proofs.Common.{All-nil, All-cons, HasSeats, state_after, step, Command, Report, Entry, PlannedStop, Reply, Placed, Picked, Dropped, State, Settings, Roads, stop_command, EntryKeeps, EntriesKeep, IsPickedBy, StateKeeps, IsBound, IsDayState, IsDone, IsRightStop, KeepsBounds}
 
 -- what one entry keeps, and what it leaves to those after it
@@ -34,18 +34,6 @@ module _ (settings : Settings) (roads : Roads) where
   unfolding state_after
   entries_keep [] s all seats = state_keeps [] s seats tt
   entries_keep (e ∷ es) s all seats = (all.0.entry, state_keeps (e ∷ es) s all.0.seats all, entries_keep es (step roads.nodes settings.wait s e.command).0 all.1 seats)
-
-  -- where the reply and the state are known
-  from_done : (s t : State) (command : Command) (reply : Reply) → step roads.nodes settings.wait s command ≡ (t, reply) → EntryKeeps settings roads s command reply → All HasSeats s.vehicles
-      → ((rider limit : ℕ) → IsBound s rider limit → IsPickedBy rider limit command) → KeepsBounds s t → OneKeeps settings roads s command (step roads.nodes settings.wait s command).1
-  from_done s t command reply is entry seats by bounds = search rules
-
-  -- a vehicle's next stop
-  pub stop_keeps : (s : State) (v : ℕ) (stop : PlannedStop) → IsRightStop settings roads s.riders v stop → EntryKeeps settings roads s (stop_command v stop) (cond stop.pick Picked Dropped)
-  stop_keeps s v stop own = search rules
-
-  stop_by : (s : State) (v : ℕ) (stop : PlannedStop) → IsRightStop settings roads s.riders v stop → (rider limit : ℕ) → IsBound s rider limit → IsPickedBy rider limit (stop_command v stop)
-  stop_by s v stop own rider limit bound = search rules
 
   pub stop_one : (s : State) (v vehicle node time free : ℕ) (stop : PlannedStop) (stops : List PlannedStop) → IsDayState roads s → IsRightStop settings roads s.riders v stop
       → IsDone settings roads s (stop_command v stop) (cond stop.pick Picked Dropped) vehicle node time free stops

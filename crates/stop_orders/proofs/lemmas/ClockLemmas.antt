@@ -11,10 +11,6 @@ pub lateness-le : (v : Visit) (a b : ℕ) → a ≤ b → lateness v a ≤ laten
 lateness-le (Pickup place latest party) a b h = omega arith
 lateness-le (Dropoff place latest ideal party) a b h = omega arith
 
--- over a middle place one gets to wherever one gets from there, no sooner than directly
-pub two_hops : (points : ℕ) (tau : ℕ → ℕ → ℕ) → IsTravelTime points tau → (a b c : ℕ) → tau a b < never → tau b c < never → (tau a c < never) × (tau a c ≤ tau a b + tau b c)
-two_hops points tau t a b c h k = search rules
-
 -- from p at second f one reaches whatever one reaches from q at second g, no later
 pub record AtLeastAsSoon (tau : ℕ → ℕ → ℕ) (p f q g : ℕ) : Type 0 where
   pub soon : (x : ℕ) → tau q x < never → (tau p x < never) × (f + tau p x ≤ g + tau q x)

@@ -88,10 +88,6 @@ rider_out picked true i e = refl
 rider_out true false i e = absurd cc
 rider_out false false i e = absurd cc
 
-passenger_out : (out : Bool) (j : ℕ) → [] ≡ left_of_passenger out j → out ≡ true
-passenger_out true j e = refl
-passenger_out false j e = absurd cc
-
 -- nothing is left exactly where all were dropped
 pub IsAllDone-from_nil : (riders passengers done : ℕ) → Completes riders passengers done [] → IsAllDone riders passengers done
 IsAllDone-from_nil riders passengers done c = search rules

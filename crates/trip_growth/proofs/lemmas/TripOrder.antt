@@ -1,4 +1,4 @@
-use Rattle.std.proofs.Common.{◌≡◌, ℕ, suc, zero, ◌+◌, ◌<◌, ◌≤◌, ◌⊎◌, inl, inr, List, [], ◌∷◌, ◌++◌, length, take, refl, sym, ◌∙◌, arith, get_or, rules}
+use Rattle.std.proofs.Common.{◌≡◌, ℕ, ◌+◌, ◌<◌, ◌≤◌, ◌⊎◌, inl, inr, List, [], ◌∷◌, ◌++◌, length, take, refl, sym, ◌∙◌, arith, get_or, rules}
 use Rattle.trip_growth.proofs.Common.{take_more, IsLower}
 use Rattle.std.proofs.lemmas.List.{append-nil, take_all}
 
@@ -18,19 +18,6 @@ lower_trans (x ∷ xs) (y ∷ ys) (z ∷ zs) (inr h) (inr k) = inr (h.0 ∙ k.0,
 
 pub lower_asym : (a b : List ℕ) → IsLower a b → IsLower b a → ⊥
 lower_asym a b h k = lower_irrefl a (lower_trans a b a h k)
-
-nat_cases : (x y : ℕ) → (x < y) ⊎ ((x ≡ y) ⊎ (y < x))
-nat_cases zero zero = inr (inl refl)
-nat_cases zero (suc y) = inl (omega arith)
-nat_cases (suc x) zero = inr (inr (omega arith))
-nat_cases (suc x) (suc y) = search rules
-
--- of two trips of one size, either one is lower, or they are the same
-pub lower_total : (a b : List ℕ) → length a ≡ length b → IsLower a b ⊎ ((a ≡ b) ⊎ IsLower b a)
-lower_total [] [] e = inr (inl refl)
-lower_total [] (y ∷ ys) e = absurd (omega arith)
-lower_total (x ∷ xs) [] e = absurd (omega arith)
-lower_total (x ∷ xs) (y ∷ ys) e = search (rules, nat_cases, (lower_total xs ys))
 
 pub lower_append : (a b s t : List ℕ) → IsLower a b → IsLower (a ++ s) (b ++ t)
 lower_append [] b s t h = absurd h
