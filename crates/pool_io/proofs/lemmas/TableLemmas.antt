@@ -1,4 +1,4 @@
-use Rattle.std.proofs.Common.{◌≡◌, ℕ, not, eqb, cond, List, [], ◌∷◌, Option, Some, None, Ok, Err, length, sym, ap, ◌∙◌, inl, inr}
+use Rattle.std.proofs.Common.{rules, ◌≡◌, ℕ, not, eqb, cond, List, [], ◌∷◌, Option, Some, None, Ok, Err, length, sym, ap, ◌∙◌, inl, inr}
 use Rattle.pool_io.proofs.Common.{position_from, cases_Bool, Header, UnequalLength, Table, header_fields, rows_under, table_of, records_of, is_record, even_rows}
 use Rattle.std.specs.Option.{option_map_or}
 
@@ -8,15 +8,7 @@ even_columns columns rows (Some row) table is = absurd cc
 
 columns_under : (names : List (List ℕ)) (records : List (List (List ℕ))) (table : Table) → rows_under names records ≡ Ok table → table.columns ≡ length names
 columns_under names [] table is = absurd cc
-columns_under names (first ∷ rows) table is =
-    elim (cases_Bool (is_record first names)) [
-      | inl same ↦
-          even_columns (length names) rows (position_from (λ fields. not (eqb (length fields) (length names))) 1 rows) table
-          (sym (ap (λ b. cond b (even_rows (length names) rows) (Err (Header (length first)))) same) ∙ is)
-      | inr other ↦
-          (let refused : Err (Header (length first)) ≡ Ok table = sym (ap (λ b. cond b (even_rows (length names) rows) (Err (Header (length first)))) other) ∙ is in
-          absurd cc)
-    ]
+columns_under names (first ∷ rows) table is = search (rules, cases_Bool, even_columns)
 
 -- rows have as many columns as their header
 pub columns-table_of : (header bytes : List ℕ) (table : Table) → table_of header bytes ≡ Ok table → table.columns ≡ length (header_fields header)
