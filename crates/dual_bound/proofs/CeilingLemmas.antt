@@ -1,6 +1,7 @@
 -- What lowers a ceiling of the first-fit multipliers keeps it one.
-use Rattle.std.proofs.Common.{◌≡◌, ℕ, zero, suc, ◌*◌, ◌<◌, ◌≤◌, true, List, [], ◌∷◌, length, get_or, set, ℤ, pos, ◌+ℤ◌, ◌-ℤ◌, ◌*ℤ◌, ◌≤ℤ◌, All, ap, ◌∙◌, subst, ⊎_elim, arith}
-use Rattle.dual_bound.proofs.Common.{ints, cases_lt, get_or_past, int_sum_below, Graph, riders_at, row_vehicle, cost_at, IsGoodGraph, Usable, multiplier_at, multiplier_sum, least_cost, room_at, first_fit, first_fit_value, int_sum_same, int_sum_le, IsModest, HasLeastCosts, AreCeilings}
+use Rattle.std.proofs.lemmas.Bool.Decides.{nat_tests}
+use Rattle.std.proofs.Common.{rules, ◌≡◌, ℕ, zero, suc, ◌*◌, ◌<◌, ◌≤◌, true, List, [], ◌∷◌, length, get_or, set, ℤ, pos, ◌+ℤ◌, ◌-ℤ◌, ◌*ℤ◌, ◌≤ℤ◌, All, ap, ◌∙◌, subst, arith}
+use Rattle.dual_bound.proofs.Common.{ints, get_or_past, int_sum_below, Graph, riders_at, row_vehicle, cost_at, IsGoodGraph, Usable, multiplier_at, multiplier_sum, least_cost, first_fit, first_fit_value, int_sum_same, int_sum_le, IsModest, HasLeastCosts, AreCeilings}
 use Rattle.std.proofs.lemmas.List.{get_or_default, length-set}
 use Rattle.dual_bound.proofs.lemmas.FirstFitLemmas.{set_all}
 use Rattle.dual_bound.proofs.lemmas.FirstFitValueLemmas.{positive_sum, first_fit_leaves_room, first_fit_value_is}
@@ -13,47 +14,19 @@ each_fits ms (x ∷ xs) z p l (suc k) d low = let here = p x in each_fits ms xs 
 
 pub room_fits : (g : Graph) (u : Usable) (k : ℕ) (z : ℤ) → IsGoodGraph g → k < length g.rows → u k ≡ true → z ≡ (pos 1024 *ℤ (pos (cost_at g k) -ℤ least_cost g u (row_vehicle g k)))
     → (i d : ℕ) → i < length (riders_at g k) → (get_or (riders_at g k) i d < g.riders) × (multiplier_at (first_fit g u) (get_or (riders_at g k) i d) ≤ℤ z)
-room_fits g u k z good l may is i d low =
-    let roomy = first_fit_leaves_room g u good in
-    let room : pos 0 ≤ℤ room_at g u (first_fit g u) k = roomy.room k l may in
-    let row = good.rows k l in (
-      subst (λ (r : ℕ). r < g.riders) (get_or_default (riders_at g k) i 0 d low) (row.below i low),
-      each_fits (first_fit g u) (riders_at g k) z roomy.positive (omega (arith, ints, room, is)) i d low,
-    )
+room_fits g u k z good l may is i d low = grind (arith, nat_tests, (first_fit_leaves_room g u good), get_or_default, each_fits)
 
 -- at first each number is the penalty
 pub ceilings_first : (g : Graph) (u : Usable) (rooms : List ℤ) → IsGoodGraph g → length rooms ≡ g.riders → All (λ z. z ≡ pos (1024 * g.penalty)) rooms → AreCeilings g u rooms
-ceilings_first g u rooms good sized all =
-    let roomy = first_fit_leaves_room g u good in
-    let limit = good.penalty in
-    record {
-      sized = sized;
-      above = λ r. let most = roomy.most r in
-          ⊎_elim
-          (λ (low : r < length rooms). let at = all r (pos (1024 * g.penalty)) low in omega (arith, ints, at, most))
-          (λ (high : length rooms ≤ r). let at = get_or_past rooms r (pos (1024 * g.penalty)) high in omega (arith, ints, at, most))
-          (cases_lt r (length rooms));
-      modest = λ r.
-          ⊎_elim
-          (λ (low : r < length rooms). let at = all r (pos 0) low in record { low = omega (arith, ints, at, limit); high = omega (arith, ints, at, limit) })
-          (λ (high : length rooms ≤ r). let at = get_or_past rooms r (pos 0) high in record { low = omega (arith, ints, at); high = omega (arith, ints, at) })
-          (cases_lt r (length rooms));
-    }
+ceilings_first g u rooms good sized all = grind (arith, nat_tests, (first_fit_leaves_room g u good), (get_or_past rooms))
 
 -- one number lowered
 pub ceilings_lower : (g : Graph) (u : Usable) (rooms : List ℤ) (r : ℕ) (z : ℤ) → AreCeilings g u rooms → r < g.riders → multiplier_at (first_fit g u) r ≤ℤ z → IsModest z → AreCeilings g u (set rooms r z)
-ceilings_lower g u rooms r z before low above modest = record {
-  sized = length-set rooms r z ∙ before.sized;
-  above = set_all (λ q w. multiplier_at (first_fit g u) q ≤ℤ w) rooms r z (pos (1024 * g.penalty)) (omega (arith, low, before.sized)) above before.above;
-  modest = set_all (λ _ w. IsModest w) rooms r z (pos 0) (omega (arith, low, before.sized)) modest before.modest;
-}
+ceilings_lower g u rooms r z before low above modest = search (rules, length-set, set_all)
 
 -- a list of costs has no large number
 pub costs_modest : (g : Graph) (u : Usable) (costs : List ℤ) → HasLeastCosts g u costs → (r : ℕ) → IsModest (get_or costs r (pos 0))
-costs_modest g u costs least r = ⊎_elim
-    (λ (low : r < g.vehicles). let cost = least.costs_of_rows r low in record { low = omega (arith, ints, cost.low); high = omega (arith, ints, cost.high) })
-    (λ (high : g.vehicles ≤ r). let at = get_or_past costs r (pos 0) (omega (arith, high, least.sized)) in record { low = omega (arith, ints, at); high = omega (arith, ints, at) })
-    (cases_lt r g.vehicles)
+costs_modest g u costs least r = search (rules, get_or_past)
 
 -- what all come to is a ceiling of the value
 pub ceiling_of_value : (g : Graph) (u : Usable) (costs rooms : List ℤ) (x y : ℤ) → IsGoodGraph g → HasLeastCosts g u costs → AreCeilings g u rooms

@@ -1,6 +1,7 @@
 -- The first-fit pass over a list of the rider's rows.
-use Rattle.std.proofs.Common.{◌≡◌, ◌==◌, ◌⊎◌, ◌&&◌, ℕ, suc, ◌+◌, ◌<◌, ◌≤◌, Bool, true, false, List, [], ◌∷◌, length, get_or, Option, Some, None, ℤ, ◌≤ℤ◌, refl, sym, ap, ◌∙◌, subst, ⊎_elim, inl, inr, arith, eqb-true}
-use Rattle.dual_bound.proofs.Common.{same_Some, none-some, int_min, ints, cases_eq, both_ways, and_parts, least_below, lesser, Graph, riders_at, has_rider, Usable, room_at, least_below_some, least_below_found, lesser-le_right, lesser-le_left, list_start, list_end, IsListed, IsIndexOf, or_cases}
+use Rattle.std.proofs.lemmas.Bool.Decides.{nat_tests}
+use Rattle.std.proofs.Common.{rules, ◌≡◌, ◌==◌, ◌⊎◌, ◌&&◌, ℕ, suc, ◌+◌, ◌<◌, ◌≤◌, Bool, true, false, List, [], ◌∷◌, length, get_or, Option, Some, None, ℤ, ◌≤ℤ◌, refl, sym, ap, subst, ⊎_elim, inl, inr, arith, eqb-true}
+use Rattle.dual_bound.proofs.Common.{same_Some, none-some, int_min, both_ways, and_parts, least_below, lesser, Graph, riders_at, has_rider, Usable, room_at, least_below_some, least_below_found, lesser-le_right, lesser-le_left, list_start, list_end, IsListed, IsIndexOf, or_cases}
 use Rattle.std.specs.List.{list_any}
 use Rattle.plan_rules.proofs.lemmas.SumLemmas.{int_min_cases}
 use Rattle.dual_bound.specs.declared.rider_index.RiderIndex.{RiderIndex}
@@ -17,52 +18,16 @@ lesser_cases (Some y) x = ⊎_elim (λ (left : int_min y x ≡ y). inl (ap Some 
 -- what is least over all that pass is the least
 pub least_is : (n : ℕ) (p : ℕ → Bool) (f : ℕ → ℤ) (o : Option ℤ) → ((k : ℕ) → k < n → p k ≡ true → (z : ℤ) × (o ≡ Some z) × (z ≤ℤ f k)) → ((z : ℤ) → o ≡ Some z → (k : ℕ) × (k < n) × (p k ≡ true) × (z ≡ f k)) → (m : Option ℤ) → least_below n p f ≡ m → o ≡ m
 least_is n p f None covers reached None e = refl
-least_is n p f (Some y) covers reached None e =
-    let w = reached y refl in
-    let v = least_below_some n p f (w.0) (w.1) (w.2) in
-    absurd (none-some (v.0) (sym e ∙ v.1))
-least_is n p f o covers reached (Some z) e =
-    let w = least_below_found n p f z e in
-    let c = covers (w.0) (w.1) (w.2) in
-    let v = reached (c.0) (c.1) in
-    let x = least_below_some n p f (v.0) (v.1) (v.2) in
-    let equal : c.0 ≡ z = omega (arith, ints, same_Some (x.0) z (sym (x.1) ∙ e), c.2, w.3, x.2, v.3) in
-    c.1 ∙ ap Some equal
+least_is n p f (Some y) covers reached None e = grind (arith, nat_tests, (least_below_some n p f), none-some)
+least_is n p f o covers reached (Some z) e = grind (arith, nat_tests, (least_below_found n p f z e), (least_below_some n p f), same_Some)
 
 pub listed_take : (n : ℕ) (p : ℕ → Bool) (f : ℕ → ℤ) (listed : List ℕ) (from to k : ℕ) (o new : Option ℤ) (x : ℤ) → IsLeastListed n p f listed from to o → get_or listed to 0 ≡ k → k < n → p k ≡ true → x ≡ f k → new ≡ Some (lesser o x)
     → IsLeastListed n p f listed from (to + 1) new
-listed_take n p f listed from to k o new x before here low passes value is = record {
-  covers = λ q l h within below yes.
-      ⊎_elim
-      (λ (same : q ≡ to).
-      (lesser o x, is, subst (λ (j : ℕ). lesser o x ≤ℤ f (get_or listed j 0)) (sym same) (subst (λ (z : ℤ). lesser o x ≤ℤ z) (value ∙ sym (ap f here)) (lesser-le_right o x))))
-      (λ (other : q ≡ to → ⊥).
-      let w = before.covers q l (omega (arith, h, other)) within below yes in
-      let now : lesser o x ≡ lesser (Some (w.0)) x = ap (λ (u : Option ℤ). lesser u x) (w.1) in
-      let less : lesser (Some (w.0)) x ≤ℤ w.0 = lesser-le_left (w.0) x in
-      let far : w.0 ≤ℤ f (get_or listed q 0) = w.2 in
-      let all : lesser o x ≤ℤ f (get_or listed q 0) = omega (arith, ints, now, less, far) in
-      (lesser o x, is, all))
-      (cases_eq q to);
-  reached = λ z e.
-      let found : lesser o x ≡ z = same_Some (lesser o x) z (sym is ∙ e) in
-      ⊎_elim
-      (λ (old : o ≡ Some (lesser o x)). before.reached z (old ∙ ap Some found))
-      (λ (mine : lesser o x ≡ x). (k, low, passes, sym found ∙ mine ∙ value))
-      (lesser_cases o x);
-}
+listed_take n p f listed from to k o new x before here low passes value is = search (rules, lesser-le_right, lesser-le_left, same_Some, lesser_cases)
 
 pub listed_pass : (n : ℕ) (p : ℕ → Bool) (f : ℕ → ℤ) (listed : List ℕ) (from to : ℕ) (o : Option ℤ) → IsLeastListed n p f listed from to o → (to < length listed → get_or listed to 0 < n → p (get_or listed to 0) ≡ false)
     → IsLeastListed n p f listed from (to + 1) o
-listed_pass n p f listed from to o before fails = record {
-  covers = λ q l h within below yes.
-      ⊎_elim
-      (λ (same : q ≡ to).
-      absurd (both_ways (p (get_or listed to 0)) (fails (subst (λ (j : ℕ). j < length listed) same within) (subst (λ (j : ℕ). get_or listed j 0 < n) same below)) (subst (λ (j : ℕ). p (get_or listed j 0) ≡ true) same yes)))
-      (λ (other : q ≡ to → ⊥). before.covers q l (omega (arith, h, other)) within below yes)
-      (cases_eq q to);
-  reached = before.reached;
-}
+listed_pass n p f listed from to o before fails = search (rules, both_ways)
 
 -- what holds at each place of a list holds of a number that it has
 pub at_of : (P : ℕ → Type 0) (xs : List ℕ) (r : ℕ) → ((i : ℕ) → i < length xs → P (get_or xs i 0)) → list_any (λ x. x == r) xs ≡ true → P r

@@ -1,6 +1,6 @@
 -- A flat list of fields, cut into rows.
-use Rattle.std.proofs.Common.{◌≡◌, ℕ, zero, suc, ◌+◌, ◌*◌, ◌<◌, ◌≤◌, ◌==◌, not, List, [], ◌∷◌, ◌++◌, Some, None, length, get_or, take, drop, refl, sym, ap, ◌∙◌, arith, true, Bool, inl, inr, length-drop, length-take}
-use Rattle.pool_io.proofs.Common.{take-append-le, drop-append-le, nil_from_length, cases_Bool, none-some, nat_tests, position_from, cut_rows}
+use Rattle.std.proofs.Common.{rules, ◌≡◌, ℕ, zero, suc, ◌+◌, ◌*◌, ◌<◌, ◌==◌, not, List, [], ◌∷◌, ◌++◌, Some, None, length, get_or, drop, refl, sym, ap, ◌∙◌, arith, true, Bool, inl, inr, length-drop, length-take}
+use Rattle.pool_io.proofs.Common.{take-append-le, drop-append-le, nil_from_length, cases_Bool, none-some, position_from, cut_rows}
 use Rattle.std.proofs.lemmas.List.{take_all, get_or-take, get_or-drop}
 
 pub length-cut_rows : (count columns : ℕ) (fields : List (List ℕ)) → length (cut_rows count columns fields) ≡ count
@@ -10,34 +10,21 @@ length-cut_rows (suc count) columns fields = ap suc (length-cut_rows count colum
 -- one more record's fields at the end are one more row
 pub cut_rows-append : (count columns : ℕ) (fields row : List (List ℕ)) → length fields ≡ count * columns → length row ≡ columns
     → cut_rows (suc count) columns (fields ++ row) ≡ cut_rows count columns fields ++ row ∷ []
-cut_rows-append zero columns fields row flat even =
-    let none : fields ≡ [] = nil_from_length fields (omega (arith, flat)) in
-    rw none (ap (λ (r : List (List ℕ)). r ∷ []) (take_all columns row (omega (arith, even))))
-cut_rows-append (suc count) columns fields row flat even =
-    let long : columns ≤ length fields = grind arith in
-    let flat2 : length (drop columns fields) ≡ count * columns = rw length-drop (grind arith) in
-    rw (take-append-le columns fields row long, drop-append-le columns fields row long) (ap (λ (rows : List (List (List ℕ))). take columns fields ∷ rows) (cut_rows-append count columns (drop columns fields) row flat2 even))
+cut_rows-append zero columns fields row flat even = search (rules, nil_from_length, take_all)
+cut_rows-append (suc count) columns fields row flat even = search (rules, length-drop, take-append-le, drop-append-le, (cut_rows-append count columns))
 
 -- a field of a row stands in the flat list
 pub cut_rows-field : (count columns : ℕ) (fields : List (List ℕ)) (row column : ℕ) → row < count → column < columns
     → get_or (get_or (cut_rows count columns fields) row []) column [] ≡ get_or fields (row * columns + column) []
 cut_rows-field zero columns fields row column below within = absurd (omega (arith, below))
-cut_rows-field (suc count) columns fields zero column below within =
-    let place : 0 * columns + column ≡ column = grind arith in
-    rw (place, get_or-take columns fields column [] within) refl
-cut_rows-field (suc count) columns fields (suc row) column below within =
-    let place : suc row * columns + column ≡ columns + (row * columns + column) = grind arith in
-    rw (place, ← get_or-drop columns fields (row * columns + column) []) (cut_rows-field count columns (drop columns fields) row column (omega (arith, below)) within)
+cut_rows-field (suc count) columns fields zero column below within = search (rules, get_or-take)
+cut_rows-field (suc count) columns fields (suc row) column below within = search (rules, get_or-drop, (cut_rows-field count columns))
 
 -- no row has another number of fields
 pub position_from-cut_rows : (count columns : ℕ) (fields : List (List ℕ)) (start : ℕ) → length fields ≡ count * columns
     → position_from (λ (row : List (List ℕ)). not (length row == columns)) start (cut_rows count columns fields) ≡ None
 position_from-cut_rows zero columns fields start flat = refl
-position_from-cut_rows (suc count) columns fields start flat =
-    let flat2 : length (drop columns fields) ≡ count * columns = rw length-drop (grind arith) in
-    let even : length (take columns fields) ≡ columns = rw length-take (grind arith) in
-    let test : (length (take columns fields) == columns) ≡ true = grind (arith, nat_tests) in
-    rw test (position_from-cut_rows count columns (drop columns fields) (start + 1) flat2)
+position_from-cut_rows (suc count) columns fields start flat = search (rules, length-drop, length-take, (position_from-cut_rows count columns))
 
 -- the first that passes stands after those that don't
 pub position_from-first : {A : Type 0} (test : A → Bool) (start : ℕ) (front : List A) (x : A) (more : List A)

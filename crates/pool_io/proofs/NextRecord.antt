@@ -1,5 +1,5 @@
 -- How one more read of a record goes on.
-use Rattle.std.proofs.Common.{◌≡◌, ℕ, List, [], ◌∷◌, ◌++◌, Some, Bool, true, false, Bor, inl, ◌∙◌, MatchBool}
+use Rattle.std.proofs.Common.{rules, ◌≡◌, ℕ, List, [], ◌∷◌, ◌++◌, Some, Bool, true, false, Bor, inl, ◌∙◌, MatchBool}
 use Rattle.pool_io.proofs.Common.{ReadRecord, default_config, strip_bom, Reader, records_of, HasRead}
 use Rattle.csv.proofs.ReadFacts.{rows-end, rows-more}
 use Rattle.pool_io.proofs.RecordList.{records_of-all}
@@ -18,5 +18,4 @@ read_on bytes rows old new true fields h r began =
       left = more.1;
       reached = more.2;
     }
-read_on bytes rows old new false fields h r began =
-    records_of-all bytes rows old.state h.rest h.reached (rows-end (λ (text : Bor (List ℕ)). Some text.now) old new fields default_config h.rest h.config h.left r)
+read_on bytes rows old new false fields h r began = search (rules, records_of-all, rows-end)

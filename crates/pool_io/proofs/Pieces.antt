@@ -1,5 +1,5 @@
 -- What goes in pieces, one after another, goes as a whole.
-use Rattle.std.proofs.Common.{◌≡◌, ℕ, ◌+◌, List, ◌++◌, Option, take, drop, sym, ap, subst, ◌∙◌, arith}
+use Rattle.std.proofs.Common.{rules, ◌≡◌, ℕ, ◌+◌, List, ◌++◌, Option, take, drop, sym, ap, subst, ◌∙◌, arith}
 use Rattle.pool_io.proofs.Common.{drop-take, Appends, Consumes, Appends-trans, Consumes-trans}
 use Rattle.std.proofs.lemmas.List.{take-append-drop, take-take}
 
@@ -12,5 +12,4 @@ pub Appends-take : (a b c : Option (List ℕ)) (front more : ℕ) (xs : List ℕ
 Appends-take a b c front more xs first second = subst (Appends a c) (sym (take-add front more xs)) (Appends-trans a b c (take front xs) (take more (drop front xs)) first second)
 
 pub Consumes-take : (a b c : Option (List ℕ)) (front more : ℕ) (xs ys : List ℕ) → Consumes a b (take front xs) → take front ys ≡ take front xs → Consumes b c (take more (drop front ys)) → Consumes a c (take (front + more) ys)
-Consumes-take a b c front more xs ys first same second =
-    subst (Consumes a c) (sym (take-add front more ys)) (Consumes-trans a b c (take front ys) (take more (drop front ys)) (rw same first) second)
+Consumes-take a b c front more xs ys first same second = search (rules, take-add, Consumes-trans)

@@ -1,8 +1,8 @@
 -- The records that a reader reached are the first of all records of a text.
-use Rattle.std.proofs.Common.{◌≡◌, ℕ, zero, suc, ◌+◌, ◌-◌, ◌<◌, ◌≤◌, ◌⊎◌, inl, inr, List, [], ◌∷◌, ◌++◌, Some, None, length, refl, ap, ◌∙◌, arith}
+use Rattle.std.proofs.Common.{rules, ◌≡◌, ℕ, zero, suc, ◌+◌, ◌-◌, ◌<◌, ◌≤◌, ◌⊎◌, inl, inr, List, [], ◌∷◌, ◌++◌, Some, None, length, refl, ap, ◌∙◌, arith}
 use Rattle.pool_io.proofs.Common.{cases_Bool, none-some, Reached, records_from, default_config, strip_bom, records_of}
 use Rattle.std.proofs.lemmas.List.{append-nil}
-use Rattle.csv.specs.Machine.{Read, next_record, step, is_end, ends_at_end, fields_after, field_after}
+use Rattle.csv.specs.Machine.{Read, next_record, step, is_end, fields_after, field_after}
 use Rattle.csv.specs.declared.parser.Config.{Config}
 use Rattle.csv.specs.declared.parser.State.{State}
 use Rattle.csv.specs.declared.parser.State.TheVariants as st
@@ -17,11 +17,7 @@ some_read p q n e h = let same : p ≡ q = cc in rw same at h
 -- a record takes bytes, or ends an empty rest
 next_takes : (cfg : Config) (s : State) (fields : List (List ℕ)) (field xs : List ℕ) (q : Read) → next_record cfg s fields field xs ≡ Some q → Shrinks (length xs) q
 unfolding next_record
-next_takes cfg s fields field [] q e =
-    elim (cases_Bool (ends_at_end s)) [
-      | inl passes ↦ some_read (fields ++ (field ∷ []), st.StartRecord, []) q 0 (rw passes at e) (inl (refl, refl))
-      | inr fails ↦ absurd (none-some q (rw fails at e))
-    ]
+next_takes cfg s fields field [] q e = search (rules, cases_Bool, some_read, none-some)
 next_takes cfg s fields field (c ∷ rest) q e =
     elim (cases_Bool (is_end (step cfg s c).1)) [
       | inl passes ↦ some_read (fields_after (step cfg s c).1 fields field, (step cfg s c).0, rest) q (suc (length rest)) (rw passes at e) (inr (omega arith))
@@ -49,12 +45,9 @@ reached_fits s xs (r ∷ r2 ∷ rows) s2 ys h = elim (next_takes default_config 
 records_from-reached : (cfg : Config) (n : ℕ) (s : State) (xs : List ℕ) (rows : List (List (List ℕ))) (s2 : State) (ys : List ℕ) → Reached cfg s xs rows s2 ys → length rows ≤ n
     → records_from cfg n s xs ≡ rows ++ records_from cfg (n - length rows) s2 ys
 unfolding Reached records_from
-records_from-reached cfg n s xs [] s2 ys h fits =
-    let all : n - 0 ≡ n = omega arith in rw (h.0, h.1, all) refl
+records_from-reached cfg n s xs [] s2 ys h fits = search rules
 records_from-reached cfg zero s xs (r ∷ rows) s2 ys h fits = absurd (omega (arith, fits))
-records_from-reached cfg (suc n) s xs (r ∷ rows) s2 ys h fits =
-    let less : suc n - suc (length rows) ≡ n - length rows = omega arith in
-    rw (h.1, h.2, less) (ap (λ (more : List (List (List ℕ))). h.0.0 ∷ more) (records_from-reached cfg n h.0.1 h.0.2 rows s2 ys h.3 (omega (arith, fits))))
+records_from-reached cfg (suc n) s xs (r ∷ rows) s2 ys h fits = search (rules, (records_from-reached cfg n h.0.1 h.0.2 rows s2 ys h.3))
 
 records_from-end : (cfg : Config) (n : ℕ) (s : State) (ys : List ℕ) → next_record cfg s [] [] ys ≡ None → records_from cfg n s ys ≡ []
 unfolding records_from

@@ -1,11 +1,12 @@
-use Rattle.std.proofs.Common.{◌≡◌, ℕ, suc, ◌+◌, ◌<◌, ◌≤◌, ◌^◌, Bool, true, false, not, cond, List, [], ◌∷◌, ◌++◌, Option, Some, None, length, get_or, take, drop, nat_eq, nat_lt, nat_le, is_some, refl, sym, ap, ◌∙◌, inl, inr, lit≤, arith}
-use Rattle.std.specs.List.{list_all, prefix_len, position_or_len, before_first, after_first}
-use Rattle.std.specs.Option.{option_map, option_map_or, option_or}
+use Rattle.std.proofs.lemmas.Bool.Decides.{nat_tests}
+use Rattle.std.proofs.Common.{rules, ◌≡◌, ℕ, suc, ◌+◌, ◌<◌, ◌≤◌, ◌^◌, Bool, true, false, not, cond, List, [], ◌∷◌, ◌++◌, Option, Some, None, length, get_or, take, nat_eq, refl, ap, ◌∙◌, lit≤, arith}
+use Rattle.std.specs.List.{list_all, prefix_len}
+use Rattle.std.specs.Option.{option_map, option_or}
 use Rattle.std.proofs.lemmas.List.{append_assoc, length-append, take_at, drop_at, length_push}
 use Rattle.std.proofs.lemmas.Bool.{and_parts, cases_Bool, lt-ltb, leb-true}
 use Rattle.pool_base.specs.declared.which.Which.TheVariants.{Network}
 use Rattle.pool_base.specs.Number.{value_of}
-use Rattle.pool_base.specs.Numeral.{is_numeral, number_up_to}
+use Rattle.pool_base.specs.Numeral.{is_numeral}
 use Rattle.pool_base.proofs.lemmas.InOrderLemmas.{first_fault-each}
 use Rattle.pool_base.proofs.lemmas.NumeralLemmas.{number_up_to-some}
 use Rattle.rider_limits.specs.declared.subcommand.Subcommand.{Subcommand}
@@ -13,7 +14,6 @@ use Rattle.rider_limits.specs.declared.subcommand.Subcommand.TheVariants.{Run, L
 use Rattle.rider_limits.specs.declared.key.Key.{Key}
 use Rattle.rider_limits.specs.declared.key.Key.TheVariants.{Input, Notices, Times}
 use Rattle.rider_limits.specs.declared.key.Takes.TheVariants.{Number}
-use Rattle.rider_limits.specs.declared.word_fault.WordFault.TheVariants.{UnknownKey, Repeated, BadValue}
 use Rattle.rider_limits.specs.Key.{about, key_of, accepts}
 use Rattle.rider_limits.specs.work.Taken.{IsNumber, IsAccepted}
 use Rattle.rider_limits.specs.Words.{after_key, text_given, option_of, option_fault}
@@ -23,10 +23,7 @@ use Rattle.rider_limits.proofs.WordsLemmas.{after_key-some}
 -- a front that passes, before one that fails, is the longest front that passes
 prefix_len-front : (p : ℕ → Bool) (xs : List ℕ) (y : ℕ) (ys : List ℕ) → list_all p xs ≡ true → p y ≡ false → prefix_len p (xs ++ y ∷ ys) ≡ length xs
 prefix_len-front p [] y ys pass fails = ap (λ b. cond b (1 + prefix_len p ys) 0) fails
-prefix_len-front p (x ∷ xs) y ys pass fails =
-    let parts = and_parts (p x) (list_all p xs) pass in
-    let rest = prefix_len-front p xs y ys parts.1 fails in
-    ap (λ b. cond b (1 + prefix_len p (xs ++ y ∷ ys)) 0) parts.0 ∙ omega (arith, rest)
+prefix_len-front p (x ∷ xs) y ys pass fails = search (rules, and_parts, (prefix_len-front p xs y ys))
 
 -- no key's name has `=` in it
 name_lacks_equals : (key : Key) → list_all (λ c. not (nat_eq c 61)) (about key).name ≡ true
@@ -47,48 +44,11 @@ key_of-name _ _ = refl
 -- a word of a key's name, `=` and a text gives that key and text, where the command has the key
 option_of-named : (command : Subcommand) (key : Key) (word text : List ℕ) → word ≡ (about key).name ++ 61 ∷ text → option_of command word ≡ option_map (λ k. (k, text)) (cond ((about key).has command) (Some key) None)
 unfolding option_of
-option_of-named command key word text is =
-    let name : List ℕ = (about key).name in
-    let at : position_or_len (λ c. nat_eq c 61) word ≡ length name =
-    ap (position_or_len (λ c. nat_eq c 61)) is ∙ prefix_len-front (λ c. not (nat_eq c 61)) name 61 text (name_lacks_equals key) refl in
-    let size : length word ≡ length name + length (61 ∷ text) = ap length is ∙ length-append name (61 ∷ text) in
-    let inside : nat_lt (position_or_len (λ c. nat_eq c 61) word) (length word) ≡ true =
-    lt-ltb (position_or_len (λ c. nat_eq c 61) word) (length word) (omega (arith, at, size)) in
-    let before : before_first (λ c. nat_eq c 61) word ≡ name =
-    ap (λ n. take n word) at ∙ ap (take (length name)) is ∙ take_at name (61 ∷ text) (length name) refl in
-    let after : after_first (λ c. nat_eq c 61) word ≡ text =
-    ap (λ n. drop (n + 1) word) at ∙ ap (drop (length name + 1)) (is ∙ sym (append_assoc name (61 ∷ []) text))
-    ∙ drop_at (name ++ 61 ∷ []) text (length name + 1) (length_push name 61) in
-    ap (λ b. cond b (option_map (λ k. (k, after_first (λ c. nat_eq c 61) word)) (key_of command (before_first (λ c. nat_eq c 61) word))) None) inside
-    ∙ ap (λ n. option_map (λ k. (k, after_first (λ c. nat_eq c 61) word)) (key_of command n)) before
-    ∙ ap (λ t. option_map (λ k. (k, t)) (key_of command name)) after
-    ∙ ap (option_map (λ k. (k, text))) (key_of-name command key)
+option_of-named command key word text is = search (rules, prefix_len-front, name_lacks_equals, length-append, lt-ltb, take_at, append_assoc, drop_at, length_push, key_of-name)
 
 -- a word without a fault gives a key of the command a text that the key takes
 faultless : (command : Subcommand) (key : Key) (earlier : List (List ℕ)) (place : ℕ) (word text : List ℕ) → word ≡ (about key).name ++ 61 ∷ text → option_fault earlier place (option_of command word) ≡ None → accepts (about key).takes text ≡ true
-faultless command key earlier place word text is none =
-    let named = option_of-named command key word text is in
-    let at : option_fault earlier place (option_map (λ k. (k, text)) (cond ((about key).has command) (Some key) None)) ≡ None = sym (ap (option_fault earlier place) named) ∙ none in
-    elim (cases_Bool ((about key).has command)) [
-      | inl has ↦
-          let found : option_fault earlier place (Some (key, text)) ≡ None = sym (ap (λ b. option_fault earlier place (option_map (λ k. (k, text)) (cond b (Some key) None))) has) ∙ at in
-          elim (cases_Bool (is_some (text_given (about key).name earlier))) [
-            | inl repeated ↦
-                let e : Some (Repeated place) ≡ None = sym (ap (λ b. cond b (Some (Repeated place)) (cond (accepts (about key).takes text) None (Some (BadValue place)))) repeated) ∙ found in
-                absurd cc
-            | inr single ↦
-                let judged : cond (accepts (about key).takes text) None (Some (BadValue place)) ≡ None = sym (ap (λ b. cond b (Some (Repeated place)) (cond (accepts (about key).takes text) None (Some (BadValue place)))) single) ∙ found in
-                elim (cases_Bool (accepts (about key).takes text)) [
-                  | inl good ↦ good
-                  | inr bad ↦
-                      let e : Some (BadValue place) ≡ None = sym (ap (λ b. cond b None (Some (BadValue place))) bad) ∙ judged in
-                      absurd cc
-                ]
-          ]
-      | inr lacks ↦
-          let e : Some (UnknownKey place) ≡ None = sym (ap (λ b. option_fault earlier place (option_map (λ k. (k, text)) (cond b (Some key) None))) lacks) ∙ at in
-          absurd cc
-    ]
+faultless command key earlier place word text is none = grind (arith, nat_tests, (option_of-named command key word text is), cases_Bool)
 
 -- a text that words give stands in the first of them that begins with the key
 text_given-at : (key : List ℕ) (words : List (List ℕ)) (text : List ℕ) → text_given key words ≡ Some text → (i : ℕ) × (i < length words) × (after_key key (get_or words i []) ≡ Some text)
@@ -113,14 +73,7 @@ pub record IsValueIn (least greatest : ℕ) (text : List ℕ) : Type 0 where
   pub high : value_of text ≤ greatest
 
 pub accepts-number : (least greatest : ℕ) (text : List ℕ) → accepts (Number least greatest) text ≡ true → IsValueIn least greatest text
-accepts-number least greatest text good = by_number (number_up_to greatest text) refl good
-  where
-    by_number : (o : Option ℕ) → number_up_to greatest text ≡ o → option_map_or (nat_le least) o false ≡ true → IsValueIn least greatest text
-    by_number None here good = absurd (let e : false ≡ true = good in cc)
-    by_number (Some n) here good =
-        let up_to = number_up_to-some greatest text n here in
-        let low : least ≤ n = leb-true least n good in
-        record { numeral = up_to.numeral; low = omega (arith, up_to.value); high = omega (arith, up_to.value, up_to.within) }
+accepts-number least greatest text good = search (rules, number_up_to-some, leb-true)
 
 -- a text that a key takes as a number
 pub record IsTakenText (key : Key) (text : List ℕ) : Type 0 where
@@ -129,13 +82,7 @@ pub record IsTakenText (key : Key) (text : List ℕ) : Type 0 where
   pub taken : IsAccepted (about key).takes (value_of text)
 
 number_taken : (key : Key) (least greatest : ℕ) (text : List ℕ) → (about key).takes ≡ Number least greatest → greatest ≤ 1000000000 → accepts (about key).takes text ≡ true → IsTakenText key text
-number_taken key least greatest text is small good =
-    let v = accepts-number least greatest text (sym (ap (λ t. accepts t text) is) ∙ good) in
-    record {
-      numeral = v.numeral;
-      small = omega (arith, v.high);
-      taken = rw is (v.low, v.high);
-    }
+number_taken key least greatest text is small good = search (rules, accepts-number)
 
 pub accepted_is_taken : (key : Key) (text : List ℕ) → IsNumber (about key).takes → accepts (about key).takes text ≡ true → IsTakenText key text
 accepted_is_taken (Input which) text number good = absurd number
@@ -145,5 +92,4 @@ accepted_is_taken key text number good = number_taken key _ _ text refl (lit≤ 
 
 -- words without a fault give a key of numbers a numeral that it takes
 pub given_is_taken : (command : Subcommand) (key : Key) (words : List (List ℕ)) (text : List ℕ) → words_fault command words ≡ None → IsNumber (about key).takes → text_given (about key).name words ≡ Some text → IsTakenText key text
-given_is_taken command key words text none number given =
-    accepted_is_taken key text number (given_is_accepted command key words text none given)
+given_is_taken command key words text none number given = search (rules, accepted_is_taken, given_is_accepted)

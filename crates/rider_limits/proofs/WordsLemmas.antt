@@ -1,4 +1,4 @@
-use Rattle.std.proofs.Common.{◌≡◌, ◌≢◌, ℕ, ◌+◌, ◌<◌, true, cond, List, [], ◌∷◌, ◌++◌, Option, Some, None, MatchOption, length, get_or, take, drop, map, nat_eq, refl, sym, ap, ◌∙◌, inl, inr, arith}
+use Rattle.std.proofs.Common.{rules, ◌≡◌, ◌≢◌, ℕ, ◌+◌, ◌<◌, true, cond, List, [], ◌∷◌, ◌++◌, Option, Some, None, MatchOption, length, get_or, take, drop, map, nat_eq, refl, sym, ap, ◌∙◌, inl, inr}
 use Rattle.std.specs.List.{starts_with, position_or_len, before_first, after_first}
 use Rattle.std.specs.Borrow.{Bor}
 use Rattle.std.specs.Option.{option_copied, option_map}
@@ -53,10 +53,8 @@ after_key-some key word rest given =
 
 -- where a word begins with the key, what stands behind `=` in the rest is what it gives
 pub after_key-from : (key word rest : List ℕ) (r : Option (Bor (List ℕ))) → word ≡ key ++ rest → MatchOption r ((t : List ℕ) → rest ≢ 61 ∷ t) (λ x. rest ≡ 61 ∷ x.now) → option_copied r ≡ after_key key word
-after_key-from key word rest None begins lacks =
-    sym (after_key-lacks key word (λ t is. lacks t (append_cancel_left key rest (61 ∷ t) (sym begins ∙ is))))
-after_key-from key word rest (Some x) begins is =
-    sym (after_key-found key word x.now (begins ∙ ap (λ y. key ++ y) is))
+after_key-from key word rest None begins lacks = search (rules, after_key-lacks, append_cancel_left)
+after_key-from key word rest (Some x) begins is = search (rules, after_key-found)
 
 -- what `split_once` says of a word and `=`
 abbrev pub Parts : List ℕ → Option (Bor (List ℕ) × Bor (List ℕ)) → Type 0
@@ -67,34 +65,21 @@ Parts word r =
 -- a word without `=` gives no key
 pub option_of-lacks : (command : Subcommand) (word : List ℕ) (r : Option (Bor (List ℕ) × Bor (List ℕ))) → Parts word r → r ≡ None → option_of command word ≡ None
 unfolding option_of
-option_of-lacks command word r parts none =
-    let at : position_or_len (λ c. nat_eq c 61) word ≡ length word = MatchOption-at_none _ _ none parts in
-    ap (λ b. cond b (option_map (λ key. (key, after_first (λ c. nat_eq c 61) word)) (key_of command (before_first (λ c. nat_eq c 61) word))) None)
-    (le-ltb (position_or_len (λ c. nat_eq c 61) word) (length word) (omega arith))
+option_of-lacks command word r parts none = search (rules, MatchOption-at_none, le-ltb)
 
 -- a word with `=` gives the key of what stands before it, and what stands behind it
 pub option_of-parts : (command : Subcommand) (word : List ℕ) (r : Option (Bor (List ℕ) × Bor (List ℕ))) (x : Bor (List ℕ) × Bor (List ℕ)) → Parts word r → r ≡ Some x → option_of command word ≡ option_map (λ key. (key, x.1.now)) (key_of command x.0.now)
 unfolding option_of
-option_of-parts command word r x parts some =
-    let at = MatchOption-at_some _ _ x some parts in
-    ap (λ b. cond b (option_map (λ key. (key, after_first (λ c. nat_eq c 61) word)) (key_of command (before_first (λ c. nat_eq c 61) word))) None)
-    (lt-ltb (position_or_len (λ c. nat_eq c 61) word) (length word) at.0)
-    ∙ ap (λ name. option_map (λ key. (key, after_first (λ c. nat_eq c 61) word)) (key_of command name)) (sym at.1)
-    ∙ ap (λ text. option_map (λ key. (key, text)) (key_of command x.0.now)) (sym at.2)
+option_of-parts command word r x parts some = search (rules, MatchOption-at_some, lt-ltb)
 
 -- what a word says among all words is what is wrong at its place
 fault_at-word : {X : Type 0} (f : X → List ℕ) (command : Subcommand) (xs : List X) (i : ℕ) (x : X) → i < length xs → x ≡ get_or xs i x → fault_at command (map f xs) i ≡ option_fault (map f (take i xs)) (i + 2) (option_of command (f x))
-fault_at-word f command xs i x within is =
-    ap (λ earlier. option_fault earlier (i + 2) (option_of command (get_or (map f xs) i []))) (take-map f i xs)
-    ∙ ap (λ word. option_fault (map f (take i xs)) (i + 2) (option_of command word)) (get_or-map f xs i x [] within ∙ ap f (sym is))
+fault_at-word f command xs i x within is = search (rules, take-map, get_or-map)
 
 -- a word without a fault
 pub words_fault-step : {X : Type 0} (f : X → List ℕ) (command : Subcommand) (xs : List X) (i : ℕ) (x : X) → i < length xs → x ≡ get_or xs i x → option_fault (map f (take i xs)) (i + 2) (option_of command (f x)) ≡ None → first_fault (fault_at command (map f xs)) i ≡ None → first_fault (fault_at command (map f xs)) (i + 1) ≡ None
-words_fault-step f command xs i x within is none before =
-    first_fault-none (fault_at command (map f xs)) i before (fault_at-word f command xs i x within is ∙ none)
+words_fault-step f command xs i x within is none before = search (rules, first_fault-none, fault_at-word)
 
 -- the first word with a fault
 pub words_fault-here : {X : Type 0} (f : X → List ℕ) (command : Subcommand) (xs : List X) (i : ℕ) (x : X) (fault : WordFault) → i < length xs → x ≡ get_or xs i x → option_fault (map f (take i xs)) (i + 2) (option_of command (f x)) ≡ Some fault → first_fault (fault_at command (map f xs)) i ≡ None → words_fault command (map f xs) ≡ Some fault
-words_fault-here f command xs i x fault within is some before =
-    let size : length (map f xs) ≡ length xs = length-map xs f in
-    first_fault-some (fault_at command (map f xs)) (length (map f xs)) i fault (omega (arith, within, size)) before (fault_at-word f command xs i x within is ∙ some)
+words_fault-here f command xs i x fault within is some before = search (rules, length-map, first_fault-some, fault_at-word)

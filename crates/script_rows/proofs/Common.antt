@@ -13,7 +13,7 @@ pub use Rattle.script_rows.specs.Line.{IsBehind, leaves_empty}
 pub use Rattle.script_rows.specs.Round.{MayStand, NumberedLanes, empty_round, with_command}
 pub use Rattle.script_rows.specs.Script.{round_of, script_of}
 pub use Rattle.script_rows.specs.declared.fault.ScriptFault.{ScriptFault}
-pub use Rattle.script_rows.specs.declared.fault.ScriptFault.TheVariants.{ExtraField, LaneRange, Number, RoundBack, SealLane, TooManyRows, UnknownCommand}
+pub use Rattle.script_rows.specs.declared.fault.ScriptFault.TheVariants.{ExtraField, LaneRange, Number, RoundBack, SealLane, UnknownCommand}
 pub use Rattle.script_rows.specs.declared.line.Line.{Line}
 pub use Rattle.script_rows.specs.declared.version.ScriptVersion.{ScriptVersion}
 pub use Rattle.script_rows.specs.lemmas.Named.{line_at, round_before, rounds_of}

@@ -1,5 +1,5 @@
-use Rattle.std.proofs.Common.{◌≡◌, ◌≢◌, ◌⊎◌, ℕ, ◌+◌, ◌-◌, ◌<◌, ◌≤◌, true, false, ◌&&◌, cond, eqb, nat_lt, List, [], ◌∷◌, ◌++◌, map, length, get_or, set, Result, Ok, Err, refl, sym, ap, subst, ◌∙◌, inl, inr, arith}
-use Rattle.script_rows.proofs.Common.{list_any, cases_order, and_parts, map-append, length_push, set_at, get_or_at, get_or_default, All-nil, All-push, All-weaker, All-same, ◌>>=◌, all_or_first, all_or_first-err, ScriptFault, TooManyRows, Line, ScriptVersion, line_in, IsBehind, NumberedLanes, last_round, joins, with_line, empty_round, with_command, round_before, round_of, script_of, line_at, rounds_of}
+use Rattle.std.proofs.Common.{rules, ◌≡◌, ◌≢◌, ◌⊎◌, ℕ, ◌+◌, ◌-◌, ◌<◌, ◌≤◌, true, false, cond, eqb, List, [], ◌∷◌, ◌++◌, map, length, get_or, set, Result, Ok, Err, refl, sym, ap, subst, ◌∙◌, inl, inr, arith}
+use Rattle.script_rows.proofs.Common.{list_any, cases_order, and_parts, map-append, length_push, set_at, get_or_at, get_or_default, All-nil, All-push, All-weaker, All-same, ◌>>=◌, all_or_first, all_or_first-err, ScriptFault, Line, ScriptVersion, line_in, IsBehind, NumberedLanes, last_round, joins, with_line, empty_round, with_command, round_before, round_of, script_of, line_at, rounds_of}
 use Rattle.std.specs.List.{All}
 use Rattle.std.proofs.lemmas.Bool.{lt-ltb, le-ltb, eq-eqb, ne_eqb, ltb-true}
 use Rattle.pool_base.specs.Distinct.{distinct}
@@ -18,13 +18,10 @@ with_line-begins rounds line is = ap (λ b. cond b (set rounds (length rounds - 
 
 -- the last round of a list that ends in it
 last_round-push : (rounds : List NumberedLanes) (round : NumberedLanes) → last_round (rounds ++ round ∷ []) ≡ round
-last_round-push rounds round =
-    get_or_at rounds round [] (empty_round 0) (length (rounds ++ round ∷ []) - 1) (omega (arith, length_push rounds round))
+last_round-push rounds round = search (rules, get_or_at, length_push)
 
 joins-push : (rounds : List NumberedLanes) (round : NumberedLanes) (number : ℕ) → joins (rounds ++ round ∷ []) number ≡ eqb round.number number
-joins-push rounds round number =
-    ap (λ b. b && eqb (last_round (rounds ++ round ∷ [])).number number) (lt-ltb 0 (length (rounds ++ round ∷ [])) (omega (arith, length_push rounds round)))
-    ∙ ap (λ (r : NumberedLanes). eqb r.number number) (last_round-push rounds round)
+joins-push rounds round number = search (rules, lt-ltb, length_push, last_round-push)
 
 -- the numbers of rows
 abbrev pub numbers : List Line → List ℕ
@@ -57,9 +54,7 @@ below-push lines line last back below =
 
 -- the first row makes the first round
 first_line : (line : Line) → line.lane < 16 → with_line [] line ≡ rounds_of ([] ++ line ∷ [])
-first_line line within =
-    with_line-begins [] line refl
-    ∙ ap (λ (r : NumberedLanes). r ∷ []) (sym (round_of-push [] line within ∙ ap (λ r. with_command r line.lane line.command) (round_of-none [] line.round (All-nil (λ n. n ≢ line.round)))))
+first_line line within = search (rules, with_line-begins, round_of-push, round_of-none, All-nil)
 
 -- a row of the last round
 more_of_last : (lines : List Line) (line : Line) (front : List ℕ) → line.lane < 16 → distinct (numbers lines) ≡ front ++ line.round ∷ [] → All (λ n. n < line.round) front → list_any (λ n. eqb n line.round) (numbers lines) ≡ true → with_line (rounds_of lines) line ≡ rounds_of (lines ++ line ∷ [])
@@ -158,27 +153,16 @@ line_at-read version records row last made before is = ap (λ n. line_in version
 
 -- the rounds of few rows
 script_of-few : (version : ScriptVersion) (records : List (List (List ℕ))) → length records ≤ 200000 → script_of version records ≡ (all_or_first (line_at version records) (length records) >>= λ lines. Ok (rounds_of lines))
-script_of-few version records few =
-    ap (λ b. cond b (Err TooManyRows) (all_or_first (line_at version records) (length records) >>= λ lines. Ok (rounds_of lines))) (le-ltb 200000 (length records) few)
+script_of-few version records few = search (rules, le-ltb)
 
 -- the first row that is refused
 pub script_of-refused : (version : ScriptVersion) (records : List (List (List ℕ))) (row : ℕ) (lines : List Line) (fault : ScriptFault) → length records ≤ 200000 → row < length records → all_or_first (line_at version records) row ≡ Ok lines → line_at version records row ≡ Err fault → script_of version records ≡ Err fault
-script_of-refused version records row lines fault few within before here =
-    script_of-few version records few
-    ∙ ap (λ r. r >>= λ ls. Ok (rounds_of ls)) (all_or_first-err (line_at version records) (length records) row lines fault within before here)
+script_of-refused version records row lines fault few within before here = search (rules, script_of-few, all_or_first-err)
 
 -- after the last row
 pub script_of-all : (version : ScriptVersion) (records : List (List (List ℕ))) (row : ℕ) (lines : List Line) → length records ≤ 200000 → row ≡ length records → all_or_first (line_at version records) row ≡ Ok lines → script_of version records ≡ Ok (rounds_of lines)
-script_of-all version records row lines few all before =
-    script_of-few version records few
-    ∙ ap (λ r. r >>= λ ls. Ok (rounds_of ls)) (ap (all_or_first (line_at version records)) (sym all) ∙ before)
+script_of-all version records row lines few all before = search (rules, script_of-few)
 
 -- a command that is added to the last round, which has the row's number
 pub added_to_last : (rounds : List NumberedLanes) (line : Line) (count : ℕ) (there : NumberedLanes) → joins rounds line.round ≡ true → count ≡ length rounds → there ≡ get_or rounds (count - 1) there → set rounds (count - 1) (with_command there line.lane line.command) ≡ with_line rounds line
-added_to_last rounds line count there is size read =
-    let some : 0 < length rounds = ltb-true 0 (length rounds) (and_parts (nat_lt 0 (length rounds)) (eqb (last_round rounds).number line.round) is).0 in
-    let place : count - 1 ≡ length rounds - 1 = ap (λ n. n - 1) size in
-    let here : there ≡ last_round rounds = read ∙ ap (λ n. get_or rounds n there) place ∙ get_or_default rounds (length rounds - 1) there (empty_round 0) (omega arith) in
-    ap (λ n. set rounds n (with_command there line.lane line.command)) place
-    ∙ ap (λ r. set rounds (length rounds - 1) (with_command r line.lane line.command)) here
-    ∙ sym (with_line-joins rounds line is)
+added_to_last rounds line count there is size read = search (rules, ltb-true, and_parts, get_or_default, with_line-joins)

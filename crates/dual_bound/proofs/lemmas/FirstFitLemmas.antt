@@ -1,20 +1,14 @@
 -- The first-fit pass.
-use Rattle.std.proofs.Common.{◌≡◌, ◌&&◌, ℕ, zero, suc, ◌+◌, ◌*◌, ◌<◌, ◌≤◌, List, [], ◌∷◌, ◌++◌, length, get_or, set, ℤ, pos, ◌-ℤ◌, ◌*ℤ◌, refl, sym, ap, ◌∙◌, subst, ⊎_elim, inl, inr, arith, add-one, ◌+ℤ◌}
-use Rattle.dual_bound.proofs.Common.{ints, cases_eq, cases_lt, get_or_push, get_or_append_left, get_or_past, length_push, least_below, lesser, Graph, row_at, has_rider, Usable, multiplier_at, multiplier_sum, least_cost, room_at, first_fit_of, first_fit_below, TripRow, IsModest}
+use Rattle.std.proofs.Common.{rules, ◌≡◌, ℕ, zero, suc, ◌+◌, ◌*◌, ◌<◌, List, [], ◌∷◌, ◌++◌, length, get_or, set, ℤ, pos, ◌-ℤ◌, ◌*ℤ◌, refl, sym, ◌∙◌, arith, add-one, ◌+ℤ◌}
+use Rattle.dual_bound.proofs.Common.{ints, get_or_push, get_or_append_left, get_or_past, length_push, Graph, row_at, Usable, multiplier_at, multiplier_sum, least_cost, room_at, first_fit_of, first_fit_below, TripRow, IsModest}
 use Rattle.std.proofs.lemmas.List.{get_or-set_same, get_or-set_other, ext_get_or}
 
 -- what holds of each number at its place holds with one more at the end
 pub push_all : (P : ℕ → ℤ → Type 0) (xs : List ℤ) (n : ℕ) (z : ℤ) → length xs ≡ n → ((v : ℕ) → v < n → P v (get_or xs v (pos 0))) → P n z → (v : ℕ) → v < n + 1 → P v (get_or (xs ++ z ∷ []) v (pos 0))
-push_all P xs n z long before here v l = elim (cases_eq v n) [
-  | inl last ↦ subst (P v) (sym (get_or_push xs z (pos 0) v (long ∙ sym last))) (subst (λ w. P w z) (sym last) here)
-  | inr other ↦ subst (P v) (sym (get_or_append_left xs (z ∷ []) (pos 0) v (omega (arith, l, long)))) (before v (omega (arith, l)))
-]
+push_all P xs n z long before here v l = search (rules, get_or_push, get_or_append_left)
 
 pub room_from : (g : Graph) (usable : Usable) (ms : List ℤ) (k : ℕ) (x : TripRow) (least value : ℤ) → x ≡ row_at g k → least ≡ least_cost g usable x.vehicle → value ≡ (pos 1024 *ℤ (pos x.cost -ℤ least) -ℤ multiplier_sum ms x.riders.items) → value ≡ room_at g usable ms k
-room_from g usable ms k x least value read cheapest is =
-    is
-    ∙ ap (λ (l : ℤ). pos 1024 *ℤ (pos x.cost -ℤ l) -ℤ multiplier_sum ms x.riders.items) cheapest
-    ∙ ap (λ (r : TripRow). pos 1024 *ℤ (pos r.cost -ℤ least_cost g usable r.vehicle) -ℤ multiplier_sum ms r.riders.items) read
+room_from g usable ms k x least value read cheapest is = search rules
 
 -- ---- the multipliers so far
 
@@ -23,9 +17,7 @@ multiplier_sum_same aa bb e [] = refl
 multiplier_sum_same aa bb e (x ∷ xs) = λ i. e x i +ℤ multiplier_sum_same aa bb e xs i
 
 pub first_fit_of_same : (g : Graph) (usable : Usable) (aa bb : List ℤ) (r : ℕ) → ((q : ℕ) → multiplier_at aa q ≡ multiplier_at bb q) → first_fit_of g usable aa r ≡ first_fit_of g usable bb r
-first_fit_of_same g usable aa bb r e =
-    let room : (k : ℕ) → room_at g usable aa k ≡ room_at g usable bb k = λ k. ap (λ (s : ℤ). pos 1024 *ℤ (pos (row_at g k).cost -ℤ least_cost g usable (row_at g k).vehicle) -ℤ s) (multiplier_sum_same aa bb e (row_at g k).riders.items) in
-    λ i. lesser (least_below (length g.rows) (λ k. usable k && has_rider g k r) (λ k. room k i)) (pos (1024 * g.penalty))
+first_fit_of_same g usable aa bb r e = search (rules, multiplier_sum_same)
 
 pub first_fit_none : (g : Graph) (usable : Usable) (r : ℕ) → multiplier_at (first_fit_below g usable 0) r ≡ pos 0
 unfolding first_fit_below
@@ -34,8 +26,7 @@ first_fit_none g usable r = refl
 pub length-first_fit : (g : Graph) (usable : Usable) (n : ℕ) → length (first_fit_below g usable n) ≡ n
 unfolding first_fit_below
 length-first_fit g usable zero = refl
-length-first_fit g usable (suc n) =
-    omega (arith, length_push (first_fit_below g usable n) (first_fit_of g usable (first_fit_below g usable n) n), length-first_fit g usable n)
+length-first_fit g usable (suc n) = search (rules, length_push, (length-first_fit g usable n))
 
 first_fit_suc : (g : Graph) (usable : Usable) (n : ℕ) → first_fit_below g usable (n + 1) ≡ first_fit_below g usable n ++ first_fit_of g usable (first_fit_below g usable n) n ∷ []
 unfolding first_fit_below
@@ -44,26 +35,7 @@ first_fit_suc g usable n = rw add-one refl
 -- one more rider's multiplier
 pub first_fit_more : (g : Graph) (usable : Usable) (n : ℕ) (ms : List ℤ) (m : ℤ) → n < length ms → ((r : ℕ) → multiplier_at ms r ≡ multiplier_at (first_fit_below g usable n) r) → m ≡ first_fit_of g usable ms n
     → (r : ℕ) → multiplier_at (set ms n m) r ≡ multiplier_at (first_fit_below g usable (n + 1)) r
-first_fit_more g usable n ms m l same value r =
-    let before = first_fit_below g usable n in
-    let next = first_fit_of g usable before n in
-    let long : length before ≡ n = length-first_fit g usable n in
-    let found : m ≡ next = value ∙ first_fit_of_same g usable ms before n same in
-    let suc_is = sym (ap (λ (xs : List ℤ). multiplier_at xs r) (first_fit_suc g usable n)) in
-    ⊎_elim
-    (λ (here : r ≡ n).
-    ap (λ (q : ℕ). get_or (set ms n m) q (pos 0)) here ∙ get_or-set_same ms n m (pos 0) l ∙ found
-    ∙ sym (get_or_push before next (pos 0) r (long ∙ sym here)) ∙ suc_is)
-    (λ (other : r ≡ n → ⊥).
-    get_or-set_other ms n r m (pos 0) other ∙ same r
-    ∙ ⊎_elim
-    (λ (low : r < n). sym (get_or_append_left before (next ∷ []) (pos 0) r (omega (arith, low, long))))
-    (λ (high : n ≤ r).
-    get_or_past before r (pos 0) (omega (arith, high, long))
-    ∙ sym (get_or_past (before ++ next ∷ []) r (pos 0) (omega (arith, high, other, long, length_push before next))))
-    (cases_lt r n)
-    ∙ suc_is)
-    (cases_eq r n)
+first_fit_more g usable n ms m l same value r = search (rules, length-first_fit, first_fit_of_same, first_fit_suc, get_or-set_same, get_or_push, get_or-set_other, get_or_append_left, get_or_past, length_push)
 
 pub first_fit_done : (g : Graph) (usable : Usable) (n : ℕ) (ms : List ℤ) → length ms ≡ n → ((r : ℕ) → multiplier_at ms r ≡ multiplier_at (first_fit_below g usable n) r) → ms ≡ first_fit_below g usable n
 first_fit_done g usable n ms long same =
@@ -74,7 +46,4 @@ modest_zero z e = record { low = omega (arith, ints, e); high = omega (arith, in
 
 -- what holds of each number of a list holds with one set
 pub set_all : (P : ℕ → ℤ → Type 0) (xs : List ℤ) (n : ℕ) (z d : ℤ) → n < length xs → P n z → ((r : ℕ) → P r (get_or xs r d)) → (r : ℕ) → P r (get_or (set xs n z) r d)
-set_all P xs n z d low here others r = elim (cases_eq r n) [
-  | inl same ↦ subst (λ q. P q (get_or (set xs n z) q d)) (sym same) (subst (P n) (sym (get_or-set_same xs n z d low)) here)
-  | inr other ↦ subst (P r) (sym (get_or-set_other xs n r z d other)) (others r)
-]
+set_all P xs n z d low here others r = search (rules, get_or-set_same, get_or-set_other)

@@ -1,5 +1,5 @@
 -- What the first-fit multipliers are worth: none is negative, and the cheapest usable rows stay the cheapest.
-use Rattle.std.proofs.Common.{◌≡◌, ◌==◌, ◌&&◌, ℕ, zero, suc, ◌*◌, ◌<◌, ◌≤◌, Bool, true, false, List, [], ◌∷◌, ◌++◌, length, Option, Some, None, ℤ, pos, ◌+ℤ◌, ◌*ℤ◌, ◌≤ℤ◌, refl, sym, ap, ◌∙◌, subst, arith, eq-eqb, eqb-true, unwrap_or}
+use Rattle.std.proofs.Common.{rules, ◌≡◌, ◌==◌, ◌&&◌, ℕ, zero, suc, ◌*◌, ◌<◌, ◌≤◌, Bool, true, false, List, [], ◌∷◌, ◌++◌, length, Option, Some, None, ℤ, pos, ◌+ℤ◌, ◌*ℤ◌, ◌≤ℤ◌, refl, sym, ap, ◌∙◌, subst, arith, eq-eqb, eqb-true, unwrap_or}
 use Rattle.dual_bound.proofs.Common.{none-some, ints, int_min_is, and_from, and_parts, get_or_push, get_or_append_left, get_or_past, length_push, int_sum_below, least_below, lesser, Graph, riders_at, row_vehicle, cost_at, has_rider, IsGoodGraph, Usable, multiplier_at, multiplier_sum, is_usable_by, reduced_cost, vehicle_term, rider_term, leaf_value, least_cost, room_at, first_fit_of, first_fit_below, first_fit, first_fit_value, part, int_sum_same, int_sum_plus, int_sum_single, least_below_some, least_below_none, least_below_found, lesser-le_right, lesser-le_left, nat_tests, false_from_ne_true}
 use Rattle.plan_rules.proofs.lemmas.DualityLemmas.{multiplier_sum_is}
 use Rattle.dual_bound.proofs.lemmas.FirstFitLemmas.{length-first_fit}
@@ -22,17 +22,12 @@ least_cost_le g u k l may =
     omega (arith, ints, ap (λ (o : Option ℤ). unwrap_or o (pos 0)) w.1, w.2)
 
 room_first : (g : Graph) (u : Usable) → LeavesRoom g u []
-room_first g u = record {
-  positive = λ r. omega (arith, ints);
-  most = λ r. omega (arith, ints);
-  room = λ k l may. let low = least_cost_le g u k l may in let nobody = none_sum (riders_at g k) in omega (arith, ints, low, nobody);
-}
+room_first g u = grind (arith, nat_tests, (least_cost_le g u), none_sum)
 
 -- ---- one more rider
 
 pushed_at : (ms : List ℤ) (n : ℕ) (m : ℤ) (r : ℕ) → length ms ≡ n → multiplier_at (ms ++ m ∷ []) r ≡ multiplier_at ms r +ℤ part (n == r) m
-pushed_at ms n m r long =
-    grind (arith, ints, nat_tests, long, length_push ms m, get_or_push ms m (pos 0) r, get_or_append_left ms (m ∷ []) (pos 0) r, get_or_past ms r (pos 0), get_or_past (ms ++ m ∷ []) r (pos 0))
+pushed_at ms n m r long = search (rules, length_push, get_or_push, get_or_append_left, get_or_past)
 
 part_of_sum : (a b : Bool) (x m : ℤ) → part a (x +ℤ part b m) ≡ part a x +ℤ part b (part a m)
 part_of_sum a b x m = grind (arith, ints)
@@ -90,8 +85,7 @@ room_next g u n ms good low long before =
 room_below : (g : Graph) (u : Usable) (n : ℕ) → IsGoodGraph g → n ≤ g.riders → LeavesRoom g u (first_fit_below g u n)
 unfolding first_fit_below
 room_below g u zero good low = room_first g u
-room_below g u (suc n) good low =
-    room_next g u n (first_fit_below g u n) good (omega arith) (length-first_fit g u n) (room_below g u n good (omega arith))
+room_below g u (suc n) good low = search (rules, room_next, length-first_fit, (room_below g u n good))
 
 pub first_fit_leaves_room : (g : Graph) (u : Usable) → IsGoodGraph g → LeavesRoom g u (first_fit g u)
 first_fit_leaves_room g u good = room_below g u g.riders good (omega arith)

@@ -1,6 +1,6 @@
 use Rattle.std.proofs.Common.{◌≡◌, ℕ, ◌+◌, ◌<◌, ◌≤◌, ◌⊎◌, inl, inr, List, [], ◌∷◌, ◌++◌, length, get_or, sym, ap, ◌∙◌, subst, arith, ⊎_elim}
 use Rattle.pair_graph.proofs.Common.{length_push, get_or_append_left, get_or_push, All-nil, All-push, Contains-append_left, Contains-push}
-use Rattle.std.specs.List.{All, Contains}
+use Rattle.std.specs.List.{Contains}
 use Rattle.std.proofs.lemmas.Bool.{cases_lt}
 use Rattle.stop_orders.specs.PairList.{IsBefore}
 pub use Rattle.pair_graph.specs.work.Listing.{ListsBefore}
