@@ -1,5 +1,5 @@
 -- The entries that a row gave, or a batch from its seal to its close.
-use Rattle.std.proofs.Common.{◌≡◌, ◌≢◌, ℕ, Bool, true, false, cond, eqb, List, [], ◌∷◌, ◌++◌, map, Option, None, Some, refl, sym, ap, subst, inl, inr, ◌∙◌, append-nil, All, arith, filter, option_map}
+use Rattle.std.proofs.Common.{rules, ◌≡◌, ◌≢◌, ℕ, Bool, true, false, cond, eqb, List, [], ◌∷◌, ◌++◌, map, Option, None, Some, refl, sym, ap, subst, inl, inr, ◌∙◌, append-nil, All, arith, filter, option_map}
 use Rattle.live_dispatch.proofs.Common.{IsInZero, filter-mapped, nat_tests, All-head, All-tail, All-weaker, Batch, of_lane, IsCloseOf, IsLaneRunFrom, IsLaneRun, IsLaneBeginning, IsGoodClose, IsGoodFor, LaneClosesAreGood, ClosesAreGood, each-told, closes-join, ends-closed, stands-plain, GoesOn, commands_of_pass, entry_command, row_command, pass_of, LaneCommand, state_after, RepliesAreSteps, step, Command, Close, Entry, Reply, State, Settings, entry_notices, Roads, MayStand, Line, calls_from, sealed_by, in_lane}
 use Rattle.std.proofs.lemmas.Bool.{cases_eq, eq-eqb, ne_eqb}
 use Rattle.std.proofs.lemmas.Simd.{map-map}
@@ -55,8 +55,7 @@ rows-plain : (round : ℕ) (rows : List Line) → All (GoesOn round) rows → Al
 rows-plain round rows going = All-weaker (GoesOn round) (λ (l : Line). IsPlain l.command) (λ l here. stands-plain l.lane l.command here.1.0 here.0.stands) rows going
 
 lane-plain : (round lane : ℕ) (rows : List Line) → All (GoesOn round) rows → AllByRecursion IsPlain (in_lane rows lane)
-lane-plain round lane rows going =
-    recursion_from_All IsPlain _ (All-map IsPlain (λ (l : Line). l.command) _ (All-filter (λ (l : Line). eqb l.lane lane) (λ (l : Line). IsPlain l.command) rows (rows-plain round rows going)))
+lane-plain round lane rows going = search (rules, recursion_from_All, All-map, All-filter, rows-plain)
 
 pub rows-of : (round : ℕ) (rows : List Line) → All (GoesOn round) rows → AreOf round rows
 rows-of round [] going = tt
@@ -73,10 +72,7 @@ zero-rows round (r ∷ rs) going =
 -- so each entry outside lane 0 is plain
 in-zero : (es : List Entry) → AllByRecursion IsPlain (map told (commands_of_pass 1 es)) → AllByRecursion IsInZero es
 in-zero [] plain = tt
-in-zero (e ∷ es) plain = elim (cases_eq e.lane 0) [
-  | inl own ↦ ((λ other. absurd (other own)), in-zero es (rw (eq-eqb e.lane 0 own) at plain))
-  | inr other ↦ let both = rw (ne_eqb e.lane 0 other) at plain in ((λ _. both.0), in-zero es both.1)
-]
+in-zero (e ∷ es) plain = search (rules, eq-eqb, ne_eqb, (in-zero es))
 
 -- the close of lane 0, or nothing
 pub close-run : (batch : ℕ) (outcome : Outcome) (es : List Entry) → map (λ e. e.command) es ≡ Close batch outcome ∷ [] → IsLaneRunFrom (Some batch) [] es
@@ -164,11 +160,7 @@ module _ (row : Line) (e : Entry) (batch round : ℕ) (run : List Line) (es : Li
 
   by-lane : (P : List Command → List Entry → Type 0) → P (row.command ∷ in_lane run 0) (e ∷ of_lane 0 es) → ((lane : ℕ) → lane ≢ 0 → P (in_lane run lane) (of_lane lane es))
       → (lane : ℕ) → P (in_lane (row ∷ run) lane) (of_lane lane (e ∷ es))
-  by-lane P here there lane = elim (cases_eq lane 0) [
-    | inl at ↦ subst (λ k. P (in_lane (row ∷ run) k) (of_lane k (e ∷ es))) (sym at) (rw (eq-eqb row.lane 0 zero, eq-eqb e.lane 0 first) here)
-    | inr other ↦
-        rw (ne_eqb row.lane lane (λ same. other (sym same ∙ zero)), ne_eqb e.lane lane (λ same. other (sym same ∙ first))) (there lane other)
-  ]
+  by-lane P here there lane = search (rules, eq-eqb, ne_eqb)
 
   pub batch-lanes : IsLaneRunFrom (Some batch) [] (of_lane 0 es) → (lane : ℕ) → IsLaneRun (in_lane (row ∷ run) lane) (of_lane lane (e ∷ es))
   batch-lanes close = by-lane IsLaneRun (subst (IsLaneRun (row.command ∷ in_lane run 0)) (append-nil (e ∷ of_lane 0 es)) (zero-run [] (subst (IsLaneRunFrom (Some batch) []) (sym (append-nil (of_lane 0 es))) close))) others

@@ -1,5 +1,5 @@
 -- How a run ends.
-use Rattle.std.proofs.Common.{◌≡◌, ℕ, ◌≤◌, Bool, List, ◌∷◌, ◌++◌, Option, Some, Result, Ok, Err, refl, sym, ap, subst, arith}
+use Rattle.std.proofs.Common.{rules, ◌≡◌, ℕ, ◌≤◌, Bool, List, ◌∷◌, ◌++◌, Option, Some, Result, Ok, Err, refl, sym, ap, subst, arith}
 use Rattle.live_dispatch.proofs.Common.{Appends-trans, Batch, position_after_run, end_text, SinkView, WritesText, ReportFault, AreRows, BeginWithRows, FaultsFrom, TakesRun, all-begin, runs-begin, Halt, IsPassedOn, Outputs, Rose, BookView, next_position, Settings, Roads, Line, rounds_of, BeginsRows, journals_text, LiveFault, HasCut, HasEnded, HasRunOn, HaveCome, Moment, Opens, Stands, ended_by, of_report, outputs_of, row_text}
 use Rattle.live_dispatch.proofs.StandLemmas.{begins-here, begins-last}
 use Rattle.live_dispatch.proofs.StepLemmas.{batch-begins, batch-stands, lines-behind, row-begins}
@@ -26,13 +26,7 @@ module _ (settings : Settings) (roads : Roads) (start : Moment) where
       → BeginsRows settings roads start.book start.rows (record { before = start.sink; after = outputs.sink }) (record { before = start.notifiers; after = outputs.notifiers })
       → (fault ≡ live.WriteFault → Rose start.sink.faults outputs.sink.faults) → (fault ≡ live.ReadFault → Rose start.reads failed) → start.sink.faults ≤ outputs.sink.faults
       → HasEnded settings roads start failed outputs ended
-  begun-ended failed outputs fault ended is begins write read falls =
-      subst (HasEnded settings roads start failed outputs) (sym is) (record {
-        run = begins;
-        write_fault = λ e. write cc;
-        read_fault = λ e. read cc;
-        writes = falls;
-      })
+  begun-ended failed outputs fault ended is begins write read falls = search rules
 
   -- between two rows
   pub stood-ended : (now : Moment) (Now : List Line → Type 0) (stands : Stands settings roads start now Now) → BeginWithRows start.rows stands.lines
@@ -51,21 +45,7 @@ module _ (settings : Settings) (roads : Roads) (start : Moment) where
     last = record { sink = sink; notifiers = now.notifiers }
 
     whole-end : (done : Unit {0}) → WritesText (record { before = now.sink; after = sink }) last_line (Ok done) → HasEnded settings roads start failed last (Ok done)
-    whole-end done w =
-        let falls : now.sink.faults ≤ sink.faults = w.never_falls in
-        record {
-          run = record {
-            lines = stands.lines;
-            all = all;
-            journals = stands.journals;
-            run = stands.run;
-            text = Appends-trans start.sink.written now.sink.written sink.written (journals_text settings.proof (rounds_of stands.lines) stands.journals) last_line stands.text w.bytes;
-            told = stands.told;
-          };
-          write_fault = λ e. absurd cc;
-          read_fault = λ e. absurd cc;
-          writes = omega (arith, falls, stands.writes);
-        }
+    whole-end done w = search (rules, Appends-trans)
 
     part-end : (fault : ReportFault) → WritesText (record { before = now.sink; after = sink }) last_line (Err fault) → HasEnded settings roads start failed last (Err (of_report fault))
     part-end fault w =
@@ -83,10 +63,7 @@ module _ (settings : Settings) (roads : Roads) (start : Moment) where
     pub all-ended : (outputs : Outputs) (ended : Result (Unit {0}) LiveFault) → outputs ≡ last
         → (answer : Result (Unit {0}) ReportFault) × (ended ≡ ended_by answer) × WritesText (record { before = now.sink; after = sink }) (end_text (next_position now.book.first now.book.entries)) answer
         → HasEnded settings roads start failed outputs ended
-    all-ended outputs ended are wrote =
-        subst (λ (o : Outputs). HasEnded settings roads start failed o ended) (sym are)
-        (subst (HasEnded settings roads start failed last) (sym wrote.1)
-        (by-answer wrote.0 (subst (λ n. WritesText (record { before = now.sink; after = sink }) (end_text n) wrote.0) stands.position wrote.2)))
+    all-ended outputs ended are wrote = search (rules, by-answer)
 
   -- behind a seal, before its batch is solved
   pub opened-ended : (row : Line) (b : Batch) (now : Moment) → Opens settings roads start row b now → (failed : ℕ) (outputs : Outputs) (ended : Result (Unit {0}) LiveFault)
@@ -107,11 +84,7 @@ module _ (settings : Settings) (roads : Roads) (start : Moment) where
     start-reads = (let were : start.reads ≤ on.opens.before.reads = on.opens.stands.reads in let a = on.opens.same.1 in let c = on.reads_were in omega (arith, were, a, c))
 
     start-writes : start.sink.faults ≤ outputs.sink.faults
-    start-writes =
-        let were : start.sink.faults ≤ on.opens.before.sink.faults = on.opens.stands.writes in
-        let here : on.opens.before.sink.faults ≤ on.sealed.sink.faults = on.opens.writes in
-        let falls : on.sealed.sink.faults ≤ outputs.sink.faults = on.ran.desk.never_falls in
-        omega (arith, were, here, falls)
+    start-writes = search rules
 
     pub batch-failed : (why : LiveFault) (failed : ℕ) (ended : Result (Unit {0}) LiveFault) → HasCut book cut closed fault (Err why) → ended ≡ Err why → HasEnded settings roads start failed outputs ended
     batch-failed why failed ended has_cut is =

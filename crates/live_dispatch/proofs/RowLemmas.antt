@@ -1,5 +1,5 @@
 -- The rounds of rows with some more rows of one round.
-use Rattle.std.proofs.Common.{◌≡◌, ◌≢◌, ℕ, ◌<◌, ◌≤◌, ◌&&◌, cond, eqb, List, [], ◌∷◌, ◌++◌, get_or, map, Option, None, Some, refl, sym, ap, subst, ◌∙◌, append_assoc, append-nil, inl, inr, arith}
+use Rattle.std.proofs.Common.{rules, ◌≡◌, ◌≢◌, ℕ, ◌<◌, ◌≤◌, ◌&&◌, cond, eqb, List, [], ◌∷◌, ◌++◌, get_or, map, Option, None, Some, refl, sym, ap, subst, ◌∙◌, append_assoc, append-nil, inl, inr, arith}
 use Rattle.live_dispatch.proofs.Common.{cases_lt, cases_order, nat_tests, map-append, get_or_past, All-head, All-tail, All-nil, All-push, All-weaker, All-same, filter-append, round_line, Command, Line, NumberedLanes, lane_at, round_of, rounds_of, round_numbers, in_lane, EndsIn, EndsWith, last_of, start_text}
 use Rattle.std.specs.List.{All, filter, range_with_len}
 use Rattle.std.proofs.lemmas.Bool.{eq-eqb, ne_eqb}
@@ -17,9 +17,7 @@ abbrev of_round : List Line → ℕ → ℕ → List Command
 of_round lines number lane = map (λ l. l.command) (filter (λ l. eqb l.round number && eqb l.lane lane) lines)
 
 of_round-append : (xs ys : List Line) (number lane : ℕ) → of_round (xs ++ ys) number lane ≡ of_round xs number lane ++ of_round ys number lane
-of_round-append xs ys number lane =
-    ap (map (λ (l : Line). l.command)) (filter-append (λ (l : Line). eqb l.round number && eqb l.lane lane) xs ys)
-    ∙ map-append (λ (l : Line). l.command) (filter (λ (l : Line). eqb l.round number && eqb l.lane lane) xs) (filter (λ (l : Line). eqb l.round number && eqb l.lane lane) ys)
+of_round-append xs ys number lane = search (rules, filter-append, map-append)
 
 -- of rows of one round the lane alone decides
 of_round-own : (rows : List Line) (number lane : ℕ) → AreOf number rows → of_round rows number lane ≡ in_lane rows lane
@@ -41,8 +39,7 @@ round-lane : (lines : List Line) (number lane : ℕ) → lane < 16 → lane_at (
 round-lane lines number lane within = get_or-map-range_with_len (of_round lines number) 0 16 lane lane [] within (omega arith)
 
 round-beyond : (lines : List Line) (number lane : ℕ) → 16 ≤ lane → lane_at (round_of lines number) lane ≡ []
-round-beyond lines number lane beyond =
-    get_or_past (map (of_round lines number) (range_with_len 0 16)) lane [] (omega (arith, length-map-range_with_len (of_round lines number) 0 16))
+round-beyond lines number lane beyond = search (rules, get_or_past, length-map-range_with_len)
 
 -- the round of these rows has their commands more
 pub lane-grows : (lines rows : List Line) (number lane : ℕ) → AreOf number rows → lane_at (round_of (lines ++ rows) number) lane ≡ lane_at (round_of lines number) lane ++ in_lane rows lane
@@ -75,20 +72,13 @@ of_round-none (row ∷ rows) number lane none =
     grind (arith, nat_tests, of_round-none rows number lane (All-tail (λ n. n ≢ number) row.round (round_numbers rows) none))
 
 round-none : (lines : List Line) (number lane : ℕ) → All (λ n. n ≢ number) (round_numbers lines) → lane_at (round_of lines number) lane ≡ []
-round-none lines number lane none = elim (cases_lt lane 16) [
-  | inl within ↦ round-lane lines number lane within ∙ of_round-none lines number lane none
-  | inr beyond ↦ round-beyond lines number lane beyond
-]
+round-none lines number lane none = grind (arith, nat_tests, (round-lane lines number lane), (of_round-none lines number lane none), (round-beyond lines number lane))
 
 numbers-append : (xs ys : List Line) → round_numbers (xs ++ ys) ≡ round_numbers xs ++ round_numbers ys
 numbers-append xs ys = map-append (λ (l : Line). l.round) xs ys
 
 ends-more : (ns : List ℕ) (last : ℕ) (front : List ℕ) → EndsWith ns last front → EndsWith (ns ++ last ∷ []) last front
-ends-more ns last front e = record {
-  ends = distinct-push_old ns last e.here ∙ e.ends;
-  here = any-more (λ n. eqb n last) ns last (eq-eqb last last refl);
-  below = All-push (λ n. n ≤ last) ns last e.below (omega arith);
-}
+ends-more ns last front e = search (rules, distinct-push_old, any-more, eq-eqb, All-push)
 
 ends-rows : (last : ℕ) (front : List ℕ) (rows : List Line) → AreOf last rows → (ns : List ℕ) → EndsWith ns last front → EndsWith (ns ++ round_numbers rows) last front
 ends-rows last front [] are ns e = subst (λ (ms : List ℕ). EndsWith ms last front) (sym (append-nil ns)) e

@@ -1,16 +1,13 @@
 -- What stands of a run after more rows.
-use Rattle.std.proofs.Common.{◌≡◌, ℕ, ◌+◌, ◌<◌, ◌≤◌, List, [], ◌∷◌, ◌++◌, codes, length, take, drop, Option, Some, refl, sym, ap, subst, ◌∙◌, append_assoc, append-nil, take-append-drop, length-append, inl, inr, arith}
+use Rattle.std.proofs.lemmas.Bool.Decides.{nat_tests}
+use Rattle.std.proofs.Common.{rules, ◌≡◌, ℕ, ◌+◌, ◌<◌, ◌≤◌, List, [], ◌∷◌, ◌++◌, codes, length, take, drop, Option, Some, refl, sym, ap, subst, ◌∙◌, append_assoc, append-nil, take-append-drop, length-append, inl, inr, arith}
 use Rattle.live_dispatch.proofs.Common.{Appends, Appends-nil, Appends-trans, take-append-add, of_lane, IsLaneRun, IsLaneBeginning, ClosesAreGood, IsReady, IsRun, position_after_run, run-more, lines_text, end_text, entries_lines, entry_text, Change, SinkView, numbered, AppendsPart, next_position, state_after, RepliesAreSteps, Entry, Journal, State, Settings, notices_from, HaveHeard, NotifierView, Notice, all-heard-more, Roads, round_of, Line, rounds_of, BeginWithRows, AreWhole, BeginsRows, ButLast, HasAppended, IsBegunRun, journals_notices, journals_text, rows_text, EndsIn, in_lane, last_of, start_text, Moment, Stands, entries-append, next-low, one-text}
 use Rattle.live_dispatch.proofs.RowLemmas.{AreMore, AreOf, rows-more}
 use Rattle.live_dispatch.proofs.RunLemmas.{HasGrown, has-grown, run-begins, with_more}
 
 -- bytes and a part of a text are a part of both
 pub part-behind : (old new : Option (List ℕ)) (front text : List ℕ) (k : ℕ) → k < length text → Appends old new (front ++ take k text) → AppendsPart old new (front ++ text)
-part-behind old new front text k short written = (
-  length front + k,
-  omega (arith, length-append front text, short),
-  subst (λ (l : List ℕ). Appends old new l) (sym (take-append-add front text k)) written,
-)
+part-behind old new front text k short written = grind (arith, nat_tests, (length-append front text), (take-append-add front text k))
 
 -- bytes that were written are a part of them and some more
 part-of : (old new : Option (List ℕ)) (bytes rest : List ℕ) → Appends old new bytes → 0 < length rest → AppendsPart old new (bytes ++ rest)
@@ -55,10 +52,7 @@ module _ (settings : Settings) (roads : Roads) (start before : Moment) (Before :
 
   whole-text : (fs : List Entry) → journals_text settings.proof (rounds_of all) (whole_of fs) ≡ old_text ++ more_of fs
   unfolding whole_of
-  whole-text fs =
-      ap (λ rs. journals_text settings.proof rs (grown.done ++ with_more grown.front fs ∷ [])) grown.rounds
-      ∙ grown.text fs
-      ∙ ap (λ n. old_text ++ (start_text before.round number ++ lines_text (entries_lines settings.proof n fs))) (sym stands.position)
+  whole-text fs = search (rules, with_more)
 
   whole-notices : (fs : List Entry) → journals_notices settings roads (whole_of fs) ≡ journals_notices settings roads stands.journals ++ notices_from roads.nodes settings.wait before.book.state fs
   unfolding whole_of
@@ -194,17 +188,7 @@ module _ (settings : Settings) (roads : Roads) (start now : Moment) (Now : List 
 
   pub begins-last : (written : Option (List ℕ)) (faults : ℕ) → BeginWithRows start.rows stands.lines → AppendsPart now.sink.written written last_line
       → BeginsRows settings roads start.book start.rows (record { before = start.sink; after = record { written = written; faults = faults } }) (record { before = start.notifiers; after = now.notifiers })
-  begins-last written faults begin part = record {
-    lines = stands.lines;
-    begin = begin;
-    journals = stands.journals;
-    run = begun;
-    text = part-behind start.sink.written written lines_text_is last_line part.0 part.1 (wrote written part);
-    whole = stands.journals;
-    are_whole = inl refl;
-    written = (take part.0 last_line, wrote written part);
-    told = stands.told;
-  }
+  begins-last written faults begin part = grind (arith, nat_tests, begun, part-behind, (wrote written part))
 
   pub begins-here : (faults : ℕ) → BeginWithRows start.rows stands.lines
       → BeginsRows settings roads start.book start.rows (record { before = start.sink; after = record { written = now.sink.written; faults = faults } }) (record { before = start.notifiers; after = now.notifiers })

@@ -1,5 +1,5 @@
 -- What stands after a row, and after an open batch.
-use Rattle.std.proofs.Common.{◌≡◌, ◌≢◌, ℕ, ◌<◌, ◌≤◌, Bool, true, false, cond, eqb, List, [], ◌∷◌, ◌++◌, length, map, take, Option, None, Some, refl, sym, ap, subst, ◌∙◌, append_assoc, append-nil, arith, option_map}
+use Rattle.std.proofs.Common.{rules, ◌≡◌, ◌≢◌, ℕ, ◌<◌, ◌≤◌, Bool, true, false, cond, eqb, List, [], ◌∷◌, ◌++◌, length, map, take, Option, None, Some, refl, sym, ap, subst, ◌∙◌, append_assoc, append-nil, arith, option_map}
 use Rattle.live_dispatch.proofs.Common.{Appends, Appends-trans, Batch, of_lane, IsLaneRunFrom, IsLaneRun, IsLaneBeginning, ClosesAreGood, IsReady, ends-closed, stands-plain, lines_text, entries_lines, entry_text, ReportFault, BeginWithRows, ClosesBatch, TakesRun, commands_of_pass, desk_after, runs-begin, runs-more, takes-start, Halt, IsPassedOn, Outputs, desk_of, desk_root, entries_text, notices_in, text_of, LaneCommand, TakesRows, BookView, next_position, state_after, RepliesAreSteps, step, Command, Seal, Close, Entry, Reply, State, Settings, notices_from, HaveHeard, Notice, all-heard-nothing, Roads, IsBehind, MayStand, Line, is_light, sealed_by, step-seals, BeginsRows, in_lane, last_of, start_text, AppendsSome, HasRunOn, HasTaken, HaveCome, Moment, Stands, entry_for, outputs_of, row_text, entries-append, next-append, next-low, one-text}
 use Rattle.live_desk.specs.declared.desk.DeskRoot.{DeskRoot}
 use Rattle.live_dispatch.proofs.BatchLemmas.{batch-begun, batch-closes, batch-ended, batch-lanes, batch-others, batch-unclosed, close-run, none-left, row-lanes, rows-of, some_close, stands-good, stands-silent, told, zero-commands}
@@ -52,9 +52,7 @@ module _ (settings : Settings) (roads : Roads) where
     taken-reply new sealed taken = taken.fits.sealed ∙ ap (λ p. sealed_by p.1) taken.applied.stepped
 
     taken-position : (new : BookView) (sealed : Option Batch) → HasTaken before row.lane row.command sealed new → next_position new.first new.entries ≡ next_position (next_position before.first before.entries) (own ∷ [])
-    taken-position new sealed taken =
-        (λ i. next_position (taken.applied.first i) (taken.applied.entries i))
-        ∙ next-append before.first before.entries ((record { lane = row.lane; command = row.command; reply = taken.reply }) ∷ [])
+    taken-position new sealed taken = search (rules, next-append)
 
     taken-ready : (new : BookView) → HasTaken before row.lane row.command None new → IsReady settings roads new
     unfolding state_after
@@ -160,9 +158,7 @@ module _ (settings : Settings) (roads : Roads) where
     sealed-state = taken-state before.book row ready round last number behind on.sealed.book (Some b) on.opens.taken
 
     stands-sealed : opened.sealed ≡ Some b
-    stands-sealed =
-        ap (λ p. p.0.sealed) (sym (step-is before.book row.command ready))
-        ∙ (step-seals before.book.nodes before.book.wait before.book.state row.command b (sym on.opens.taken.shown)).stands
+    stands-sealed = search (rules, step-is, ready, step-seals)
 
     -- the book's root
     root : desk_root (desk_after on.fresh settings.proof (outputs_of on.sealed) book outputs fault) ≡ desk_root (desk_of on.fresh settings.proof (outputs_of on.sealed))
@@ -181,9 +177,7 @@ module _ (settings : Settings) (roads : Roads) where
     wait-is = ap (λ (r : DeskRoot). r.wait) root ∙ ap (λ (f : BookView). f.wait) on.fresh_is ∙ on.opens.taken.applied.wait ∙ ready.wait
 
     replies : RepliesAreSteps roads.nodes settings.wait opened es
-    replies =
-        subst (λ s. RepliesAreSteps roads.nodes settings.wait s es) base
-        (subst (λ ns. RepliesAreSteps ns settings.wait book.base es) nodes-are (subst (λ w. RepliesAreSteps book.nodes w book.base es) wait-is on.ran.desk.book.replies))
+    replies = search (rules, base, nodes-are, wait-is)
 
     state-is : book.state ≡ state_after roads.nodes settings.wait before.book.state (first ∷ es)
     state-is =
@@ -200,22 +194,13 @@ module _ (settings : Settings) (roads : Roads) where
     closes-by false close = batch-unclosed settings roads b opened es round run stands-sealed replies on.ran.rows.going on.ran.rows.called (zero-is _ close)
 
     gives : Gives settings roads before.book.state round (row ∷ run) (first ∷ es)
-    gives = record {
-      are = (number, behind.lane, rows-of round run on.ran.rows.going);
-      replies = own-replies before.book row ready round last number behind es replies;
-      closes = own-closes before.book row ready round last number behind es (closes-by closed on.ran.close);
-    }
+    gives = search (rules, number, rows-of, replies, own-replies, ready, behind, own-closes, closes-by)
 
     seals : sealed_by first.reply ≡ Some b.number
     seals = sym (taken-reply before.book row ready round last number behind on.sealed.book (Some b) on.opens.taken)
 
     zero-lane : row.lane ≡ 0
-    zero-lane = in_zero row.command behind.stands (on.opens.taken.fits.seals b refl)
-      where
-        in_zero : (command : Command) → MayStand row.lane command → is_light command ≡ false → row.lane ≡ 0
-        in_zero (Seal now) stands light = stands
-        in_zero (Close batch outcome) stands light = absurd stands
-        in_zero _ stands light = absurd cc
+    zero-lane = search rules
 
     others : (lane : ℕ) → lane ≢ 0 → IsLaneRun (in_lane run lane) (of_lane lane es)
     others = batch-others settings roads b opened es round run stands-sealed replies on.ran.rows.going on.ran.rows.called
@@ -246,16 +231,13 @@ module _ (settings : Settings) (roads : Roads) where
 
     -- what was told from the seal on was told from before it on
     heard-before : (fs : List Entry) → HaveHeard (notices_in book fs) on.sealed.notifiers outputs.notifiers → HaveHeard (notices_from roads.nodes settings.wait before.book.state (first ∷ fs)) before.notifiers outputs.notifiers
-    heard-before fs heard =
-        subst (λ (ns : List Notice). HaveHeard ns before.notifiers outputs.notifiers) (sym (notices-are fs))
-        (subst (λ ns. HaveHeard (notices_in book fs) ns outputs.notifiers) on.opens.same.2 heard)
+    heard-before fs heard = search (rules, notices-are)
 
     all-are : (on.opens.stands.lines ++ row ∷ []) ++ run ≡ on.opens.stands.lines ++ (row ∷ run)
     all-are = append_assoc on.opens.stands.lines (row ∷ []) run
 
     pub lines-behind : TakesRun end start.rows rows (on.opens.stands.lines ++ (row ∷ run))
-    lines-behind = subst (TakesRun end start.rows rows) all-are (runs-more end start.rows before.rows rows (on.opens.stands.lines ++ row ∷ []) run on.opens.stands.are
-        (subst (λ r. TakesRun end r rows run) on.opens.same.0 on.ran.rows.taken))
+    lines-behind = search (rules, all-are, runs-more)
 
     low : last ≤ round
     low = subst (λ n. last ≤ n) number behind.round

@@ -1,5 +1,5 @@
 -- From one row to the next.
-use Rattle.std.proofs.Common.{◌≡◌, ℕ, ◌<◌, ◌≤◌, ◌^◌, Bool, List, [], ◌∷◌, ◌++◌, Option, None, Some, Result, Ok, Err, refl, sym, ap, subst, ◌∙◌, arith}
+use Rattle.std.proofs.Common.{rules, ◌≡◌, ℕ, ◌<◌, ◌≤◌, ◌^◌, Bool, List, [], ◌∷◌, ◌++◌, Option, None, Some, Result, Ok, Err, refl, sym, ap, subst, ◌∙◌, arith}
 use Rattle.live_dispatch.proofs.Common.{Appends, Appends-nil, Batch, IsReady, SinkView, Outputs, ReportFault, AreRows, BeginWithRows, takes-all, takes-begin, takes-more, takes-none, takes-start, TakesRows, Rose, BookView, IsBook, next_position, state_after, Entry, Settings, HaveHeard, all-heard-nothing, Roads, IsBehind, Line, rounds_of, journals_notices, journals_text, LiveFault, EndsIn, last_of, AppendsSome, Awaits, GivesNext, HasEnded, HasTaken, HaveCome, Moment, Opens, Stands, WritesSome, of_line, of_report, outputs_of, row_text}
 use Rattle.live_rows.specs.declared.lines.LineFault.{LineFault}
 use Rattle.live_dispatch.proofs.EndLemmas.{begun-ended, no_read_of, stood-ended, write_of}
@@ -16,9 +16,7 @@ pub record IsBetween (settings : Settings) (roads : Roads) (start now : Moment) 
 -- the row that is next is held or came
 next-held : (start now : Moment) (held : Option Line) (rows : Option (List Line)) (row : Line) (lines : List Line) → HaveCome start now held lines → GivesNext held now.rows rows (Some row) → TakesRows start.rows rows (lines ++ row ∷ [])
 next-held start now None rows row lines come gives = takes-more start.rows now.rows rows lines (row ∷ []) come gives
-next-held start now (Some held) rows row lines come gives =
-    let same : held ≡ row = (let both : Some row ≡ Some held = gives.0 in cc) in
-    subst (λ r. TakesRows start.rows r (lines ++ row ∷ [])) (sym gives.1) (subst (λ r. TakesRows start.rows now.rows (lines ++ r ∷ [])) same come)
+next-held start now (Some held) rows row lines come gives = search rules
 
 next-none : (start now : Moment) (held : Option Line) (rows : Option (List Line)) (lines : List Line) → HaveCome start now held lines → GivesNext held now.rows rows None → AreRows start.rows lines
 next-none start now None rows lines come gives = takes-all start.rows now.rows lines come gives
@@ -40,21 +38,7 @@ module _ (settings : Settings) (roads : Roads) (start : Moment) where
   -- what stands says nothing of how far reading is, but for the rows and the count of its faults
   pub restand : (now later : Moment) (Now Later : List Line → Type 0) → (stands : Stands settings roads start now Now) → Later stands.lines → later.book ≡ now.book → later.round ≡ now.round → later.sink ≡ now.sink → later.notifiers ≡ now.notifiers → now.reads ≤ later.reads
       → Stands settings roads start later Later
-  restand now later Now Later stands are book round sink notifiers reads = record {
-    lines = stands.lines;
-    are = are;
-    ends = subst (EndsIn stands.lines) (sym round) stands.ends;
-    journals = stands.journals;
-    run = stands.run;
-    text = subst (λ (k : SinkView). Appends start.sink.written k.written (journals_text settings.proof (rounds_of stands.lines) stands.journals)) (sym sink) stands.text;
-    told = subst (λ ns. HaveHeard (journals_notices settings roads stands.journals) start.notifiers ns) (sym notifiers) stands.told;
-    state = ap (λ (b : BookView). b.state) book ∙ stands.state;
-    position = ap (λ (b : BookView). next_position b.first b.entries) book ∙ stands.position;
-    ready = subst (IsReady settings roads) (sym book) stands.ready;
-    small = stands.small;
-    writes = subst (λ (k : SinkView). start.sink.faults ≤ k.faults) (sym sink) stands.writes;
-    reads = omega (arith, reads, stands.reads);
-  }
+  restand now later Now Later stands are book round sink notifiers reads = search rules
 
   pub next-stands : (now later : Moment) (held : Option Line) (row : Line) → Stands settings roads start now (HaveCome start now held) → GivesNext held now.rows later.rows (Some row)
       → later.book ≡ now.book → later.round ≡ now.round → later.sink ≡ now.sink → later.notifiers ≡ now.notifiers → now.reads ≤ later.reads → Stands settings roads start later (HaveCome start later (Some row))
@@ -95,15 +79,7 @@ module _ (settings : Settings) (roads : Roads) (start : Moment) where
   pub row-opens : (now : Moment) (row : Line) → Stands settings roads start now (HaveCome start now (Some row)) → IsBehind (last_of now.round) row → (proof : Bool) → proof ≡ settings.proof → (b : Batch) (later : Moment) (A : Type 0) (x : A)
       → HasTaken now.book row.lane row.command (Some b) later.book → WritesSome {A = A} (record { before = now.sink; after = later.sink }) (row_text proof now.round now.book row) (Ok x)
       → later.rows ≡ now.rows → later.reads ≡ now.reads → later.notifiers ≡ now.notifiers → Opens settings roads start row b later
-  row-opens now row stands behind proof proof_is b later A x taken wrote rows reads notifiers = record {
-    before = now;
-    stands = stands;
-    behind = behind;
-    taken = taken;
-    text = subst (λ p. Appends now.sink.written later.sink.written (row_text p now.round now.book row)) proof_is wrote.bytes;
-    writes = wrote.never_falls;
-    same = (rows, reads, notifiers);
-  }
+  row-opens now row stands behind proof proof_is b later A x taken wrote rows reads notifiers = search rules
 
   -- at the start
   pub start-stands : start.round ≡ None → IsBook start.book → start.book.entries ≡ [] → start.book.first < 2 ^ 64 → IsReady settings roads start.book → Stands settings roads start start (HaveCome start start None)

@@ -1,5 +1,6 @@
 -- What is written of a text.
-use Rattle.std.proofs.Common.{◌≡◌, ◌≢◌, ℕ, Bool, cond, List, [], ◌∷◌, ◌++◌, length, take, drop, Option, None, Some, Result, Ok, Err, sym, ap, subst, ◌∙◌, append_assoc, append-nil, take-append-drop, length-append, arith}
+use Rattle.std.proofs.lemmas.Bool.Decides.{nat_tests}
+use Rattle.std.proofs.Common.{rules, ◌≡◌, ◌≢◌, ℕ, Bool, cond, List, [], ◌∷◌, ◌++◌, length, take, drop, Option, None, Some, Result, Ok, Err, sym, ap, subst, ◌∙◌, append_assoc, append-nil, take-append-drop, length-append, arith}
 use Rattle.live_dispatch.proofs.Common.{take-append_seam, Appends, Appends-trans, entry_text, round_line, Change, SinkView, WritesText, ReportFault, Rose, AppendsPart, BookView, next_position, step, Command, Reply, State, start_text, AppendsSome, WritesSome, entry_for}
 use Rattle.std.proofs.lemmas.Bool.{ne_eqb}
 
@@ -23,37 +24,19 @@ some-whole old new text s is = subst (λ b. Appends old new b) (sym (append-nil 
 
 -- not all of it
 pub some-part : (old new : Option (List ℕ)) (text : List ℕ) → (s : AppendsSome old new text) → (x : ℕ) (xs : List ℕ) → s.unwritten ≡ x ∷ xs → AppendsPart old new text
-some-part old new text s x xs is =
-    let whole : text ≡ s.written ++ x ∷ xs = sym s.parts ∙ ap (λ u. s.written ++ u) is in
-    let longer : length text ≡ length (s.written ++ x ∷ xs) = ap length whole in (
-      length s.written,
-      omega (arith, longer, length-append s.written (x ∷ xs)),
-      subst (λ b. Appends old new b) (sym (ap (take (length s.written)) whole ∙ take-append_seam s.written (x ∷ xs))) s.bytes,
-    )
+some-part old new text s x xs is = grind (arith, nat_tests, (length-append s.written), (take-append_seam s.written))
 
 pub text-some : (sink : Change SinkView) (text : List ℕ) (r : Result (Unit {0}) ReportFault) → WritesText sink text r → WritesSome sink text r
 text-some sink text (Ok done) w = record { bytes = w.bytes; fault = w.fault; never_falls = w.never_falls }
 text-some sink text (Err fault) w = record { bytes = part-some sink.before.written sink.after.written text w.bytes; fault = w.fault; never_falls = w.never_falls }
 
 pub err-some : {A : Type 0} (sink : Change SinkView) (text : List ℕ) (fault : ReportFault) → WritesText sink text (Err fault) → WritesSome {A = A} sink text (Err fault)
-err-some sink text fault w = record {
-  bytes = part-some sink.before.written sink.after.written text w.bytes;
-  fault = λ is. w.fault cc;
-  never_falls = w.never_falls;
-}
+err-some sink text fault w = search (rules, part-some)
 
 pub some-then : {A : Type 0} (a b c : SinkView) (xs ys : List ℕ) (done : Unit {0}) (r : Result A ReportFault) → WritesSome (record { before = a; after = b }) xs (Ok done) → WritesSome (record { before = b; after = c }) ys r
     → WritesSome (record { before = a; after = c }) (xs ++ ys) r
-some-then a b c xs ys done (Ok x) first next = record {
-  bytes = Appends-trans a.written b.written c.written xs ys first.bytes next.bytes;
-  fault = λ is. absurd cc;
-  never_falls = omega (arith, first.never_falls, next.never_falls);
-}
-some-then a b c xs ys done (Err e) first next = record {
-  bytes = then-some a.written b.written c.written xs ys first.bytes next.bytes;
-  fault = λ is. (let rose : Rose b.faults c.faults = next.fault is in omega (arith, rose, first.never_falls));
-  never_falls = omega (arith, first.never_falls, next.never_falls);
-}
+some-then a b c xs ys done (Ok x) first next = search (rules, Appends-trans)
+some-then a b c xs ys done (Err e) first next = search (rules, then-some)
 
 -- the line of a round that begins
 pub starts-none : (last : Option ℕ) (round : ℕ) → last ≡ None → start_text last round ≡ round_line round

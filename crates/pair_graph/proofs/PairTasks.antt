@@ -1,7 +1,7 @@
-use Rattle.std.proofs.Common.{◌≡◌, ℕ, zero, suc, ⊎_elim, inr, Option, Some, None, ◌+◌, ◌<◌, ◌≤◌, min, List, [], ◌∷◌, length, map, get_or, refl, sym, ap, ◌∙◌, subst, arith, eqb, Bool, true, false, cond}
+use Rattle.std.proofs.Common.{rules, ◌≡◌, ℕ, zero, suc, ⊎_elim, inr, Option, Some, None, ◌+◌, ◌<◌, ◌≤◌, min, List, [], ◌∷◌, length, map, get_or, refl, sym, ap, ◌∙◌, subst, arith, eqb, Bool, true, false, cond}
 use Rattle.pair_graph.proofs.Common.{get_or_default, All-nil, Settled, Task, IsTask, IsLeg, IsServable, IsLeastDelay, Serves, no_leg, IsTrip, IsRrEdge, pair_task, trip_task, IsRvEdge, rider_at, no_rider, no_vehicle, greatest}
 use Rattle.std.specs.List.{filter}
-use Rattle.std.proofs.lemmas.Bool.Decides.{Decides-eqb}
+use Rattle.std.proofs.lemmas.Bool.Decides.{nat_tests, Decides-eqb}
 use Rattle.stop_orders.specs.declared.stop.Stop.{Stop}
 use Rattle.stop_orders.specs.declared.stop.Stop.TheVariants.{Pick, Drop, Alight}
 use Rattle.stop_orders.specs.declared.settled_vehicle.SettledVehicle.{SettledVehicle}
@@ -21,10 +21,7 @@ self_eq i = (Decides-eqb i i).1 refl
 -- an order without passengers begins with a pickup
 first_is_pick : (riders : ℕ) (s : Stop) (ss : List Stop) → IsOrder riders 0 (s ∷ ss) → (i : ℕ) × (i < riders) × (s ≡ Pick i)
 first_is_pick riders (Pick i) ss o = (i, o.known.0, refl)
-first_is_pick riders (Drop i) ss o =
-    let own : cond (eqb i i) (Drop i ∷ filter (is_of_rider i) ss) (filter (is_of_rider i) ss) ≡ Pick i ∷ Drop i ∷ [] = o.rides i o.known.0 in
-    let first : Drop i ∷ filter (is_of_rider i) ss ≡ Pick i ∷ Drop i ∷ [] = ap (λ (b : Bool). cond b (Drop i ∷ filter (is_of_rider i) ss) (filter (is_of_rider i) ss)) (sym (self_eq i)) ∙ own in
-    absurd (cc)
+first_is_pick riders (Drop i) ss o = grind (arith, nat_tests, (self_eq i))
 first_is_pick riders (Alight j) ss o = absurd (let h = o.known.0 in omega arith)
 
 never_empty : (riders : ℕ) → 0 < riders → IsOrder riders 0 [] → ⊥
@@ -59,16 +56,7 @@ some_vehicle [] h = h
 some_vehicle (x ∷ xs) h = omega arith
 
 two_trip : (riders a b : ℕ) → a < b → b < riders → IsTrip riders (a ∷ b ∷ [])
-two_trip riders a b h k =
-    record { rising = λ i lt. rises i lt; within = λ i d lt. under i d lt }
-  where
-    rises : (i : ℕ) → i + 1 < 2 → get_or (a ∷ b ∷ []) i 0 < get_or (a ∷ b ∷ []) (i + 1) 0
-    rises i lt = let e : 0 ≡ i = omega arith in subst (λ (v : ℕ). get_or (a ∷ b ∷ []) v 0 < get_or (a ∷ b ∷ []) (v + 1) 0) e h
-
-    under : (i d : ℕ) → i < 2 → get_or (a ∷ b ∷ []) i d < riders
-    under zero d lt = omega arith
-    under (suc zero) d lt = k
-    under (suc (suc i)) d lt = absurd (omega arith)
+two_trip riders a b h k = search rules
 
 -- the task of a pair is valid, from a place that is one of the two origins
 pub pair_valid : (points : ℕ) (tau : ℕ → ℕ → ℕ) (settled : Settled) (place a b : ℕ) → IsSound 6 points tau settled → a < b → b < length settled.riders
@@ -104,12 +92,7 @@ pub no_edge_from : (tau : ℕ → ℕ → ℕ) (settled : Settled) (a b : ℕ) �
 no_edge_from tau settled a b left right e = ⊎_elim left right e.servable
 
 pub one_trip : (riders r : ℕ) → r < riders → IsTrip riders (r ∷ [])
-one_trip riders r h =
-    record { rising = λ i lt. absurd (omega arith); within = λ i d lt. under i d lt }
-  where
-    under : (i d : ℕ) → i < 1 → get_or (r ∷ []) i d < riders
-    under zero d lt = h
-    under (suc i) d lt = absurd (omega arith)
+one_trip riders r h = search rules
 
 -- the answer of a search says whether some order serves
 pub found_serves : (tau : ℕ → ℕ → ℕ) (task other : Task) (found : Option ℕ) (answer : Bool) → task ≡ other → answer ≡ is_some found

@@ -1,4 +1,4 @@
-use Rattle.std.proofs.Common.{◌≡◌, ℕ, ◌+◌, ◌<◌, ◌≤◌, ◌⊎◌, inl, inr, List, [], ◌∷◌, ◌++◌, length, get_or, sym, ap, ◌∙◌, subst, arith, ⊎_elim}
+use Rattle.std.proofs.Common.{rules, ◌≡◌, ℕ, ◌+◌, ◌<◌, ◌≤◌, ◌⊎◌, inl, inr, List, [], ◌∷◌, ◌++◌, length, get_or, sym, ap, ◌∙◌, subst, arith, ⊎_elim}
 use Rattle.pair_graph.proofs.Common.{length_push, get_or_append_left, get_or_push, All-nil, All-push, Contains-append_left, Contains-push}
 use Rattle.std.specs.List.{Contains}
 use Rattle.std.proofs.lemmas.Bool.{cases_lt}
@@ -12,17 +12,7 @@ lower_first : (p : ℕ × ℕ) (a b : ℕ) → p.0 < a → IsBefore p (a, b)
 lower_first p a b h = (omega arith, λ e. absurd (omega arith))
 
 before_next : (p : ℕ × ℕ) (a b : ℕ) → IsBefore p (a, b + 1) → IsBefore p (a, b) ⊎ ((p.0 ≡ a) × (p.1 ≡ b))
-before_next p a b h =
-    elim (cases_lt p.0 a) as (λ _. IsBefore p (a, b) ⊎ ((p.0 ≡ a) × (p.1 ≡ b))) [
-      | inl lt ↦ inl (lower_first p a b lt)
-      | inr ge ↦
-          let same : p.0 ≡ a = (let le = h.0 in omega arith) in
-          let upto : p.1 < b + 1 = h.1 same in
-          elim (cases_lt p.1 b) as (λ _. IsBefore p (a, b) ⊎ ((p.0 ≡ a) × (p.1 ≡ b))) [
-            | inl lt ↦ inl (h.0, λ _. lt)
-            | inr over ↦ let here : p.1 ≡ b = omega arith in inr (same, here)
-          ]
-    ]
+before_next p a b h = search (rules, lower_first)
 
 next_before : (p : ℕ × ℕ) (a b : ℕ) → IsBefore p (a, b) → IsBefore p (a, b + 1)
 next_before p a b h = (h.0, λ e. let lt = h.1 e in omega arith)
