@@ -18,11 +18,11 @@ pub use Rattle.plan_rules.specs.GoodGraph.{IsGoodGraph}
 unfoldable pub use Rattle.plan_rules.specs.Multipliers.{leaf_value}
 pub use Rattle.plan_rules.specs.Multipliers.{Usable, is_usable_by, multiplier_at, multiplier_sum, reduced_cost, usable_of}
 pub use Rattle.plan_rules.specs.Terms.{rider_term, vehicle_term}
-pub use Rattle.plan_rules.specs.Path.{IsPathOf, Standing, decided, standing_of}
+pub use Rattle.plan_rules.specs.Path.{IsPathOf, Standing, standing_of}
 pub use Rattle.plan_rules.specs.Reading.{ReadsTo}
 pub use Rattle.plan_rules.specs.Size.{IsSmall, IsSmallSum}
 pub use Rattle.plan_rules.specs.Sums.{int_sum_below, least_below, lesser}
-pub use Rattle.plan_rules.specs.Tree.{Clash, IsDeadEnd, IsSoleRow, IsTreeOfValue, every_row, least_leaf, only_row, rounded_up, with_leaf, without_row}
+pub use Rattle.plan_rules.specs.Tree.{Clash, IsDeadEnd, IsSoleRow, IsTreeOfValue, every_row, least_leaf, rounded_up, with_leaf}
 pub use Rattle.plan_rules.specs.lemmas.DeadEnd.{IsClash, IsStranded, IsOnlyOf, StandsInNone, StandsInSome}
 pub use Rattle.plan_rules.specs.declared.node.Node.{Node}
 pub use Rattle.plan_rules.specs.declared.path.Decision.{Decision}

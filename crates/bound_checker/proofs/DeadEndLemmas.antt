@@ -1,6 +1,6 @@
 -- Sole rows of vehicles, and riders who stand in usable rows.
 use Rattle.std.proofs.Common.{◌≡◌, ℕ, ◌<◌, ◌≤◌, Bool, true, false, MatchBool, MatchOption, List, length, get_or, Option, Some, None, sym, ap, ◌∙◌, subst, ⊎_elim, arith}
-use Rattle.bound_checker.proofs.Common.{same_Some, none-some, false≢true, cases_eq, cases_lt, both_ways, get_or_past, Graph, riders_at, row_vehicle, has_rider, choice_at, must_be_served, IsGoodGraph, Usable, IsSoleRow, IsClash, IsStranded, IsDeadEnd, Clash, AreSoleRows, ShareARider, IsApart, StandsInSome, StandsInNone, MarksStanding}
+use Rattle.bound_checker.proofs.Common.{same_Some, none-some, false≢true, cases_lt, both_ways, get_or_past, Graph, riders_at, row_vehicle, has_rider, choice_at, must_be_served, IsGoodGraph, Usable, IsSoleRow, IsClash, IsStranded, IsDeadEnd, Clash, AreSoleRows, ShareARider, IsApart, StandsInSome, StandsInNone, MarksStanding}
 use Rattle.plan_rules.proofs.lemmas.PlanLemmas.{must_below}
 
 pub when_true : (b : Bool) (A B : Type 0) → b ≡ true → MatchBool b A B → A

@@ -1,7 +1,7 @@
 -- The names that the proofs of this crate cite from elsewhere, passed on from one place. Declares nothing.
 pub use Rattle.std.proofs.KnownBytes.{Appends-nil, Appends-trans}
 pub use Rattle.std.proofs.Math.Seq.{take-append-add, take-append_seam}
-pub use Rattle.std.proofs.lemmas.Bool.{cases_lt, cases_order, eqb-false}
+pub use Rattle.std.proofs.lemmas.Bool.{cases_lt, cases_order}
 pub use Rattle.std.proofs.lemmas.Bool.Decides.{nat_tests}
 pub use Rattle.std.proofs.lemmas.List.{get_or_past, map-append}
 pub use Rattle.std.proofs.lemmas.List.Elements.{All-head, All-nil, All-push, All-same, All-tail, All-weaker, filter-append}
@@ -36,7 +36,7 @@ pub use Rattle.request_book.specs.Book.{BookView, IsBook, next_position}
 unfoldable pub use Rattle.request_book.specs.Replay.{RepliesAreSteps, state_after}
 pub use Rattle.request_book.specs.Step.{step}
 pub use Rattle.request_book.specs.declared.command.Command.{Command}
-pub use Rattle.request_book.specs.declared.command.Command.TheVariants.{Close, Seal}
+pub use Rattle.request_book.specs.declared.command.Command.TheVariants.{Close}
 pub use Rattle.request_book.specs.declared.journal.Entry.{Entry}
 pub use Rattle.request_book.specs.declared.journal.Journal.{Journal}
 pub use Rattle.request_book.specs.declared.reply.Reply.{Reply}
@@ -56,4 +56,4 @@ pub use Rattle.script_rows.specs.declared.line.Line.{Line}
 pub use Rattle.script_rows.specs.lemmas.Named.{rounds_of}
 pub use Rattle.shared_book.proofs.lemmas.LockedLemmas.{applied-fits, step-seals}
 unfoldable pub use Rattle.shared_book.specs.Locked.{calls_from}
-pub use Rattle.shared_book.specs.Locked.{is_light, sealed_by}
+pub use Rattle.shared_book.specs.Locked.{sealed_by}

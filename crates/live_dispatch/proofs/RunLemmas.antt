@@ -1,6 +1,6 @@
 -- A run of the rounds of rows, with some more rows of one round and the entries that they gave.
 use Rattle.std.proofs.lemmas.Bool.Decides.{nat_tests}
-use Rattle.std.proofs.Common.{rules, arith, ◌≡◌, ℕ, ◌<◌, ◌^◌, Bool, List, [], ◌∷◌, ◌++◌, map, Option, None, codes, refl, sym, ap, subst, ◌∙◌, append_assoc, append-nil}
+use Rattle.std.proofs.Common.{rules, arith, ◌≡◌, ℕ, ◌<◌, ◌^◌, Bool, List, [], ◌∷◌, ◌++◌, Option, None, codes, refl, sym, ap, subst, ◌∙◌, append_assoc, append-nil}
 use Rattle.live_dispatch.proofs.Common.{begun-next, run-append, map-append, filter-append, of_lane, IsLaneRun, IsLaneBeginning, ClosesAreGood, IsRoundRun, IsRun, position_after_run, state_after_run, position-more, state-more, lines_text, entries_lines, round_line, round_text, numbered, next_position, state_after, RepliesAreSteps, step, Entry, Journal, State, Settings, notices_from, Notice, Roads, NumberedLanes, lane_at, round_of, Line, rounds_of, ButLast, IsBegunRun, IsRoundBeginning, journals_notices, journals_text, EndsIn, in_lane, start_text, entries-append, lines-append, next-append, next-low, notices-append, state-append}
 use Rattle.std.proofs.lemmas.Grind.{flat_map-append}
 use Rattle.live_dispatch.proofs.RowLemmas.{AreOf, RoundsGrow, lane-grows}

@@ -1,7 +1,7 @@
 -- What is written of a text.
 use Rattle.std.proofs.lemmas.Bool.Decides.{nat_tests}
-use Rattle.std.proofs.Common.{rules, ◌≡◌, ◌≢◌, ℕ, Bool, cond, List, [], ◌∷◌, ◌++◌, length, take, drop, Option, None, Some, Result, Ok, Err, sym, ap, subst, ◌∙◌, append_assoc, append-nil, take-append-drop, length-append, arith}
-use Rattle.live_dispatch.proofs.Common.{take-append_seam, Appends, Appends-trans, entry_text, round_line, Change, SinkView, WritesText, ReportFault, Rose, AppendsPart, BookView, next_position, step, Command, Reply, State, start_text, AppendsSome, WritesSome, entry_for}
+use Rattle.std.proofs.Common.{rules, ◌≡◌, ◌≢◌, ℕ, Bool, cond, List, [], ◌∷◌, ◌++◌, take, drop, Option, None, Some, Result, Ok, Err, sym, ap, subst, ◌∙◌, append_assoc, append-nil, take-append-drop, length-append, arith}
+use Rattle.live_dispatch.proofs.Common.{take-append_seam, Appends, Appends-trans, entry_text, round_line, Change, SinkView, WritesText, ReportFault, AppendsPart, BookView, next_position, step, Command, Reply, State, start_text, AppendsSome, WritesSome, entry_for}
 use Rattle.std.proofs.lemmas.Bool.{ne_eqb}
 
 pub part-some : (old new : Option (List ℕ)) (text : List ℕ) → AppendsPart old new text → AppendsSome old new text

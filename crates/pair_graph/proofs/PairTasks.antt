@@ -1,6 +1,5 @@
-use Rattle.std.proofs.Common.{rules, ◌≡◌, ℕ, zero, suc, ⊎_elim, inr, Option, Some, None, ◌+◌, ◌<◌, ◌≤◌, min, List, [], ◌∷◌, length, map, get_or, refl, sym, ap, ◌∙◌, subst, arith, eqb, Bool, true, false, cond}
+use Rattle.std.proofs.Common.{rules, ◌≡◌, ℕ, zero, suc, ⊎_elim, inr, Option, Some, None, ◌<◌, ◌≤◌, min, List, [], ◌∷◌, length, map, get_or, refl, sym, ap, ◌∙◌, subst, arith, eqb, Bool, true, false}
 use Rattle.pair_graph.proofs.Common.{get_or_default, All-nil, Settled, Task, IsTask, IsLeg, IsServable, IsLeastDelay, Serves, no_leg, IsTrip, IsRrEdge, pair_task, trip_task, IsRvEdge, rider_at, no_rider, no_vehicle, greatest}
-use Rattle.std.specs.List.{filter}
 use Rattle.std.proofs.lemmas.Bool.Decides.{nat_tests, Decides-eqb}
 use Rattle.stop_orders.specs.declared.stop.Stop.{Stop}
 use Rattle.stop_orders.specs.declared.stop.Stop.TheVariants.{Pick, Drop, Alight}
@@ -8,7 +7,7 @@ use Rattle.stop_orders.specs.declared.settled_vehicle.SettledVehicle.{SettledVeh
 use Rattle.stop_orders.specs.declared.settled_rider.SettledRider.{SettledRider}
 use Rattle.std.specs.Bool.{MatchBool}
 use Rattle.std.specs.Option.{IfSome, IfNone, is_some}
-use Rattle.stop_orders.specs.Order.{IsOrder, is_of_rider}
+use Rattle.stop_orders.specs.Order.{IsOrder}
 use Rattle.stop_orders.specs.Sound.{IsSound}
 
 -- what is read of a rider is what stands at its number

@@ -1,6 +1,6 @@
 -- A walk through a tree.
-use Rattle.std.proofs.Common.{◌≡◌, ℕ, ◌+◌, ◌<◌, Bool, true, false, not, List, [], ◌∷◌, ◌++◌, length, take, slice_get, Option, Some, ℤ, MatchBool, sym, ap, ◌∙◌, subst, ⊎_elim, arith}
-use Rattle.bound_checker.proofs.Common.{cases_eq, get_or_push, get_or_append_left, length_push, Graph, IsRowOf, Usable, every_row, least_leaf, with_leaf, ReadsTo, places_read, Standing, standing_of, decided, IsPathOf, Node, Decision, standing_start, standing_push, places_push, least_leaf_push, coming_of, IsNodeFault}
+use Rattle.std.proofs.Common.{◌≡◌, ℕ, ◌+◌, ◌<◌, Bool, true, false, not, List, [], ◌∷◌, ◌++◌, length, take, slice_get, Option, Some, ℤ, MatchBool, sym, ap, ◌∙◌, subst}
+use Rattle.bound_checker.proofs.Common.{Graph, Usable, every_row, least_leaf, with_leaf, ReadsTo, places_read, standing_of, Node, Decision, places_push, least_leaf_push, coming_of, IsNodeFault}
 use Rattle.plan_rules.specs.declared.node.Node.TheVariants.{Branch, Leaf, Dead}
 use Rattle.bound_checker.specs.declared.fault.CheckFault.{CheckFault}
 use Rattle.bound_checker.specs.declared.fault.CheckFault.TheVariants.{BadBranch, BadLeaf, BadDead, Unfinished, Extra, OutOfMemory}

@@ -1,18 +1,12 @@
 -- Numerals at the beginning of a text.
-use Rattle.std.proofs.Common.{◌≡◌, ℕ, zero, suc, ◌+◌, ◌-◌, ◌*◌, ◌<◌, ◌≤◌, ◌^◌, get_or, drop, true, List, [], ◌∷◌, ◌++◌, length, decimal, refl, sym, ap, ◌∙◌, arith, rules}
-use Rattle.report_lines.proofs.Common.{list_all, is_ascii_digit, and_parts, at_drop_more, decimal_is_IsNumeral_wide, AllDigits, value_of, value_after, BeginsWith, BeginsWithNone, ends_number}
+use Rattle.std.proofs.Common.{◌≡◌, ℕ, suc, ◌+◌, ◌-◌, ◌*◌, ◌<◌, ◌≤◌, ◌^◌, get_or, drop, true, List, [], ◌∷◌, ◌++◌, length, decimal, refl, sym, ap, ◌∙◌, arith, rules}
+use Rattle.report_lines.proofs.Common.{list_all, is_ascii_digit, at_drop_more, decimal_is_IsNumeral_wide, AllDigits, value_of, value_after, BeginsWith, BeginsWithNone, ends_number}
 use Rattle.std.proofs.lemmas.Bool.Decides.{nat_tests}
 use Rattle.std.proofs.lemmas.Str.Parse.{IsNumeralModel, numerals_by_fold, tells_by_index}
 
 -- numerals are read as std reads them
 own : IsNumeralModel AllDigits (value_after 0)
 own = numerals_by_fold AllDigits tells_by_index value_after (record { empty = λ n. refl; more = λ n c cs _. refl })
-
--- digits, told one by one or all at once
-pub all_digits : (text : List ℕ) → list_all is_ascii_digit text ≡ true → AllDigits text
-all_digits [] all k within = absurd (omega arith)
-all_digits (c ∷ cs) all zero within = grind (arith, nat_tests)
-all_digits (c ∷ cs) all (suc k) within = all_digits cs (and_parts (is_ascii_digit c) (list_all is_ascii_digit cs) all).1 k (omega arith)
 
 digits_all : (text : List ℕ) → AllDigits text → list_all is_ascii_digit text ≡ true
 digits_all [] digits = refl

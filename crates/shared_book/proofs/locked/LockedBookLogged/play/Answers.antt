@@ -1,4 +1,4 @@
-use Rattle.std.proofs.Common.{◌≡◌, subst, sym, ap, ◌∙◌, arith}
+use Rattle.std.proofs.Common.{◌≡◌, subst, ap, arith}
 use Rattle.request_book.specs.Book.{BookView, IsApplied, IsBook}
 use Rattle.shared_book.specs.Locked.{snapshot_before}
 use Rattle.shared_book.proofs.lemmas.LockedLemmas.{calls-length, applied-call, applied-fits}
