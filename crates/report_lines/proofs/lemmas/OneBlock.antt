@@ -1,6 +1,6 @@
 -- A text begins with one block at most.
-use Rattle.std.proofs.Common.{◌≡◌, ◌≢◌, ℕ, zero, suc, ◌+◌, ◌/◌, nat_lt, true, false, not, ◌==◌, List, [], ◌∷◌, ◌++◌, length, map, codes, decimal, refl, sym, ap, ◌∙◌, subst, append_assoc, ne_eqb, arith, rules}
-use Rattle.report_lines.proofs.Common.{and_parts, and_from, All-head, All-tail, stop_text, lines_text, numbered, signed, spaced, IsBlock, BeginsBlock, IsCutBlock, IsBadBlock, BlockFails, block_line_text, IsBlockLine, is_one_line, kind_place, may_follow_at, follow_on, last_place, PlannedStop, BlockLine, Batch}
+use Rattle.std.proofs.Common.{◌≡◌, ◌≢◌, ℕ, zero, suc, ◌+◌, ◌/◌, nat_lt, true, false, not, ◌==◌, ℤ, pos, negsuc, Option, None, Some, List, [], ◌∷◌, ◌++◌, length, map, codes, decimal, refl, sym, ap, ◌∙◌, subst, append_assoc, ne_eqb, arith, rules}
+use Rattle.report_lines.proofs.Common.{and_parts, and_from, All-head, All-tail, stop_text, lines_text, numbered, signed, spaced, IsBlock, BeginsBlock, IsCutBlock, IsBadBlock, BlockFails, block_line_text, IsBlockLine, is_one_line, kind_place, may_follow_at, follow_on, last_place, order_text, PlannedStop, BlockLine, Batch}
 use Rattle.std.specs.List.{All, flat_map}
 use Rattle.std.proofs.lemmas.Bool.{cond_both}
 use Rattle.std.proofs.lemmas.Bool.Decides.{nat_tests}
@@ -39,10 +39,27 @@ numbered_one_line words n one = append_one_line words (decimal n) one (decimal_l
 
 pub spaced_one_line : (n : ℕ) → is_one_line (spaced n) ≡ true
 spaced_one_line n = numbered_one_line (codes " ") n refl
+
+signed_one_line : (words : List ℕ) (z : ℤ) → is_one_line words ≡ true → is_one_line (signed words z) ≡ true
 unfolding signed
+signed_one_line words (pos n) one = append_one_line words (decimal n) one (decimal_line n)
+signed_one_line words (negsuc n) one = append_one_line words (45 ∷ decimal (suc n)) one (decimal_line (suc n))
+
+many_one_line : {X : Type 0} (t : X → List ℕ) → ((x : X) → is_one_line (t x) ≡ true) → (xs : List X) → is_one_line (flat_map t xs) ≡ true
+many_one_line t one [] = refl
+many_one_line t one (x ∷ xs) = append_one_line (t x) (flat_map t xs) (one x) (many_one_line t one xs)
+
+stop_one_line : (stop : PlannedStop) → is_one_line (stop_text stop) ≡ true
+stop_one_line stop = search (rules, append_one_line, numbered_one_line)
+
+order_one_line : (delay : ℕ) (stops : Option (List PlannedStop)) → is_one_line (order_text (delay, stops)) ≡ true
+order_one_line delay None = refl
+order_one_line delay (Some stops) = search (rules, append_one_line, spaced_one_line, many_one_line, stop_one_line)
 
 pub two_line : (words : List ℕ) (a b : ℕ) → is_one_line words ≡ true → is_one_line (numbered words a ++ spaced b) ≡ true
 two_line words a b one = append_one_line (numbered words a) (spaced b) (numbered_one_line words a one) (spaced_one_line b)
+
+ruleset one_lines = (append_one_line, numbered_one_line, signed_one_line, spaced_one_line, many_one_line, stop_one_line, order_one_line)
 
 -- no line of a block has a line feed before its end
 block_line_one_line : (x : BlockLine) → is_one_line (block_line_text x) ≡ true
