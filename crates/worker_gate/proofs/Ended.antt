@@ -1,5 +1,5 @@
 -- What workers have done, one by one and together.
-use Rattle.std.proofs.Common.{◌≡◌, ℕ, ◌<◌, ◌≤◌, List, [], ◌∷◌, ◌++◌, sum_by, refl, ap, arith}
+use Rattle.std.proofs.Common.{rules, ◌≡◌, ℕ, ◌<◌, ◌≤◌, List, [], ◌∷◌, ◌++◌, sum_by, refl, ap, arith}
 use Rattle.std.proofs.lemmas.Bool.Decides.{nat_tests}
 use Rattle.std.proofs.lemmas.List.Sums.{sum_by-append, sum_by-cons, sum_by-le, sum_by_push}
 use Rattle.worker_gate.specs.declared.worker.Done.{Done}
@@ -20,13 +20,7 @@ module _ {O : Type 0} where
       within n lt = grind (arith, nat_tests)
 
   pub Matches-one : (pieces : ℕ) (numbers : List ℕ) (done : List (Done O)) (last : ℕ) → pieces ≤ last → numbers ≡ pieces_of done ++ last ∷ [] → Matches pieces numbers done
-  Matches-one pieces numbers done last le is = record {
-    past_drawn = grind (arith, nat_tests, ap (sum_by (past pieces)) is, sum_by_push (past pieces) (pieces_of done) last);
-    done_drawn = λ k lt. grind (arith, nat_tests, ap (sum_by (at k)) is, sum_by_push (at k) (pieces_of done) last, sum-pieces (at k) done);
-  }
+  Matches-one pieces numbers done last le is = search (rules, sum_by_push, sum-pieces)
 
   pub Matches-both : (pieces : ℕ) (ns ms : List ℕ) (ds es : List (Done O)) → Matches pieces ns ds → Matches pieces ms es → Matches pieces (ns ++ ms) (ds ++ es)
-  Matches-both pieces ns ms ds es a b = record {
-    past_drawn = omega (arith, sum_by-append (past pieces) ns ms, a.past_drawn);
-    done_drawn = λ k lt. omega (arith, sum_by-append (at k) ns ms, sum_by-append (λ (d : Done O). at k d.piece) ds es, a.done_drawn k lt, b.done_drawn k lt);
-  }
+  Matches-both pieces ns ms ds es a b = search (rules, sum_by-append)
