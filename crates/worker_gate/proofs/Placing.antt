@@ -1,5 +1,7 @@
 -- A list in which each piece stands once, in order.
-use Rattle.std.proofs.Common.{◌≡◌, ◌≢◌, ℕ, zero, suc, ◌+◌, ◌<◌, ◌≤◌, List, [], ◌∷◌, map, length, get_or, All, sum_by, refl, arith}
+use Rattle.std.proofs.Common.{◌≡◌, ◌≢◌, ℕ, zero, suc, ◌+◌, ◌<◌, ◌≤◌, List, [], ◌∷◌, map, length, get_or, All, sum_by, sym, refl, ap, ◌∙◌, subst, arith}
+use mathlib.Core.Logic.{dite}
+use native.Mathlib.Decide.{ℕ_discrete}
 use Rattle.std.specs.List.Sorted.{IsPermutation, IsNonDecreasingBy}
 use Rattle.std.proofs.lemmas.Bool.Decides.{nat_tests}
 use Rattle.std.proofs.lemmas.List.{get_or-map, length-map}
@@ -22,7 +24,9 @@ module _ {O : Type 0} where
 
   none_at : (k : ℕ) (ds : List (Done O)) → All (λ d. k < d.piece) ds → count_at k ds ≡ 0
   none_at k [] all = refl
-  none_at k (d ∷ ds) all = grind (arith, nat_tests, sum_by-cons, (at-none k d.piece), (none_at k ds))
+  none_at k (d ∷ ds) all =
+      let lt : k < d.piece = all 0 d (omega arith) in
+      omega (arith, sum_by-cons (λ (x : Done O). at k x.piece) d ds, at-none k d.piece (λ e. omega arith), none_at k ds (λ i e lt. all (suc i) e (omega arith)))
 
   apart_from : (k : ℕ) (ds : List (Done O)) → count_at k ds ≡ 0 → All (λ d. d.piece ≢ k) ds
   apart_from k [] none i d lt = absurd (omega arith)
@@ -35,9 +39,37 @@ module _ {O : Type 0} where
   placed [] m zero rises within once = (refl, λ i d lt. absurd (omega arith))
   placed [] m (suc n) rises within once = absurd (let z : 0 ≡ 1 = once m (omega arith) (omega arith) in omega arith)
   placed (x ∷ xs) m zero rises within once = absurd (let w = within 0 x (omega arith) in let low : m ≤ x.piece = w.0 in let high : x.piece < m + 0 = w.1 in omega arith)
-  placed (x ∷ xs) m (suc n) rises within once = grind (arith, nat_tests, sum_by-cons, (none_at m), (at-one m x.piece), (apart_from m xs), at-none, (placed xs))
+  placed (x ∷ xs) m (suc n) rises within once =
+      let w = within 0 x (omega arith) in
+      let low : m ≤ x.piece = w.0 in
+      let cons : (k : ℕ) → count_at k (x ∷ xs) ≡ at k x.piece + count_at k xs = λ k. sum_by-cons (λ (y : Done O). at k y.piece) x xs in
+      let first : count_at m (x ∷ xs) ≡ 1 = once m (omega arith) (omega arith) in
+      let head : x.piece ≡ m = dite (ℕ_discrete x.piece m) (λ e. e)
+      (λ ne. let none : count_at m (x ∷ xs) ≡ 0 = none_at m (x ∷ xs) (λ i d lt. let r : x.piece ≤ (get_or (x ∷ xs) i d).piece = rises 0 i d (omega arith) lt in omega arith) in absurd (omega arith)) in
+      let rest_none : count_at m xs ≡ 0 = (let c = cons m in let one : at m x.piece ≡ 1 = at-one m x.piece head in omega (arith, c, one, first)) in
+      let more = placed xs (suc m) n
+      (λ i j d le lt. rises (suc i) (suc j) d (omega arith) (omega arith))
+      (λ i d lt. let v = within (suc i) d (omega arith) in let a : m ≤ (get_or xs i d).piece = v.0 in let b : (get_or xs i d).piece < m + suc n = v.1 in let ne : (get_or xs i d).piece ≢ m = apart_from m xs rest_none i d lt in (omega arith, omega arith))
+      (λ k le lt. let c = cons k in let other : at k x.piece ≡ 0 = at-none k x.piece (λ e. omega arith) in let all : count_at k (x ∷ xs) ≡ 1 = once k (omega arith) (omega arith) in omega (arith, c, other, all)) in
+      (ap suc more.0, at_place x xs m n head more.1)
+    where
+      at_place : (x : Done O) (xs : List (Done O)) (m n : ℕ) → x.piece ≡ m → ((i : ℕ) (d : Done O) → i < n → (get_or xs i d).piece ≡ suc m + i) → (i : ℕ) (d : Done O) → i < suc n → (get_or (x ∷ xs) i d).piece ≡ m + i
+      at_place x xs m n head more zero d lt = omega (arith, head)
+      at_place x xs m n head more (suc i) d lt = let r : (get_or xs i d).piece ≡ suc m + i = more i d (omega arith) in omega arith
 
   -- the outs of a list that was sorted: as many as pieces, and each right for its piece
   pub outs_placed : (pieces : ℕ) (right : ℕ → O → Type 0) (done sorted : List (Done O)) (outs : List O) → IsPermutation done sorted → IsNonDecreasingBy (λ d. d.piece) sorted
       → outs ≡ map (λ d. d.out) sorted → AreDoneRight pieces right done → EachDoneOnce pieces done → (length outs ≡ pieces) × AreRight right outs
-  outs_placed pieces right done sorted outs moved rises is rights once = grind (arith, nat_tests, All-permutation, (placed sorted 0 pieces rises), sum_by-IsPermutation, (length-map sorted), get_or-map)
+  outs_placed pieces right done sorted outs moved rises is rights once =
+      let all = All-permutation (λ (d : Done O). (d.piece < pieces) × right d.piece d.out) done sorted moved rights in
+      let p = placed sorted 0 pieces rises (λ i d lt. let b : (get_or sorted i d).piece < pieces = (all i d lt).0 in (omega arith, omega arith))
+      (λ k le lt. sum_by-IsPermutation (λ (d : Done O). at k d.piece) done sorted moved ∙ once k (omega arith)) in
+      let long : length outs ≡ length sorted = ap length is ∙ length-map sorted (λ (d : Done O). d.out) in (
+        long ∙ p.0,
+        λ k d lt.
+            let e : Done O = record { piece = 0; out = d } in
+            let inside : k < length sorted = omega (arith, long, lt) in
+            let piece_is : (get_or sorted k e).piece ≡ k = p.1 k e (omega (arith, p.0, inside)) ∙ (let z : 0 + k ≡ k = omega arith in z) in
+            let out_is : get_or outs k d ≡ (get_or sorted k e).out = ap (λ l. get_or l k d) is ∙ get_or-map (λ (x : Done O). x.out) sorted k e d inside in
+            subst (λ (x : ℕ × O). right x.0 x.1) (λ i. (piece_is i, sym out_is i)) (all k e inside).1,
+      )

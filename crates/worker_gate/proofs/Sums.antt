@@ -1,5 +1,5 @@
 -- Sums over a list whose elements are read by `get_elem?`, and over the numbers below some n.
-use Rattle.std.proofs.Common.{rules, ◌≡◌, ℕ, zero, suc, ◌+◌, ◌<◌, ◌≤◌, List, [], ◌∷◌, length, get_or, set, sum_by, sym, refl, subst, arith, le_refl}
+use Rattle.std.proofs.Common.{◌≡◌, ℕ, zero, suc, ◌+◌, ◌<◌, ◌≤◌, List, [], ◌∷◌, length, get_or, set, sum_by, sym, refl, ap, subst, arith, le_refl}
 use mathlib.Core.Option.{some, some-injective, some-ne-none}
 use lib.ListN.{get_elem?}
 use Rattle.std.proofs.lemmas.Bool.Decides.{nat_tests}
@@ -37,8 +37,13 @@ module _ {A : Type 0} where
     -- who has all of g has all of f
     pub sum-alone : (l : List A) (j : ℕ) (v : A) → get_elem? l j ≡ some v → GoesWith l → sum_by g l ≡ g v → sum_by f l ≡ f v
     sum-alone [] j v e goes all = absurd (some-ne-none v (sym e))
-    sum-alone (x ∷ xs) zero v e goes all = grind (arith, nat_tests, sum_by-cons, (sum-none xs))
-    sum-alone (x ∷ xs) (suc j) v e goes all = search (rules, sum_by-cons, term-le, (sum-alone xs j v e))
+    sum-alone (x ∷ xs) zero v e goes all =
+        let same = some-injective x v e in
+        omega (arith, sum_by-cons f x xs, ap f same, sum-none xs (λ i u. goes (suc i) u) (omega (arith, sum_by-cons g x xs, ap g same)))
+    sum-alone (x ∷ xs) (suc j) v e goes all =
+        let whole = sum_by-cons g x xs in
+        let mine = term-le g xs j v e in
+        omega (arith, sum_by-cons f x xs, goes zero x refl (omega arith), sum-alone xs j v e (λ i u. goes (suc i) u) (omega arith))
 
 pub sum-count : {A : Type 0} (l : List A) → sum_by (λ _. 1) l ≡ length l
 sum-count [] = refl
