@@ -23,7 +23,6 @@ module _ (row price place : List ℕ) (offset position : ℕ) (ta po ta' po' : L
 
   module _ (ta'' po'' : List ℕ) (when nearest' : ℕ) (better : Improves i when position ta' po' ta'' po'') (fits : slice_index row i + when ≡ offset + slice_index price i) (out_i : slice_index place i ≡ 0) (im : i < m)
       (next : ((nearest' ≡ i) × ((nearest ≡ m) ⊎ (slice_index ta'' i ≤ slice_index ta'' nearest))) ⊎ ((nearest' ≡ nearest) × (nearest ≢ m) × (slice_index ta'' nearest ≤ slice_index ta'' i))) where
-
     -- a rider outside the tree is taken into account
     pub IsRelaxing-more : IsRelaxing row price place offset position ta po ta'' po'' (i + 1) m nearest'
     IsRelaxing-more = search rules
