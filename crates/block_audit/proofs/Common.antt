@@ -1,5 +1,5 @@
 -- The names that the proofs of this crate cite from elsewhere, passed on from one place. Declares nothing.
-pub use Rattle.std.proofs.lemmas.Bool.{and_parts, both_ways, cases_lt, cond-true, cond_both}
+pub use Rattle.std.proofs.lemmas.Bool.{both_ways, cases_lt, cond-true, cond_both}
 pub use Rattle.std.proofs.lemmas.List.{get_or-map, get_or_default, length-map}
 pub use Rattle.std.proofs.lemmas.List.Elements.{All-append, All-cons, All-contains, All-from_get_or, All-head, All-map, All-tail}
 pub use Rattle.std.proofs.lemmas.List.Sums.{position_or_len_is}
@@ -18,8 +18,8 @@ pub use Rattle.block_audit.specs.work.Told.{told_in}
 pub use Rattle.outcome_check.proofs.lemmas.VerdictLemmas.{HoldBelow, hold_more, hold_none}
 pub use Rattle.outcome_check.specs.Verdict.{IsVerdictOf, Meets, point_place}
 pub use Rattle.plan_rules.specs.declared.node.Node.{Node}
-pub use Rattle.report_lines.specs.Order.{follow_on, is_between, last_place}
-pub use Rattle.dispatch_report.specs.Block.{block_lines, late_as_line, lines_of, lines_of_answer, row_as_line, tree_line, trip_as_line}
+pub use Rattle.report_lines.specs.Order.{follow_on, last_place}
+pub use Rattle.dispatch_report.specs.Block.{block_lines, late_as_line, lines_of, row_as_line, tree_line, trip_as_line}
 pub use Rattle.dispatch_report.specs.declared.block_line.BlockLine.{BlockLine}
 pub use Rattle.dispatch_report.specs.declared.block_line.BlockLine.TheVariants.{Alone, Bound, Branch, Cost, Dead, End, Expired, Lapsed, Late, Leaf, Move, Nodes, Out, Overflow, Row, Shared, Trip}
 pub use Rattle.dispatch_report.specs.declared.block_line.LateText.{LateText}

@@ -1,7 +1,6 @@
 -- By which point lines fail that tell what no outcome can.
-use Rattle.std.proofs.Common.{◌≡◌, ◌≢◌, ℕ, ◌<◌, ◌≤◌, true, List, Contains, length, IfSome, ⊎_elim, subst, sym, arith}
-use Rattle.block_audit.proofs.Common.{cases_lt, All-contains, Batch, point_place, Point, lines_of, BlockLine, Row, Trip, Late, LateText, RowText, TripText, Outcome, Settings, Roads, BeginsWithWrong, CanBeTold, HasTrips, judged_outcome, told_by}
-use Rattle.std.specs.List.{All}
+use Rattle.std.proofs.Common.{◌≢◌, ℕ, ◌<◌, ◌≤◌, true, List, Contains, length, IfSome, ⊎_elim, subst, sym, arith}
+use Rattle.block_audit.proofs.Common.{cases_lt, All-contains, Batch, point_place, Point, lines_of, Row, Trip, Late, LateText, RowText, TripText, Outcome, Settings, Roads, BeginsWithWrong, CanBeTold, HasTrips, judged_outcome, told_by}
 use Rattle.block_audit.proofs.NumberedLemmas.{vehicle_ids}
 use Rattle.block_audit.proofs.OutcomeLemmas.{judged_few, lines_are}
 use Rattle.block_audit.proofs.ToldLemmas.{OfRow, OfTrip, OfLate, all_rows, all_trips, all_lates}

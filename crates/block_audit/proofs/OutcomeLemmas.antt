@@ -1,6 +1,6 @@
 -- An outcome is judged as itself, and lines that can be told are those of the outcome as which they are judged.
-use Rattle.std.proofs.Common.{◌≡◌, ℕ, ◌<◌, ◌≤◌, ◌+◌, Bool, true, false, cond, nat_le, IfSome, List, [], ◌∷◌, ◌++◌, length, get_or, map, slice_get, unwrap_or, option_map, Option, Some, None, append_assoc, refl, sym, ap, ◌∙◌, subst, arith}
-use Rattle.block_audit.proofs.Common.{cond-true, cond_both, length-map, All-cons, All-head, All-tail, All-map, slice_get-map, Point, Node, follow_on, last_place, row_as_line, trip_as_line, late_as_line, tree_line, lines_of, BlockLine, Expired, Overflow, Lapsed, Late, Alone, Shared, Row, Trip, Out, Move, Cost, Bound, Nodes, Branch, Leaf, Dead, End, LateText, RowText, TripText, Answer, Outcome, Planned, RowLine, at_most, row_of, trip_of, late_of, node_of, number_among, judged_plan, judged_outcome, NamesRow, CanBeTold, HasTrips, stops_of, Told, told_by}
+use Rattle.std.proofs.Common.{◌≡◌, ℕ, ◌≤◌, ◌+◌, Bool, true, false, cond, nat_le, IfSome, List, [], ◌∷◌, ◌++◌, length, get_or, map, slice_get, unwrap_or, option_map, Option, Some, None, append_assoc, refl, sym, ap, ◌∙◌, subst, arith}
+use Rattle.block_audit.proofs.Common.{cond-true, cond_both, length-map, All-cons, All-head, All-tail, All-map, slice_get-map, Point, Node, follow_on, last_place, row_as_line, trip_as_line, late_as_line, tree_line, lines_of, BlockLine, Expired, Overflow, Lapsed, Late, Alone, Shared, Row, Trip, Out, Move, Cost, Bound, Nodes, Branch, Leaf, Dead, End, LateText, RowText, TripText, Answer, Outcome, Planned, RowLine, at_most, row_of, trip_of, late_of, node_of, judged_plan, judged_outcome, NamesRow, CanBeTold, HasTrips, stops_of, Told, told_by}
 use Rattle.std.specs.List.{All}
 use Rattle.std.proofs.lemmas.Bool.{le-leb, leb-true}
 use Rattle.arrayvec.specs.ArrayVec.{ArrayVec}

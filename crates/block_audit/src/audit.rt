@@ -1,22 +1,17 @@
 //! The audit of a block.
-ghost use Rattle.std.specs.Prelude.{◌≡◌, ◌≢◌, ℕ, ◌≤◌, true, All, Contains, IfOk, IfErr, List, length, map, min};
+ghost use Rattle.std.specs.Prelude.{◌≡◌, ◌≢◌, ℕ, true, All, Contains, IfOk, IfErr, List, length, min};
 ghost use Rattle.batch_snapshot.specs.Points.{named_nodes};
 ghost use Rattle.dispatch_report.specs.Block.{block_lines};
 ghost use Rattle.request_book.specs.declared.outcome.Outcome.{Outcome as OneOutcome};
-ghost use Rattle.batch_solver.specs.Outcome.{IsGoodOutcome};
 ghost use Rattle.block_audit.specs.Block.{BeginsWithGood, Refuses};
-ghost use Rattle.block_audit.specs.Judged.{judged_outcome};
-ghost use Rattle.block_audit.specs.work.Judged.{HoldUpTo, IsRight};
-ghost use Rattle.block_audit.specs.work.Told.{told_in};
 ghost use Rattle.block_audit.specs.declared.refusal.BlockRefusal.TheVariants.{OutOfMemory as NoMemory};
 
-use crate::judged::{ids_of, outcome_of};
+use crate::judged::outcome_of;
 use crate::refusal::{BlockRefusal, place_of, refusal_of};
 use crate::telling::untold_place;
-use crate::told::{BlockTold, told_by};
+use crate::told::told_by;
 use batch_snapshot::Snapshot;
 use outcome_check::judge;
-use pool_base::OutOfMemory;
 use report_lines::read_block;
 use request_book::Outcome;
 use rider_limits::Settings;
@@ -72,48 +67,23 @@ pub fn audit_block<'a, W: Ways, G: Gate>(
     if told.batch != snapshot.batch {
         return Err(BlockRefusal::Wrong { point: 0 });
     }
-    let (outcome, place) = judged(rt, alloc, told, snapshot, network, ways, settings, gate)?;
-    if place < 9 {
-        return Err(BlockRefusal::Wrong { point: place });
-    }
-    Ok(AuditedBlock {
-        outcome,
-        rest,
-        lines: count,
-    })
-}
-
-/// The outcome as which what is told is judged, and the place of the first point that fails; 9 where none does.
-fn judged<W: Ways, G: Gate>(
-    rt: &(impl Threads + Sync),
-    alloc: Global,
-    told: BlockTold,
-    snapshot: &Snapshot,
-    network: &Network,
-    ways: &W,
-    settings: &Settings,
-    gate: &G,
-) -> Result<(Outcome, u64), OutOfMemory>
-    requires nodes { All (λ node. Contains network.now.nodes node) (named_nodes snapshot.now) }
-    requires ways { W.roads ways.now ≡ network.now }
-    ensures outcome { IfOk result (λ r. r.0 ≡ judged_outcome (map (λ v. v.id) snapshot.entry.now.vehicles) (told_in told)) }
-    ensures points { IfOk result (λ r. HoldUpTo (IsRight settings.entry.now network.entry.now snapshot.entry.now (told_in told)) r.1) }
-    ensures good { IfOk result (λ r. 9 ≤ r.1 → IsGoodOutcome settings.entry.now network.entry.now snapshot.entry.now r.0) }
-{
     let untold = untold_place(&told);
-    let ids = match ids_of(alloc, snapshot.vehicles.as_slice()) {
-        Ok(ids) => ids,
-        Err(fault) => {
-            drop(told);
-            return Err(fault);
-        }
-    };
-    let outcome = outcome_of(alloc, told, &ids)?;
+    let outcome = outcome_of(alloc, told, snapshot.vehicles.as_slice())?;
     match judge(rt, alloc, snapshot, network, ways, settings, &outcome, gate) {
-        Ok(verdict) => Ok((outcome, least(untold, place_of(verdict)))),
+        Ok(verdict) => {
+            let point = least(untold, place_of(verdict));
+            if point < 9 {
+                return Err(BlockRefusal::Wrong { point });
+            }
+            Ok(AuditedBlock {
+                outcome,
+                rest,
+                lines: count,
+            })
+        }
         Err(fault) => {
             drop(outcome);
-            Err(fault)
+            Err(fault.into())
         }
     }
 }

@@ -12,18 +12,18 @@ use report_lines::{BlockLine, LateText, RowText, TripText};
 use request_book::{Answer, ChosenTrip, LateVehicle, Outcome, Planned, PlannedStop, RowLine};
 use std::alloc::Global;
 
-/// The outcome as which what is told is judged, its vehicles numbered in the order of these ids.
+/// The outcome as which what is told is judged, a batch's vehicles numbered in their order.
 pub(crate) fn outcome_of(
     alloc: Global,
     told: BlockTold,
-    ids: &[VehicleId],
+    vehicles: &[Vehicle],
 ) -> Result<Outcome, OutOfMemory>
-    ensures { IfOk result (λ outcome. outcome ≡ judged_outcome ids.now (told_in told)) }
+    ensures { IfOk result (λ outcome. outcome ≡ judged_outcome (map (λ v. v.id) vehicles.entry.now) (told_in told)) }
 {
     if told.overflow {
         return Ok(overflow(told));
     }
-    match parts_of(alloc, &told, ids) {
+    match parts_of(alloc, &told, vehicles) {
         Ok(parts) => Ok(planned(told, parts)),
         Err(fault) => {
             drop(told);
@@ -41,17 +41,18 @@ struct Parts {
     tree: Vec<Node>,
 }
 
-fn parts_of(alloc: Global, told: &BlockTold, ids: &[VehicleId]) -> Result<Parts, OutOfMemory>
+fn parts_of(alloc: Global, told: &BlockTold, vehicles: &[Vehicle]) -> Result<Parts, OutOfMemory>
     ensures late { IfOk result (λ parts. parts.late.items ≡ map late_of told.now.late.items) }
     ensures rows { IfOk result (λ parts. parts.rows.items ≡ map row_of told.now.rows.items) }
     ensures chosen { IfOk result (λ parts. parts.chosen.items ≡ map trip_of told.now.chosen.items) }
-    ensures tree { IfOk result (λ parts. parts.tree.items ≡ map (node_of ids.now) told.now.tree.items) }
+    ensures tree { IfOk result (λ parts. parts.tree.items ≡ map (node_of (map (λ v. v.id) vehicles.entry.now)) told.now.tree.items) }
 {
+    let ids = ids_of(alloc, vehicles)?;
     Ok(Parts {
         late: lates_of(alloc, &told.late)?,
         rows: rows_of(alloc, &told.rows)?,
         chosen: trips_of(alloc, &told.chosen)?,
-        tree: nodes_of(alloc, &told.tree, ids)?,
+        tree: nodes_of(alloc, &told.tree, &ids)?,
     })
 }
 
@@ -218,7 +219,7 @@ fn riders_kept(riders: &[RiderId]) -> ArrayVec<RiderId, 6>
 }
 
 /// The ids of vehicles, in their order.
-pub(crate) fn ids_of(alloc: Global, vehicles: &[Vehicle]) -> Result<Vec<VehicleId>, OutOfMemory>
+fn ids_of(alloc: Global, vehicles: &[Vehicle]) -> Result<Vec<VehicleId>, OutOfMemory>
     ensures { IfOk result (λ ids. ids.items ≡ map (λ v. v.id) vehicles.entry.now) }
 {
     let mut ids = Vec::new(alloc);

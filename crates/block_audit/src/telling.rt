@@ -1,5 +1,5 @@
 //! What no outcome can tell, by the points that ask for it.
-ghost use Rattle.std.specs.Prelude.{◌≡◌, ◌≤◌, ◌↔◌, IfSome, IsTrue, length};
+ghost use Rattle.std.specs.Prelude.{◌≤◌, ◌↔◌, IfSome, IsTrue, length};
 ghost use Rattle.std.specs.List.{All};
 ghost use Rattle.batch_solver.specs.declared.point.Point.TheVariants as point;
 ghost use Rattle.block_audit.specs.Judged.{CanBeTold, NamesRow};

@@ -22,7 +22,7 @@ use Rattle.batch_solver.specs.declared.point.Point.TheVariants as point
 use Rattle.report_lines.specs.declared.block.BlockFault.TheVariants as fault
 
 -- two lists of points, one beside the other
-pub hold_both : (P Q : Point → Type 0) (m n : ℕ) → HoldUpTo P m → HoldUpTo Q n → HoldUpTo (λ q. P q × Q q) (min m n)
+hold_both : (P Q : Point → Type 0) (m n : ℕ) → HoldUpTo P m → HoldUpTo Q n → HoldUpTo (λ q. P q × Q q) (min m n)
 hold_both P Q m n hp hq = record {
   before = λ q less. (hp.before q (omega (arith, less)), hq.before q (omega (arith, less)));
   there = λ less. ⊎_elim
@@ -31,9 +31,16 @@ hold_both P Q m n hp hq = record {
       (cases_lt m n);
 }
 
-pub verdict_holds : (P : Point → Type 0) (verdict : Verdict) → IsVerdictOf P verdict → HoldUpTo P (verdict_place verdict)
+verdict_holds : (P : Point → Type 0) (verdict : Verdict) → IsVerdictOf P verdict → HoldUpTo P (verdict_place verdict)
 verdict_holds P Good all = record { before = λ q less. all q; there = λ less. absurd (omega arith) }
 verdict_holds P (Fails p) first = record { before = first.0; there = λ less. (p, refl, first.1) }
+
+-- what is told, judged up to the first point that fails or can't be told
+pub right_up_to : (settings : Settings) (roads : Roads) (batch : Batch) (t : Told) (verdict : Verdict) (untold place : ℕ) → IsVerdictOf (Meets settings roads batch (judged_outcome (vehicle_ids batch) t)) verdict
+    → HoldUpTo (λ q. CanBeTold q t) untold → place ≡ min (verdict_place verdict) untold → HoldUpTo (IsRight settings roads batch t) place
+right_up_to settings roads batch t verdict untold place points told at =
+    let meets : Point → Type 0 = Meets settings roads batch (judged_outcome (vehicle_ids batch) t) in
+    subst (HoldUpTo (IsRight settings roads batch t)) (sym at) (hold_both meets (λ q. CanBeTold q t) (verdict_place verdict) untold (verdict_holds meets verdict points) told)
 
 pub is_good : (verdict : Verdict) → 9 ≤ verdict_place verdict → verdict ≡ Good
 is_good Good high = refl

@@ -1,6 +1,6 @@
-use Rattle.std.proofs.Common.{◌≡◌, ◌≢◌, ◌≤◌, ◌<◌, true, length, sym, ap, ◌∙◌, subst, arith}
-use Rattle.block_audit.proofs.Common.{Batch, IsKept, IsGoodOutcome, block_lines, Point, Outcome, BeginsWithGood, CanBeTold, judged_outcome, Told, told_by, HoldUpTo, IsRight}
-use Rattle.block_audit.proofs.lemmas.AuditLemmas.{begins_good, fails_at_once, fails_first, fails_no_good, fault_no_good, good_is_judged, line_count}
+use Rattle.std.proofs.Common.{◌≡◌, ◌≢◌, true, List, length, map, min, sym, ap, ◌∙◌, subst, arith}
+use Rattle.block_audit.proofs.Common.{Batch, IsKept, Vehicle, IsGoodOutcome, IsVerdictOf, Meets, block_lines, Point, Outcome, BeginsWithGood, CanBeTold, judged_outcome, Told, told_by, told_in, HoldUpTo, verdict_place}
+use Rattle.block_audit.proofs.lemmas.AuditLemmas.{begins_good, fails_at_once, fails_first, fails_no_good, fault_no_good, good_is_judged, is_good, line_count, right_up_to}
 use Rattle.outcome_check.proofs.lemmas.VerdictLemmas.{last_place}
 use Rattle.block_audit.proofs.NumberedLemmas.{vehicle_ids}
 use Rattle.block_audit.proofs.audit.audit_block.Goals as goal
@@ -26,56 +26,56 @@ returns-then-told-snapshot-clause-fault g c =
     let first = fails_at_once c.args.settings.now c.args.network.now c.args.snapshot.now (told_by c.in-Ok.block.0) other in
     record { lines = c.in-Ok.block.0; rest = c.in-Ok.block.1.now; block = c.in-Ok.ensures; point = first.point; at = first.at; fails = first.first }
 
-pub returns-then-place-lt9-clause-none : goal.returns-then-place-lt9-clause-none
-returns-then-place-lt9-clause-none g c =
-    let kept : IsKept c.args.snapshot.now = subst (λ (b : Batch). IsKept b) c.snapshot.view_is c.snapshot.invariant in
-    let number : (told_by c.in-Ok.block.0).batch ≡ c.args.snapshot.now.number =
-    sym (ap (λ (t : Told). t.batch) c.in_ok-told.ensures) ∙ c.if-told-snapshot.false ∙ ap (λ (b : Batch). b.number) c.snapshot.view_is in
-    let points = subst (λ (t : Told). HoldUpTo (IsRight c.args.settings.now c.args.network.now c.args.snapshot.now t) c.in_ok-outcome.place) c.in_ok-told.ensures c.in_ok-outcome.ensures.points in
-    λ some outcome behind good.
-    fails_no_good c.args.settings.now c.args.network.now c.args.snapshot.now kept c.args.text.now c.in-Ok.block.0 c.in-Ok.block.1.now c.in-Ok.ensures c.in_ok-outcome.place
-    (fails_first c.args.settings.now c.args.network.now c.args.snapshot.now (told_by c.in-Ok.block.0) c.in_ok-outcome.place number c.if-place-lt9.true points) outcome behind good
+pub returns-then-point-lt9 : goal.returns-then-point-lt9
+returns-then-point-lt9 g c =
+    let settings = c.args.settings.now in
+    let roads = c.args.network.now in
+    let batch = c.args.snapshot.now in
+    let lines = c.in-Ok.block.0 in
+    let kept : IsKept batch = subst (λ (b : Batch). IsKept b) c.snapshot.view_is c.snapshot.invariant in
+    let number : (told_by lines).batch ≡ batch.number = sym (ap (λ (t : Told). t.batch) c.in_ok-told.ensures) ∙ c.if-told-snapshot.false ∙ ap (λ (b : Batch). b.number) c.snapshot.view_is in
+    let is : c.in_ok-outcome.outcome ≡ judged_outcome (vehicle_ids batch) (told_by lines) =
+    c.in_ok-outcome.ensures ∙ ap (λ (vs : List Vehicle). judged_outcome (map (λ v. v.id) vs) (told_in c.in_ok-told.told)) (c.as_slice.ensures ∙ ap (λ (b : Batch). b.vehicles) c.snapshot.view_is)
+    ∙ ap (λ (t : Told). judged_outcome (vehicle_ids batch) t) c.in_ok-told.ensures in
+    let at : c.least-point.result ≡ min (verdict_place c.in-Ok-judge.verdict) c.untold_place-untold.result = let least = c.least-point.ensures in let place = c.place_of.ensures in omega (arith, least, place) in
+    let points = right_up_to settings roads batch (told_by lines) c.in-Ok-judge.verdict c.untold_place-untold.result c.least-point.result
+    (subst (λ (o : Outcome). IsVerdictOf (Meets settings roads batch o) c.in-Ok-judge.verdict) is c.in-Ok-judge.ensures.points)
+    (subst (λ (t : Told). HoldUpTo (λ q. CanBeTold q t) c.untold_place-untold.result) c.in_ok-told.ensures c.untold_place-untold.ensures) at in
+    let first = fails_first settings roads batch (told_by lines) c.least-point.result number c.if-point-lt9.true points in
+    record {
+      good = tt;
+      lines = tt;
+      only = tt;
+      none = λ some outcome behind good. fails_no_good settings roads batch kept c.args.text.now lines c.in-Ok.block.1.now c.in-Ok.ensures c.least-point.result first outcome behind good;
+      fault = record { lines = lines; rest = c.in-Ok.block.1.now; block = c.in-Ok.ensures; point = first.point; at = first.at; fails = first.first };
+    }
 
-pub returns-then-place-lt9-clause-fault : goal.returns-then-place-lt9-clause-fault
-returns-then-place-lt9-clause-fault g c =
-    let number : (told_by c.in-Ok.block.0).batch ≡ c.args.snapshot.now.number =
-    sym (ap (λ (t : Told). t.batch) c.in_ok-told.ensures) ∙ c.if-told-snapshot.false ∙ ap (λ (b : Batch). b.number) c.snapshot.view_is in
-    let points = subst (λ (t : Told). HoldUpTo (IsRight c.args.settings.now c.args.network.now c.args.snapshot.now t) c.in_ok-outcome.place) c.in_ok-told.ensures c.in_ok-outcome.ensures.points in
-    let first = fails_first c.args.settings.now c.args.network.now c.args.snapshot.now (told_by c.in-Ok.block.0) c.in_ok-outcome.place number c.if-place-lt9.true points in
-    record { lines = c.in-Ok.block.0; rest = c.in-Ok.block.1.now; block = c.in-Ok.ensures; point = first.point; at = first.at; fails = first.first }
-
-pub returns-clause-good : goal.returns-clause-good
-returns-clause-good g c =
-    let kept : IsKept c.args.snapshot.now = subst (λ (b : Batch). IsKept b) c.snapshot.view_is c.snapshot.invariant in
-    let number : (told_by c.in-Ok.block.0).batch ≡ c.args.snapshot.now.number =
-    sym (ap (λ (t : Told). t.batch) c.in_ok-told.ensures) ∙ c.if-told-snapshot.false ∙ ap (λ (b : Batch). b.number) c.snapshot.view_is in
-    let points = subst (λ (t : Told). HoldUpTo (IsRight c.args.settings.now c.args.network.now c.args.snapshot.now t) c.in_ok-outcome.place) c.in_ok-told.ensures c.in_ok-outcome.ensures.points in
-    let is : c.in_ok-outcome.outcome ≡ judged_outcome (vehicle_ids c.args.snapshot.now) (told_by c.in-Ok.block.0) =
-    c.in_ok-outcome.ensures.outcome ∙ ap (λ (t : Told). judged_outcome (vehicle_ids c.args.snapshot.now) t) c.in_ok-told.ensures in
-    let can : (q : Point) → CanBeTold q (told_by c.in-Ok.block.0) = λ q. (points.before q (let low = last_place q in omega (arith, low, c.if-place-lt9.false))).1 in
-    let good = c.in_ok-outcome.ensures.good (omega (arith, c.if-place-lt9.false)) in
-    subst (λ (o : Outcome). BeginsWithGood c.args.settings.now c.args.network.now c.args.snapshot.now c.args.text.now o c.in-Ok.block.1.now) (sym is)
-    (begins_good c.args.settings.now c.args.network.now c.args.snapshot.now kept c.args.text.now c.in-Ok.block.0 c.in-Ok.block.1.now c.in-Ok.ensures number can
-    (subst (λ (o : Outcome). IsGoodOutcome c.args.settings.now c.args.network.now c.args.snapshot.now o) is good))
-
-pub returns-clause-only : goal.returns-clause-only
-returns-clause-only g c =
-    let kept : IsKept c.args.snapshot.now = subst (λ (b : Batch). IsKept b) c.snapshot.view_is c.snapshot.invariant in
-    let is : c.in_ok-outcome.outcome ≡ judged_outcome (vehicle_ids c.args.snapshot.now) (told_by c.in-Ok.block.0) =
-    c.in_ok-outcome.ensures.outcome ∙ ap (λ (t : Told). judged_outcome (vehicle_ids c.args.snapshot.now) t) c.in_ok-told.ensures in
-    λ outcome behind good.
-    let itself = good_is_judged c.args.settings.now c.args.network.now c.args.snapshot.now kept c.args.text.now c.in-Ok.block.0 c.in-Ok.block.1.now c.in-Ok.ensures outcome behind good in
-    (itself.same ∙ sym is, itself.after)
-
-pub returns-clause-lines : goal.returns-clause-lines
-returns-clause-lines g c =
-    let kept : IsKept c.args.snapshot.now = subst (λ (b : Batch). IsKept b) c.snapshot.view_is c.snapshot.invariant in
-    let number : (told_by c.in-Ok.block.0).batch ≡ c.args.snapshot.now.number =
-    sym (ap (λ (t : Told). t.batch) c.in_ok-told.ensures) ∙ c.if-told-snapshot.false ∙ ap (λ (b : Batch). b.number) c.snapshot.view_is in
-    let points = subst (λ (t : Told). HoldUpTo (IsRight c.args.settings.now c.args.network.now c.args.snapshot.now t) c.in_ok-outcome.place) c.in_ok-told.ensures c.in_ok-outcome.ensures.points in
-    let is : c.in_ok-outcome.outcome ≡ judged_outcome (vehicle_ids c.args.snapshot.now) (told_by c.in-Ok.block.0) =
-    c.in_ok-outcome.ensures.outcome ∙ ap (λ (t : Told). judged_outcome (vehicle_ids c.args.snapshot.now) t) c.in_ok-told.ensures in
-    let can : (q : Point) → CanBeTold q (told_by c.in-Ok.block.0) = λ q. (points.before q (let low = last_place q in omega (arith, low, c.if-place-lt9.false))).1 in
-    c.len-count.ensures
-    ∙ line_count c.args.settings.now c.args.network.now c.args.snapshot.now kept c.args.text.now c.in-Ok.block.0 c.in-Ok.block.1.now c.in-Ok.ensures number can
-    ∙ ap (λ (o : Outcome). length (block_lines true c.args.snapshot.now.number o)) (sym is)
+pub returns-else-point-lt9 : goal.returns-else-point-lt9
+returns-else-point-lt9 g c =
+    let settings = c.args.settings.now in
+    let roads = c.args.network.now in
+    let batch = c.args.snapshot.now in
+    let lines = c.in-Ok.block.0 in
+    let kept : IsKept batch = subst (λ (b : Batch). IsKept b) c.snapshot.view_is c.snapshot.invariant in
+    let number : (told_by lines).batch ≡ batch.number = sym (ap (λ (t : Told). t.batch) c.in_ok-told.ensures) ∙ c.if-told-snapshot.false ∙ ap (λ (b : Batch). b.number) c.snapshot.view_is in
+    let is : c.in_ok-outcome.outcome ≡ judged_outcome (vehicle_ids batch) (told_by lines) =
+    c.in_ok-outcome.ensures ∙ ap (λ (vs : List Vehicle). judged_outcome (map (λ v. v.id) vs) (told_in c.in_ok-told.told)) (c.as_slice.ensures ∙ ap (λ (b : Batch). b.vehicles) c.snapshot.view_is)
+    ∙ ap (λ (t : Told). judged_outcome (vehicle_ids batch) t) c.in_ok-told.ensures in
+    let at : c.least-point.result ≡ min (verdict_place c.in-Ok-judge.verdict) c.untold_place-untold.result = let least = c.least-point.ensures in let place = c.place_of.ensures in omega (arith, least, place) in
+    let points = right_up_to settings roads batch (told_by lines) c.in-Ok-judge.verdict c.untold_place-untold.result c.least-point.result
+    (subst (λ (o : Outcome). IsVerdictOf (Meets settings roads batch o) c.in-Ok-judge.verdict) is c.in-Ok-judge.ensures.points)
+    (subst (λ (t : Told). HoldUpTo (λ q. CanBeTold q t) c.untold_place-untold.result) c.in_ok-told.ensures c.untold_place-untold.ensures) at in
+    let can : (q : Point) → CanBeTold q (told_by lines) = λ q. (points.before q (let low = last_place q in omega (arith, low, c.if-point-lt9.false))).1 in
+    let good = c.in-Ok-judge.ensures.good.0 (is_good c.in-Ok-judge.verdict (omega (arith, at, c.if-point-lt9.false))) in
+    let begins = subst (λ (o : Outcome). BeginsWithGood settings roads batch c.args.text.now o c.in-Ok.block.1.now) (sym is)
+    (begins_good settings roads batch kept c.args.text.now lines c.in-Ok.block.1.now c.in-Ok.ensures number can (subst (λ (o : Outcome). IsGoodOutcome settings roads batch o) is good)) in
+    record {
+      good = begins;
+      lines = c.len-count.ensures ∙ line_count settings roads batch kept c.args.text.now lines c.in-Ok.block.1.now c.in-Ok.ensures number can
+          ∙ ap (λ (o : Outcome). length (block_lines true batch.number o)) (sym is);
+      only = λ outcome behind other.
+          let itself = good_is_judged settings roads batch kept c.args.text.now lines c.in-Ok.block.1.now c.in-Ok.ensures outcome behind other in
+          (itself.same ∙ sym is, itself.after);
+      none = tt;
+      fault = tt;
+    }

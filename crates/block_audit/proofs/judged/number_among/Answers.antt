@@ -1,4 +1,4 @@
-use Rattle.std.proofs.Common.{◌≡◌, ℕ, ◌==◌, ◌<◌, ◌≤◌, true, get_or, min, sym, ap, ◌∙◌, subst, arith}
+use Rattle.std.proofs.Common.{◌≡◌, ℕ, ◌==◌, true, get_or, min, sym, ap, ◌∙◌, subst, arith}
 use Rattle.block_audit.proofs.Common.{position_or_len, get_or_default, position_or_len_is}
 use Rattle.block_audit.proofs.judged.number_among.Goals as goal
 

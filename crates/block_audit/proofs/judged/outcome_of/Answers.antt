@@ -1,7 +1,8 @@
+use Rattle.std.proofs.Common.{map}
 use Rattle.block_audit.proofs.judged.outcome_of.Goals as goal
 
 pub returns-then-told : goal.returns-then-told
-returns-then-told c = c.overflow.ensures c.args.ids.now
+returns-then-told c = c.overflow.ensures (map (λ v. v.id) c.args.vehicles.now)
 
 pub returns-in-Ok : goal.returns-in-Ok
-returns-in-Ok c = c.planned.ensures c.args.ids.now c.in-Ok.ensures.late c.in-Ok.ensures.rows c.in-Ok.ensures.chosen c.in-Ok.ensures.tree
+returns-in-Ok c = c.planned.ensures (map (λ v. v.id) c.args.vehicles.now) c.in-Ok.ensures.late c.in-Ok.ensures.rows c.in-Ok.ensures.chosen c.in-Ok.ensures.tree
