@@ -16,6 +16,9 @@ module _ {X : Type 0} (R : X → X → Type 0) where
   pub has_head : (x : X) (xs : List X) → Contains (x ∷ xs) x
   has_head x xs = (0, omega arith, refl)
 
+  pub has_later : (x : X) (xs : List X) (y : X) → Contains xs y → Contains (x ∷ xs) y
+  has_later x xs y (k, within, is) = (suc k, omega arith, is)
+
 module _ {X : Type 0} (R : X → X → Type 0) (strict : IsStrict R) (e : X) where
   -- each stands before all later ones
   abbrev pub AreInOrder : List X → Type 0
