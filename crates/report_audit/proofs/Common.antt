@@ -37,7 +37,7 @@ pub use Rattle.report_audit.specs.work.Faults.{IsLeftOf, fault_of, fault_of_head
 pub use Rattle.report_audit.specs.work.Place.{with_entry}
 pub use Rattle.report_audit.specs.work.Rest.{EndsBehind, GoesOn, IsRestOfRounds, IsWrong, StopsAt, StopsHere, entries_text, with_more}
 pub use Rattle.report_audit.specs.work.Rounds.{EntriesSoFar, EntriesStop, HasReadEntries, HasReadRound, HasRoundLine, IsNoRoundLine, IsRoundStart, RoundStops, WhereRoundStops}
-pub use Rattle.report_audit.specs.work.Steps.{BeginsWithEntry, EntryRead, HasNoNext, HasRead, IsBookOf, IsEntryOf, IsWithin, MayBegin, StopsBehind, StopsWithin, Waits}
+pub use Rattle.report_audit.specs.work.Steps.{BeginsWithEntry, EntryRead, HasNoNext, HasRead, IsBookOf, IsWithin, MayBegin, StopsBehind, StopsWithin, Waits}
 pub use Rattle.report_audit.specs.work.Taking.{CommandStops, TakesCommand}
 pub use Rattle.report_audit.specs.work.Whole.{AllStops, HasComeTo, HasReadAll, WhereAllStops}
 pub use Rattle.report_lines.proofs.lemmas.NextLemmas.{no_entry_done, no_entry_round, one_kind}
@@ -57,23 +57,23 @@ pub use Rattle.request_book.specs.Command.{IsNoClose}
 unfoldable pub use Rattle.request_book.specs.Replay.{RepliesAreSteps, state_after}
 unfoldable pub use Rattle.request_book.specs.lemmas.Named.{sealed_state}
 pub use Rattle.request_book.specs.Sealing.{batch_of}
-unfoldable pub use Rattle.request_book.specs.Step.{close, step}
-pub use Rattle.request_book.specs.Step.{answered, cancel, dropoff, pickup, report, rider_becomes, seal, submit, vehicle_becomes}
+unfoldable pub use Rattle.request_book.specs.Step.{cancel, close, dropoff, pickup, report, seal, step, submit}
+pub use Rattle.request_book.specs.Step.{answered}
 pub use Rattle.request_book.specs.declared.command.Command.{Command}
 pub use Rattle.request_book.specs.declared.command.Command.TheVariants.{Cancel, Close, Dropoff, Pickup, Report, Seal, Submit}
 pub use Rattle.request_book.specs.declared.journal.Entry.{Entry}
 pub use Rattle.request_book.specs.declared.journal.Journal.{Journal}
 pub use Rattle.request_book.specs.declared.outcome.Outcome.{Outcome}
 pub use Rattle.request_book.specs.declared.reply.BookRefusal.{BookRefusal}
-pub use Rattle.request_book.specs.declared.reply.BookRefusal.TheVariants.{BatchOpen, BookFull, ClockBack, Ended, IsAboard, NotAboard, NotPromised, NotThisBatch, PoolFull, SamePlace, TimeBack, UnknownNode, VehicleFull}
+pub use Rattle.request_book.specs.declared.reply.BookRefusal.TheVariants.{BatchOpen, ClockBack, Ended, IsAboard, NotPromised, NotThisBatch, TimeBack}
 pub use Rattle.request_book.specs.declared.reply.Reply.{Reply}
 pub use Rattle.request_book.specs.declared.reply.Reply.TheVariants.{Accepted, Cancelled, Closed, Dropped, Picked, Placed, Refused, Sealed}
 pub use Rattle.request_book.specs.declared.rider.Status.{Status}
 pub use Rattle.request_book.specs.declared.rider.Status.TheVariants.{Aboard, Promised, Waiting}
 pub use Rattle.request_book.specs.declared.state.State.{State}
-unfoldable pub use Rattle.request_book.specs.lemmas.Table.{cancel_step, close_step, dropoff_step, pickup_step, report_step, seal_step, submit_step, table_step}
-pub use Rattle.request_book.specs.lemmas.Table.{answer, batch_unless, dropped_off, picked_up, seal_refusal}
+unfoldable pub use Rattle.request_book.specs.lemmas.Table.{close_step, seal_step, table_step}
+pub use Rattle.request_book.specs.lemmas.Table.{answer, batch_unless, seal_refusal}
 pub use Rattle.rider_limits.specs.declared.settings.Settings.{Settings}
-pub use Rattle.road_network.specs.Roads.{Roads, has_node}
+pub use Rattle.road_network.specs.Roads.{Roads}
 pub use Rattle.script_rows.specs.Round.{IsRound, MayStand, NumberedLanes, lane_at}
 pub use Rattle.shared_book.specs.Locked.{sealed_by, snapshot_before}

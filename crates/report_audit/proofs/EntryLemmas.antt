@@ -1,6 +1,6 @@
 -- An entry that an audit reads.
 use Rattle.std.proofs.Common.{◌≡◌, ◌≢◌, ◌⊎◌, ℕ, ◌<◌, ◌≤◌, ◌^◌, true, List, [], ◌∷◌, ◌++◌, length, set, slice_get, Option, Some, None, ⊎_elim, refl, sym, ap, ◌∙◌, subst, length-append, arith}
-use Rattle.report_audit.proofs.Common.{Batch, BeginsWithGood, Refuses, BlockRefusal, IsCloseOf, IsGoodClose, last_sealed, journal_of, entry_line, lines_text, entry_block, IsEntry, IsNextLine, NextLine, one_kind, LaneStand, stand_at, stand_after, HaveCome, AreDone, IsNext, IsNextFrom, come_more, BookView, IsNoClose, step, Command, Close, Entry, Journal, Outcome, Reply, Closed, State, replies-push, Settings, Roads, NumberedLanes, MayStand, lane_at, IsFirstLine, cut_once, IsWrongBlock, Extent, BeginsRound, MayComeNext, AreAtEnd, position_behind, state_behind, with_entry, HasFittingBlock, IsTold, LineFault, Stop, OutOfMemory, Line, Block, TakesClose, CloseStops, GoesOn, StopsAt, StopsHere, HasNoNext, IsWithin, HasRead, StopsWithin, Waits, TakesCommand, CommandStops}
+use Rattle.report_audit.proofs.Common.{Batch, BeginsWithGood, Refuses, BlockRefusal, IsCloseOf, IsGoodClose, last_sealed, journal_of, entry_line, lines_text, entry_block, IsEntry, IsNextLine, NextLine, one_kind, LaneStand, stand_at, stand_after, HaveCome, AreDone, IsNext, IsNextFrom, come_more, BookView, IsNoClose, step, Command, Close, Entry, Journal, Outcome, Reply, Closed, State, replies-push, Settings, Roads, NumberedLanes, MayStand, lane_at, IsFirstLine, cut_once, IsWrongBlock, Extent, BeginsRound, MayComeNext, AreAtEnd, position_behind, state_behind, with_entry, HasFittingBlock, IsTold, LineFault, Stop, OutOfMemory, Line, Block, TakesClose, CloseStops, GoesOn, StopsAt, StopsHere, HasNoNext, EntryRead, IsWithin, HasRead, StopsWithin, Waits, TakesCommand, CommandStops}
 use Rattle.std.proofs.lemmas.List.{length-set}
 use Rattle.std.proofs.lemmas.Option.{slice_get_within, get_or_from_slice_get}
 use Rattle.batch_solver.specs.Outcome.{IsGoodOutcome}
@@ -41,6 +41,14 @@ block_plain _ reply is = refl
 -- the round isn't at its end while a lane isn't
 pub not_at_end : (settings : Settings) (roads : Roads) (round : NumberedLanes) (b : BookView) (lanes : List LaneStand) (sealed : Option Batch) → IsWithin settings roads round b lanes sealed → (AreDone round lanes → ⊥) → AreAtEnd round (journal_of b) → ⊥
 not_at_end settings roads round b lanes sealed is going end = going (end_done round lanes b.entries is.come end)
+
+-- reading shortens the text
+shorter : (text line after rest block : List ℕ) → IsFirstLine text line after → after ≡ block ++ rest → length rest < length text
+shorter text line after rest block has is = omega (arith, length-append line (10 ∷ after), length-append block rest, ap length has.whole, ap length is)
+
+-- how the lanes stand after an entry of a lane, whichever way its number is told
+abbrev pub StandsAfter : NumberedLanes → List LaneStand → List LaneStand → Reply → ℕ → Type 0
+StandsAfter round lanes lanes_new reply k = (command : Command) → IsNext (lane_at round k) (stand_at lanes k) command → lanes_new ≡ set lanes k (stand_after (stand_at lanes k) reply)
 
 module _ (settings : Settings) (roads : Roads) (round : NumberedLanes) (b : BookView) (lanes : List LaneStand) (sealed : Option Batch) (is : IsWithin settings roads round b lanes sealed) (going : AreDone round lanes → ⊥) (text : List ℕ) where
   next_of : (end : Option Stop) (passed later : List NumberedLanes) → GoesOn settings roads end passed round later (journal_of b) text
@@ -100,10 +108,10 @@ module _ (settings : Settings) (roads : Roads) (round : NumberedLanes) (b : Book
       )
 
       -- a stop at another line than that of the lane's next command
-      pub command_stops : (left : ℕ) (stop : Stop) → left ≡ length text → CommandStops round lanes b lane line left stop → StopsWithin settings roads round (journal_of b) text stop
-      command_stops left OutOfMemory at stops = memory_stops
-      command_stops left (Line here wrong.Entry) at stops = line_stops here wrong.Entry (
-        stops.0 ∙ at,
+      pub command_stops : (stop : Stop) → CommandStops round lanes b lane line (length text) stop → StopsWithin settings roads round (journal_of b) text stop
+      command_stops OutOfMemory stops = memory_stops
+      command_stops (Line here wrong.Entry) stops = line_stops here wrong.Entry (
+        stops.0,
         (
           line,
           after,
@@ -119,9 +127,9 @@ module _ (settings : Settings) (roads : Roads) (round : NumberedLanes) (b : Book
               (follow.2 ∙ ap (λ (x : Entry). entry_line (position_behind (journal_of b)) x) same),
         ),
       )
-      command_stops left (Line here wrong.Cut) at stops = absurd stops
-      command_stops left (Line here wrong.Form) at stops = absurd stops
-      command_stops left (Block here refused) at stops = absurd stops
+      command_stops (Line here wrong.Cut) stops = absurd stops
+      command_stops (Line here wrong.Form) stops = absurd stops
+      command_stops (Block here refused) stops = absurd stops
 
       module _ (new : BookView) (next : Option Batch) (reply : Reply) (low : lane < 16) (pending : (stand_at lanes lane).pending ≡ None) (takes : TakesCommand round lanes b lane line new next reply) where
         taken : Entry
@@ -144,7 +152,7 @@ module _ (settings : Settings) (roads : Roads) (round : NumberedLanes) (b : Book
         stepped = ap (λ p. p.0) takes.applied.stepped
 
         -- what holds within the round holds behind the command
-        pub within_command : (lanes_new : List LaneStand) (sealed_new : Option Batch) → lanes_new ≡ set lanes lane (stand_after (stand_at lanes lane) reply) → sealed_new ≡ last_sealed sealed next
+        within_command : (lanes_new : List LaneStand) (sealed_new : Option Batch) → lanes_new ≡ set lanes lane (stand_after (stand_at lanes lane) reply) → sealed_new ≡ last_sealed sealed next
             → IsWithin settings roads round new lanes_new sealed_new
         unfolding taken
         within_command lanes_new sealed_new lanes_are sealed_is =
@@ -196,7 +204,7 @@ module _ (settings : Settings) (roads : Roads) (round : NumberedLanes) (b : Book
         no_stop (Some stop) here = comes_is_no_stop settings roads round (journal_of b) text line after has taken comes_taken takes.line_is stop here.0 here.1 (λ refused at wrong some. no_block refused wrong)
 
         -- its entry was read
-        pub read_command : HasRead settings roads round (journal_of b) (journal_of new) text after
+        read_command : HasRead settings roads round (journal_of b) (journal_of new) text after
         unfolding taken
         read_command = record {
           read = taken ∷ [];
@@ -221,7 +229,16 @@ module _ (settings : Settings) (roads : Roads) (round : NumberedLanes) (b : Book
             block_is : (c : Command) (r : Reply) → IsNoClose c → (t : List ℕ) → t ≡ lines_text (entry_block true c r) ++ t
             block_is c r no_close t = ap (λ (x : List ℕ). x ++ t) (sym lines-none) ∙ ap (λ (ls : List (List ℕ)). lines_text ls ++ t) (sym (block_plain c r no_close))
 
-      module _ (batch : Batch) (left pending_batch : ℕ) (at : left ≡ length text) (low : lane < 16) (pending : (stand_at lanes lane).pending ≡ Some pending_batch) (open_is : sealed ≡ Some batch) where
+        -- what holds behind it
+        pub plain_read : (lanes_new : List LaneStand) (sealed_new : Option Batch) (k : ℕ) → k ≡ lane → StandsAfter round lanes lanes_new reply k → sealed_new ≡ last_sealed sealed next
+            → EntryRead settings roads round b new lanes_new sealed_new text after
+        plain_read lanes_new sealed_new k same stands_new sealed_is = record {
+          within = within_command lanes_new sealed_new (subst (StandsAfter round lanes lanes_new reply) same stands_new takes.command takes.next) sealed_is;
+          has_read = read_command;
+          shorter = shorter text line after after [] has refl;
+        }
+
+      module _ (batch : Batch) (pending_batch : ℕ) (low : lane < 16) (pending : (stand_at lanes lane).pending ≡ Some pending_batch) (open_is : sealed ≡ Some batch) where
         number_is : pending_batch ≡ batch.number
         number_is = waits_for lanes lane pending_batch batch b.state.sealed is.waits pending (sym is.is_open ∙ open_is)
 
@@ -234,7 +251,7 @@ module _ (settings : Settings) (roads : Roads) (round : NumberedLanes) (b : Book
         closing_reply : (o : Outcome) → Closed ≡ (step roads.nodes settings.wait (state_behind settings roads (journal_of b)) (Close batch.number o)).1
         closing_reply o = ap (λ p. p.1) (sym (close-is roads.nodes settings.wait (state_behind settings roads (journal_of b)) batch o sealed_behind))
 
-        pub closing_next : (o : Outcome) → IsNext (lane_at round lane) (stand_at lanes lane) (Close batch.number o)
+        closing_next : (o : Outcome) → IsNext (lane_at round lane) (stand_at lanes lane) (Close batch.number o)
         closing_next o = subst (λ (p : Option ℕ). IsNextFrom p (stand_at lanes lane).taken (lane_at round lane) (Close batch.number o)) (sym pending) (sym number_is)
 
         -- only the close of the batch may come next
@@ -280,11 +297,11 @@ module _ (settings : Settings) (roads : Roads) (round : NumberedLanes) (b : Book
         }
 
         -- a stop at the close or at its block
-        pub close_stops : (stop : Stop) → CloseStops settings roads b batch lane line after left stop → StopsWithin settings roads round (journal_of b) text stop
+        pub close_stops : (stop : Stop) → CloseStops settings roads b batch lane line after (length text) stop → StopsWithin settings roads round (journal_of b) text stop
         unfolding closing
         close_stops OutOfMemory stops = memory_stops
         close_stops (Line here wrong.Entry) stops = line_stops here wrong.Entry (
-          stops.0 ∙ at,
+          stops.0,
           (
             line,
             after,
@@ -299,7 +316,7 @@ module _ (settings : Settings) (roads : Roads) (round : NumberedLanes) (b : Book
         close_stops (Line here wrong.Form) stops = absurd stops
         close_stops (Block here refused) stops =
             let at_block : StopsAt settings roads (Extent.within round (journal_of b)) text (Block here refused) = (
-              stops.0 ∙ at,
+              stops.0,
               record {
                 line = line;
                 after = after;
@@ -325,7 +342,7 @@ module _ (settings : Settings) (roads : Roads) (round : NumberedLanes) (b : Book
 
         module _ (rest : List ℕ) (new : BookView) (takes : TakesClose settings roads b batch lane line after rest new) where
           -- what holds within the round holds behind the close
-          pub within_close : (lanes_new : List LaneStand) → lanes_new ≡ set lanes lane (stand_after (stand_at lanes lane) Closed) → IsWithin settings roads round new lanes_new None
+          within_close : (lanes_new : List LaneStand) → lanes_new ≡ set lanes lane (stand_after (stand_at lanes lane) Closed) → IsWithin settings roads round new lanes_new None
           unfolding closing
           within_close lanes_new lanes_are =
               let lanes_set : List LaneStand = set lanes lane (stand_after (stand_at lanes lane) Closed) in
@@ -365,7 +382,7 @@ module _ (settings : Settings) (roads : Roads) (round : NumberedLanes) (b : Book
               (λ refused at wrong some. unrefused_block refused wrong some)
 
           -- its entry and block were read
-          pub read_close : HasRead settings roads round (journal_of b) (journal_of new) text rest
+          read_close : HasRead settings roads round (journal_of b) (journal_of new) text rest
           unfolding closing
           read_close = record {
             read = closing takes.outcome ∷ [];
@@ -386,9 +403,12 @@ module _ (settings : Settings) (roads : Roads) (round : NumberedLanes) (b : Book
                 (ap (with_entry (journal_of b)) entry ∙ sym (journal_applied b new lane (Close batch.number takes.outcome) Closed takes.applied)) h.rest);
           }
 
--- reading shortens the text
-pub shorter : (settings : Settings) (roads : Roads) (round : NumberedLanes) (text line after rest : List ℕ) (block : List ℕ) → IsFirstLine text line after → after ≡ block ++ rest → length rest < length text
-shorter settings roads round text line after rest block has is =
-    let a : length text ≡ length (line ++ 10 ∷ after) = ap length has.whole in
-    let c : length after ≡ length (block ++ rest) = ap length is in
-    omega (arith, length-append line (10 ∷ after), length-append block rest, a, c)
+          -- what holds behind it
+          pub closing_read : (lanes_new : List LaneStand) (sealed_new : Option Batch) (k : ℕ) → k ≡ lane → StandsAfter round lanes lanes_new Closed k → sealed_new ≡ None
+              → EntryRead settings roads round b new lanes_new sealed_new text rest
+          closing_read lanes_new sealed_new k same stands_new none = record {
+            within = subst (λ (o : Option Batch). IsWithin settings roads round new lanes_new o) (sym none)
+                (within_close lanes_new (subst (StandsAfter round lanes lanes_new Closed) same stands_new (Close batch.number takes.outcome) (closing_next takes.outcome)));
+            has_read = read_close;
+            shorter = shorter text line after rest _ has takes.good.whole;
+          }

@@ -5,7 +5,6 @@ pub mod LaneLemmas
 pub mod NextLemmas
 pub mod EntryLemmas
 pub mod ClosingLemmas
-pub mod ReadLemmas
 pub mod RoundLemmas
 pub mod EndLemmas
 pub mod WholeLemmas

@@ -1,5 +1,5 @@
 -- Rounds of a report.
-use Rattle.std.proofs.Common.{◌≡◌, ◌≢◌, ◌⊎◌, ℕ, ◌<◌, ◌≤◌, ◌^◌, true, List, [], ◌∷◌, ◌++◌, length, replicate, drop, codes, Option, Some, None, refl, sym, ap, ◌∙◌, subst, ⊎_elim, append-nil, append_assoc, arith, option_map, count_by}
+use Rattle.std.proofs.Common.{◌≡◌, ◌⊎◌, ℕ, ◌<◌, ◌≤◌, ◌^◌, true, List, [], ◌∷◌, ◌++◌, length, replicate, drop, codes, Option, Some, None, refl, sym, ap, ◌∙◌, subst, ⊎_elim, append-nil, append_assoc, arith, option_map, count_by}
 use Rattle.report_audit.proofs.Common.{cases_lt, numbered_one_line, get_or_past, get_or-replicate, length-replicate, Batch, of_lane, ClosesAreGood, IsLaneBeginning, IsLaneRun, IsLaneRunFrom, journal_of, round_text, numbered, IsNextLine, NextLine, one_kind, LaneStand, at_start, stand_at, HaveCome, AreDone, cut_once, BookView, next_position, state_after, RepliesAreSteps, Command, Entry, Journal, State, round-book, Settings, Roads, NumberedLanes, IsRound, lane_at, sealed_by, IsFirstLine, Extent, AreAtEnd, IsInForm, position_behind, state_behind, closes, AreTold, Stop, OutOfMemory, Line, Block, GoesOn, IsRestOfRounds, StopsAt, StopsHere, entries_text, with_more, IsRoundStart, HasRoundLine, IsNoRoundLine, EntriesStop, HasReadEntries, HasReadRound, RoundStops, WhereRoundStops, HasRead, IsBookOf, IsWithin, StopsBehind, StopsWithin}
 use Rattle.report_lines.specs.declared.next.NextLine.TheVariants.{Round as RoundOf}
 use Rattle.report_audit.proofs.JournalLemmas.{after-none, closes-none}

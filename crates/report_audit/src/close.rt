@@ -12,20 +12,19 @@ use pool_base::{OutOfMemory, Sequence};
 use request_book::{Answer, Book, Command, Entry, Outcome, Reply};
 use std::alloc::Global;
 use std::thread::Threads;
-use travel_times::Ways;
+use travel_times::NetworkWays;
 use worker_gate::Gate;
 
 /// The close of the batch that is sealed, with whose line and block a text begins: it is taken into the book, and what
 /// follows the block is the answer.
-pub(crate) fn audit_close<'a, W: Ways, G: Gate>(
+pub(crate) fn audit_close<'a, G: Gate>(
     rt: &(impl Threads + Sync),
-    alloc: Global,
     book: &mut Book,
     snapshot: &Snapshot,
     lane: u8,
     between: Between<'a>,
     left: usize,
-    setup: &Setup<'_, W, G>,
+    setup: &Setup<'_, G>,
 ) -> Result<&'a [u8], Stop>
     requires book { IsBookOf setup.now.settings.now setup.now.network.now book.old }
     requires sealed { book.old.state.sealed ≡ Some snapshot.now }
@@ -33,16 +32,20 @@ pub(crate) fn audit_close<'a, W: Ways, G: Gate>(
     ensures stops { IfErr result (CloseStops setup.entry.now.settings.now setup.entry.now.network.now book.old snapshot.entry.now lane between.entry.line.now between.entry.after.now left) }
 {
     let position = book.next_position();
-    if !is_close_line(alloc, between.line, position, lane, snapshot.batch)? {
+    if !is_close_line(setup.alloc, between.line, position, lane, snapshot.batch)? {
         return Err(wrong_line(left));
     }
+    let ways = NetworkWays {
+        network: setup.network,
+        workers: setup.settings.workers,
+    };
     let found = audit_block(
         rt,
-        alloc,
+        setup.alloc,
         between.after,
         snapshot,
         setup.network,
-        setup.ways,
+        &ways,
         setup.settings,
         setup.gate,
     );

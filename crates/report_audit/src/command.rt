@@ -1,14 +1,13 @@
 //! Commands of a script, answered.
-ghost use Rattle.std.specs.Prelude.{◌≡◌, ◌≢◌, ◌↔◌, IfOk, IsTrue, MatchOption};
+ghost use Rattle.std.specs.Prelude.{◌≡◌, ◌≢◌, IfOk, MatchOption};
 ghost use Rattle.dispatch_engine.specs.Lane.{last_sealed};
 ghost use Rattle.dispatch_report.specs.Entry.{entry_line};
-ghost use Rattle.dispatch_report.specs.Fits.{IsReply};
+ghost use Rattle.dispatch_report.specs.Fits.{IsCommand, IsReply};
 ghost use Rattle.request_book.specs.Book.{IsApplied, next_position};
 ghost use Rattle.request_book.specs.Command.{IsNoClose};
 ghost use Rattle.request_book.specs.declared.reply.Reply.{Reply as OneReply};
 
 use crate::line::is_entry_line;
-use crate::numbers::fits_reply;
 use batch_snapshot::Snapshot;
 use pool_base::OutOfMemory;
 use request_book::{Book, Command, Entry, Reply};
@@ -34,34 +33,18 @@ pub(crate) fn answered(
     requires { IsNoClose command.now }
     ensures { IfOk result (λ told. (reply : OneReply) × IsApplied book.old lane command.entry.now reply book.new
         × MatchOption told (line.entry.now ≢ entry_line (next_position book.old.first book.old.entries) (record { lane = lane; command = command.entry.now; reply = reply }))
-        (λ r. (r ≡ reply) × IsReply r × (line.entry.now ≡ entry_line (next_position book.old.first book.old.entries) (record { lane = lane; command = command.entry.now; reply = reply })))) }
+        (λ r. (r ≡ reply) × IsCommand command.entry.now × IsReply r × (line.entry.now ≡ entry_line (next_position book.old.first book.old.entries) (record { lane = lane; command = command.entry.now; reply = reply })))) }
 {
     let position = book.next_position();
     let reply = book.apply(lane, command.copied())?;
-    fits_reply(&reply);
-    if is_answer_line(alloc, line, position, lane, command, &reply)? {
-        Ok(Some(reply))
-    } else {
-        Ok(None)
-    }
-}
-
-/// Whether the line is that of this command and reply.
-fn is_answer_line(
-    alloc: Global,
-    line: &[u8],
-    position: u64,
-    lane: u8,
-    command: &Command,
-    reply: &Reply,
-) -> Result<bool, OutOfMemory>
-    requires { IsNoClose command.now }
-    ensures { IfOk result (λ yes. IsTrue yes ↔ (line.now ≡ entry_line position (record { lane = lane; command = command.now; reply = reply.now }))) }
-{
     let entry = Entry {
         lane,
         command: command.copied(),
-        reply: *reply,
+        reply,
     };
-    is_entry_line(alloc, line, position, &entry)
+    if is_entry_line(alloc, line, position, &entry)? {
+        Ok(Some(entry.reply))
+    } else {
+        Ok(None)
+    }
 }

@@ -28,10 +28,8 @@ mod end;
 mod entry;
 mod fault;
 mod line;
-mod numbers;
 mod report;
 mod round;
-mod rounds;
 mod setup;
 mod stop;
 

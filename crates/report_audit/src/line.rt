@@ -1,5 +1,6 @@
-ghost use Rattle.std.specs.Prelude.{◌≡◌, ◌↔◌, IfOk, IsTrue};
+ghost use Rattle.std.specs.Prelude.{◌≡◌, ◌↔◌, IfOk, IsTrue, OnOk};
 ghost use Rattle.dispatch_report.specs.Entry.{entry_line};
+ghost use Rattle.dispatch_report.specs.Fits.{IsCommand, IsReply, TellsEnd};
 
 use dispatch_report::put_entry;
 use pool_base::OutOfMemory;
@@ -13,7 +14,9 @@ pub(crate) fn is_entry_line(
     position: u64,
     entry: &Entry,
 ) -> Result<bool, OutOfMemory>
-    ensures { IfOk result (λ yes. IsTrue yes ↔ (line.now ≡ entry_line position entry.now)) }
+    ensures line { IfOk result (λ yes. IsTrue yes ↔ (line.now ≡ entry_line position entry.now)) }
+    ensures command { OnOk result (IsCommand entry.now.command) }
+    ensures reply { OnOk result (TellsEnd entry.now.reply → IsReply entry.now.reply) }
 {
     let mut expected = Vec::new(alloc);
     put_entry(&mut expected, position, entry)?;

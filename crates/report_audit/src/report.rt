@@ -1,5 +1,5 @@
 //! The audit of a report.
-ghost use Rattle.std.specs.Prelude.{◌≡◌, ◌≢◌, ◌==◌, ◌≤◌, All, IfErr, IfOk, MatchResult, count_by, length, slice_range};
+ghost use Rattle.std.specs.Prelude.{◌≡◌, ◌≢◌, ◌==◌, ◌≤◌, All, IfErr, IfOk, MatchResult, count_by, length};
 ghost use Rattle.request_book.specs.Consistent.{IsNode};
 ghost use Rattle.request_book.specs.Book.{opening};
 ghost use Rattle.report_audit.specs.Fault.{HasFault};
@@ -9,20 +9,19 @@ ghost use Rattle.report_audit.specs.declared.fault.AuditFault.TheVariants.{OutOf
 ghost use Rattle.report_audit.specs.work.Faults.{IsLeftOf, fault_of, fault_of_block, fault_of_head, fault_of_line, line_left};
 ghost use Rattle.report_audit.specs.work.Whole.{AllStops, HasReadAll};
 
+use crate::end::audit_end;
 use crate::fault::{AuditFault, Audited};
-use crate::rounds::audit_rounds;
+use crate::round::audit_round;
 use crate::setup::Setup;
 use crate::stop::{LineFault, Stop, begins_with_entry};
 use batch_snapshot::Fleet;
 use block_audit::BlockRefusal;
 use dispatch_engine::opened_book;
 use report_lines::{HeadFault, read_head};
-use rider_limits::Settings;
 use road_network::Network;
 use script_rows::Script;
 use std::alloc::Global;
 use std::thread::Threads;
-use travel_times::NetworkWays;
 use worker_gate::Gate;
 
 /// Whether a text is the report of a run of this script, from an empty book with these vehicles, printed with its search
@@ -56,7 +55,13 @@ pub fn audit<G: Gate>(
         Ok(head) => head,
         Err(fault) => return Err(of_head(fault)),
     };
-    match audit_behind(rt, alloc, rest, network, fleet, script, &settings, gate) {
+    let setup = Setup {
+        alloc,
+        network,
+        settings: &settings,
+        gate,
+    };
+    match audit_behind(rt, rest, fleet, script, &setup) {
         Ok(audited) => Ok(audited),
         Err(stop) => Err(fault_at(report, stop)),
     }
@@ -65,17 +70,14 @@ pub fn audit<G: Gate>(
 /// The same of what follows the head.
 fn audit_behind<G: Gate>(
     rt: &(impl Threads + Sync),
-    alloc: Global,
     text: &[u8],
-    network: &Network,
     fleet: &Fleet,
     script: &Script,
-    settings: &Settings,
-    gate: &G,
+    setup: &Setup<'_, G>,
 ) -> Result<Audited, Stop>
-    requires { All (λ vehicle. IsNode network.now.nodes vehicle.node) fleet.now }
-    ensures { MatchResult result (HasReadAll settings.entry.now network.entry.now script.entry.now (opening fleet.entry.now) text.entry.now)
-        (AllStops settings.entry.now network.entry.now script.entry.now (opening fleet.entry.now) text.entry.now) }
+    requires { All (λ vehicle. IsNode setup.now.network.now.nodes vehicle.node) fleet.now }
+    ensures { MatchResult result (HasReadAll setup.entry.now.settings.now setup.entry.now.network.now script.entry.now (opening fleet.entry.now) text.entry.now)
+        (AllStops setup.entry.now.settings.now setup.entry.now.network.now script.entry.now (opening fleet.entry.now) text.entry.now) }
 {
     if begins_with_entry(text) {
         return Err(Stop::Line {
@@ -83,22 +85,27 @@ fn audit_behind<G: Gate>(
             fault: LineFault::Form,
         });
     }
-    let mut book = match opened_book(alloc, network, fleet, settings.wait) {
+    let mut book = match opened_book(setup.alloc, setup.network, fleet, setup.settings.wait) {
         Ok(book) => book,
         Err(_) => return Err(Stop::OutOfMemory),
     };
     let _entries = book.entries();
-    let ways = NetworkWays {
-        network,
-        workers: settings.workers,
-    };
-    let setup = Setup {
-        network,
-        ways: &ways,
-        settings,
-        gate,
-    };
-    audit_rounds(rt, alloc, &mut book, script.rounds(), text, &setup)
+    let mut rest = text;
+    let mut batches = 0u64;
+    for round in script.rounds() {
+        match audit_round(rt, &mut book, round, rest, setup) {
+            Ok(read) => {
+                rest = read.rest;
+                batches = batches.saturating_add(read.batches);
+            }
+            Err(stop) => return Err(stop),
+        }
+    }
+    let entries = book.next_position();
+    match audit_end(rest, entries) {
+        Ok(()) => Ok(Audited { entries, batches }),
+        Err(stop) => Err(stop),
+    }
 }
 
 /// The fault of a head.

@@ -1,5 +1,5 @@
 //! A round of a report.
-ghost use Rattle.std.specs.Prelude.{◌≡◌, ◌↔◌, IfErr, IfOk, IsTrue, MatchResult, OnOk, count_by};
+ghost use Rattle.std.specs.Prelude.{◌≡◌, ◌↔◌, IsTrue, MatchResult, count_by};
 ghost use Rattle.dispatch_engine.specs.Run.{journal_of};
 ghost use Rattle.report_audit.specs.Report.{closes};
 ghost use Rattle.report_audit.specs.work.Rounds.{IsRoundStart, HasRoundLine, IsNoRoundLine, EntriesStop, HasReadEntries, HasReadRound, RoundStops};
@@ -11,9 +11,7 @@ use dispatch_engine::Progress;
 use report_lines::NextLine;
 use request_book::{Book, Command, Entry, Reply};
 use script_rows::Round;
-use std::alloc::Global;
 use std::thread::Threads;
-use travel_times::Ways;
 use worker_gate::Gate;
 
 /// What follows a round in a text, and how many batches the round closes.
@@ -24,13 +22,12 @@ pub(crate) struct RoundRead<'a> {
 }
 
 /// The round with whose text a text begins. The book is behind it, with no entries of its own.
-pub(crate) fn audit_round<'a, W: Ways, G: Gate>(
+pub(crate) fn audit_round<'a, G: Gate>(
     rt: &(impl Threads + Sync),
-    alloc: Global,
     book: &mut Book,
     round: &Round,
     text: &'a [u8],
-    setup: &Setup<'_, W, G>,
+    setup: &Setup<'_, G>,
 ) -> Result<RoundRead<'a>, Stop>
     requires { IsRoundStart setup.now.settings.now setup.now.network.now book.old }
     ensures { MatchResult result (λ r. HasReadRound setup.entry.now.settings.now setup.entry.now.network.now round.entry.now book.old book.new text.entry.now r.rest.now r.batches)
@@ -40,7 +37,7 @@ pub(crate) fn audit_round<'a, W: Ways, G: Gate>(
         Ok(after) => after,
         Err(stop) => return Err(stop),
     };
-    let rest = match audit_entries(rt, alloc, book, round, after, setup) {
+    let rest = match audit_entries(rt, book, round, after, setup) {
         Ok(rest) => rest,
         Err(stop) => return Err(stop),
     };
@@ -80,27 +77,26 @@ fn is_round(next: NextLine, number: u32) -> bool
 }
 
 /// What follows the entries of a round, of which the book is behind the last.
-fn audit_entries<'a, W: Ways, G: Gate>(
+fn audit_entries<'a, G: Gate>(
     rt: &(impl Threads + Sync),
-    alloc: Global,
     book: &mut Book,
     round: &Round,
     text: &'a [u8],
-    setup: &Setup<'_, W, G>,
+    setup: &Setup<'_, G>,
 ) -> Result<&'a [u8], Stop>
     requires { IsRoundStart setup.now.settings.now setup.now.network.now book.old }
     ensures { MatchResult result (λ rest. HasReadEntries setup.entry.now.settings.now setup.entry.now.network.now round.entry.now book.old book.new text.entry.now rest.now)
         (EntriesStop setup.entry.now.settings.now setup.entry.now.network.now round.entry.now (journal_of book.old) text.entry.now) }
 {
     let _lane = round.lane(0);
-    let mut lanes = match Progress::at_start(alloc) {
+    let mut lanes = match Progress::at_start(setup.alloc) {
         Ok(lanes) => lanes,
         Err(_) => return Err(Stop::OutOfMemory),
     };
     let mut sealed = None;
     let mut rest = text;
     'entries: while !lanes.are_done(round) {
-        match audit_entry(rt, alloc, book, &mut lanes, &mut sealed, round, rest, setup) {
+        match audit_entry(rt, book, &mut lanes, &mut sealed, round, rest, setup) {
             Ok(after) => rest = after,
             Err(stop) => return Err(stop),
         }

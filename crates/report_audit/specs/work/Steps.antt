@@ -73,12 +73,6 @@ pub record EntryRead (settings : Settings) (roads : Roads) (round : NumberedLane
   pub has_read : HasRead settings roads round (journal_of old) (journal_of new) text rest
   pub shorter : length rest < length text
 
--- the text begins with the line of an entry of this lane
-pub record IsEntryOf (lane : ℕ) (text line after : List ℕ) : Type 0 where
-  pub has : IsFirstLine text line after
-  pub form : IsNextLine (EntryOf lane) line
-  pub low : lane < 16
-
 -- an audit stops within a round, and a text that goes on from there stops so too
 pub record StopsWithin (settings : Settings) (roads : Roads) (round : NumberedLanes) (j : Journal) (text : List ℕ) (stop : Stop) : Type 0 where
   pub stops : StopsAt settings roads (Extent.within round j) text stop
