@@ -245,7 +245,8 @@ fn start_live<S: Source, K: Sink, W: Ways, D: Drafter, G: Gate>(
         × Appends (K.written out.old) (K.written out.new) (live_head i)) }
     ensures stopped { let i : LiveInputs = record { settings = setup.now.settings.now; roads = setup.now.network.now; vehicles = fleet.now } in
         (told : List NotifierView) → IfErr result (EndsLive i (live_seen lines.old.to_come lines.old.faults lines.new.faults (sink_seen K.written K.faults out.old out.new) told told)) }
-    ensures never_falls { (K.faults out.old ≤ K.faults out.new) × (lines.old.faults ≤ lines.new.faults) }
+    ensures never_falls { K.faults out.old ≤ K.faults out.new }
+    ensures reads_never_fall { lines.old.faults ≤ lines.new.faults }
 {
     let version = match read_start(alloc, lines) {
         Ok(version) => version,

@@ -1,5 +1,5 @@
 use Rattle.std.proofs.Common.{◌≡◌, rules, inl, refl, ap, arith}
-use Rattle.ridepool.proofs.Common.{SinkView, Streamed, BookView, EndsLive, LiveInputs}
+use Rattle.ridepool.proofs.Common.{SinkView, Streamed, BookView, EndsLive}
 use Rattle.ridepool.proofs.LiveLemmas.{ready-live, rows-ended}
 use Rattle.ridepool.proofs.live_call.live_in.Goals as goal
 
@@ -27,14 +27,11 @@ returns-in_default g c = let kept = c.ended.ensures.kept in rw (kept.0, kept.1, 
 
 pub returns-in-Ok : goal.returns-in-Ok
 returns-in-Ok g c =
-    let i : LiveInputs = record { settings = c.args.inputs.now.0; roads = c.args.inputs.now.1; vehicles = c.args.inputs.now.2 } in
-    let before : SinkView = record { written = g.K.Sink.written c.args.session.out; faults = g.K.Sink.faults c.args.session.out } in
     let behind : SinkView = record { written = g.K.Sink.written c.start_live.new.out; faults = g.K.Sink.faults c.start_live.new.out } in
-    let after : SinkView = record { written = g.K.Sink.written c.dispatch-sink.result.sink; faults = g.K.Sink.faults c.dispatch-sink.result.sink } in
-    rows-ended i c.args.session.lines.to_come c.start_live.new.lines.to_come c.behind-rows.result.lines.to_come c.in-Ok.version c.behind-rows.result.version c.behind-rows.result.last
-    c.in-Ok.book before behind after c.args.session.lines.faults c.start_live.new.lines.faults c.behind-rows.result.lines.faults (g.S.Source.faults c.into_source.result) _ _ c.dispatch-sink.result.ended
+    rows-ended _ c.args.session.lines.to_come c.start_live.new.lines.to_come c.behind-rows.result.lines.to_come c.in-Ok.version c.behind-rows.result.version c.behind-rows.result.last
+    c.in-Ok.book _ behind _ c.args.session.lines.faults c.start_live.new.lines.faults c.behind-rows.result.lines.faults (g.S.Source.faults c.into_source.result) _ _ c.dispatch-sink.result.ended
     c.end_status.result c.end_status.ensures c.in-Ok.ensures.started.0 c.in-Ok.ensures.started.1 (ap (λ (s : Streamed). s.to_come) c.behind-rows.ensures.lines)
-    c.behind-rows.ensures.version c.behind-rows.ensures.last c.in-Ok.ensures.started.2 c.start_live.ensures.never_falls.0 c.start_live.ensures.never_falls.1
+    c.behind-rows.ensures.version c.behind-rows.ensures.last c.in-Ok.ensures.started.2 c.start_live.ensures.never_falls c.start_live.ensures.reads_never_fall
     c.dispatch-sink.ensures.run c.dispatch-sink.ensures.write_fault (λ is. omega (arith, c.dispatch-sink.ensures.read_fault is, c.into_source.ensures)) (ap (λ (s : Streamed). s.faults) c.behind-rows.ensures.lines)
 
 pub returns : goal.returns
