@@ -28,27 +28,6 @@ pub(crate) struct Reading<K: Sink, N: Notifier, J: Opening, L> {
     pub(crate) stop: Halt,
 }
 
-fn read_lines<K: Sink, N: Notifier, J: Opening, L: RowSource>(
-    rt: &impl Wait,
-    alloc: Global,
-    lock: &SeatLock<Desk<K, N, J>>,
-    mut pass: Pass<Desk<K, N, J>>,
-    mut lines: L,
-    round: u32,
-) -> Reading<K, N, J, L>
-    requires own { IsPassOf lock.now pass }
-    requires lane { (pass.lane ≡ 1) × (pass.calls ≡ []) }
-    requires last { L.last lines ≡ round }
-    ensures own { IsPassOf lock.now result.pass }
-    ensures lane { result.pass.lane ≡ 1 }
-    ensures read { RanRows round (commands_in result.pass) (TakesRun result.stop (L.to_come lines) (L.to_come result.lines)) }
-    ensures held { IsHeldBack round (L.last result.lines) result.stop }
-    ensures faults { FaultsFrom result.stop (L.faults lines) (L.faults result.lines) }
-{
-    let stop = read_on(rt, alloc, lock, &mut pass, &mut lines, round);
-    Reading { pass, lines, stop }
-}
-
 /// Solves the batch that is open in one thread, and goes on with the rows in this one.
 pub(crate) fn work_both<
     K: Sink + Send,
@@ -62,22 +41,21 @@ pub(crate) fn work_both<
     rt: &(impl Threads + Wait + Sync),
     alloc: Global,
     lock: &SeatLock<Desk<K, N, J>>,
-    passes: (Pass<Desk<K, N, J>>, Pass<Desk<K, N, J>>),
-    lines: L,
+    passes: (Pass<Desk<K, N, J>>, (Pass<Desk<K, N, J>>, L)),
     round: u32,
     snapshot: &Snapshot,
     setup: &Setup<'_, W, D, G>,
 ) -> ((Pass<Desk<K, N, J>>, bool), Reading<K, N, J, L>)
     requires first { IsPassOf lock.now passes.0 × (passes.0.lane ≡ 0) × (passes.0.calls ≡ []) }
-    requires second { IsPassOf lock.now passes.1 × (passes.1.lane ≡ 1) × (passes.1.calls ≡ []) }
-    requires last { L.last lines ≡ round }
+    requires second { IsPassOf lock.now passes.1.0 × (passes.1.0.lane ≡ 1) × (passes.1.0.calls ≡ []) }
+    requires last { L.last passes.1.1 ≡ round }
     requires nodes { All (λ node. Contains setup.now.network.now.nodes node) (named_nodes snapshot.now) }
     ensures own { IsPassOf lock.now result.0.0 × IsPassOf lock.now result.1.pass }
     ensures lanes { (result.0.0.lane ≡ 0) × (result.1.pass.lane ≡ 1) }
     ensures closed { ClosesBatch setup.now.settings.now setup.now.network.now snapshot.entry.now result.0.1 (commands_in result.0.0) }
-    ensures read { RanRows round (commands_in result.1.pass) (TakesRun result.1.stop (L.to_come lines) (L.to_come result.1.lines)) }
+    ensures read { RanRows round (commands_in result.1.pass) (TakesRun result.1.stop (L.to_come passes.1.1) (L.to_come result.1.lines)) }
     ensures held { IsHeldBack round (L.last result.1.lines) result.1.stop }
-    ensures faults { FaultsFrom result.1.stop (L.faults lines) (L.faults result.1.lines) }
+    ensures faults { FaultsFrom result.1.stop (L.faults passes.1.1) (L.faults result.1.lines) }
 {
     let (first, second) = passes;
     thread::join(
@@ -87,9 +65,13 @@ pub(crate) fn work_both<
             ensures { IsPassOf lock.entry.now result.0 × (result.0.lane ≡ 0) × ClosesBatch setup.entry.now.settings.now setup.entry.now.network.now snapshot.entry.now result.1 (commands_in result.0) }
         { close_batch(rt, alloc, lock, first, snapshot, setup) },
         move || -> Reading<K, N, J, L>
-            requires { IsPassOf lock.now second × (second.lane ≡ 1) × (second.calls ≡ []) × (L.last lines ≡ round) }
-            ensures { IsPassOf lock.entry.now result.pass × (result.pass.lane ≡ 1) × RanRows round (commands_in result.pass) (TakesRun result.stop (L.to_come lines) (L.to_come result.lines)) × IsHeldBack round (L.last result.lines) result.stop × FaultsFrom result.stop (L.faults lines) (L.faults result.lines) }
-        { read_lines(rt, alloc, lock, second, lines, round) },
+            requires { IsPassOf lock.now second.0 × (second.0.lane ≡ 1) × (second.0.calls ≡ []) × (L.last second.1 ≡ round) }
+            ensures { IsPassOf lock.entry.now result.pass × (result.pass.lane ≡ 1) × RanRows round (commands_in result.pass) (TakesRun result.stop (L.to_come second.1) (L.to_come result.lines)) × IsHeldBack round (L.last result.lines) result.stop × FaultsFrom result.stop (L.faults second.1) (L.faults result.lines) }
+        {
+            let (mut pass, mut lines) = second;
+            let stop = read_on(rt, alloc, lock, &mut pass, &mut lines, round);
+            Reading { pass, lines, stop }
+        },
     )
 }
 

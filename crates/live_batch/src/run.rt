@@ -130,9 +130,10 @@ fn run_in<
     };
     match SeatLock::start(alloc, desk, 2) {
         Ok((lock, passes)) => {
-            let both = two_of(&lock, passes);
+            let (first, second) = two_of(&lock, passes);
+            let both = (first, (second, lines));
             let ((first, closed), Reading { pass, lines, stop }) = work_both(
-                rt, alloc, &lock, both, lines, round, snapshot, setup,
+                rt, alloc, &lock, both, round, snapshot, setup,
             );
             let desk = finish(lock, back, first, pass);
             let (book, sink, notifiers, fault) = desk.into_parts();

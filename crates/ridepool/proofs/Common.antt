@@ -6,7 +6,7 @@ pub use Rattle.std.specs.Io.KnownBytes.{Appends}
 pub use Rattle.std.specs.List.{AllZip}
 pub use Rattle.batch_snapshot.specs.declared.vehicle.Vehicle.{Vehicle}
 pub use Rattle.dispatch_engine.specs.Run.{IsReady, IsRoundRun, IsRun, IsSameRun, journal_of, position_after_run, state_after_run}
-pub use Rattle.dispatch_report.specs.Written.{Change, SinkView, WritesText, sink_seen}
+pub use Rattle.dispatch_report.specs.Written.{Change, SinkView, WritesText}
 pub use Rattle.dispatch_report.specs.declared.fault.ReportFault.{ReportFault}
 pub use Rattle.live_rows.specs.Lines.{Streamed, lines_in}
 pub use Rattle.load_maker.specs.Texts.{texts_of}

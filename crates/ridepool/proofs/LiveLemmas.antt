@@ -156,24 +156,16 @@ stop-limited s w refusal read _ (StopsAt.unread _ (IsUnread.memory within)) = in
 stop-limited s w refusal read _ (StopsAt.refused fault reads hides) = inl (reads_within s _ reads)
 
 -- the same, of the values that the calls name
-pub rows-ended : (i : LiveInputs) (script left next came : Option (List ℕ)) (version known : ScriptVersion) (last : ℕ) (book : BookView) (before behind after : SinkView) (r0 r1 r2 r3 : ℕ) (n m : List NotifierView)
-    (ended : Result (Unit {0}) LiveFault) (status : RunStatus) → status ≡ status_of_end ended → book ≡ opened_book i → HasStarted left next version → left ≡ script
+pub rows-ended : (i : LiveInputs) (script next came : Option (List ℕ)) (version known : ScriptVersion) (last : ℕ) (book : BookView) (before behind after : SinkView) (r0 r1 r2 r3 : ℕ) (n m : List NotifierView)
+    (ended : Result (Unit {0}) LiveFault) (status : RunStatus) → status ≡ status_of_end ended → book ≡ opened_book i → HasStarted script next version
     → came ≡ next → known ≡ version → last ≡ 0 → Appends before.written behind.written (live_head i) → before.faults ≤ behind.faults → r0 ≤ r1
     → MatchResult ended (λ _. RunsRows i.settings i.roads book (rows_to_come known last came) (record { before = behind; after = after }) (record { before = n; after = m }))
     (λ _. BeginsRows i.settings i.roads book (rows_to_come known last came) (record { before = behind; after = after }) (record { before = n; after = m }))
     → (IsErrOf ended live.WriteFault → Rose behind.faults after.faults) → (IsErrOf ended live.ReadFault → Rose r2 r3) → r2 ≡ r1
     → EndsLive i (live_seen script r0 r3 (record { before = before; after = after }) n m) status
-rows-ended i script left next came version known last book before behind after r0 r1 r2 r3 n m ended status named is started told came_is known_is last_is wrote falls reads_fall runs write_fault read_fault same =
+rows-ended i script next came version known last book before behind after r0 r1 r2 r3 n m ended status named is started came_is known_is last_is wrote falls reads_fall runs write_fault read_fault same =
     let seen : LiveSeen = live_seen script r0 r3 (record { before = before; after = after }) n m in
     let rows : rows_to_come known last came ≡ rows_to_come version 0 next = (λ k. rows_to_come (known_is k) (last_is k) (came_is k)) in
     let P : Option (List Line) → Type 0 = λ r. MatchResult ended (λ _. RunsRows i.settings i.roads book r (record { before = behind; after = after }) (record { before = n; after = m }))
     (λ _. BeginsRows i.settings i.roads book r (record { before = behind; after = after }) (record { before = n; after = m })) in
-    rows-end i seen version next book behind r2 ended status named is (subst (λ (o : Option (List ℕ)). HasStarted o next version) told started) wrote falls (omega (arith, reads_fall, same)) (subst P rows runs) write_fault read_fault
-
-pub stopped-as : (i : LiveInputs) (left script : Option (List ℕ)) (a b r0 r1 : ℕ) (out : Change SinkView) (n : List NotifierView) (status : RunStatus) → left ≡ script → a ≡ r0 → b ≡ r1
-    → EndsLive i (live_seen left a b out n n) status
-    → EndsLive i (live_seen script r0 r1 out n n) status
-stopped-as i left script a b r0 r1 out n status p q r ends =
-    let P : LiveSeen → Type 0 = λ seen. EndsLive i seen status in
-    let same : live_seen left a b out n n ≡ live_seen script r0 r1 out n n = (λ k. live_seen (p k) (q k) (r k) out n n) in
-    subst P same ends
+    rows-end i seen version next book behind r2 ended status named is started wrote falls (omega (arith, reads_fall, same)) (subst P rows runs) write_fault read_fault

@@ -49,6 +49,30 @@ pub struct LiveEnd<S: Source, K: Sink, N: Notifier> {
     pub status: RunStatus,
 }
 
+/// What a call reads, writes and tells while it runs.
+#[derive(Drop)]
+struct Session<S: Source, K: Sink, N: Notifier, L: RefusalListener> {
+    lines: LineStream<S>,
+    out: K,
+    notifiers: Vec<N>,
+    listener: L,
+}
+
+impl<S: Source, K: Sink, N: Notifier, L: RefusalListener + Drop> Session<S, K, N, L> {
+    /// Ends a call whose rows aren't begun.
+    fn ended(self, status: RunStatus) -> LiveEnd<S, K, N>
+        ensures reads { S.faults result.script ≡ self.lines.faults }
+        ensures kept { (result.out ≡ self.out) × (result.notifiers ≡ self.notifiers) × (result.status ≡ status) }
+    {
+        LiveEnd {
+            script: self.lines.into_source(),
+            out: self.out,
+            notifiers: self.notifiers,
+            status,
+        }
+    }
+}
+
 /// Runs a script while it is written: each row is judged, run and answered before the next is waited for.
 ///
 /// The words are those of `run` behind another command, and need name no script. Words, network and fleet are judged as by
@@ -96,23 +120,19 @@ pub fn live<
       };
     }) result.status }
 {
+    let session = Session {
+        lines: LineStream::over(script),
+        out,
+        notifiers,
+        listener,
+    };
     match live_inputs(alloc, words, network, fleet) {
-        Ok((settings, network, fleet)) => {
-            let answer = live_in(
-                rt, alloc, out, &settings, &network, fleet, script, notifiers, gate, listener,
-            );
-            drop(network);
+        Ok(inputs) => {
+            let answer = live_in(rt, alloc, &inputs, session, gate);
+            drop(inputs);
             answer
         }
-        Err(status) => {
-            drop(listener);
-            LiveEnd {
-                script,
-                out,
-                notifiers,
-                status,
-            }
-        }
+        Err(status) => session.ended(status),
     }
 }
 
@@ -163,29 +183,18 @@ fn live_in<
 >(
     rt: &(impl Threads + Wait + Sync),
     alloc: Global,
-    out: K,
-    settings: &Settings,
-    network: &Network,
-    fleet: Fleet,
-    script: S,
-    notifiers: Vec<N>,
+    inputs: &(Settings, Network, Fleet),
+    mut session: Session<S, K, N, L>,
     gate: &G,
-    listener: L,
 ) -> LiveEnd<S, K, N>
-    requires named { All (λ vehicle. IsNode network.now.nodes vehicle.node) fleet }
-    ensures { EndsLive (record { settings = settings.now; roads = network.now; vehicles = fleet })
-        (live_seen (S.left script) (S.faults script) (S.faults result.script) (sink_seen K.written K.faults out result.out)
-        (notifiers_seen N.told N.faults N.steady notifiers.items) (notifiers_seen N.told N.faults N.steady result.notifiers.items)) result.status }
+    requires named { All (λ vehicle. IsNode inputs.now.1.nodes vehicle.node) inputs.now.2 }
+    ensures { EndsLive (record { settings = inputs.now.0; roads = inputs.now.1; vehicles = inputs.now.2 })
+        (live_seen session.lines.to_come session.lines.faults (S.faults result.script) (sink_seen K.written K.faults session.out result.out)
+        (notifiers_seen N.told N.faults N.steady session.notifiers.items) (notifiers_seen N.told N.faults N.steady result.notifiers.items)) result.status }
 {
+    let (settings, network, fleet) = inputs;
     let Ok(ways) = ways_by(alloc, network, settings, gate) else {
-        drop(fleet);
-        drop(listener);
-        return LiveEnd {
-            script,
-            out,
-            notifiers,
-            status: RunStatus::OutOfMemory,
-        };
+        return session.ended(RunStatus::OutOfMemory);
     };
     let setup = Setup {
         network,
@@ -194,44 +203,23 @@ fn live_in<
         settings,
         gate,
     };
-    live_by(rt, alloc, out, fleet, script, &setup, notifiers, listener)
-}
-
-/// The same, with what its batches share together.
-fn live_by<
-    S: Source + Send + Drop,
-    K: Sink + Send + Drop,
-    N: Notifier + Send,
-    W: Ways,
-    D: Drafter,
-    G: Gate,
-    L: RefusalListener + Send + Drop,
->(
-    rt: &(impl Threads + Wait + Sync),
-    alloc: Global,
-    out: K,
-    fleet: Fleet,
-    script: S,
-    setup: &Setup<'_, W, D, G>,
-    notifiers: Vec<N>,
-    listener: L,
-) -> LiveEnd<S, K, N>
-    requires named { All (λ vehicle. IsNode setup.now.network.now.nodes vehicle.node) fleet }
-    ensures { EndsLive (record { settings = setup.now.settings.now; roads = setup.now.network.now; vehicles = fleet })
-        (live_seen (S.left script) (S.faults script) (S.faults result.script) (sink_seen K.written K.faults out result.out)
-        (notifiers_seen N.told N.faults N.steady notifiers.items) (notifiers_seen N.told N.faults N.steady result.notifiers.items)) result.status }
-{
-    let mut out = out;
-    let mut lines = LineStream::over(script);
-    match start_live(alloc, &mut out, &fleet, &mut lines, setup) {
+    match start_live(alloc, &mut session.out, fleet, &mut session.lines, &setup) {
         Ok((book, version)) => {
-            let rows = LiveRows::behind(alloc, lines, version, listener);
+            let rows = LiveRows::behind(alloc, session.lines, version, session.listener);
             let Dispatched {
                 sink,
                 notifiers,
                 rows,
                 ended,
-            } = dispatch(rt, alloc, book, out, notifiers, rows, setup);
+            } = dispatch(
+                rt,
+                alloc,
+                book,
+                session.out,
+                session.notifiers,
+                rows,
+                &setup,
+            );
             LiveEnd {
                 script: rows.into_source(),
                 out: sink,
@@ -239,15 +227,7 @@ fn live_by<
                 status: end_status(ended),
             }
         }
-        Err(status) => {
-            drop(listener);
-            LiveEnd {
-                script: lines.into_source(),
-                out,
-                notifiers,
-                status,
-            }
-        }
+        Err(status) => session.ended(status),
     }
 }
 
@@ -265,7 +245,8 @@ fn start_live<S: Source, K: Sink, W: Ways, D: Drafter, G: Gate>(
         × Appends (K.written out.old) (K.written out.new) (live_head i)) }
     ensures stopped { let i : LiveInputs = record { settings = setup.now.settings.now; roads = setup.now.network.now; vehicles = fleet.now } in
         (told : List NotifierView) → IfErr result (EndsLive i (live_seen lines.old.to_come lines.old.faults lines.new.faults (sink_seen K.written K.faults out.old out.new) told told)) }
-    ensures never_falls { (K.faults out.old ≤ K.faults out.new) × (lines.old.faults ≤ lines.new.faults) }
+    ensures never_falls { K.faults out.old ≤ K.faults out.new }
+    ensures reads_never_fall { lines.old.faults ≤ lines.new.faults }
 {
     let version = match read_start(alloc, lines) {
         Ok(version) => version,

@@ -123,16 +123,13 @@ fn write_by<K: Sink, W: Ways, D: Drafter, G: Gate>(
                 }
             }
         }
-        _ => write_run(
-            rt,
-            alloc,
-            out,
-            fleet,
-            book,
-            script.rounds(),
-            setup,
-            notifiers,
-        ),
+        _ => match write_first(alloc, out, setup.settings, setup.network, fleet) {
+            Ok(()) => write_each(rt, alloc, out, book, script.rounds(), setup, notifiers),
+            Err(fault) => {
+                drop(book);
+                Err(status_of(fault))
+            }
+        },
     }
 }
 
@@ -160,37 +157,6 @@ fn write_day<K: Sink>(
     match write_first(alloc, out, day.settings, day.network, fleet) {
         Ok(()) => write_driven(alloc, out, day, run, notifiers),
         Err(fault) => Err(status_of(fault)),
-    }
-}
-
-/// Runs rounds and writes their report, or a made workload's summary.
-fn write_run<K: Sink, W: Ways, D: Drafter, G: Gate>(
-    rt: &(impl Threads + Wait + Sync),
-    alloc: Global,
-    out: &mut K,
-    fleet: &Fleet,
-    book: Book,
-    rounds: &[Round],
-    setup: &Setup<'_, W, D, G>,
-    notifiers: &mut Vec<Box<dyn Notifier>>,
-) -> Result<(), RunStatus>
-    requires ready { IsReady setup.now.settings.now setup.now.network.now book }
-    requires empty { book.entries ≡ [] }
-    ensures report { let s = setup.now.settings.now in let roads = setup.now.network.now in
-        let head = first_text s.mode s roads (length fleet.now) in
-        let all = map (λ n. notifier_seen (⟦<dyn Notifier as Notifier>⟧ n.vtable) n.value) notifiers.old.items in
-        let left = map (λ n. notifier_seen (⟦<dyn Notifier as Notifier>⟧ n.vtable) n.value) notifiers.new.items in
-        MatchResult result
-        (λ _. IsWhole s roads (added_by s) head (RunsFirst s roads book rounds.now) (RunsAll s roads book rounds.now) (K.written out.old) (K.written out.new) all left)
-        (IsReportFault s roads head (RunsFirst s roads book rounds.now) (RunsAll s roads book rounds.now) (K.written out.old) (K.written out.new) all left (K.faults out.old) (K.faults out.new)) }
-    ensures never_falls { K.faults out.old ≤ K.faults out.new }
-{
-    match write_first(alloc, out, setup.settings, setup.network, fleet) {
-        Ok(()) => write_each(rt, alloc, out, book, rounds, setup, notifiers),
-        Err(fault) => {
-            drop(book);
-            Err(status_of(fault))
-        }
     }
 }
 

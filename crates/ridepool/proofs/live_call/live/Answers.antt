@@ -8,10 +8,13 @@ live_in-answer-requires-clause-named g c κs within = c.in-Ok.ensures.named
 
 pub returns-in-Ok : goal.returns-in-Ok
 returns-in-Ok g c =
+    let ends = rw (c.over-session.ensures.to_come, c.over-session.ensures.faults) at c.live_in-answer.ensures in
     answers-live _ _
-    (ExplainsLive.ended _ (record { settings = c.in-Ok.settings; roads = c.in-Ok.network; vehicles = c.in-Ok.fleet }, c.in-Ok.ensures.got _, c.live_in-answer.ensures))
+    (ExplainsLive.ended _ (record { settings = c.in-Ok.inputs.0; roads = c.in-Ok.inputs.1; vehicles = c.in-Ok.inputs.2 }, c.in-Ok.ensures.got _, ends))
     (inl c.in-Ok.ensures.limited.0, inl c.in-Ok.ensures.limited.1)
-    (ends-hide _ _ c.live_in-answer.result.status c.live_in-answer.ensures)
+    (ends-hide _ _ c.live_in-answer.result.status ends)
 
 pub returns-in-Err : goal.returns-in-Err
-returns-in-Err g c = answers-live _ _ (c.in-Err.ensures.got _ (record { out = refl; notifiers = refl })) c.in-Err.ensures.limited c.in-Err.ensures.no_memory
+returns-in-Err g c =
+    let kept = c.ended.ensures.kept in
+    rw (kept.0, kept.1, kept.2) (answers-live _ _ (c.in-Err.ensures.got _ (record { out = refl; notifiers = refl })) c.in-Err.ensures.limited c.in-Err.ensures.no_memory)

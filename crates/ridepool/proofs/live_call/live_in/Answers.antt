@@ -1,15 +1,38 @@
-use Rattle.std.proofs.Common.{rules, inl, refl}
-use Rattle.ridepool.proofs.Common.{EndsLive}
+use Rattle.std.proofs.Common.{◌≡◌, rules, inl, refl, ap, arith}
+use Rattle.ridepool.proofs.Common.{SinkView, Streamed, BookView, EndsLive}
+use Rattle.ridepool.proofs.LiveLemmas.{ready-live, rows-ended}
 use Rattle.ridepool.proofs.live_call.live_in.Goals as goal
 
 pub invariant_of-setup : goal.invariant_of-setup
 invariant_of-setup g c = search rules
 
-pub live_by-requires-clause-named : goal.live_by-requires-clause-named
-live_by-requires-clause-named g c κs within = c.requires.named
+pub start_live-requires-clause-named : goal.start_live-requires-clause-named
+start_live-requires-clause-named g c κs within = c.requires.named
+
+pub dispatch-sink-requires-clause-ready : goal.dispatch-sink-requires-clause-ready
+dispatch-sink-requires-clause-ready g c κs within =
+    ready-live (record { settings = c.args.inputs.now.0; roads = c.args.inputs.now.1; vehicles = c.args.inputs.now.2 }) c.in-Ok.book c.in-Ok.ensures.started.0
+
+pub dispatch-sink-requires-clause-empty : goal.dispatch-sink-requires-clause-empty
+dispatch-sink-requires-clause-empty g c κs within = ap (λ (b : BookView). b.entries) c.in-Ok.ensures.started.0
+
+pub dispatch-sink-requires-clause-small : goal.dispatch-sink-requires-clause-small
+dispatch-sink-requires-clause-small g c κs within = let first : c.in-Ok.book.first ≡ 0 = ap (λ (b : BookView). b.first) c.in-Ok.ensures.started.0 in omega (arith, first)
+
+pub dispatch-sink-requires-clause-first : goal.dispatch-sink-requires-clause-first
+dispatch-sink-requires-clause-first g c κs within = c.behind-rows.ensures.last
 
 pub returns-in_default : goal.returns-in_default
-returns-in_default g c = EndsLive.unstored (inl (record { out = refl; notifiers = refl }))
+returns-in_default g c = let kept = c.ended.ensures.kept in rw (kept.0, kept.1, kept.2) (EndsLive.unstored (inl (record { out = refl; notifiers = refl })))
+
+pub returns-in-Ok : goal.returns-in-Ok
+returns-in-Ok g c =
+    let behind : SinkView = record { written = g.K.Sink.written c.start_live.new.out; faults = g.K.Sink.faults c.start_live.new.out } in
+    rows-ended _ c.args.session.lines.to_come c.start_live.new.lines.to_come c.behind-rows.result.lines.to_come c.in-Ok.version c.behind-rows.result.version c.behind-rows.result.last
+    c.in-Ok.book _ behind _ c.args.session.lines.faults c.start_live.new.lines.faults c.behind-rows.result.lines.faults (g.S.Source.faults c.into_source.result) _ _ c.dispatch-sink.result.ended
+    c.end_status.result c.end_status.ensures c.in-Ok.ensures.started.0 c.in-Ok.ensures.started.1 (ap (λ (s : Streamed). s.to_come) c.behind-rows.ensures.lines)
+    c.behind-rows.ensures.version c.behind-rows.ensures.last c.in-Ok.ensures.started.2 c.start_live.ensures.never_falls c.start_live.ensures.reads_never_fall
+    c.dispatch-sink.ensures.run c.dispatch-sink.ensures.write_fault (λ is. omega (arith, c.dispatch-sink.ensures.read_fault is, c.into_source.ensures)) (ap (λ (s : Streamed). s.faults) c.behind-rows.ensures.lines)
 
 pub returns : goal.returns
-returns g c = c.live_by.ensures
+returns g c = let kept = c.ended-in-Err.ensures.kept in rw (c.ended-in-Err.ensures.reads, kept.0, kept.1, kept.2) (c.in-Err.ensures.stopped _)
