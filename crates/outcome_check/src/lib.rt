@@ -6,12 +6,12 @@
 //! A caller, shortened from `block_audit`, which judges what a report tells of a batch:
 //!
 //! ```
-//! let outcome = outcome_of(alloc, told, &ids)?;
+//! let outcome = outcome_of(alloc, told, snapshot.vehicles.as_slice())?;
 //! match judge(rt, alloc, snapshot, network, ways, settings, &outcome, gate) {
 //!     Ok(verdict) => Ok((outcome, least(untold, place_of(verdict)))),
 //!     Err(fault) => {
 //!         drop(outcome);
-//!         Err(fault)
+//!         Err(fault.into())
 //!     }
 //! }
 //! ```

@@ -1,6 +1,6 @@
 -- Journals, entry by entry.
 use Rattle.std.proofs.Common.{◌≡◌, ℕ, ◌<◌, ◌^◌, List, [], ◌∷◌, ◌++◌, Option, Some, None, Result, Ok, Err, refl, sym, ap, ◌∙◌, subst, eq-eqb, arith}
-use Rattle.report_audit.proofs.Common.{Batch, IsGoodClose, ClosesAreGood, last_sealed, plain-quiet, one_more, next_position, would_seal, IsNoClose, state_after, RepliesAreSteps, batch_of, sealed_state, answered, cancel, close, dropoff, pickup, report, seal, step, submit, Command, Submit, Cancel, Report, Pickup, Dropoff, Seal, Close, Entry, Outcome, BookRefusal, Reply, Accepted, Cancelled, Closed, Dropped, Picked, Placed, Sealed, Waiting, State, answer, seal_refusal, seal_step, close_step, table_step, batch_unless, by-table, would_seal-table, Settings, Roads, snapshot_before, IsTold, AreTold}
+use Rattle.report_audit.proofs.Common.{Batch, IsGoodClose, ClosesAreGood, last_sealed, plain-quiet, one_more, next_position, would_seal, IsNoClose, state_after, RepliesAreSteps, batch_of, sealed_state, answered, cancel, dropoff, pickup, report, seal, step, submit, Command, Submit, Cancel, Report, Pickup, Dropoff, Seal, Close, Entry, Outcome, BookRefusal, Reply, Accepted, Cancelled, Closed, Dropped, Picked, Placed, Sealed, Waiting, State, answer, seal_refusal, seal_step, close_step, table_step, batch_unless, by-table, would_seal-table, Settings, Roads, snapshot_before, IsTold, AreTold}
 use Rattle.dispatch_engine.specs.lemmas.Lanes.{IsPlain}
 use Rattle.request_book.specs.lemmas.Closing.{after_answer, closed_state}
 use Rattle.request_book.specs.lemmas.Refusals.{first_of}
@@ -8,19 +8,13 @@ use Rattle.report_audit.proofs.TextLemmas.{next-none, next-more}
 
 -- replies
 module _ (nodes : List ℕ) (wait : ℕ) where
-  pub after-append : (s : State) (xs ys : List Entry) → state_after nodes wait s (xs ++ ys) ≡ state_after nodes wait (state_after nodes wait s xs) ys
   unfolding state_after
-  after-append s [] ys = refl
-  after-append s (e ∷ es) ys = after-append (step nodes wait s e.command).0 es ys
 
   pub after-none : (s : State) → state_after nodes wait s [] ≡ s
   unfolding state_after
   after-none s = refl
 
-  pub after-push : (s : State) (es : List Entry) (e : Entry) → state_after nodes wait s (es ++ e ∷ []) ≡ (step nodes wait (state_after nodes wait s es) e.command).0
   unfolding state_after
-  after-push s [] e = refl
-  after-push s (f ∷ es) e = after-push (step nodes wait s f.command).0 es e
 
   pub reply-at : (s : State) (xs : List Entry) (e : Entry) (ys : List Entry) → RepliesAreSteps nodes wait s (xs ++ e ∷ ys) → e.reply ≡ (step nodes wait (state_after nodes wait s xs) e.command).1
   unfolding state_after RepliesAreSteps
