@@ -29,6 +29,9 @@ const WARM: i64 = 300;
 
 const COOL: i64 = 150;
 
+/// More than any move saves.
+const UNKNOWN: i64 = 1 << 50;
+
 /// How many riders a row has at most.
 const MOST_RIDERS: usize = 6;
 
@@ -128,7 +131,7 @@ impl Annealing<'_> {
         if old == row || !self.find_steps(row, vehicle)? {
             return Ok(());
         }
-        let least = self.least_change(old);
+        let (least, marks) = self.least_change(old, row);
         let mut most = 0;
         if least > 0 {
             most = self.most_loss(temperature);
@@ -136,7 +139,7 @@ impl Annealing<'_> {
                 return Ok(());
             }
         }
-        self.make(old)?;
+        self.make(old, marks)?;
         if least <= 0 && self.change > 0 {
             most = self.most_loss(temperature);
         }
@@ -194,7 +197,8 @@ impl Annealing<'_> {
                 }
             }
         }
-        self.steps.push((self.row_behind(short(vehicle)), row))?;
+        let before = self.row_behind(short(vehicle));
+        self.steps.push((before, row))?;
         Ok(true)
     }
 
@@ -209,43 +213,60 @@ impl Annealing<'_> {
         row
     }
 
-    /// What the move costs at least: its first steps, less all that can be saved by serving the riders of the row
-    /// before again. Where others could be served too, nothing is known.
-    fn least_change(&self, old: u32) -> i64 {
+    /// What the move costs at least, and marks of all riders who can be added behind its first steps: these steps, less
+    /// all that can be saved by serving the riders of the row before again. Where others can be served too, nothing is
+    /// known.
+    fn least_change(&self, old: u32, row: u32) -> (i64, u64) {
+        let table = self.regrets.table;
         let mut change: i64 = 0;
         let mut marks = self.open;
+        let riders = table.riders_of(row as usize);
         for step in &self.steps {
-            if self.best_wider(step.1).is_some() {
-                return i64::MIN;
-            }
             change = change.saturating_add(self.beside.change(step.0, step.1));
-            marks |= item(&self.beside.marks, step.1 as usize, 0);
+            let added = self.beside.marks(step.1);
+            if added != 0 && self.is_wanted(step.1, riders) {
+                change = change.saturating_sub(UNKNOWN);
+            }
+            marks |= added;
         }
-        for rider in self.regrets.table.riders_of(old as usize) {
-            if marks & mark_of(*rider) != 0 {
-                change = change.saturating_sub(self.regrets.table.cost_left(*rider as usize));
+        for rider in table.riders_of(old as usize) {
+            if marks & mark_of(*rider) != 0 && riders.binary_search(rider).is_err() {
+                change = change.saturating_sub(table.cost_left(*rider as usize));
             }
         }
-        change
+        (change, marks)
     }
 
-    /// Makes the move: takes its first steps, and mends the rest. The riders of the row before may be served again.
-    fn make(&mut self, old: u32) -> Made<()> {
+    /// Whether a rider can be added to the row who is left out and none of these.
+    fn is_wanted(&self, row: u32, riders: &[u32]) -> bool {
+        for rider in self.beside.wider(row).0 {
+            if self.present.server(*rider).is_none() && riders.binary_search(rider).is_err() {
+                return true;
+            }
+        }
+        false
+    }
+
+    /// Makes the move: takes its first steps, and mends the rest. The riders of the row before may be served again, if
+    /// they have one of these marks.
+    fn make(&mut self, old: u32, marks: u64) -> Made<()> {
         self.change = 0;
         self.log.clear();
         for place in 0..self.steps.len() {
-            self.set_row(item(&self.steps, place, (0, 0)).1)?;
+            let step = item(&self.steps, place, (0, 0));
+            self.set_row(step.1)?;
         }
         for rider in self.regrets.table.riders_of(old as usize) {
-            if self.present.server(*rider).is_none() {
+            if marks & mark_of(*rider) != 0 && self.present.server(*rider).is_none() {
                 if let Some(row) = self.best_with(*rider) {
                     self.set_row(row)?;
                 }
             }
         }
         for place in 0..self.steps.len() {
-            let row = item(&self.steps, place, (0, 0)).1;
-            self.fill(self.regrets.table.vehicle(row as usize))?;
+            let step = item(&self.steps, place, (0, 0));
+            let vehicle = self.regrets.table.vehicle(step.1 as usize);
+            self.fill(vehicle)?;
         }
         Ok(())
     }
@@ -287,8 +308,7 @@ impl Annealing<'_> {
     fn best_wider(&self, row: u32) -> Option<u32> {
         let mut least = 0;
         let mut best = None;
-        let added = self.beside.added.list(row as usize);
-        let wider = self.beside.wider.list(row as usize);
+        let (added, wider) = self.beside.wider(row);
         for (rider, wider) in added.iter().zip(wider) {
             if self.present.server(*rider).is_none() {
                 let cost = self.beside.change(row, *wider);
@@ -316,8 +336,7 @@ impl Annealing<'_> {
         let old = self.present.row(vehicle);
         self.present.release(self.regrets.table, vehicle);
         self.present.give(self.regrets.table, row);
-        let marks = item(&self.beside.marks, row as usize, 0);
-        set_at(&mut self.marks, vehicle, marks);
+        set_at(&mut self.marks, vehicle, self.beside.marks(row));
         old
     }
 
