@@ -128,27 +128,26 @@ impl Annealing<'_> {
         let Some(old) = self.present.row(vehicle) else {
             return Ok(());
         };
-        if old == row || !self.find_steps(row, vehicle)? {
+        if old == row || !self.find_steps(row, short(vehicle))? {
             return Ok(());
         }
         let (least, marks) = self.least_change(old, row);
         let mut most = 0;
         if least > 0 {
             most = self.most_loss(temperature);
-            if least > most {
-                return Ok(());
-            }
+        }
+        if least > most {
+            return Ok(());
         }
         self.make(old, marks)?;
         if least <= 0 && self.change > 0 {
             most = self.most_loss(temperature);
         }
         if self.change <= most {
-            self.accept()
-        } else {
-            self.undo();
-            Ok(())
+            return self.accept();
         }
+        self.undo();
+        Ok(())
     }
 
     /// A row with a rider, who is left out half the time. Rows of less regret are drawn more often.
@@ -183,21 +182,20 @@ impl Annealing<'_> {
 
     /// Finds the first steps of giving the vehicle this row: those that serve its riders fall back to rows without
     /// them. Whether they have such rows.
-    fn find_steps(&mut self, row: u32, vehicle: usize) -> Made<bool> {
+    fn find_steps(&mut self, row: u32, vehicle: u32) -> Made<bool> {
         self.steps.clear();
         for rider in self.regrets.table.riders_of(row as usize) {
-            if let Some(server) = self.present.server(*rider) {
-                if server as usize != vehicle {
-                    let before = self.row_behind(server);
-                    let narrower = self.beside.without(self.regrets.table, before, *rider);
-                    let Some(narrower) = narrower else {
-                        return Ok(false);
-                    };
-                    self.steps.push((before, narrower))?;
-                }
+            let server = self.present.server(*rider).unwrap_or(vehicle);
+            if server != vehicle {
+                let before = self.row_behind(server);
+                let narrower = self.beside.without(self.regrets.table, before, *rider);
+                let Some(narrower) = narrower else {
+                    return Ok(false);
+                };
+                self.steps.push((before, narrower))?;
             }
         }
-        let before = self.row_behind(short(vehicle));
+        let before = self.row_behind(vehicle);
         self.steps.push((before, row))?;
         Ok(true)
     }
@@ -239,12 +237,10 @@ impl Annealing<'_> {
 
     /// Whether a rider can be added to the row who is left out and none of these.
     fn is_wanted(&self, row: u32, riders: &[u32]) -> bool {
-        for rider in self.beside.wider(row).0 {
-            if self.present.server(*rider).is_none() && riders.binary_search(rider).is_err() {
-                return true;
-            }
-        }
-        false
+        let is_wanted = |rider: &u32| {
+            self.present.server(*rider).is_none() && riders.binary_search(rider).is_err()
+        };
+        self.beside.wider(row).0.iter().any(is_wanted)
     }
 
     /// Makes the move: takes its first steps, and mends the rest. The riders of the row before may be served again, if
@@ -276,10 +272,8 @@ impl Annealing<'_> {
         let mut least = 0;
         let mut best = None;
         for (vehicle, marks) in self.marks.iter().enumerate() {
-            if marks & mark_of(rider) == 0 {
-                continue;
-            }
-            if let Some(row) = self.present.row(vehicle) {
+            if marks & mark_of(rider) != 0 {
+                let row = self.present.row(vehicle).unwrap_or(u32::MAX);
                 if let Some(wider) = self.beside.with(row, rider) {
                     let cost = self.beside.change(row, wider);
                     if cost < least {

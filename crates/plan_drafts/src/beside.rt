@@ -49,11 +49,7 @@ impl Beside {
         let riders = table.riders_of(row as usize);
         let place = riders.binary_search(&rider).ok()?;
         let narrower = self.without.list(row as usize).get(place).copied()?;
-        if (narrower as usize) < table.row_count() {
-            Some(narrower)
-        } else {
-            None
-        }
+        Some(narrower).filter(|row| (*row as usize) < table.row_count())
     }
 
     /// What the next row costs more than this one, each less what it costs to leave out its riders.

@@ -269,7 +269,7 @@ impl Choices {
             below.sum = sum;
             below.served = turn.served | fit.marks;
             below.next = below.first;
-            self.mark(regrets, fit.row, true);
+            self.count_left(regrets, fit.row, -1);
         } else {
             *limit = sum;
             self.best.clear();
@@ -283,20 +283,15 @@ impl Choices {
     fn leave(&mut self, regrets: &Regrets) -> bool {
         let pick = self.picks.pop();
         if let Some(row) = pick {
-            self.mark(regrets, row, false);
+            self.count_left(regrets, row, 1);
         }
         pick.is_some()
     }
 
-    /// Has the row's riders be served or not.
-    fn mark(&mut self, regrets: &Regrets, row: u32, is_served: bool) {
+    /// Counts it to the turns so many times what it costs to leave out the row's riders.
+    fn count_left(&mut self, regrets: &Regrets, row: u32, times: i64) {
         for rider in regrets.table.riders_of(row as usize) {
-            let regret = regrets.left(*rider);
-            let change = if is_served {
-                regret.wrapping_neg()
-            } else {
-                regret
-            };
+            let change = regrets.left(*rider).wrapping_mul(times);
             if let Some((closing, _)) = item(&self.closings, *rider as usize, None) {
                 if let Some(turn) = self.turns.get_mut(closing as usize) {
                     turn.left = turn.left.wrapping_add(change);
