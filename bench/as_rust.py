@@ -228,6 +228,7 @@ def as_rust(text):
     text = without_block(text, r"^impl Model for [^{]*\{")
     text = without_block(text, r"^[ \t]*(requires|ensures)( \w+)? \{")
     text = re.sub(r"^\s*ghost [^;]*;\n", "", text, flags=re.M)
+    text = re.sub(r"^\s*(pub )?ghost \w+: \{[^}]*\},\n", "", text, flags=re.M)
     text = re.sub(r"prove!\([^;]*\);", "", text)
     text = re.sub(r"#!?\[tactic\([^)]*\)\]|#\[error[^\]]*\]|#\[from\]", "", text)
     text = re.sub(r"#\[cfg\(test\)\]\s*mod \w+;", "", text)

@@ -29,6 +29,9 @@ const WARM: i64 = 300;
 
 const COOL: i64 = 150;
 
+/// More than any move saves.
+const UNKNOWN: i64 = 1 << 50;
+
 /// How many riders a row has at most.
 const MOST_RIDERS: usize = 6;
 
@@ -39,14 +42,14 @@ struct Annealing<'a> {
     beside: &'a Beside,
     draws: Draws,
     present: Present,
-    /// For each vehicle marks of the riders who can be added to its row.
+    /// For each vehicle marks of the riders who can be added to its row, and all of these marks.
     marks: Vec<u64>,
-    /// What the move at hand costs, in seconds, the rows that it replaced, whom it dropped, and the vehicles that
-    /// lost a rider.
+    open: u64,
+    /// The rows that the move at hand replaces first, each with its next one; what it costs, in seconds; and all rows
+    /// that it replaced.
+    steps: Vec<(u32, u32)>,
     change: i64,
     log: Vec<u32>,
-    dropped: Vec<u32>,
-    robbed: Vec<u32>,
     /// What the plan costs above the one at the start, and the least that there was.
     above: i64,
     least: i64,
@@ -69,10 +72,10 @@ pub fn anneal<'a>(
         draws: Draws::new(seed),
         present: Present::new(alloc, regrets.table)?,
         marks: vec![in alloc; 0; regrets.table.vehicle_count()]?,
+        open: 0,
+        steps: Vec::new(alloc),
         change: 0,
         log: Vec::new(alloc),
-        dropped: Vec::new(alloc),
-        robbed: Vec::new(alloc),
         above: 0,
         least: 0,
         found: Vec::new(alloc),
@@ -82,6 +85,7 @@ pub fn anneal<'a>(
             annealing.replace(row);
         }
     }
+    annealing.note_open();
     annealing.run(allowance)?;
     Ok(annealing.found)
 }
@@ -115,25 +119,35 @@ impl Annealing<'_> {
         Ok(())
     }
 
-    /// Tries one move at this temperature, in 1/1024 second.
+    /// Tries one move at this temperature, in 1/1024 second. Most aren't made, since they are sure to cost too much.
     fn attempt(&mut self, temperature: i64) -> Made<()> {
-        self.change = 0;
-        self.log.clear();
-        self.dropped.clear();
-        self.robbed.clear();
         let Some(row) = self.proposal() else {
             return Ok(());
         };
-        let old = self.present.row(self.regrets.table.vehicle(row as usize));
-        if old == Some(row) {
+        let vehicle = self.regrets.table.vehicle(row as usize);
+        let Some(old) = self.present.row(vehicle) else {
+            return Ok(());
+        };
+        if old == row || !self.find_steps(row, short(vehicle))? {
             return Ok(());
         }
-        if self.make(row)? && self.is_taken(temperature) {
-            self.accept()
-        } else {
-            self.undo();
-            Ok(())
+        let (least, marks) = self.least_change(old, row);
+        let mut most = 0;
+        if least > 0 {
+            most = self.most_loss(temperature);
         }
+        if least > most {
+            return Ok(());
+        }
+        self.make(old, marks)?;
+        if least <= 0 && self.change > 0 {
+            most = self.most_loss(temperature);
+        }
+        if self.change <= most {
+            return self.accept();
+        }
+        self.undo();
+        Ok(())
     }
 
     /// A row with a rider, who is left out half the time. Rows of less regret are drawn more often.
@@ -153,12 +167,9 @@ impl Annealing<'_> {
         rows.get(self.draws.below(most)).copied()
     }
 
-    /// Whether the move's loss is no more than the temperature times a drawn number, which is how often a coin falls
-    /// the same way, more or less: what minus a chance's logarithm is.
-    fn is_taken(&mut self, temperature: i64) -> bool {
-        if self.change <= 0 {
-            return true;
-        }
+    /// The greatest loss that is taken: the temperature times a drawn number, which is how often a coin falls the same
+    /// way, more or less: what minus a chance's logarithm is.
+    fn most_loss(&mut self, temperature: i64) -> i64 {
         let chance = short(self.draws.below(1 << 32));
         let zeros = chance.leading_zeros();
         let rest = chance.checked_shl(zeros).unwrap_or(0) >> 21;
@@ -166,59 +177,92 @@ impl Annealing<'_> {
             .saturating_mul(1024)
             .saturating_add(2048)
             .saturating_sub(rest);
-        self.change.saturating_mul(1 << 30)
-            <= temperature.saturating_mul(i64::from(logarithm).saturating_mul(710))
+        temperature.saturating_mul(i64::from(logarithm).saturating_mul(710)) >> 30
     }
 
-    /// Gives the row to its vehicle and mends the rest, where others have rows without its riders. Whether they do.
-    fn make(&mut self, row: u32) -> Made<bool> {
-        let vehicle = self.regrets.table.vehicle(row as usize);
-        let Some(old) = self.present.row(vehicle) else {
-            return Ok(false);
-        };
-        if !self.take_riders(row, vehicle)? {
-            return Ok(false);
-        }
-        self.dropped
-            .extend_from_slice(self.regrets.table.riders_of(old as usize))?;
-        self.set_row(row)?;
-        self.robbed.push(short(vehicle))?;
-        self.insert_dropped()?;
-        self.fill_robbed()?;
-        Ok(true)
-    }
-
-    /// Takes the row's riders from the vehicles that serve them. Whether these have rows for that.
-    fn take_riders(&mut self, row: u32, vehicle: usize) -> Made<bool> {
+    /// Finds the first steps of giving the vehicle this row: those that serve its riders fall back to rows without
+    /// them. Whether they have such rows.
+    fn find_steps(&mut self, row: u32, vehicle: u32) -> Made<bool> {
+        self.steps.clear();
         for rider in self.regrets.table.riders_of(row as usize) {
-            if let Some(server) = self.present.server(*rider) {
-                if server as usize != vehicle {
-                    let Some(narrower) = self.narrower(server, *rider) else {
-                        return Ok(false);
-                    };
-                    self.set_row(narrower)?;
-                    self.robbed.push(server)?;
-                }
+            let server = self.present.server(*rider).unwrap_or(vehicle);
+            if server != vehicle {
+                let before = self.row_behind(server);
+                let narrower = self.beside.without(self.regrets.table, before, *rider);
+                let Some(narrower) = narrower else {
+                    return Ok(false);
+                };
+                self.steps.push((before, narrower))?;
             }
         }
+        let before = self.row_behind(vehicle);
+        self.steps.push((before, row))?;
         Ok(true)
     }
 
-    /// The row of the vehicle without this rider of it.
-    fn narrower(&self, vehicle: u32, rider: u32) -> Option<u32> {
-        let row = self.present.row(vehicle as usize)?;
-        self.beside.without(self.regrets.table, row, rider)
+    /// The row of the vehicle, which has one, behind the steps so far.
+    fn row_behind(&self, vehicle: u32) -> u32 {
+        let mut row = self.present.row(vehicle as usize).unwrap_or(u32::MAX);
+        for step in &self.steps {
+            if step.0 == row {
+                row = step.1;
+            }
+        }
+        row
     }
 
-    /// Adds each dropped rider where that is cheapest.
-    fn insert_dropped(&mut self) -> Made<()> {
-        for place in 0..self.dropped.len() {
-            let rider = item(&self.dropped, place, 0);
-            if self.present.server(rider).is_none() {
-                if let Some(row) = self.best_with(rider) {
+    /// What the move costs at least, and marks of all riders who can be added behind its first steps: these steps, less
+    /// all that can be saved by serving the riders of the row before again. Where others can be served too, nothing is
+    /// known.
+    fn least_change(&self, old: u32, row: u32) -> (i64, u64) {
+        let table = self.regrets.table;
+        let mut change: i64 = 0;
+        let mut marks = self.open;
+        let riders = table.riders_of(row as usize);
+        for step in &self.steps {
+            change = change.saturating_add(self.beside.change(step.0, step.1));
+            let added = self.beside.marks(step.1);
+            if added != 0 && self.is_wanted(step.1, riders) {
+                change = change.saturating_sub(UNKNOWN);
+            }
+            marks |= added;
+        }
+        for rider in table.riders_of(old as usize) {
+            if marks & mark_of(*rider) != 0 && riders.binary_search(rider).is_err() {
+                change = change.saturating_sub(table.cost_left(*rider as usize));
+            }
+        }
+        (change, marks)
+    }
+
+    /// Whether a rider can be added to the row who is left out and none of these.
+    fn is_wanted(&self, row: u32, riders: &[u32]) -> bool {
+        let is_wanted = |rider: &u32| {
+            self.present.server(*rider).is_none() && riders.binary_search(rider).is_err()
+        };
+        self.beside.wider(row).0.iter().any(is_wanted)
+    }
+
+    /// Makes the move: takes its first steps, and mends the rest. The riders of the row before may be served again, if
+    /// they have one of these marks.
+    fn make(&mut self, old: u32, marks: u64) -> Made<()> {
+        self.change = 0;
+        self.log.clear();
+        for place in 0..self.steps.len() {
+            let step = item(&self.steps, place, (0, 0));
+            self.set_row(step.1)?;
+        }
+        for rider in self.regrets.table.riders_of(old as usize) {
+            if marks & mark_of(*rider) != 0 && self.present.server(*rider).is_none() {
+                if let Some(row) = self.best_with(*rider) {
                     self.set_row(row)?;
                 }
             }
+        }
+        for place in 0..self.steps.len() {
+            let step = item(&self.steps, place, (0, 0));
+            let vehicle = self.regrets.table.vehicle(step.1 as usize);
+            self.fill(vehicle)?;
         }
         Ok(())
     }
@@ -228,10 +272,8 @@ impl Annealing<'_> {
         let mut least = 0;
         let mut best = None;
         for (vehicle, marks) in self.marks.iter().enumerate() {
-            if marks & mark_of(rider) == 0 {
-                continue;
-            }
-            if let Some(row) = self.present.row(vehicle) {
+            if marks & mark_of(rider) != 0 {
+                let row = self.present.row(vehicle).unwrap_or(u32::MAX);
                 if let Some(wider) = self.beside.with(row, rider) {
                     let cost = self.beside.change(row, wider);
                     if cost < least {
@@ -244,27 +286,23 @@ impl Annealing<'_> {
         best
     }
 
-    /// Adds riders to the rows of those vehicles as long as that saves something.
-    fn fill_robbed(&mut self) -> Made<()> {
-        for place in 0..self.robbed.len() {
-            let vehicle = item(&self.robbed, place, 0) as usize;
-            for _ in 0..MOST_RIDERS {
-                match self.best_wider(vehicle) {
-                    None => break,
-                    Some(row) => self.set_row(row)?,
-                }
+    /// Adds riders to the vehicle's row as long as that saves something.
+    fn fill(&mut self, vehicle: usize) -> Made<()> {
+        for _ in 0..MOST_RIDERS {
+            let row = self.present.row(vehicle);
+            match row.and_then(|row| self.best_wider(row)) {
+                None => break,
+                Some(row) => self.set_row(row)?,
             }
         }
         Ok(())
     }
 
-    /// The row with one rider more than the vehicle's that saves most.
-    fn best_wider(&self, vehicle: usize) -> Option<u32> {
-        let row = self.present.row(vehicle)?;
+    /// The row with one rider more than this one that saves most.
+    fn best_wider(&self, row: u32) -> Option<u32> {
         let mut least = 0;
         let mut best = None;
-        let added = self.beside.added.list(row as usize);
-        let wider = self.beside.wider.list(row as usize);
+        let (added, wider) = self.beside.wider(row);
         for (rider, wider) in added.iter().zip(wider) {
             if self.present.server(*rider).is_none() {
                 let cost = self.beside.change(row, *wider);
@@ -292,18 +330,26 @@ impl Annealing<'_> {
         let old = self.present.row(vehicle);
         self.present.release(self.regrets.table, vehicle);
         self.present.give(self.regrets.table, row);
-        let marks = item(&self.beside.marks, row as usize, 0);
-        set_at(&mut self.marks, vehicle, marks);
+        set_at(&mut self.marks, vehicle, self.beside.marks(row));
         old
     }
 
     fn accept(&mut self) -> Made<()> {
+        self.note_open();
         self.above = self.above.saturating_add(self.change);
         if self.above < self.least {
             self.least = self.above;
             write_over(&mut self.found, &self.present.rows)?;
         }
         Ok(())
+    }
+
+    /// Notes who can be added to a row.
+    fn note_open(&mut self) {
+        self.open = 0;
+        for marks in &self.marks {
+            self.open |= *marks;
+        }
     }
 
     /// Takes the steps back, the last one first.

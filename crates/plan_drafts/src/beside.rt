@@ -1,6 +1,6 @@
 //! Which rows of a vehicle have one rider less than a row, or one more.
 
-use row_tables::fixed_point::{at, item, part};
+use row_tables::fixed_point::{item, part};
 use row_tables::lists::Lists;
 use row_tables::{Made, RowTable};
 use std::alloc::Global;
@@ -10,29 +10,23 @@ use std::alloc::Global;
 pub struct Beside {
     /// For each row and each of its riders the row without her, or one past the last row.
     without: Lists,
-    /// For each row the riders who can be added, rising, and the rows with these.
-    pub added: Lists,
-    pub wider: Lists,
-    /// For each row 64 marks of the riders who can be added.
-    pub marks: Vec<u64>,
-    /// What each row costs, less what it costs to leave out its riders.
-    worths: Vec<i64>,
+    /// For each row those with a rider more, by rising riders, and for each of these the rider.
+    wider: Lists,
+    added: Vec<u32>,
+    /// For each row what it costs, less what it costs to leave out its riders, and 64 marks of those who can be added.
+    rows: Vec<(i64, u64)>,
 }
 
 impl Beside {
     pub fn new(alloc: Global, table: &RowTable) -> Made<Self> {
         let mut beside = Beside {
             without: rows_without(alloc, table)?,
-            added: Lists::new(alloc),
             wider: Lists::new(alloc),
-            marks: Vec::new(alloc),
-            worths: Vec::new(alloc),
+            added: Vec::new(alloc),
+            rows: Vec::new(alloc),
         };
         beside.wider.transpose(&beside.without, table.row_count())?;
         beside.list_added(table)?;
-        for row in 0..table.row_count() {
-            beside.worths.push(worth(table, row))?;
-        }
         Ok(beside)
     }
 
@@ -42,11 +36,10 @@ impl Beside {
             let mut marks = 0;
             for wider in self.wider.list(row) {
                 let rider = first_other(table.riders_of(*wider as usize), table.riders_of(row));
-                self.added.push(rider as usize)?;
+                self.added.push(rider)?;
                 marks |= mark_of(rider);
             }
-            self.added.end()?;
-            self.marks.push(marks)?;
+            self.rows.push((worth(table, row), marks))?;
         }
         Ok(())
     }
@@ -56,23 +49,35 @@ impl Beside {
         let riders = table.riders_of(row as usize);
         let place = riders.binary_search(&rider).ok()?;
         let narrower = self.without.list(row as usize).get(place).copied()?;
-        if (narrower as usize) < table.row_count() {
-            Some(narrower)
-        } else {
-            None
-        }
+        Some(narrower).filter(|row| (*row as usize) < table.row_count())
     }
 
     /// What the next row costs more than this one, each less what it costs to leave out its riders.
     pub fn change(&self, row: u32, next: u32) -> i64 {
-        at(&self.worths, next as usize).saturating_sub(at(&self.worths, row as usize))
+        let worth = item(&self.rows, row as usize, (0, 0)).0;
+        item(&self.rows, next as usize, (0, 0))
+            .0
+            .saturating_sub(worth)
+    }
+
+    /// Marks of the riders who can be added to the row.
+    pub fn marks(&self, row: u32) -> u64 {
+        item(&self.rows, row as usize, (0, 0)).1
+    }
+
+    /// The riders who can be added to the row, rising, and the rows with these.
+    pub fn wider(&self, row: u32) -> (&[u32], &[u32]) {
+        let start = self.wider.start(row as usize);
+        let wider = self.wider.list(row as usize);
+        let end = start.saturating_add(wider.len());
+        (part(&self.added, start, end), wider)
     }
 
     /// The row with this rider too, if there is one.
     pub fn with(&self, row: u32, rider: u32) -> Option<u32> {
-        let added = self.added.list(row as usize);
+        let (added, wider) = self.wider(row);
         let place = added.binary_search(&rider).ok()?;
-        self.wider.list(row as usize).get(place).copied()
+        wider.get(place).copied()
     }
 }
 

@@ -14,8 +14,21 @@ use std::alloc::Global;
 /// How many rows are looked at for a choice at most, on the average.
 const MOST_TRIES: u64 = 200;
 
+/// With more riders than this some have the same mark, and seem to be served when another is.
+const MARKS: u32 = 128;
+
 /// How many numbers a look at a row counts as.
 const A_ROW: u64 = 8;
+
+/// A row that fits, with its regret, what it costs to leave out those of its riders whom no later turn could serve, and
+/// marks of its riders.
+#[derive(Clone, Copy, Default)]
+struct Fit {
+    row: u32,
+    above: i64,
+    last: i64,
+    marks: u128,
+}
 
 /// A vehicle's turn to choose.
 #[derive(Clone, Copy, Default)]
@@ -24,8 +37,9 @@ struct Turn {
     first: usize,
     end: usize,
     next: usize,
-    /// The regret of the choices before it, and the least from it on.
+    /// The regret of the choices before it with marks of their riders, and the least regret from it on.
     sum: i64,
+    served: u128,
     least: i64,
     /// What it costs to leave out the riders whom it could serve last and no choice serves.
     left: i64,
@@ -35,12 +49,12 @@ struct Turn {
 #[derive(Drop)]
 pub struct Choices {
     /// The rows that fit, a vehicle's side by side, by rising regret.
-    fits: Vec<u32>,
+    fits: Vec<Fit>,
     /// The turns, those with the fewest rows first.
     turns: Vec<Turn>,
-    /// For each rider the last turn that could serve her, and whether a choice serves her.
-    closings: Vec<Option<u32>>,
-    is_served: Vec<bool>,
+    /// For each rider who can be served the last turn that could do it, and her number; and how many there are.
+    closings: Vec<Option<(u32, u32)>>,
+    riders: u32,
     /// The row of each turn, and those of the best choice.
     picks: Vec<u32>,
     best: Vec<u32>,
@@ -54,7 +68,7 @@ impl Choices {
             fits: Vec::new(alloc),
             turns: Vec::new(alloc),
             closings: vec![in alloc; None; riders]?,
-            is_served: vec![in alloc; false; riders]?,
+            riders: 0,
             picks: Vec::new(alloc),
             best: Vec::new(alloc),
             work: 0,
@@ -112,7 +126,11 @@ impl Choices {
             .saturating_add((rows.len() as u64).saturating_mul(A_ROW));
         for row in rows {
             if present.is_free(regrets.table, *row) {
-                self.fits.push(*row)?;
+                self.fits.push(Fit {
+                    row: *row,
+                    above: regrets.above(*row),
+                    ..Fit::default()
+                })?;
             }
         }
         Ok(())
@@ -124,16 +142,20 @@ impl Choices {
         item(&self.turns, number, Turn::default())
     }
 
+    #[inline]
+    fn fit(&self, place: usize) -> Fit {
+        item(&self.fits, place, Fit::default())
+    }
+
     /// Finds for each turn, the last first, the least regret from it on, and the riders whom no later one could serve.
     fn look_ahead(&mut self, regrets: &Regrets) {
         self.closings.as_mut_slice().fill(None);
-        self.is_served.as_mut_slice().fill(false);
+        self.riders = 0;
         let mut least: i64 = 0;
         for number in (0..self.turns.len()).rev() {
             let turn = self.turn(number);
             if turn.first < turn.end {
-                let row = item(&self.fits, turn.first, 0);
-                least = least.saturating_add(regrets.above(row));
+                least = least.saturating_add(self.fit(turn.first).above);
             }
             let left = self.close_riders(regrets, turn, short(number));
             if let Some(turn) = self.turns.get_mut(number) {
@@ -146,15 +168,31 @@ impl Choices {
     /// Has this turn be the last that could serve its riders whom no later one could. What it costs to leave them out.
     fn close_riders(&mut self, regrets: &Regrets, turn: Turn, number: u32) -> i64 {
         let mut left: i64 = 0;
-        for row in part(&self.fits, turn.first, turn.end) {
-            for rider in regrets.table.riders_of(*row as usize) {
-                let place = *rider as usize;
-                if item(&self.closings, place, Some(number)).is_none() {
-                    set_at(&mut self.closings, place, Some(number));
-                    left = left.saturating_add(regrets.left(*rider));
-                }
-            }
+        for place in turn.first..turn.end {
+            left = left.saturating_add(self.close_row(regrets, place, number));
         }
+        left
+    }
+
+    /// The same for the riders of a row.
+    fn close_row(&mut self, regrets: &Regrets, place: usize, number: u32) -> i64 {
+        let mut fit = self.fit(place);
+        let mut left: i64 = 0;
+        for rider in regrets.table.riders_of(fit.row as usize) {
+            let regret = regrets.left(*rider);
+            let known = item(&self.closings, *rider as usize, None);
+            let (turn, mark) = known.unwrap_or((number, self.riders));
+            if known.is_none() {
+                set_at(&mut self.closings, *rider as usize, Some((turn, mark)));
+                self.riders = self.riders.saturating_add(1);
+                left = left.saturating_add(regret);
+            }
+            if turn == number {
+                fit.last = fit.last.saturating_add(regret);
+            }
+            fit.marks |= 1 << (mark % MARKS);
+        }
+        set_at(&mut self.fits, place, fit);
         left
     }
 
@@ -182,8 +220,8 @@ impl Choices {
         let mut steps: u32 = 0;
         self.picks.clear();
         for _ in 0..u64::from(most_steps).saturating_mul(MOST_TRIES) {
-            if let Some(row) = self.next_row(regrets, limit) {
-                let is_open = self.descend(regrets, row, &mut limit)?;
+            if let Some(fit) = self.next_fit(limit) {
+                let is_open = self.descend(regrets, fit, &mut limit)?;
                 steps = steps.saturating_add(u32::from(is_open));
             } else if !self.leave(regrets) {
                 break;
@@ -196,75 +234,65 @@ impl Choices {
     }
 
     /// The next row of this turn that fits, if its regret leaves a choice below the limit.
-    fn next_row(&mut self, regrets: &Regrets, limit: i64) -> Option<u32> {
+    fn next_fit(&mut self, limit: i64) -> Option<Fit> {
         let number = self.picks.len();
         let turn = self.turn(number);
         let rest = self.turn(number.saturating_add(1)).least;
         let room = limit.saturating_sub(turn.sum).saturating_sub(rest);
         for place in turn.next..turn.end {
             self.work = self.work.saturating_add(A_ROW);
-            let row = item(&self.fits, place, 0);
-            if regrets.above(row) >= room {
+            let fit = self.fit(place);
+            if fit.above >= room {
                 return None;
             }
-            if !is_any_marked(&self.is_served, regrets.table.riders_of(row as usize)) {
+            if fit.marks & turn.served == 0 {
                 if let Some(turn) = self.turns.get_mut(number) {
                     turn.next = place.saturating_add(1);
                 }
-                return Some(row);
+                return Some(fit);
             }
         }
         None
     }
 
     /// Chooses the row and goes on below it, if a better choice may be there. Whether it may.
-    fn descend(&mut self, regrets: &Regrets, row: u32, limit: &mut i64) -> Made<bool> {
-        let number = self.picks.len();
-        self.picks.push(row)?;
-        self.mark(regrets, row, true);
-        let turn = self.turn(number);
-        let sum = turn
-            .sum
-            .saturating_add(regrets.above(row))
-            .saturating_add(turn.left);
-        let below = self.turn(number.saturating_add(1));
-        let is_open = sum.saturating_add(below.least) < *limit;
-        if let Some(turn) = self.turns.get_mut(self.picks.len()) {
-            if is_open {
-                turn.sum = sum;
-                turn.next = turn.first;
-                return Ok(true);
-            }
-        } else if is_open {
+    fn descend(&mut self, regrets: &Regrets, fit: Fit, limit: &mut i64) -> Made<bool> {
+        let turn = self.turn(self.picks.len());
+        let left = turn.left.wrapping_sub(fit.last);
+        let sum = turn.sum.saturating_add(fit.above).saturating_add(left);
+        let number = self.picks.len().saturating_add(1);
+        if sum.saturating_add(self.turn(number).least) >= *limit {
+            return Ok(false);
+        }
+        self.picks.push(fit.row)?;
+        if let Some(below) = self.turns.get_mut(number) {
+            below.sum = sum;
+            below.served = turn.served | fit.marks;
+            below.next = below.first;
+            self.count_left(regrets, fit.row, -1);
+        } else {
             *limit = sum;
             self.best.clear();
             self.best.extend_from_slice(&self.picks)?;
+            self.picks.pop();
         }
-        self.leave(regrets);
-        Ok(is_open)
+        Ok(true)
     }
 
     /// Takes the last choice back, if there is one. Whether there was.
     fn leave(&mut self, regrets: &Regrets) -> bool {
         let pick = self.picks.pop();
         if let Some(row) = pick {
-            self.mark(regrets, row, false);
+            self.count_left(regrets, row, 1);
         }
         pick.is_some()
     }
 
-    /// Has the row's riders be served or not.
-    fn mark(&mut self, regrets: &Regrets, row: u32, is_served: bool) {
+    /// Counts it to the turns so many times what it costs to leave out the row's riders.
+    fn count_left(&mut self, regrets: &Regrets, row: u32, times: i64) {
         for rider in regrets.table.riders_of(row as usize) {
-            let place = *rider as usize;
-            set_at(&mut self.is_served, place, is_served);
-            let regret = regrets.left(*rider);
-            let change = if is_served {
-                regret.wrapping_neg()
-            } else {
-                regret
-            };
-            if let Some(closing) = item(&self.closings, place, None) {
+            let change = regrets.left(*rider).wrapping_mul(times);
+            if let Some((closing, _)) = item(&self.closings, *rider as usize, None) {
                 if let Some(turn) = self.turns.get_mut(closing as usize) {
                     turn.left = turn.left.wrapping_add(change);
                 }
@@ -280,14 +308,4 @@ fn regret_of(regrets: &Regrets, row: u32) -> i64 {
         regret = regret.saturating_sub(regrets.left(*rider));
     }
     regret
-}
-
-#[inline]
-fn is_any_marked(marks: &[bool], riders: &[u32]) -> bool {
-    for rider in riders {
-        if item(marks, *rider as usize, true) {
-            return true;
-        }
-    }
-    false
 }

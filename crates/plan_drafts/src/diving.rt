@@ -79,12 +79,7 @@ fn rank_open(
 }
 
 fn is_whole(shares: &[Share]) -> bool {
-    for share in shares {
-        if share.part < WHOLE {
-            return false;
-        }
-    }
-    true
+    shares.iter().all(|share| share.part >= WHOLE)
 }
 
 /// The rows of which more than half is chosen.
@@ -92,11 +87,8 @@ pub fn whole_plan(alloc: Global, table: &RowTable, shares: &[Share]) -> Made<Pla
     let mut plan: Vec<Option<u32>> = vec![in alloc; None; table.vehicle_count()]?;
     for share in shares {
         if share.part > HALF {
-            set_at(
-                &mut plan,
-                table.vehicle(share.row as usize),
-                Some(share.row),
-            );
+            let vehicle = table.vehicle(share.row as usize);
+            set_at(&mut plan, vehicle, Some(share.row));
         }
     }
     Ok(plan)

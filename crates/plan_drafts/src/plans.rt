@@ -86,9 +86,8 @@ impl Plans {
             }
             let size = 3 + attempt / 32 % 8;
             let present = &mut self.present;
-            let saved = self
-                .neighbourhood
-                .attempt(regrets, present, size, most_steps)?;
+            let walk = &mut self.neighbourhood;
+            let saved = walk.attempt(regrets, present, size, most_steps)?;
             allowance.spend(self.neighbourhood.choices.work);
             self.cost = self.cost.saturating_sub(saved / 1024);
             idle = if saved > 0 { 0 } else { idle.saturating_add(1) };
