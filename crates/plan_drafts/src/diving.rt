@@ -26,8 +26,8 @@ const MOST_PASSES: u32 = 3;
 /// What stands in order as rows do by falling share: share and row.
 type Rank = (Reverse<i64>, u32);
 
-/// A plan that starts at this basis, if it comes to one. But for number 0 the first row is left out now and then, as
-/// is drawn from the number.
+/// A plan that starts at this basis, if it comes to one. But for number 0 the first row is left out now and then, as is
+/// drawn from the number.
 pub fn dive(
     alloc: Global,
     table: &RowTable,
@@ -56,8 +56,7 @@ pub fn dive(
     Ok(None)
 }
 
-/// Ranks the rows whose vehicles have another choice by falling share. False where a forbidden row is
-/// chosen.
+/// Ranks the rows whose vehicles have another choice by falling share. False where a forbidden row is chosen.
 fn rank_open(
     table: &RowTable,
     decided: &Decided,

@@ -1,8 +1,7 @@
-//! The making of plans: a plan that is made from the relaxation and then changed as long as that saves
-//! something.
+//! The making of plans: a plan that is made from the relaxation and then changed as long as that saves something.
 //!
-//! Nothing is proved of the plans that come out: they are judged before they are used. All choices follow
-//! from counts and drawn numbers, so that the same rows give the same plan.
+//! Nothing is proved of the plans that come out: they are judged before they are used. All choices follow from counts
+//! and drawn numbers, so that the same rows give the same plan.
 
 use crate::costs::{UNLAWFUL, plan_cost};
 use crate::neighbourhood::Neighbourhood;
@@ -42,8 +41,8 @@ impl Plans {
         &self.present.rows
     }
 
-    /// Makes a plan of the relaxation's shares: the rows by falling share, then those of each vehicle by rising
-    /// regret, where they still fit.
+    /// Makes a plan of the relaxation's shares: the rows by falling share, then those of each vehicle by rising regret,
+    /// where they still fit.
     pub fn round(&mut self, regrets: &Regrets, shares: &[Share]) -> Made<()> {
         let mut ranks = Vec::new(self.alloc);
         for share in shares {
@@ -68,9 +67,8 @@ impl Plans {
         self.count(regrets)
     }
 
-    /// Chooses the rows of a few vehicles anew, over and over, until the plan costs no more than the bound,
-    /// or nothing was saved so many times in a row, or the allowance is gone. Each choice is broken off after so many
-    /// steps.
+    /// Chooses the rows of a few vehicles anew, over and over, until the plan costs no more than the bound, or nothing
+    /// was saved so many times in a row, or the allowance is gone. Each choice is broken off after so many steps.
     pub fn better(
         &mut self,
         regrets: &Regrets,
