@@ -8,7 +8,7 @@ live_in-answer-requires-clause-named g c κs within = c.in-Ok.ensures.named
 
 pub returns-in-Ok : goal.returns-in-Ok
 returns-in-Ok g c =
-    let ends = rw (c.over-session.ensures.to_come, c.over-session.ensures.faults) at c.live_in-answer.ensures in
+    let ends = rw (c.over.ensures.to_come, c.over.ensures.faults) at c.live_in-answer.ensures in
     answers-live _ _
     (ExplainsLive.ended _ (record { settings = c.in-Ok.inputs.0; roads = c.in-Ok.inputs.1; vehicles = c.in-Ok.inputs.2 }, c.in-Ok.ensures.got _, ends))
     (inl c.in-Ok.ensures.limited.0, inl c.in-Ok.ensures.limited.1)

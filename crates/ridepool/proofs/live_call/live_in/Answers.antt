@@ -11,13 +11,13 @@ start_live-requires-clause-named g c κs within = c.requires.named
 
 pub dispatch-sink-requires-clause-ready : goal.dispatch-sink-requires-clause-ready
 dispatch-sink-requires-clause-ready g c κs within =
-    ready-live (record { settings = c.args.inputs.now.0; roads = c.args.inputs.now.1; vehicles = c.args.inputs.now.2 }) c.in-Ok.book c.in-Ok.ensures.started.0
+    ready-live (record { settings = c.args.inputs.now.0; roads = c.args.inputs.now.1; vehicles = c.args.inputs.now.2 }) c.in-Ok-start_live.book c.in-Ok-start_live.ensures.started.0
 
 pub dispatch-sink-requires-clause-empty : goal.dispatch-sink-requires-clause-empty
-dispatch-sink-requires-clause-empty g c κs within = ap (λ (b : BookView). b.entries) c.in-Ok.ensures.started.0
+dispatch-sink-requires-clause-empty g c κs within = ap (λ (b : BookView). b.entries) c.in-Ok-start_live.ensures.started.0
 
 pub dispatch-sink-requires-clause-small : goal.dispatch-sink-requires-clause-small
-dispatch-sink-requires-clause-small g c κs within = let first : c.in-Ok.book.first ≡ 0 = ap (λ (b : BookView). b.first) c.in-Ok.ensures.started.0 in omega (arith, first)
+dispatch-sink-requires-clause-small g c κs within = let first : c.in-Ok-start_live.book.first ≡ 0 = ap (λ (b : BookView). b.first) c.in-Ok-start_live.ensures.started.0 in omega (arith, first)
 
 pub dispatch-sink-requires-clause-first : goal.dispatch-sink-requires-clause-first
 dispatch-sink-requires-clause-first g c κs within = c.behind-rows.ensures.last
@@ -25,13 +25,13 @@ dispatch-sink-requires-clause-first g c κs within = c.behind-rows.ensures.last
 pub returns-in_default : goal.returns-in_default
 returns-in_default g c = let kept = c.ended.ensures.kept in rw (kept.0, kept.1, kept.2) (EndsLive.unstored (inl (record { out = refl; notifiers = refl })))
 
-pub returns-in-Ok : goal.returns-in-Ok
-returns-in-Ok g c =
+pub returns-in-Ok-start_live : goal.returns-in-Ok-start_live
+returns-in-Ok-start_live g c =
     let behind : SinkView = record { written = g.K.Sink.written c.start_live.new.out; faults = g.K.Sink.faults c.start_live.new.out } in
-    rows-ended _ c.args.session.lines.to_come c.start_live.new.lines.to_come c.behind-rows.result.lines.to_come c.in-Ok.version c.behind-rows.result.version c.behind-rows.result.last
-    c.in-Ok.book _ behind _ c.args.session.lines.faults c.start_live.new.lines.faults c.behind-rows.result.lines.faults (g.S.Source.faults c.into_source.result) _ _ c.dispatch-sink.result.ended
-    c.end_status.result c.end_status.ensures c.in-Ok.ensures.started.0 c.in-Ok.ensures.started.1 (ap (λ (s : Streamed). s.to_come) c.behind-rows.ensures.lines)
-    c.behind-rows.ensures.version c.behind-rows.ensures.last c.in-Ok.ensures.started.2 c.start_live.ensures.never_falls c.start_live.ensures.reads_never_fall
+    rows-ended _ c.args.session.lines.to_come c.start_live.new.lines.to_come c.behind-rows.result.lines.to_come c.in-Ok-start_live.version c.behind-rows.result.version c.behind-rows.result.last
+    c.in-Ok-start_live.book _ behind _ c.args.session.lines.faults c.start_live.new.lines.faults c.behind-rows.result.lines.faults (g.S.Source.faults c.into_source.result) _ _ c.dispatch-sink.result.ended
+    c.end_status.result c.end_status.ensures c.in-Ok-start_live.ensures.started.0 c.in-Ok-start_live.ensures.started.1 (ap (λ (s : Streamed). s.to_come) c.behind-rows.ensures.lines)
+    c.behind-rows.ensures.version c.behind-rows.ensures.last c.in-Ok-start_live.ensures.started.2 c.start_live.ensures.never_falls c.start_live.ensures.reads_never_fall
     c.dispatch-sink.ensures.run c.dispatch-sink.ensures.write_fault (λ is. omega (arith, c.dispatch-sink.ensures.read_fault is, c.into_source.ensures)) (ap (λ (s : Streamed). s.faults) c.behind-rows.ensures.lines)
 
 pub returns : goal.returns
