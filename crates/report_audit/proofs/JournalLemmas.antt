@@ -8,13 +8,9 @@ use Rattle.report_audit.proofs.TextLemmas.{next-none, next-more}
 
 -- replies
 module _ (nodes : List ℕ) (wait : ℕ) where
-  unfolding state_after
-
   pub after-none : (s : State) → state_after nodes wait s [] ≡ s
   unfolding state_after
   after-none s = refl
-
-  unfolding state_after
 
   pub reply-at : (s : State) (xs : List Entry) (e : Entry) (ys : List Entry) → RepliesAreSteps nodes wait s (xs ++ e ∷ ys) → e.reply ≡ (step nodes wait (state_after nodes wait s xs) e.command).1
   unfolding state_after RepliesAreSteps
