@@ -80,10 +80,8 @@ pub fn anneal<'a>(
         least: 0,
         found: Vec::new(alloc),
     };
-    for row in rows {
-        if let Some(row) = *row {
-            annealing.replace(row);
-        }
+    for row in rows.iter().flatten() {
+        annealing.replace(*row);
     }
     annealing.note_open();
     annealing.run(allowance)?;
@@ -100,21 +98,14 @@ impl Annealing<'_> {
         let moves = MOVES.min(most).min(dear);
         let stages = moves / MOVES_EACH;
         allowance.spend(moves.saturating_mul(each));
-        for stage in 0..stages {
-            let part = (stage << 20).checked_div(stages).unwrap_or(0).min(1 << 20) as i64;
+        for number in 0..stages.saturating_mul(MOVES_EACH) {
+            let part = ((number / MOVES_EACH) << 20).checked_div(stages);
+            let part = part.unwrap_or(0).min(1 << 20) as i64;
             let cooled = (WARM - COOL).saturating_mul(part) >> 10;
-            self.make_moves((WARM * 1024).saturating_sub(cooled))?;
+            self.attempt((WARM * 1024).saturating_sub(cooled))?;
         }
         if self.least >= 0 {
             write_over(&mut self.found, &self.present.rows)?;
-        }
-        Ok(())
-    }
-
-    /// Tries moves at this temperature, in 1/1024 second.
-    fn make_moves(&mut self, temperature: i64) -> Made<()> {
-        for _ in 0..MOVES_EACH {
-            self.attempt(temperature)?;
         }
         Ok(())
     }
@@ -146,7 +137,11 @@ impl Annealing<'_> {
         if self.change <= most {
             return self.accept();
         }
-        self.undo();
+        for _ in 0..self.log.len() {
+            if let Some(row) = self.log.pop() {
+                self.replace(row);
+            }
+        }
         Ok(())
     }
 
@@ -346,18 +341,6 @@ impl Annealing<'_> {
 
     /// Notes who can be added to a row.
     fn note_open(&mut self) {
-        self.open = 0;
-        for marks in &self.marks {
-            self.open |= *marks;
-        }
-    }
-
-    /// Takes the steps back, the last one first.
-    fn undo(&mut self) {
-        for _ in 0..self.log.len() {
-            if let Some(row) = self.log.pop() {
-                self.replace(row);
-            }
-        }
+        self.open = self.marks.iter().fold(0, |open, marks| open | *marks);
     }
 }

@@ -54,10 +54,9 @@ impl Beside {
 
     /// What the next row costs more than this one, each less what it costs to leave out its riders.
     pub fn change(&self, row: u32, next: u32) -> i64 {
-        let worth = item(&self.rows, row as usize, (0, 0)).0;
-        item(&self.rows, next as usize, (0, 0))
-            .0
-            .saturating_sub(worth)
+        let (old, _) = item(&self.rows, row as usize, (0, 0));
+        let (new, _) = item(&self.rows, next as usize, (0, 0));
+        new.saturating_sub(old)
     }
 
     /// Marks of the riders who can be added to the row.
@@ -124,12 +123,9 @@ fn find(table: &RowTable, row: usize, trip: &[u32]) -> usize {
 
 /// The first of these riders who isn't where she stands among the others.
 fn first_other(riders: &[u32], others: &[u32]) -> u32 {
-    for (place, rider) in riders.iter().enumerate() {
-        if item(others, place, u32::MAX) != *rider {
-            return *rider;
-        }
-    }
-    u32::MAX
+    let mut places = riders.iter().enumerate();
+    let other = places.find(|(place, rider)| item(others, *place, u32::MAX) != **rider);
+    other.map_or(u32::MAX, |(_, rider)| *rider)
 }
 
 /// One of 64 marks for a rider: she is none of those with other marks.

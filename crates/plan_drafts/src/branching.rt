@@ -149,14 +149,11 @@ pub fn decision(parent: usize, row: usize, is_taken: bool) -> Decision {
 
 /// A row of the basis whose vehicle has another one.
 fn any_open_row(table: &RowTable, decided: &Decided) -> Option<usize> {
-    for column in decided.relaxation.columns() {
-        let row = *column as usize;
-        if row < table.row_count()
-            && !decided.relaxation.is_forbidden(row)
-            && decided.has_choice(table, row)
-        {
-            return Some(row);
-        }
-    }
-    None
+    let is_open = |row: &usize| {
+        *row < table.row_count()
+            && !decided.relaxation.is_forbidden(*row)
+            && decided.has_choice(table, *row)
+    };
+    let columns = decided.relaxation.columns().iter();
+    columns.map(|column| *column as usize).find(is_open)
 }

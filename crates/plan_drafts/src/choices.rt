@@ -113,17 +113,15 @@ impl Choices {
                 ..Turn::default()
             })?;
         }
-        self.turns
-            .as_mut_slice()
-            .sort_unstable_by_key(|turn| (turn.end.saturating_sub(turn.first), turn.first));
+        let turns = self.turns.as_mut_slice();
+        turns.sort_unstable_by_key(|turn| (turn.end.saturating_sub(turn.first), turn.first));
         Ok(())
     }
 
     fn add_fits(&mut self, regrets: &Regrets, present: &Present, vehicle: usize) -> Made<()> {
         let rows = regrets.rows.list(vehicle);
-        self.work = self
-            .work
-            .saturating_add((rows.len() as u64).saturating_mul(A_ROW));
+        let looks = (rows.len() as u64).saturating_mul(A_ROW);
+        self.work = self.work.saturating_add(looks);
         for row in rows {
             if present.is_free(regrets.table, *row) {
                 self.fits.push(Fit {
@@ -167,11 +165,9 @@ impl Choices {
 
     /// Has this turn be the last that could serve its riders whom no later one could. What it costs to leave them out.
     fn close_riders(&mut self, regrets: &Regrets, turn: Turn, number: u32) -> i64 {
-        let mut left: i64 = 0;
-        for place in turn.first..turn.end {
-            left = left.saturating_add(self.close_row(regrets, place, number));
-        }
-        left
+        let places = turn.first..turn.end;
+        let costs = places.map(|place| self.close_row(regrets, place, number));
+        costs.fold(0, |left: i64, cost| left.saturating_add(cost))
     }
 
     /// The same for the riders of a row.
@@ -199,10 +195,8 @@ impl Choices {
     /// Begins with the present rows of these vehicles as the best. Their regret, with that of the riders whom they
     /// could serve and don't.
     fn begin(&mut self, regrets: &Regrets, present: &Present, vehicles: &[u32]) -> Made<i64> {
-        let mut regret: i64 = 0;
-        for turn in &self.turns {
-            regret = regret.saturating_add(turn.left);
-        }
+        let turns = self.turns.iter();
+        let mut regret = turns.fold(0i64, |sum, turn| sum.saturating_add(turn.left));
         self.best.clear();
         for vehicle in vehicles {
             if let Some(row) = present.row(*vehicle as usize) {
@@ -215,8 +209,7 @@ impl Choices {
 
     /// Searches for choices of a lesser regret than this; the least one found, or this. It is broken off
     /// after so many choices.
-    fn search(&mut self, regrets: &Regrets, limit: i64, most_steps: u32) -> Made<i64> {
-        let mut limit = limit;
+    fn search(&mut self, regrets: &Regrets, mut limit: i64, most_steps: u32) -> Made<i64> {
         let mut steps: u32 = 0;
         self.picks.clear();
         for _ in 0..u64::from(most_steps).saturating_mul(MOST_TRIES) {

@@ -47,7 +47,7 @@ pub fn dive(
         if decided.relaxation.is_tired() || !rank_open(table, decided, &shares, &mut ranks)? {
             return Ok(None);
         }
-        if is_whole(&shares) {
+        if shares.iter().all(|share| share.part >= WHOLE) {
             return Ok(Some(whole_plan(alloc, table, &shares)?));
         }
         let skips = number > 0 && draws.below(4) == 0;
@@ -75,10 +75,6 @@ fn rank_open(
     }
     ranks.as_mut_slice().sort_unstable();
     Ok(true)
-}
-
-fn is_whole(shares: &[Share]) -> bool {
-    shares.iter().all(|share| share.part >= WHOLE)
 }
 
 /// The rows of which more than half is chosen.

@@ -177,8 +177,8 @@ impl<'a> Drafting<'a> {
         let basis = self.tree.root_basis();
         let plan = dive(self.alloc, self.regrets.table, decided, basis, 0)?;
         self.decided.go_back(0);
-        let left = self.decided.relaxation.allowance();
-        self.tree.allowance.settle(share, left);
+        let relaxation = &mut self.decided.relaxation;
+        self.tree.allowance.settle(share, relaxation.allowance());
         Ok(plan)
     }
 
@@ -276,9 +276,8 @@ impl<'a> Drafting<'a> {
         let plan = renumbered(self.alloc, &self.tree.draft.plan, &merge.parts)?;
         let share = self.tree.allowance.share(MERGE_SHARE);
         let mut drafting = Drafting::new(self.alloc, &merge.part, &plan, self.workers, share)?;
-        drafting
-            .tree
-            .offer(self.alloc, &plan, self.tree.draft.cost)?;
+        let cost = self.tree.draft.cost;
+        drafting.tree.offer(self.alloc, &plan, cost)?;
         drafting.make_plans()?;
         drafting.grow(rt, MERGE_NODES)?;
         self.tree.allowance.settle(share, drafting.tree.allowance);

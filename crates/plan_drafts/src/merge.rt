@@ -74,9 +74,7 @@ pub fn renumbered(alloc: Global, plan: &[Option<u32>], numbers: &[Option<u32>]) 
 
 /// Marks a plan's rows.
 fn mark(plan: &[Option<u32>], is_chosen: &mut [bool]) {
-    for row in plan {
-        if let Some(row) = *row {
-            set_at(is_chosen, row as usize, true);
-        }
+    for row in plan.iter().flatten() {
+        set_at(is_chosen, *row as usize, true);
     }
 }

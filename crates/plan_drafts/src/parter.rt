@@ -80,10 +80,8 @@ impl Parter {
         let relaxation = &mut self.decided.relaxation;
         relaxation.go_to(table, &standing.basis)?;
         relaxation.pivot_on(table)?;
-        let work = relaxation
-            .pivots()
-            .saturating_mul(table.condition_count() as u64);
-        let tries = work < MOST_WORK as u64;
+        let conditions = table.condition_count() as u64;
+        let tries = relaxation.pivots().saturating_mul(conditions) < MOST_WORK as u64;
         let (decided, cost) = (&mut self.decided, tree.draft.cost);
         let branching = &mut self.branching;
         self.branch = branching.choose(table, decided, &standing.shares, cost, tries)?;
@@ -95,8 +93,7 @@ impl Parter {
     }
 
     /// Forbids what the decisions above the node forbid.
-    fn forbid_above(&mut self, table: &RowTable, tree: &DraftTree, number: usize) -> Made<()> {
-        let mut number = number;
+    fn forbid_above(&mut self, table: &RowTable, tree: &DraftTree, mut number: usize) -> Made<()> {
         self.decided.go_back(0);
         for _ in 0..tree.draft.nodes.len() {
             match tree.draft.decision(number) {

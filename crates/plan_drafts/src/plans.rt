@@ -83,10 +83,9 @@ impl Plans {
                 break;
             }
             let size = 3 + attempt / 32 % 8;
-            let present = &mut self.present;
             let walk = &mut self.neighbourhood;
-            let saved = walk.attempt(regrets, present, size, most_steps)?;
-            allowance.spend(self.neighbourhood.choices.work);
+            let saved = walk.attempt(regrets, &mut self.present, size, most_steps)?;
+            allowance.spend(walk.choices.work);
             self.cost = self.cost.saturating_sub(saved / 1024);
             idle = if saved > 0 { 0 } else { idle.saturating_add(1) };
         }

@@ -61,7 +61,8 @@ impl<'a> Regrets<'a> {
 
     /// Notes the regrets of a vehicle's rows.
     fn reduce(&mut self, prices: &[i64], rows: Range<usize>) -> Made<()> {
-        let least = least_cost(self.table, prices, rows.start, rows.end);
+        let costs = (rows.start..rows.end).map(|row| self.table.reduced_cost(prices, row));
+        let least = costs.min().unwrap_or(i64::MAX);
         for row in rows {
             let cost = self.table.reduced_cost(prices, row);
             self.above.push(cost.saturating_sub(least))?;
@@ -138,13 +139,4 @@ impl<'a> Regrets<'a> {
     pub fn left(&self, rider: u32) -> i64 {
         at(&self.left, rider as usize)
     }
-}
-
-/// The least reduced cost of these rows.
-fn least_cost(table: &RowTable, prices: &[i64], first: usize, end: usize) -> i64 {
-    let mut least = i64::MAX;
-    for row in first..end {
-        least = least.min(table.reduced_cost(prices, row));
-    }
-    least
 }

@@ -115,18 +115,14 @@ impl DraftTree {
 
     /// The basis of the first solution.
     pub fn root_basis(&self) -> &[u32] {
-        match self.standing(0) {
-            Some(standing) => &standing.basis,
-            None => &[],
-        }
+        self.standing(0)
+            .map_or(&[], |standing| standing.basis.as_slice())
     }
 
     /// The multipliers of a node.
     pub fn multipliers(&self, number: usize) -> &[i64] {
-        match self.draft.nodes.get(number) {
-            Some(node) => &node.multipliers,
-            None => &[],
-        }
+        let node = self.draft.nodes.get(number);
+        node.map_or(&[], |node| node.multipliers.as_slice())
     }
 
     /// Grows to so many nodes, by a team with relaxations beside this one and at most so many workers.
