@@ -1,10 +1,11 @@
 -- A good outcome's branches tell vehicles by their numbers among the batch's, and its rows are trips.
-use Rattle.std.proofs.Common.{◌≡◌, ◌==◌, ℕ, zero, suc, ◌+◌, ◌<◌, ◌≤◌, ne_eqb, eq-eqb, List, [], ◌++◌, All, length, get_or, map, slice_get, unwrap_or, option_map, Some, Option, ⊎_elim, sym, ap, ◌∙◌, subst, arith}
-use Rattle.block_audit.proofs.Common.{position_or_len, cases_lt, get_or-map, length-map, position_or_len_is, All-append, All-cons, All-map, All-from_get_or, slice_get-get_or, slice_get-map, Batch, IsKept, Vehicle, AnswersWith, HasGraphsWith, IsGoodOutcome, IsGoodPlan, HasTrips, number_among, Node, Answer, Outcome, Planned, RowLine, Settings, Roads}
-use Rattle.std.specs.List.Sorted.{IsStrictlyIncreasing}
+use Rattle.std.proofs.lemmas.Bool.Decides.{nat_tests}
+use Rattle.std.proofs.Common.{rules, refl, Bool, not, nat_lt, Some, None, ◌≡◌, ◌==◌, ℕ, ◌<◌, ◌≤◌, ne_eqb, eq-eqb, List, [], ◌++◌, All, length, get_or, map, slice_get, unwrap_or, option_map, sym, ap, ◌∙◌, subst, arith}
+use Rattle.block_audit.proofs.Common.{cond_both, position, position_or_len, get_or-map, length-map, position_or_len_is, prefix_len-le-length, All-append, All-cons, All-map, All-from_get_or, slice_get-get_or, slice_get-map, Batch, IsKept, Vehicle, AnswersWith, HasGraphsWith, IsGoodOutcome, IsGoodPlan, HasTrips, number_among, Node, Answer, Outcome, Planned, RowLine, Settings, Roads}
+use Rattle.std.proofs.lemmas.List.Kept.{AllPairs-from_increasing}
 use Rattle.batch_solver.specs.Told.{rider_id, row_line}
 use Rattle.batch_solver.specs.lemmas.Named.{vehicle_id}
-use Rattle.plan_rules.specs.Graph.{Graph, IsRowOf, row_at, row_vehicle, no_row}
+use Rattle.plan_rules.specs.Graph.{Graph, IsRowOf, row_vehicle, no_row}
 use Rattle.plan_rules.specs.GoodGraph.{IsGoodGraph}
 use Rattle.plan_rules.specs.Multipliers.{Usable}
 use Rattle.plan_rules.specs.Tree.{SearchTree, IsSoundTree, every_row, only_row, without_row}
@@ -29,16 +30,10 @@ abbrev pub AreNumbered : List ℕ → Answer → Type 0
 AreNumbered ids Overflow = Unit {0}
 AreNumbered ids (Plan plan) = All (IsNumbered ids plan.rows) plan.tree
 
--- in a rising list an earlier number is less
-rises : (xs : List ℕ) → IsStrictlyIncreasing xs → (i j : ℕ) → i < j → j < length xs → get_or xs i 0 < get_or xs j 0
-rises xs up i zero less low = absurd (omega arith)
-rises xs up i (suc j) less low =
-    let e : j + 1 ≡ suc j = omega arith in
-    let next : get_or xs j 0 < get_or xs (suc j) 0 = subst (λ k. get_or xs j 0 < get_or xs k 0) e (up j (omega (arith, low))) in
-    ⊎_elim
-    (λ (before : i < j). let h = rises xs up i j before (omega (arith, low)) in omega (arith, h, next))
-    (λ (here : j ≤ i). let same : i ≡ j = omega (arith, here, less) in subst (λ k. get_or xs k 0 < get_or xs (suc j) 0) (sym same) next)
-    (cases_lt i j)
+-- the first place among others, or their number
+pub place_or_len : {X : Type 0} (p : X → Bool) (xs : List X) → unwrap_or (position p xs) (length xs) ≡ position_or_len p xs
+place_or_len p xs = cond_both (nat_lt (position_or_len p xs) (length xs)) (Some (position_or_len p xs)) None (λ o. unwrap_or o (length xs) ≡ position_or_len p xs) (λ less. refl)
+    (λ above. let low = prefix_len-le-length (λ x. not (p x)) xs in grind (arith, nat_tests, above, low))
 
 no_vehicle : Vehicle
 no_vehicle = record { id = 0; seats = 0; node = 0; time = 0; aboard = record { items = [] } }
@@ -67,17 +62,13 @@ module _ (settings : Settings) (points : List ℕ) (tau : ℕ → ℕ → ℕ) (
       let here = told_id v h in
       let first : position_or_len (λ other. other == vehicle_id settled v) ids ≡ v =
       position_or_len_is (λ (other : ℕ). other == vehicle_id settled v) ids v 0 (omega (arith, low))
-      (λ k less. let below = rises ids kept.vehicles_rise k v less low in ne_eqb (get_or ids k 0) (vehicle_id settled v) (λ e. absurd (omega (arith, e, here, below))))
+      (λ k less. let below = AllPairs-from_increasing ids kept.vehicles_rise k v 0 less low in ne_eqb (get_or ids k 0) (vehicle_id settled v) (λ e. absurd (omega (arith, e, here, below))))
       (λ within. eq-eqb (get_or ids v 0) (vehicle_id settled v) here) in
       omega (arith, first, low, most)
 
   module _ (graph : Graph) (good : IsGoodGraph graph) (count : graph.vehicles ≡ length settled.vehicles) (rows : List RowLine) (told : rows ≡ map (row_line settled) graph.rows) where
     id_at : (k : ℕ) → k < length graph.rows → unwrap_or (option_map (λ (r : RowLine). r.vehicle) (slice_get rows k)) 0 ≡ vehicle_id settled (row_vehicle graph k)
-    id_at k h =
-        let at : slice_get rows k ≡ Some (row_line settled (row_at graph k)) =
-        ap (λ (rs : List RowLine). slice_get rs k) told ∙ slice_get-map (row_line settled) graph.rows k ∙ ap (λ (r : Option TripRow). option_map (row_line settled) r) (slice_get-get_or graph.rows k no_row h)
-        in
-        ap (λ (r : Option RowLine). unwrap_or (option_map (λ (x : RowLine). x.vehicle) r) 0) at
+    id_at k h = search (rules, slice_get-map, slice_get-get_or)
 
     branch_numbered : (v k : ℕ) → IsRowOf graph v k → IsNumbered (vehicle_ids batch) rows (Branch v k)
     branch_numbered v k row =
@@ -104,18 +95,13 @@ module _ (settings : Settings) (points : List ℕ) (tau : ℕ → ℕ → ℕ) (
   answer_numbered Overflow good = tt
   answer_numbered (Plan plan) good = plan_numbered plan good
 
--- rows told of a graph
-rows_few : (settled : Settled) (rows : List TripRow) → ((k : ℕ) → k < length rows → length (get_or rows k no_row).riders.items ≤ 6) → All (λ (row : RowLine). length row.riders.items ≤ 6) (map (row_line settled) rows)
-rows_few settled rows few =
-    All-map (λ (row : RowLine). length row.riders.items ≤ 6) (row_line settled) rows
-    (All-from_get_or (λ (row : TripRow). length (row_line settled row).riders.items ≤ 6) rows no_row
-    (λ k h. let e = length-map (get_or rows k no_row).riders.items (λ (r : ℕ). rider_id settled r) in let n = few k h in omega (arith, e, n)))
-
 pub good_trips : (settings : Settings) (points : List ℕ) (tau : ℕ → ℕ → ℕ) (settled : Settled) (answer : Answer) → AnswersWith settings points tau settled (IsGoodPlan settings) answer → HasTrips answer
 good_trips settings points tau settled Overflow good = tt
 good_trips settings points tau settled (Plan plan) good =
     subst (λ (rows : List RowLine). All (λ (row : RowLine). length row.riders.items ≤ 6) rows) (sym (good.holds point.Graphs).3)
-    (rows_few settled good.graph.rows (λ k h. (good.exact.good.rows k h).few))
+    (All-map (λ (row : RowLine). length row.riders.items ≤ 6) (row_line settled) good.graph.rows
+    (All-from_get_or (λ (row : TripRow). length (row_line settled row).riders.items ≤ 6) good.graph.rows no_row
+    (λ k h. let e = length-map (get_or good.graph.rows k no_row).riders.items (λ (r : ℕ). rider_id settled r) in let n = (good.exact.good.rows k h).few in omega (arith, e, n))))
 
 pub outcome_numbered : (settings : Settings) (roads : Roads) (batch : Batch) (outcome : Outcome) → IsKept batch → IsGoodOutcome settings roads batch outcome → AreNumbered (vehicle_ids batch) outcome.answer
 outcome_numbered settings roads batch outcome kept good = answer_numbered settings good.points (travel_time good.times) batch good.settled kept good.limits outcome.answer good.answer

@@ -1,9 +1,9 @@
 -- An outcome is judged as itself, and lines that can be told are those of the outcome as which they are judged.
-use Rattle.std.proofs.Common.{◌≡◌, ℕ, ◌≤◌, ◌+◌, Bool, true, false, cond, nat_le, IfSome, List, [], ◌∷◌, ◌++◌, length, get_or, map, slice_get, unwrap_or, option_map, Option, Some, None, append_assoc, refl, sym, ap, ◌∙◌, subst, arith}
-use Rattle.block_audit.proofs.Common.{cond-true, cond_both, length-map, All-cons, All-head, All-tail, All-map, slice_get-map, Point, Node, follow_on, last_place, row_as_line, trip_as_line, late_as_line, tree_line, lines_of, BlockLine, Expired, Overflow, Lapsed, Late, Alone, Shared, Row, Trip, Out, Move, Cost, Bound, Nodes, Branch, Leaf, Dead, End, LateText, RowText, TripText, Answer, Outcome, Planned, RowLine, at_most, row_of, trip_of, late_of, node_of, judged_plan, judged_outcome, NamesRow, CanBeTold, HasTrips, stops_of, Told, told_by}
+use Rattle.std.proofs.lemmas.Bool.Decides.{nat_tests}
+use Rattle.std.proofs.Common.{◌≡◌, ℕ, ◌≤◌, Bool, true, false, cond, nat_le, IfSome, List, [], ◌∷◌, ◌++◌, length, get_or, map, option_map, Option, Some, None, append_assoc, refl, sym, ap, ◌∙◌, subst, arith}
+use Rattle.block_audit.proofs.Common.{cond-true, cond_both, length-map, All-head, All-tail, All-map, slice_get-map, Point, Node, follow_on, last_place, row_as_line, trip_as_line, late_as_line, tree_line, lines_of, BlockLine, Expired, Overflow, Lapsed, Late, Alone, Shared, Row, Trip, Out, Move, Cost, Bound, Nodes, Branch, Leaf, Dead, End, LateText, RowText, TripText, Answer, Outcome, Planned, RowLine, at_most, row_of, trip_of, late_of, node_of, judged_plan, judged_outcome, NamesRow, CanBeTold, HasTrips, stops_of, Told, told_by}
 use Rattle.std.specs.List.{All}
 use Rattle.std.proofs.lemmas.Bool.{le-leb, leb-true}
-use Rattle.arrayvec.specs.ArrayVec.{ArrayVec}
 use Rattle.dispatch_report.specs.declared.block_line.BlockLine.TheVariants.{Batch}
 use Rattle.request_book.specs.declared.outcome.Answer.TheVariants.{Overflow as TooMany, Planned as Plan}
 use Rattle.request_book.specs.declared.outcome.ChosenTrip.{ChosenTrip}
@@ -11,7 +11,7 @@ use Rattle.request_book.specs.declared.outcome.LateVehicle.{LateVehicle}
 use Rattle.request_book.specs.declared.outcome.PlannedStop.{PlannedStop}
 use Rattle.block_audit.specs.Fits.{HasFewStops}
 use Rattle.block_audit.proofs.NumberedLemmas.{AreNumbered, IsNumbered}
-use Rattle.block_audit.proofs.ShapeLemmas.{IsNodeLine, from_left, is_printed, nest, printed}
+use Rattle.block_audit.proofs.ShapeLemmas.{IsNodeLine, from, is_printed, nest, printed}
 use Rattle.block_audit.proofs.ToldLemmas.{overflow_told, overflow_is_told, plan_is_told}
 use Rattle.batch_solver.specs.declared.point.Point.TheVariants as point
 use Rattle.plan_rules.specs.declared.node.Node.TheVariants as node
@@ -45,15 +45,6 @@ told_of batch expired plan = record {
   tree = map (tree_line plan.rows) plan.tree;
 }
 
-tree_drawn : (rows : List RowLine) (tree : List Node) → All IsNodeLine (map (tree_line rows) tree)
-tree_drawn rows [] = λ k d within. absurd (omega arith)
-tree_drawn rows (n ∷ tree) = All-cons IsNodeLine (tree_line rows n) (map (tree_line rows) tree) (by n) (tree_drawn rows tree)
-  where
-    by : (n : Node) → IsNodeLine (tree_line rows n)
-    by (node.Branch v r) = tt
-    by (node.Leaf ms) = tt
-    by node.Dead = tt
-
 fused : {X Y : Type 0} (K : Y → BlockLine) (g : X → Y) (xs : List X) → map (λ x. K (g x)) xs ≡ map K (map g xs)
 fused K g [] = refl
 fused K g (x ∷ xs) = ap (λ l. K (g x) ∷ l) (fused K g xs)
@@ -73,7 +64,7 @@ plan_lines batch expired plan =
     nest (Batch batch ∷ []) (map Expired expired) (map Lapsed plan.lapsed) (map late_as_line plan.late) (map Alone plan.rv) (map Shared plan.rr) (map row_as_line plan.rows)
     (map trip_as_line plan.chosen) (map Out plan.left) (map Move plan.moves) (Cost plan.cost ∷ Bound plan.bound ∷ Nodes (length plan.tree) ∷ []) (map (tree_line plan.rows) plan.tree) (End ∷ [])
     ∙ (λ i. Batch batch ∷ (map Expired expired ++ (map Lapsed plan.lapsed ++ (late i ++ (map Alone plan.rv ++ (map Shared plan.rr ++ (rows i ++ (chosen i
-    ++ from_left (told_of batch expired plan)))))))))
+    ++ from 6 (told_of batch expired plan)))))))))
 
 -- lists of few items are kept
 kept : {X : Type 0} (most : ℕ) (xs : List X) → length xs ≤ most → at_most most xs ≡ xs
@@ -86,54 +77,6 @@ back : {X Y : Type 0} (f : X → Y) (g : Y → X) (P : X → Type 0) → ((x : X
 back f g P same [] all = refl
 back f g P same (x ∷ xs) all = ap (λ z. z ∷ map g (map f xs)) (same x (All-head P x xs all)) ∙ ap (λ zs. x ∷ zs) (back f g P same xs (All-tail P x xs all))
 
--- rows, trips and late vehicles, there and back
-row_back : (row : RowText) → length row.riders ≤ 6 → row_text (row_of row) ≡ row
-row_back row low = ap (λ l. record { vehicle = row.vehicle; cost = row.cost; riders = l }) (kept 6 row.riders low)
-
-row_again : (row : RowLine) → length row.riders.items ≤ 6 → row_of (row_text row) ≡ row
-row_again row low = ap (λ l. record { vehicle = row.vehicle; riders = record { items = l }; cost = row.cost }) (kept 6 row.riders.items low)
-
-trip_back : (trip : TripText) → length trip.stops ≤ 22 → trip_text (trip_of trip) ≡ trip
-trip_back trip low = ap (λ l. record { vehicle = trip.vehicle; cost = trip.cost; stops = l }) (kept 22 trip.stops low)
-
-trip_again : (trip : ChosenTrip) → length trip.stops.items ≤ 22 → trip_of (trip_text trip) ≡ trip
-trip_again trip low = ap (λ l. record { vehicle = trip.vehicle; cost = trip.cost; stops = record { items = l } }) (kept 22 trip.stops.items low)
-
-late_back : (late : LateText) → IfSome late.stops (λ stops. length stops ≤ 10) → late_text (late_of late) ≡ late
-late_back late low = ap (λ o. record { vehicle = late.vehicle; delay = late.delay; stops = o }) (by late.stops low)
-  where
-    by : (o : Option (List PlannedStop)) → IfSome o (λ stops. length stops ≤ 10) → option_map (λ (s : ArrayVec PlannedStop). s.items) (option_map (stops_of 10) o) ≡ o
-    by None low = refl
-    by (Some stops) low = ap Some (kept 10 stops low)
-
-late_again : (late : LateVehicle) → IfSome late.stops (λ stops. length stops.items ≤ 10) → late_of (late_text late) ≡ late
-late_again late low = ap (λ o. record { vehicle = late.vehicle; delay = late.delay; stops = o }) (by late.stops low)
-  where
-    by : (o : Option (ArrayVec PlannedStop)) → IfSome o (λ stops. length stops.items ≤ 10) → option_map (stops_of 10) (option_map (λ (s : ArrayVec PlannedStop). s.items) o) ≡ o
-    by None low = refl
-    by (Some stops) low = ap (λ l. Some (record { items = l })) (kept 10 stops.items low)
-
--- the vehicle of a row
-abbrev id_in : List RowLine → ℕ → ℕ
-id_in rows row = unwrap_or (option_map (λ r. r.vehicle) (slice_get rows row)) 0
-
-abbrev id_told : List RowText → ℕ → ℕ
-id_told rows row = unwrap_or (option_map (λ r. r.vehicle) (slice_get rows row)) 0
-
-id_of_row : (rows : List RowText) (row : ℕ) → id_in (map row_of rows) row ≡ id_told rows row
-id_of_row rows row = ap (λ o. unwrap_or (option_map (λ (r : RowLine). r.vehicle) o) 0) (slice_get-map row_of rows row) ∙ by (slice_get rows row)
-  where
-    by : (o : Option RowText) → unwrap_or (option_map (λ (r : RowLine). r.vehicle) (option_map row_of o)) 0 ≡ unwrap_or (option_map (λ (r : RowText). r.vehicle) o) 0
-    by None = refl
-    by (Some r) = refl
-
-id_of_text : (rows : List RowLine) (row : ℕ) → id_told (map row_text rows) row ≡ id_in rows row
-id_of_text rows row = ap (λ o. unwrap_or (option_map (λ (r : RowText). r.vehicle) o) 0) (slice_get-map row_text rows row) ∙ by (slice_get rows row)
-  where
-    by : (o : Option RowLine) → unwrap_or (option_map (λ (r : RowText). r.vehicle) (option_map row_text o)) 0 ≡ unwrap_or (option_map (λ (r : RowLine). r.vehicle) o) 0
-    by None = refl
-    by (Some r) = refl
-
 -- trees, there and back
 tree_back : (ids : List ℕ) (rows : List RowText) (tree : List BlockLine) → All IsNodeLine tree → All (NamesRow rows) tree → map (tree_line (map row_of rows)) (map (node_of ids) tree) ≡ tree
 tree_back ids rows [] drawn named = refl
@@ -142,7 +85,7 @@ tree_back ids rows (line ∷ lines) drawn named =
     ∙ ap (λ zs. line ∷ zs) (tree_back ids rows lines (All-tail IsNodeLine line lines drawn) (All-tail (NamesRow rows) line lines named))
   where
     by : (line : BlockLine) → IsNodeLine line → NamesRow rows line → tree_line (map row_of rows) (node_of ids line) ≡ line
-    by (Branch branch) is names = ap (λ v. Branch (v, branch.1)) (id_of_row rows branch.1 ∙ names)
+    by (Branch branch) is names = grind (arith, nat_tests, slice_get-map, names)
     by (Leaf multipliers) is names = refl
     by Dead is names = refl
     by _ is names = absurd is
@@ -155,14 +98,9 @@ tree_again ids rows tree numbered = back (tree_line rows) (node_of ids) (IsNumbe
     by (node.Leaf ms) is = refl
     by node.Dead is = refl
 
-tree_named : (rows : List RowLine) (tree : List Node) → All (NamesRow (map row_text rows)) (map (tree_line rows) tree)
-tree_named rows [] = λ k d within. absurd (omega arith)
-tree_named rows (n ∷ tree) = All-cons (NamesRow (map row_text rows)) (tree_line rows n) (map (tree_line rows) tree) (by n) (tree_named rows tree)
-  where
-    by : (n : Node) → NamesRow (map row_text rows) (tree_line rows n)
-    by (node.Branch v r) = id_of_text rows r
-    by (node.Leaf ms) = tt
-    by node.Dead = tt
+line_drawn : (rows : List RowLine) (n : Node) → IsNodeLine (tree_line rows n) × NamesRow (map row_text rows) (tree_line rows n)
+line_drawn rows (node.Branch v r) = (tt, grind (arith, nat_tests, slice_get-map))
+line_drawn rows n = (tt, tt)
 
 -- lines that can be told are those of the outcome as which they are judged
 pub lines_are : (ids : List ℕ) (lines : List BlockLine) → follow_on 0 lines ≡ true → last_place 0 lines ≡ 16 → ((q : Point) → CanBeTold q (told_by lines))
@@ -176,9 +114,9 @@ lines_are ids lines f e can = by (is_printed lines f e)
     by (false, t, drawn, is) =
         let told : told_by lines ≡ record t { overflow = false } = ap told_by is ∙ plan_is_told t drawn in
         let can_so : (q : Point) → CanBeTold q (record t { overflow = false }) = λ q. subst (λ (u : Told). CanBeTold q u) told (can q) in
-        let late = back late_of late_text (λ late. IfSome late.stops (λ stops. length stops ≤ 10)) late_back t.late (can_so point.Late) in
-        let rows = back row_of row_text (λ row. length row.riders ≤ 6) row_back t.rows (can_so point.Graphs) in
-        let chosen = back trip_of trip_text (λ trip. length trip.stops ≤ 22) trip_back t.chosen (can_so point.Trips) in
+        let late = back late_of late_text (λ late. IfSome late.stops (λ stops. length stops ≤ 10)) (λ late low. grind (arith, nat_tests, kept)) t.late (can_so point.Late) in
+        let rows = back row_of row_text (λ row. length row.riders ≤ 6) (λ row low. grind (arith, nat_tests, kept)) t.rows (can_so point.Graphs) in
+        let chosen = back trip_of trip_text (λ trip. length trip.stops ≤ 22) (λ trip low. grind (arith, nat_tests, kept)) t.chosen (can_so point.Trips) in
         let nodes : length (map (node_of ids) t.tree) ≡ t.nodes = length-map t.tree (node_of ids) ∙ sym (can_so point.Bound).0 in
         let tree = tree_back ids t.rows t.tree drawn (can_so point.Bound).1 in
         let same : told_of t.batch t.expired (judged_plan ids t) ≡ record t { overflow = false } =
@@ -212,13 +150,6 @@ pub record IsToldAs (ids : List ℕ) (batch : ℕ) (outcome : Outcome) (t : Told
   pub same : judged_outcome ids t ≡ outcome
   pub can : (q : Point) → CanBeTold q t
 
-late_told : (late : LateVehicle) → IfSome late.stops (λ stops. length stops.items ≤ 10) → IfSome (late_text late).stops (λ stops. length stops ≤ 10)
-late_told late low = at late.stops low
-  where
-    at : (o : Option (ArrayVec PlannedStop)) → IfSome o (λ stops. length stops.items ≤ 10) → IfSome (option_map (λ (s : ArrayVec PlannedStop). s.items) o) (λ stops. length stops ≤ 10)
-    at None low = tt
-    at (Some s) low = low
-
 none_told : (batch : ℕ) (expired : List ℕ) (q : Point) → CanBeTold q (overflow_told batch expired)
 none_told batch expired point.Graphs = λ k d within. absurd (omega arith)
 none_told batch expired point.Late = λ k d within. absurd (omega arith)
@@ -229,16 +160,16 @@ none_told batch expired q = tt
 module _ (batch : ℕ) (expired : List ℕ) (plan : Planned) (stops : HasFewStops (Plan plan)) (trips : HasTrips (Plan plan)) where
   all_told : (q : Point) → CanBeTold q (told_of batch expired plan)
   all_told point.Graphs = All-map (λ row. length row.riders ≤ 6) row_text plan.rows trips
-  all_told point.Late = All-map (λ late. IfSome late.stops (λ stops. length stops ≤ 10)) late_text plan.late (λ k d within. late_told (get_or plan.late k d) (stops.0 k d within))
+  all_told point.Late = All-map (λ late. IfSome late.stops (λ stops. length stops ≤ 10)) late_text plan.late (λ k d within. let low = stops.0 k d within in grind (arith, nat_tests, low))
   all_told point.Trips = All-map (λ trip. length trip.stops ≤ 22) trip_text plan.chosen stops.1
-  all_told point.Bound = (sym (length-map plan.tree (tree_line plan.rows)), tree_named plan.rows plan.tree)
+  all_told point.Bound = (sym (length-map plan.tree (tree_line plan.rows)), All-map (NamesRow (map row_text plan.rows)) (tree_line plan.rows) plan.tree (λ k d within. (line_drawn plan.rows (get_or plan.tree k d)).1))
   all_told q = tt
 
   plan_again : (ids : List ℕ) → AreNumbered ids (Plan plan) → judged_plan ids (told_of batch expired plan) ≡ plan
   plan_again ids numbered =
-      let late = back late_text late_of (λ late. IfSome late.stops (λ stops. length stops.items ≤ 10)) late_again plan.late stops.0 in
-      let rows = back row_text row_of (λ row. length row.riders.items ≤ 6) row_again plan.rows trips in
-      let chosen = back trip_text trip_of (λ trip. length trip.stops.items ≤ 22) trip_again plan.chosen stops.1 in
+      let late = back late_text late_of (λ late. IfSome late.stops (λ stops. length stops.items ≤ 10)) (λ late low. grind (arith, nat_tests, kept)) plan.late stops.0 in
+      let rows = back row_text row_of (λ row. length row.riders.items ≤ 6) (λ row low. grind (arith, nat_tests, kept)) plan.rows trips in
+      let chosen = back trip_text trip_of (λ trip. length trip.stops.items ≤ 22) (λ trip low. grind (arith, nat_tests, kept)) plan.chosen stops.1 in
       let tree = tree_again ids plan.rows plan.tree numbered in
       (λ i. record { lapsed = plan.lapsed; late = late i; rv = plan.rv; rr = plan.rr; rows = rows i; chosen = chosen i; left = plan.left; moves = plan.moves; cost = plan.cost; bound = plan.bound; tree = tree i })
 
@@ -250,6 +181,6 @@ outcome_is_told ids batch outcome stops trips numbered = by outcome.answer stops
         let t = sym (ap told_by (overflow_lines batch outcome.expired) ∙ overflow_is_told (overflow_told batch outcome.expired)) in
         subst (λ (u : Told). IsToldAs ids batch (answered_by outcome.expired TooMany) u) t (record { number = refl; same = refl; can = none_told batch outcome.expired })
     by (Plan plan) stops trips numbered =
-        let t = sym (ap told_by (plan_lines batch outcome.expired plan) ∙ plan_is_told (told_of batch outcome.expired plan) (tree_drawn plan.rows plan.tree)) in
+        let t = sym (ap told_by (plan_lines batch outcome.expired plan) ∙ plan_is_told (told_of batch outcome.expired plan) (All-map IsNodeLine (tree_line plan.rows) plan.tree (λ k d within. (line_drawn plan.rows (get_or plan.tree k d)).0))) in
         let same = ap (λ (x : Planned). answered_by outcome.expired (Plan x)) (plan_again batch outcome.expired plan stops trips ids numbered) in
         subst (λ (u : Told). IsToldAs ids batch (answered_by outcome.expired (Plan plan)) u) t (record { number = refl; same = same; can = all_told batch outcome.expired plan stops trips })

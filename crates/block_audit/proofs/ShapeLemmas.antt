@@ -1,5 +1,5 @@
 -- A block in form is what some lists tell, printed.
-use Rattle.std.proofs.Common.{◌≡◌, ℕ, Bool, true, false, if◌then◌else◌, List, [], ◌∷◌, ◌++◌, drop, map, append_assoc, refl, ap, arith}
+use Rattle.std.proofs.Common.{◌≡◌, ℕ, Bool, true, false, if◌then◌else◌, List, [], ◌∷◌, ◌++◌, drop, flat_map, map, append_assoc, refl, ap, arith}
 use Rattle.block_audit.proofs.Common.{All-cons, follow_on, last_place, BlockLine, Expired, Overflow, Lapsed, Late, Alone, Shared, Row, Trip, Out, Move, Cost, Bound, Nodes, Branch, Leaf, Dead, End, Told, nothing_told}
 use Rattle.std.specs.List.{All}
 use Rattle.dispatch_report.specs.declared.block_line.BlockLine.TheVariants.{Batch}
@@ -11,37 +11,17 @@ IsNodeLine (Leaf multipliers) = Unit {0}
 IsNodeLine Dead = Unit {0}
 IsNodeLine _ = ⊥
 
--- the lines of what is told, from one kind on
-abbrev pub from_tree : Told → List BlockLine
-from_tree t = t.tree ++ End ∷ []
+-- the lines of what is told, kind by kind, and those behind so many kinds
+abbrev kinds : Told → List (List BlockLine)
+kinds t = map Lapsed t.lapsed ∷ map Late t.late ∷ map Alone t.rv ∷ map Shared t.rr ∷ map Row t.rows ∷ map Trip t.chosen ∷ map Out t.left ∷ map Move t.moves
+    ∷ (Cost t.cost ∷ Bound t.bound ∷ Nodes t.nodes ∷ []) ∷ t.tree ∷ (End ∷ []) ∷ []
 
-abbrev pub from_moves : Told → List BlockLine
-from_moves t = map Move t.moves ++ (Cost t.cost ∷ Bound t.bound ∷ Nodes t.nodes ∷ from_tree t)
-
-abbrev pub from_left : Told → List BlockLine
-from_left t = map Out t.left ++ from_moves t
-
-abbrev pub from_chosen : Told → List BlockLine
-from_chosen t = map Trip t.chosen ++ from_left t
-
-abbrev pub from_rows : Told → List BlockLine
-from_rows t = map Row t.rows ++ from_chosen t
-
-abbrev pub from_rr : Told → List BlockLine
-from_rr t = map Shared t.rr ++ from_rows t
-
-abbrev pub from_rv : Told → List BlockLine
-from_rv t = map Alone t.rv ++ from_rr t
-
-abbrev pub from_late : Told → List BlockLine
-from_late t = map Late t.late ++ from_rv t
-
-abbrev pub from_lapsed : Told → List BlockLine
-from_lapsed t = map Lapsed t.lapsed ++ from_late t
+abbrev pub from : ℕ → Told → List BlockLine
+from n t = flat_map (λ l. l) (drop n (kinds t))
 
 -- something told has these lines
 abbrev Are : (Told → List BlockLine) → List BlockLine → Type 0
-Are from lines = (t : Told) × All IsNodeLine t.tree × (lines ≡ from t)
+Are of lines = (t : Told) × All IsNodeLine t.tree × (lines ≡ of t)
 
 after_end : (l : List BlockLine) → follow_on 16 l ≡ true → l ≡ []
 after_end [] f = refl
@@ -53,10 +33,10 @@ after_overflow [] f e = absurd (omega arith)
 after_overflow (End ∷ l) f e = ap (λ r. End ∷ r) (after_end l f)
 after_overflow (x ∷ l) f e = absurd (cc)
 
-node : (x : BlockLine) (l : List BlockLine) → IsNodeLine x → Are from_tree l → Are from_tree (x ∷ l)
+node : (x : BlockLine) (l : List BlockLine) → IsNodeLine x → Are (from 9) l → Are (from 9) (x ∷ l)
 node x l is (t, drawn, whole) = (record t { tree = x ∷ t.tree }, All-cons IsNodeLine x t.tree is drawn, ap (λ r. x ∷ r) whole)
 
-tree_more : (l : List BlockLine) → follow_on 14 l ≡ true → last_place 14 l ≡ 16 → Are from_tree l
+tree_more : (l : List BlockLine) → follow_on 14 l ≡ true → last_place 14 l ≡ 16 → Are (from 9) l
 tree_more [] f e = absurd (omega arith)
 tree_more (Branch branch ∷ l) f e = node (Branch branch) l tt (tree_more l f e)
 tree_more (Leaf multipliers ∷ l) f e = node (Leaf multipliers) l tt (tree_more l f e)
@@ -64,65 +44,65 @@ tree_more (Dead ∷ l) f e = node Dead l tt (tree_more l f e)
 tree_more (End ∷ l) f e = (nothing_told, (λ k d within. absurd (omega arith)), ap (λ r. End ∷ r) (after_end l f))
 tree_more (x ∷ l) f e = absurd (cc)
 
-tree : (l : List BlockLine) → follow_on 13 l ≡ true → last_place 13 l ≡ 16 → Are from_tree l
+tree : (l : List BlockLine) → follow_on 13 l ≡ true → last_place 13 l ≡ 16 → Are (from 9) l
 tree [] f e = absurd (omega arith)
 tree (Dead ∷ l) f e = tree_more (Dead ∷ l) f e
 tree (x ∷ l) f e = tree_more (x ∷ l) f e
 
-nodes : (l : List BlockLine) → follow_on 12 l ≡ true → last_place 12 l ≡ 16 → Are (λ t. Nodes t.nodes ∷ from_tree t) l
+nodes : (l : List BlockLine) → follow_on 12 l ≡ true → last_place 12 l ≡ 16 → Are (λ t. Nodes t.nodes ∷ from 9 t) l
 nodes [] f e = absurd (omega arith)
 nodes (Nodes n ∷ l) f e = let b = tree l f e in (record b.0 { nodes = n }, b.1, ap (λ r. Nodes n ∷ r) b.2)
 nodes (x ∷ l) f e = absurd (cc)
 
-bound : (l : List BlockLine) → follow_on 11 l ≡ true → last_place 11 l ≡ 16 → Are (λ t. Bound t.bound ∷ Nodes t.nodes ∷ from_tree t) l
+bound : (l : List BlockLine) → follow_on 11 l ≡ true → last_place 11 l ≡ 16 → Are (λ t. Bound t.bound ∷ Nodes t.nodes ∷ from 9 t) l
 bound [] f e = absurd (omega arith)
 bound (Bound z ∷ l) f e = let b = nodes l f e in (record b.0 { bound = z }, b.1, ap (λ r. Bound z ∷ r) b.2)
 bound (x ∷ l) f e = absurd (cc)
 
-moves : (l : List BlockLine) → follow_on 10 l ≡ true → last_place 10 l ≡ 16 → Are from_moves l
+moves : (l : List BlockLine) → follow_on 10 l ≡ true → last_place 10 l ≡ 16 → Are (from 7) l
 moves [] f e = absurd (omega arith)
 moves (Move m ∷ l) f e = let b = moves l f e in (record b.0 { moves = m ∷ b.0.moves }, b.1, ap (λ r. Move m ∷ r) b.2)
 moves (Cost n ∷ l) f e = let b = bound l f e in (record b.0 { moves = []; cost = n }, b.1, ap (λ r. Cost n ∷ r) b.2)
 moves (x ∷ l) f e = absurd (cc)
 
-left : (l : List BlockLine) → follow_on 9 l ≡ true → last_place 9 l ≡ 16 → Are from_left l
+left : (l : List BlockLine) → follow_on 9 l ≡ true → last_place 9 l ≡ 16 → Are (from 6) l
 left [] f e = absurd (omega arith)
 left (Out rider ∷ l) f e = let b = left l f e in (record b.0 { left = rider ∷ b.0.left }, b.1, ap (λ r. Out rider ∷ r) b.2)
 left (x ∷ l) f e = let b = moves (x ∷ l) f e in (record b.0 { left = [] }, b.1, b.2)
 
-chosen : (l : List BlockLine) → follow_on 8 l ≡ true → last_place 8 l ≡ 16 → Are from_chosen l
+chosen : (l : List BlockLine) → follow_on 8 l ≡ true → last_place 8 l ≡ 16 → Are (from 5) l
 chosen [] f e = absurd (omega arith)
 chosen (Trip trip ∷ l) f e = let b = chosen l f e in (record b.0 { chosen = trip ∷ b.0.chosen }, b.1, ap (λ r. Trip trip ∷ r) b.2)
 chosen (x ∷ l) f e = let b = left (x ∷ l) f e in (record b.0 { chosen = [] }, b.1, b.2)
 
-rows : (l : List BlockLine) → follow_on 7 l ≡ true → last_place 7 l ≡ 16 → Are from_rows l
+rows : (l : List BlockLine) → follow_on 7 l ≡ true → last_place 7 l ≡ 16 → Are (from 4) l
 rows [] f e = absurd (omega arith)
 rows (Row row ∷ l) f e = let b = rows l f e in (record b.0 { rows = row ∷ b.0.rows }, b.1, ap (λ r. Row row ∷ r) b.2)
 rows (x ∷ l) f e = let b = chosen (x ∷ l) f e in (record b.0 { rows = [] }, b.1, b.2)
 
-rr : (l : List BlockLine) → follow_on 6 l ≡ true → last_place 6 l ≡ 16 → Are from_rr l
+rr : (l : List BlockLine) → follow_on 6 l ≡ true → last_place 6 l ≡ 16 → Are (from 3) l
 rr [] f e = absurd (omega arith)
 rr (Shared pair ∷ l) f e = let b = rr l f e in (record b.0 { rr = pair ∷ b.0.rr }, b.1, ap (λ r. Shared pair ∷ r) b.2)
 rr (x ∷ l) f e = let b = rows (x ∷ l) f e in (record b.0 { rr = [] }, b.1, b.2)
 
-rv : (l : List BlockLine) → follow_on 5 l ≡ true → last_place 5 l ≡ 16 → Are from_rv l
+rv : (l : List BlockLine) → follow_on 5 l ≡ true → last_place 5 l ≡ 16 → Are (from 2) l
 rv [] f e = absurd (omega arith)
 rv (Alone pair ∷ l) f e = let b = rv l f e in (record b.0 { rv = pair ∷ b.0.rv }, b.1, ap (λ r. Alone pair ∷ r) b.2)
 rv (x ∷ l) f e = let b = rr (x ∷ l) f e in (record b.0 { rv = [] }, b.1, b.2)
 
-late : (l : List BlockLine) → follow_on 4 l ≡ true → last_place 4 l ≡ 16 → Are from_late l
+late : (l : List BlockLine) → follow_on 4 l ≡ true → last_place 4 l ≡ 16 → Are (from 1) l
 late [] f e = absurd (omega arith)
 late (Late order ∷ l) f e = let b = late l f e in (record b.0 { late = order ∷ b.0.late }, b.1, ap (λ r. Late order ∷ r) b.2)
 late (x ∷ l) f e = let b = rv (x ∷ l) f e in (record b.0 { late = [] }, b.1, b.2)
 
-lapsed : (l : List BlockLine) → follow_on 3 l ≡ true → last_place 3 l ≡ 16 → Are from_lapsed l
+lapsed : (l : List BlockLine) → follow_on 3 l ≡ true → last_place 3 l ≡ 16 → Are (from 0) l
 lapsed [] f e = absurd (omega arith)
 lapsed (Lapsed rider ∷ l) f e = let b = lapsed l f e in (record b.0 { lapsed = rider ∷ b.0.lapsed }, b.1, ap (λ r. Lapsed rider ∷ r) b.2)
 lapsed (x ∷ l) f e = let b = late (x ∷ l) f e in (record b.0 { lapsed = [] }, b.1, b.2)
 
 -- the lines of a block: its number, the expired riders, and an overflow or a plan
 abbrev pub printed : Bool → Told → List BlockLine
-printed overflow t = Batch t.batch ∷ (map Expired t.expired ++ (if overflow then Overflow ∷ End ∷ [] else from_lapsed t))
+printed overflow t = Batch t.batch ∷ (map Expired t.expired ++ (if overflow then Overflow ∷ End ∷ [] else from 0 t))
 
 -- some block has these lines behind its number
 abbrev HasRest : List BlockLine → Type 0

@@ -1,42 +1,17 @@
 -- What can be told, point by point.
-use Rattle.std.proofs.Common.{refl, arith}
-use Rattle.block_audit.proofs.Common.{point_place, HoldBelow, hold_none, hold_more, Point, CanBeTold, Told, HoldUpTo}
+use Rattle.std.proofs.Common.{ℕ, ◌<◌, refl}
+use Rattle.block_audit.proofs.Common.{point_place, HoldBelow, Point, CanBeTold, Told, HoldUpTo}
 use Rattle.batch_solver.specs.declared.point.Point.TheVariants as point
 
 module _ (t : Told) where
-  abbrev Can : Point → Type 0
-  Can q = CanBeTold q t
+  -- where the points that ask something of the lines can be told before a place, all can
+  pub told_below : (place : ℕ) → (1 < place → CanBeTold point.Graphs t) → (2 < place → CanBeTold point.Late t) → (3 < place → CanBeTold point.Trips t) → (5 < place → CanBeTold point.Bound t)
+      → HoldBelow (λ q. CanBeTold q t) place
+  told_below place rows late trips tree point.Graphs less = rows less
+  told_below place rows late trips tree point.Late less = late less
+  told_below place rows late trips tree point.Trips less = trips less
+  told_below place rows late trips tree point.Bound less = tree less
+  told_below place rows late trips tree q less = tt
 
-  fails_at : (p : Point) → HoldBelow Can (point_place p) → (Can p → ⊥) → HoldUpTo Can (point_place p)
-  fails_at p before refuted = record { before = before; there = λ less. (p, refl, refuted) }
-
-  first : HoldBelow Can 1
-  first = hold_more Can point.Answer (hold_none Can) tt
-
-  pub untold_rows : (Can point.Graphs → ⊥) → HoldUpTo Can 1
-  untold_rows refuted = fails_at point.Graphs first refuted
-
-  module _ (rows : Can point.Graphs) where
-    second : HoldBelow Can 2
-    second = hold_more Can point.Graphs first rows
-
-    pub untold_late : (Can point.Late → ⊥) → HoldUpTo Can 2
-    untold_late refuted = fails_at point.Late second refuted
-
-    module _ (late : Can point.Late) where
-      third : HoldBelow Can 3
-      third = hold_more Can point.Late second late
-
-      pub untold_trips : (Can point.Trips → ⊥) → HoldUpTo Can 3
-      untold_trips refuted = fails_at point.Trips third refuted
-
-      module _ (trips : Can point.Trips) where
-        fifth : HoldBelow Can 5
-        fifth = hold_more Can point.Plan (hold_more Can point.Trips third trips) tt
-
-        pub untold_tree : (Can point.Bound → ⊥) → HoldUpTo Can 5
-        untold_tree refuted = fails_at point.Bound fifth refuted
-
-        pub all_told : Can point.Bound → HoldUpTo Can 9
-        all_told tree =
-            record { before = hold_more Can point.Moves (hold_more Can point.Best (hold_more Can point.Tree (hold_more Can point.Bound fifth tree) tt) tt) tt; there = λ less. absurd (omega (arith, less)) }
+  pub untold_at : (p : Point) → HoldBelow (λ q. CanBeTold q t) (point_place p) → (CanBeTold p t → ⊥) → HoldUpTo (λ q. CanBeTold q t) (point_place p)
+  untold_at p before refuted = record { before = before; there = λ less. (p, refl, refuted) }

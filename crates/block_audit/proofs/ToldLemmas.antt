@@ -1,9 +1,10 @@
 -- What the lines of a block tell is what it is made of.
-use Rattle.std.proofs.Common.{◌≡◌, ℕ, true, false, List, [], ◌∷◌, ◌++◌, map, append_assoc, append-nil, refl, sym, ap, ◌∙◌, arith, fold}
-use Rattle.block_audit.proofs.Common.{All-cons, All-head, All-tail, BlockLine, Expired, Overflow, Lapsed, Late, Alone, Shared, Row, Trip, Out, Move, Branch, Leaf, Dead, End, LateText, RowText, TripText, Told, nothing_told, told_by, with_line}
+use Rattle.std.proofs.Common.{◌≡◌, ℕ, true, false, List, [], ◌∷◌, ◌++◌, map, append_assoc, append-nil, refl, sym, ap, ◌∙◌, arith, fold, ◌≤◌, length, IfSome}
+use Rattle.block_audit.proofs.Common.{All-cons, All-head, All-tail, BlockLine, Expired, Overflow, Lapsed, Late, Alone, Shared, Row, Trip, Out, Move, Branch, Leaf, Dead, End, Point, CanBeTold, Told, nothing_told, told_by, with_line}
 use Rattle.std.specs.List.{All}
 use Rattle.dispatch_report.specs.declared.block_line.BlockLine.TheVariants.{Batch}
-use Rattle.block_audit.proofs.ShapeLemmas.{IsNodeLine, from_lapsed, printed}
+use Rattle.batch_solver.specs.declared.point.Point.TheVariants as point
+use Rattle.block_audit.proofs.ShapeLemmas.{IsNodeLine, from, printed}
 
 -- the lines of a list add its items
 module _ {X : Type 0} (K : X → BlockLine) (of : Told → List X) (put : Told → List X → Told)
@@ -45,7 +46,7 @@ overflow_is_told t = expired_told t (Overflow ∷ End ∷ [])
 
 pub plan_is_told : (t : Told) → All IsNodeLine t.tree → told_by (printed false t) ≡ record t { overflow = false }
 plan_is_told t drawn =
-    expired_told t (from_lapsed t)
+    expired_told t (from 0 t)
     ∙ list_told Lapsed (λ t. t.lapsed) (λ t l. record t { lapsed = l }) (λ t. refl) (λ t x. refl) (λ t l. refl) (λ t l m. refl) _ t.lapsed _
     ∙ list_told Late (λ t. t.late) (λ t l. record t { late = l }) (λ t. refl) (λ t x. refl) (λ t l. refl) (λ t l m. refl) _ t.late _
     ∙ list_told Alone (λ t. t.rv) (λ t l. record t { rv = l }) (λ t. refl) (λ t x. refl) (λ t l. refl) (λ t l m. refl) _ t.rv _
@@ -56,15 +57,6 @@ plan_is_told t drawn =
     ∙ list_told Move (λ t. t.moves) (λ t l. record t { moves = l }) (λ t. refl) (λ t x. refl) (λ t l. refl) (λ t l m. refl) _ t.moves _
     ∙ tree_told _ t.tree _ drawn
 
--- what holds of a list that lines tell, holds of each of these lines
-module _ {X : Type 0} (of : Told → List X) (P : X → Type 0) (Q : BlockLine → Type 0) (step : (t : Told) (line : BlockLine) → All P (of (with_line t line)) → All P (of t) × Q line) where
-  of_lines : (t : Told) (lines : List BlockLine) → All P (of (fold with_line t lines)) → All P (of t) × All Q lines
-  of_lines t [] all = (all, λ k d within. absurd (omega arith))
-  of_lines t (line ∷ lines) all =
-      let rest = of_lines (with_line t line) lines all in
-      let here = step t line rest.0 in
-      (here.0, All-cons Q line lines here.1 rest.1)
-
 -- the last of a list, and those before it
 last_of : {X : Type 0} (P : X → Type 0) (xs : List X) (x : X) → All P (xs ++ x ∷ []) → All P xs × P x
 last_of P [] x all = (λ k d within. absurd (omega arith), All-head P x [] all)
@@ -72,36 +64,26 @@ last_of P (y ∷ ys) x all =
     let rest = last_of P ys x (All-tail P y (ys ++ x ∷ []) all) in
     (All-cons P y ys (All-head P y (ys ++ x ∷ []) all) rest.0, rest.1)
 
--- of rows, chosen trips and late vehicles
-abbrev pub OfRow : (RowText → Type 0) → BlockLine → Type 0
-OfRow P (Row row) = P row
-OfRow P _ = Unit {0}
+-- what a point asks of one line, and of lists of what is told
+abbrev pub IsShort : Point → BlockLine → Type 0
+IsShort point.Graphs (Row row) = length row.riders ≤ 6
+IsShort point.Late (Late late) = IfSome late.stops (λ stops. length stops ≤ 10)
+IsShort point.Trips (Trip trip) = length trip.stops ≤ 22
+IsShort p line = Unit {0}
 
-abbrev pub OfTrip : (TripText → Type 0) → BlockLine → Type 0
-OfTrip P (Trip trip) = P trip
-OfTrip P _ = Unit {0}
+abbrev pub AreShort : Point → Told → Type 0
+AreShort point.Bound t = Unit {0}
+AreShort p t = CanBeTold p t
 
-abbrev pub OfLate : (LateText → Type 0) → BlockLine → Type 0
-OfLate P (Late late) = P late
-OfLate P _ = Unit {0}
+short_with : (p : Point) (t : Told) (line : BlockLine) → AreShort p (with_line t line) → AreShort p t × IsShort p line
+short_with point.Graphs t (Row row) all = last_of (λ r. length r.riders ≤ 6) t.rows row all
+short_with point.Late t (Late late) all = last_of (λ l. IfSome l.stops (λ stops. length stops ≤ 10)) t.late late all
+short_with point.Trips t (Trip trip) all = last_of (λ r. length r.stops ≤ 22) t.chosen trip all
+short_with p t line all = (all, tt)
 
-pub all_rows : (P : RowText → Type 0) (lines : List BlockLine) → All P (told_by lines).rows → All (OfRow P) lines
-all_rows P lines all = (of_lines (λ t. t.rows) P (OfRow P) step nothing_told lines all).1
-  where
-    step : (t : Told) (line : BlockLine) → All P (with_line t line).rows → All P t.rows × OfRow P line
-    step t (Row row) all = last_of P t.rows row all
-    step t line all = (all, tt)
-
-pub all_trips : (P : TripText → Type 0) (lines : List BlockLine) → All P (told_by lines).chosen → All (OfTrip P) lines
-all_trips P lines all = (of_lines (λ t. t.chosen) P (OfTrip P) step nothing_told lines all).1
-  where
-    step : (t : Told) (line : BlockLine) → All P (with_line t line).chosen → All P t.chosen × OfTrip P line
-    step t (Trip trip) all = last_of P t.chosen trip all
-    step t line all = (all, tt)
-
-pub all_lates : (P : LateText → Type 0) (lines : List BlockLine) → All P (told_by lines).late → All (OfLate P) lines
-all_lates P lines all = (of_lines (λ t. t.late) P (OfLate P) step nothing_told lines all).1
-  where
-    step : (t : Told) (line : BlockLine) → All P (with_line t line).late → All P t.late × OfLate P line
-    step t (Late late) all = last_of P t.late late all
-    step t line all = (all, tt)
+pub all_short : (p : Point) (t : Told) (lines : List BlockLine) → AreShort p (fold with_line t lines) → AreShort p t × All (IsShort p) lines
+all_short p t [] all = (all, λ k d within. absurd (omega arith))
+all_short p t (line ∷ lines) all =
+    let rest = all_short p (with_line t line) lines all in
+    let here = short_with p t line rest.0 in
+    (here.0, All-cons (IsShort p) line lines here.1 rest.1)

@@ -6,7 +6,7 @@ use Rattle.plan_rules.specs.declared.node.Node.TheVariants as node
 use Rattle.batch_solver.specs.declared.point.Point.{Point}
 use Rattle.batch_solver.specs.declared.point.Point.TheVariants as point
 use Rattle.dispatch_report.specs.declared.block_line.BlockLine.{BlockLine}
-use Rattle.dispatch_report.specs.declared.block_line.BlockLine.TheVariants.{Branch, Leaf, Dead}
+use Rattle.dispatch_report.specs.declared.block_line.BlockLine.TheVariants.{Branch, Leaf}
 use Rattle.dispatch_report.specs.declared.block_line.LateText.{LateText}
 use Rattle.dispatch_report.specs.declared.block_line.RowText.{RowText}
 use Rattle.dispatch_report.specs.declared.block_line.TripText.{TripText}

@@ -1,5 +1,6 @@
 //! The outcome as which a block is judged.
-ghost use Rattle.std.specs.Prelude.{◌≡◌, ℕ, true, false, IfOk, List, map};
+ghost use Rattle.std.specs.Prelude.{◌≡◌, ◌==◌, ℕ, true, false, IfOk, List, map};
+ghost use Rattle.std.specs.List.{position};
 ghost use Rattle.block_audit.specs.Judged.{at_most, late_of, judged_outcome, node_of, number_among, row_of, trip_of};
 ghost use Rattle.block_audit.specs.work.Told.{told_in};
 
@@ -93,10 +94,7 @@ fn planned(told: BlockTold, parts: Parts) -> Outcome
 fn lates_of(alloc: Global, lines: &[LateText]) -> Result<Vec<LateVehicle>, OutOfMemory>
     ensures { IfOk result (λ items. items.items ≡ map late_of lines.now) }
 {
-    let mut items = Vec::new(alloc);
-    for line in lines {
-        items.push(late_of(line))?;
-    }
+    let items = lines.iter().map(|line| late_of(line)).collect(alloc)?;
     Ok(items)
 }
 
@@ -116,10 +114,7 @@ fn late_of(late: &LateText) -> LateVehicle
 fn rows_of(alloc: Global, lines: &[RowText]) -> Result<Vec<RowLine>, OutOfMemory>
     ensures { IfOk result (λ items. items.items ≡ map row_of lines.now) }
 {
-    let mut items = Vec::new(alloc);
-    for line in lines {
-        items.push(row_of(line))?;
-    }
+    let items = lines.iter().map(|line| row_of(line)).collect(alloc)?;
     Ok(items)
 }
 
@@ -136,10 +131,7 @@ fn row_of(row: &RowText) -> RowLine
 fn trips_of(alloc: Global, lines: &[TripText]) -> Result<Vec<ChosenTrip>, OutOfMemory>
     ensures { IfOk result (λ items. items.items ≡ map trip_of lines.now) }
 {
-    let mut items = Vec::new(alloc);
-    for line in lines {
-        items.push(trip_of(line))?;
-    }
+    let items = lines.iter().map(|line| trip_of(line)).collect(alloc)?;
     Ok(items)
 }
 
@@ -186,14 +178,14 @@ fn node_of(alloc: Global, line: &BlockLine, ids: &[VehicleId]) -> Result<Node, O
 fn number_among(ids: &[VehicleId], id: VehicleId) -> u32
     ensures { result ≡ number_among ids.now id }
 {
-    let mut number: u32 = 0;
-    for other in ids {
-        if *other == id {
-            return number;
-        }
-        number = number.saturating_add(1);
-    }
-    number
+    let place = place_among(ids, id).unwrap_or(ids.len());
+    place.min(u32::MAX as usize) as u32
+}
+
+fn place_among(ids: &[VehicleId], id: VehicleId) -> Option<usize>
+    ensures { result ≡ position (λ other. other == id) ids.now }
+{
+    ids.iter().position(|other| *other == id)
 }
 
 /// Stops, where there is room for all of them.
@@ -222,9 +214,6 @@ fn riders_kept(riders: &[RiderId]) -> ArrayVec<RiderId, 6>
 fn ids_of(alloc: Global, vehicles: &[Vehicle]) -> Result<Vec<VehicleId>, OutOfMemory>
     ensures { IfOk result (λ ids. ids.items ≡ map (λ v. v.id) vehicles.entry.now) }
 {
-    let mut ids = Vec::new(alloc);
-    for vehicle in vehicles {
-        ids.push(vehicle.id)?;
-    }
+    let ids = vehicles.iter().map(|vehicle| vehicle.id).collect(alloc)?;
     Ok(ids)
 }

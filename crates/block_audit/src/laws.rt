@@ -46,6 +46,7 @@ pub fn a_good_block_is_not_refused()
 {}
 
 /// A text is refused for one cause.
+#[tactic(auto, using(crate::proofs::lemmas::AuditLemmas::one_refusal))]
 pub fn a_text_is_refused_in_one_way()
     ensures { (settings : Settings) (roads : Roads) (batch : Batch) (text : List ℕ) (refusal other : BlockRefusal)
         → refusal ≢ NoMemory → other ≢ NoMemory → Refuses settings roads batch text refusal → Refuses settings roads batch text other → refusal ≡ other }

@@ -1,9 +1,9 @@
 pub mod OrderLemmas
 pub mod TripLemmas
 pub mod LateLemmas
+pub mod WalkLemmas
 pub mod TellsLemmas
 pub mod MatchLemmas
-pub mod GivenLemmas
 pub mod IdleLemmas
 pub mod VerdictLemmas
 pub mod IdLemmas

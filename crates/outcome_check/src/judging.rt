@@ -130,7 +130,6 @@ fn judge_chosen(
     planned: &Planned,
 ) -> Result<Verdict, OutOfMemory>
     requires exact { AreExact graphs.now }
-    requires ids { HasOwnIds graphs.now.instance.now.settled.now }
     requires gives { GivesTrips graphs.now.instance.now.points.now (travel_time graphs.now.instance.now.times.now) graphs.now.instance.now.settled.now graphs.now.graph.now plan.now planned.now.chosen }
     requires before { (q : OnePoint) → point_place q < 4 → Holds graphs.now.instance.now.settings.now q planned.now (posed_by graphs.now) }
     ensures { IfOk result (IsVerdictOf (λ q. Holds graphs.now.instance.now.settings.now q planned.now (posed_by graphs.now))) }

@@ -9,7 +9,6 @@ ghost use Rattle.outcome_check.specs.work.Orders.{HasOwnIds};
 ghost use Rattle.outcome_check.specs.work.Trips.{IsLeast};
 
 use crate::orders::told_order;
-use crate::vehicles::late_vehicles;
 use batch_solver::Instance;
 use pool_base::OutOfMemory;
 use request_book::{LateVehicle, PlannedStop};
@@ -27,17 +26,21 @@ pub(crate) fn are_late(
     requires ids { HasOwnIds instance.now.settled.now }
     ensures { IfOk result (λ yes. IsTrue yes ↔ AreLate instance.now.points.now (travel_time instance.now.times.now) instance.now.settled.now late.now) }
 {
-    let vehicles = late_vehicles(alloc, instance.settled)?;
-    if vehicles.len() != late.len() {
-        return Ok(false);
-    }
-    for place in 0..vehicles.len() {
-        let vehicle = vehicles[place];
+    let vehicles = instance.settled.vehicles.as_slice();
+    let mut place = 0;
+    for vehicle in 0..vehicles.len() {
+        if !vehicles[vehicle].late {
+            continue;
+        }
+        if place >= late.len() {
+            return Ok(false);
+        }
         if !is_late(alloc, instance, vehicle, &late[place])? {
             return Ok(false);
         }
+        place += 1;
     }
-    Ok(true)
+    Ok(late.len() <= place)
 }
 
 /// Whether this is told rightly of a late vehicle.

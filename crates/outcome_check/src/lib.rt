@@ -26,7 +26,6 @@ mod moves;
 mod orders;
 mod plan;
 mod trips;
-mod vehicles;
 mod verdict;
 
 pub use judging::judge;

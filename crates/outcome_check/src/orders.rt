@@ -88,48 +88,37 @@ fn read_stop(settled: &Settled, vehicle: usize, trip: &[usize], told: PlannedSto
         → told ≡ told_stop points settled.entry.now vehicle trip.now (stop, second) → result ≡ Some stop }
 {
     let passengers = settled.vehicles.as_slice()[vehicle].aboard_ids.as_slice();
-    match number_in_trip(settled, trip, told.rider) {
+    match place_of_rider(settled, trip, told.rider) {
         Some(number) => {
             if told.pick {
-                Some(Stop::Pick(number))
+                Some(Stop::Pick(number as u8))
             } else {
-                Some(Stop::Drop(number))
+                Some(Stop::Drop(number as u8))
             }
         }
-        None => match number_aboard(passengers, told.rider) {
-            Some(number) => Some(Stop::Alight(number)),
+        None => match place_aboard(passengers, told.rider) {
+            Some(number) => Some(Stop::Alight(number as u8)),
             None => None,
         },
     }
 }
 
-/// The number of the rider in the trip.
-fn number_in_trip(settled: &Settled, trip: &[usize], id: RiderId) -> Option<u8>
-    requires within { All (λ r. r < length settled.now.riders) trip.now }
-    requires few { length trip.now ≤ 6 }
-    ensures { MatchOption result ((i : ℕ) → i < length trip.now → rider_id settled.entry.now (slice_index trip.now i) ≡ id → ⊥)
-        (λ i. (i < length trip.now) × (rider_id settled.entry.now (slice_index trip.now i) ≡ id)) }
+/// The first place among these riders of the one with this id.
+pub(crate) fn place_of_rider(settled: &Settled, riders: &[usize], id: RiderId) -> Option<usize>
+    requires { All (λ r. r < length settled.now.riders) riders.now }
+    ensures { MatchOption result ((i : ℕ) → i < length riders.now → rider_id settled.entry.now (slice_index riders.now i) ≡ id → ⊥)
+        (λ i. (i < length riders.now) × (rider_id settled.entry.now (slice_index riders.now i) ≡ id)) }
 {
-    for number in 0..trip.len() {
-        if settled.riders.as_slice()[trip[number]].id == id {
-            return Some(number as u8);
-        }
-    }
-    None
+    let known = settled.riders.as_slice();
+    riders.iter().position(|rider| known[*rider].id == id)
 }
 
-/// The number of the passenger.
-fn number_aboard(passengers: &[RiderId], id: RiderId) -> Option<u8>
-    requires few { length passengers.now ≤ 10 }
+/// The first place of this id among passengers.
+fn place_aboard(passengers: &[RiderId], id: RiderId) -> Option<usize>
     ensures { MatchOption result ((i : ℕ) → i < length passengers.now → slice_index passengers.now i ≡ id → ⊥)
         (λ i. (i < length passengers.now) × (slice_index passengers.now i ≡ id)) }
 {
-    for number in 0..passengers.len() {
-        if passengers[number] == id {
-            return Some(number as u8);
-        }
-    }
-    None
+    passengers.iter().position(|passenger| *passenger == id)
 }
 
 fn are_same_stops(stops: &[PlannedStop], others: &[PlannedStop]) -> bool

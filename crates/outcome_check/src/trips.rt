@@ -1,15 +1,14 @@
 //! The trips of a plan, and the plan that they give.
-ghost use Rattle.std.specs.Prelude.{◌≡◌, ◌↔◌, ◌<◌, ℕ, All, IfOk, IsTrue, List, MatchOption, None, Option, Some, length, slice_index};
-ghost use Rattle.std.specs.List.{Contains};
-ghost use Rattle.std.specs.List.Sorted.{IsStrictlyIncreasing};
-ghost use Rattle.plan_rules.specs.Graph.{IsRowOf, choice_at};
+ghost use Rattle.std.specs.Prelude.{◌↔◌, ◌<◌, ℕ, IfOk, IsTrue, List, MatchOption, Option, length};
+ghost use Rattle.plan_rules.specs.Graph.{IsRowOf};
+ghost use Rattle.plan_rules.specs.Plan.{IsPlan};
 ghost use Rattle.pool_base.specs.Times.{travel_time};
 ghost use Rattle.batch_solver.specs.Instance.{AreExact};
+ghost use Rattle.batch_solver.specs.Trips.{AreTrips};
 ghost use Rattle.outcome_check.specs.work.Orders.{HasOwnIds};
-ghost use Rattle.outcome_check.specs.work.Trips.{GivesTrips, HasNoRowFor, GiveRows, TellsRow};
+ghost use Rattle.outcome_check.specs.work.Trips.{GivesTrips, TellsRow};
 
 use crate::orders::told_order;
-use crate::vehicles::timely_vehicles;
 use batch_solver::Graphs;
 use plan_rules::Plan;
 use pool_base::OutOfMemory;
@@ -27,43 +26,30 @@ pub(crate) fn plan_of_trips(
     requires exact { AreExact graphs.now }
     requires ids { HasOwnIds graphs.now.instance.now.settled.now }
     ensures { IfOk result (λ found. MatchOption found
-        ((chosen : List (Option ℕ)) → GivesTrips graphs.now.instance.now.points.now (travel_time graphs.now.instance.now.times.now) graphs.now.instance.now.settled.now graphs.now.graph.now chosen trips.now → ⊥)
+        ((chosen : List (Option ℕ)) → IsPlan graphs.now.graph.now chosen → AreTrips graphs.now.instance.now.points.now (travel_time graphs.now.instance.now.times.now) graphs.now.instance.now.settled.now graphs.now.graph.now chosen trips.now → ⊥)
         (λ plan. GivesTrips graphs.now.instance.now.points.now (travel_time graphs.now.instance.now.times.now) graphs.now.instance.now.settled.now graphs.now.graph.now plan trips.now)) }
 {
-    let vehicles = timely_vehicles(alloc, graphs.instance.settled)?;
-    if vehicles.len() != trips.len() {
-        return Ok(None);
-    }
-    let Some(rows) = rows_of_trips(alloc, graphs, &vehicles, trips)? else {
-        return Ok(None);
-    };
-    let plan = plan_of_rows(alloc, graphs.graph.vehicle_count(), &vehicles, &rows)?;
-    Ok(Some(plan))
-}
-
-/// For each of these vehicles the row of its own of which its trip tells; `None` where some trip tells of none.
-fn rows_of_trips(
-    alloc: Global,
-    graphs: &Graphs<'_, '_>,
-    vehicles: &[usize],
-    trips: &[ChosenTrip],
-) -> Result<Option<Vec<u32>>, OutOfMemory>
-    requires exact { AreExact graphs.now }
-    requires ids { HasOwnIds graphs.now.instance.now.settled.now }
-    requires vehicles { All (λ v. v < length graphs.now.instance.now.settled.now.vehicles) vehicles.now }
-    requires sized { length vehicles.now ≡ length trips.now }
-    ensures { IfOk result (λ found. MatchOption found (HasNoRowFor graphs.now.instance.now.points.now (travel_time graphs.now.instance.now.times.now) graphs.now.instance.now.settled.now graphs.now.graph.now vehicles.now trips.now)
-        (λ rows. GiveRows graphs.now.instance.now.points.now (travel_time graphs.now.instance.now.times.now) graphs.now.instance.now.settled.now graphs.now.graph.now vehicles.now trips.now rows.items)) }
-{
-    let mut rows = Vec::new(alloc);
-    for place in 0..vehicles.len() {
-        let vehicle = vehicles[place];
+    let vehicles = graphs.instance.settled.vehicles.as_slice();
+    let mut chosen = Vec::new(alloc);
+    let mut place = 0;
+    for vehicle in 0..vehicles.len() {
+        if vehicles[vehicle].late {
+            chosen.push(None)?;
+            continue;
+        }
+        if place >= trips.len() {
+            return Ok(None);
+        }
         let Some(row) = row_of_trip(graphs, vehicle, &trips[place]) else {
             return Ok(None);
         };
-        rows.push(row)?;
+        chosen.push(Some(row))?;
+        place += 1;
     }
-    Ok(Some(rows))
+    if place < trips.len() {
+        return Ok(None);
+    }
+    Ok(Some(Plan::of(chosen)))
 }
 
 /// The vehicle's row of which the trip tells.
@@ -114,25 +100,4 @@ fn tells_row(graphs: &Graphs<'_, '_>, vehicle: usize, row: usize, trip: &ChosenT
         return false;
     };
     delay == trip.cost
-}
-
-/// The plan that gives each of these vehicles the row beside it, and the others none.
-fn plan_of_rows(
-    alloc: Global,
-    count: usize,
-    vehicles: &[usize],
-    rows: &[u32],
-) -> Result<Plan, OutOfMemory>
-    requires rising { IsStrictlyIncreasing vehicles.now }
-    requires within { All (λ v. v < count) vehicles.now }
-    requires sized { length rows.now ≡ length vehicles.now }
-    ensures sized { IfOk result (λ plan. length plan ≡ count) }
-    ensures given { IfOk result (λ plan. (k : ℕ) → k < length vehicles.now → choice_at plan (slice_index vehicles.now k) ≡ Some (slice_index rows.now k)) }
-    ensures others { IfOk result (λ plan. (v : ℕ) → (Contains vehicles.now v → ⊥) → choice_at plan v ≡ None) }
-{
-    let mut chosen = vec![in alloc; None; count]?;
-    for place in 0..vehicles.len() {
-        chosen[vehicles[place]] = Some(rows[place]);
-    }
-    Ok(Plan::of(chosen))
 }

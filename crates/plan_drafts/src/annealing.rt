@@ -29,6 +29,9 @@ const WARM: i64 = 300;
 
 const COOL: i64 = 150;
 
+/// What the seeds of draws lie above the numbers of those who anneal.
+const SEED: u64 = 1500;
+
 /// More than any move saves.
 const UNKNOWN: i64 = 1 << 50;
 
@@ -69,7 +72,7 @@ pub fn anneal<'a>(
     let mut annealing = Annealing {
         regrets,
         beside,
-        draws: Draws::new(seed),
+        draws: Draws::new(seed.wrapping_add(SEED)),
         present: Present::new(alloc, regrets.table)?,
         marks: vec![in alloc; 0; regrets.table.vehicle_count()]?,
         open: 0,

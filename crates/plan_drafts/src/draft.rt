@@ -52,13 +52,15 @@ const IDLE: u32 = 300;
 
 const STEPS: u32 = 500;
 
-/// How many scouts go at once, and how many where the gap is at most this part of the cost; and how often they go where
-/// one rider more might be served, as long as a better plan is found each time.
+/// How many scouts go at once; how many where the gap is at most this part of the cost, and where one rider more might
+/// be served; and how often they go then, as long as a better plan is found each time.
 const SCOUTS: u64 = 4;
 
 const FEW_SCOUTS: u64 = 2;
 
 const NEAR_PART: i64 = 2000;
+
+const MANY_SCOUTS: u64 = 8;
 
 const MOST_TIMES: u64 = 3;
 
@@ -69,7 +71,7 @@ const POOL_PART: i64 = 4;
 const LARGER_PART: i64 = 2;
 
 /// How many numbers a draft goes through at most. Of those who go through some side by side the one counts who goes
-/// through most.
+/// through most, and of scouts as often as one of four workers has a scout.
 const MOST_WORK: u64 = 3_200_000_000;
 
 /// How many numbers a row counts as that is judged at a node.
@@ -203,7 +205,6 @@ impl<'a> Drafting<'a> {
         let part = if is_small { LARGER_PART } else { POOL_PART };
         let relaxation = &mut self.decided.relaxation;
         relaxation.shrink_pool(table, self.tree.multipliers(0), gap / part)?;
-        let relaxation = &self.decided.relaxation;
         self.tree
             .grow(rt, self.alloc, table, relaxation, budget, self.workers)
     }
@@ -223,10 +224,11 @@ impl<'a> Drafting<'a> {
     /// Has scouts look for plans, and merges these. Scouts anneal where the gap is so wide that a rider more might be
     /// served.
     fn make_more_plans<R: Threads + Sync>(&mut self, rt: &R) -> Made<()> {
-        let count = if self.is_near() { FEW_SCOUTS } else { SCOUTS };
+        let mut count = if self.is_near() { FEW_SCOUTS } else { SCOUTS };
         let mut times = 1;
         let mut beside = None;
         if self.tree.gap(self.tree.draft.bound) >= self.regrets.table.penalty() / 4 {
+            count = MANY_SCOUTS;
             times = MOST_TIMES;
             beside = Some(Beside::new(self.alloc, self.regrets.table)?);
         }
@@ -266,7 +268,9 @@ impl<'a> Drafting<'a> {
             self.tree
                 .offer(self.alloc, scout.plans.rows(), scout.plans.cost)?;
         }
-        self.tree.allowance.settle(share, left);
+        for _ in 0..scouts.len().div_ceil(SCOUTS as usize) {
+            self.tree.allowance.settle(share, left);
+        }
         self.merge(rt, &scouts)
     }
 

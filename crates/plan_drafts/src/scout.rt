@@ -12,7 +12,7 @@ use row_tables::Made;
 use std::alloc::Global;
 
 /// Of so many scouts who may anneal one dives.
-const TURNS: u64 = 4;
+const TURNS: u64 = 8;
 
 /// After so many neighbourhoods in a row without a gain a plan is left, and how far each is searched.
 const IDLE: u32 = 1000;

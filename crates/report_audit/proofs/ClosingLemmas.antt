@@ -1,6 +1,6 @@
 -- The close of a batch, taken into a book.
-use Rattle.std.proofs.Common.{◌≡◌, ℕ, ◌<◌, ◌^◌, List, Some, eqb, get_or, sym, ap, ◌∙◌, subst}
-use Rattle.report_audit.proofs.Common.{Batch, IsKept, BeginsWithGood, good_not_refused, BookView, IsApplied, next_position, Close, Outcome, Reply, Closed, Settings, Roads, TakesClose, close_line, IsBookOf}
+use Rattle.std.proofs.Common.{◌≡◌, ℕ, ◌<◌, ◌^◌, List, Some, eqb, get_or, sym, ◌∙◌, subst, rules}
+use Rattle.report_audit.proofs.Common.{Batch, BeginsWithGood, BookView, IsApplied, next_position, Close, Outcome, Reply, Settings, Roads, TakesClose, close_line, IsBookOf}
 use Rattle.std.specs.List.{All, Contains}
 use Rattle.std.proofs.lemmas.Bool.{eqb-true}
 use Rattle.std.proofs.lemmas.Map.Views.{Contains-from_any}
@@ -17,24 +17,7 @@ batch_known settings roads b batch of sealed = λ k d within.
     contained node found = Contains-from_any {eq = λ q n. eqb n q} (λ x y same. sym (eqb-true y x same)) node roads.nodes found
 
 -- the close that was taken, by its batch and with its reply
-closed_applied : (old new : BookView) (batch : Batch) (lane n : ℕ) (outcome : Outcome) (reply : Reply) → n ≡ batch.number → old.state.sealed ≡ Some batch
-    → IsApplied old lane (Close n outcome) reply new → IsApplied old lane (Close batch.number outcome) Closed new
-closed_applied old new batch lane n outcome reply number sealed applied =
-    let named : IsApplied old lane (Close batch.number outcome) reply new = subst (λ (k : ℕ). IsApplied old lane (Close k outcome) reply new) number applied in
-    let is : reply ≡ Closed = ap (λ p. p.1) named.stepped ∙ ap (λ p. p.1) (close-is old.nodes old.wait old.state batch outcome sealed) in
-    subst (λ (r : Reply). IsApplied old lane (Close batch.number outcome) r new) is named
-
 pub takes_close : (settings : Settings) (roads : Roads) (old new : BookView) (batch : Batch) (lane n position : ℕ) (line after rest : List ℕ) (outcome : Outcome) (reply : Reply)
     → n ≡ batch.number → n < 2 ^ 64 → old.state.sealed ≡ Some batch → position ≡ next_position old.first old.entries → line ≡ close_line position lane n
-    → IsKept batch → BeginsWithGood settings roads batch after outcome rest
-    → ((other : Outcome) (behind : List ℕ) → BeginsWithGood settings roads batch after other behind → (other ≡ outcome) × (behind ≡ rest))
-    → IsApplied old lane (Close n outcome) reply new → TakesClose settings roads old batch lane line after rest new
-takes_close settings roads old new batch lane n position line after rest outcome reply number low sealed at is kept good only applied = record {
-  low = subst (λ (k : ℕ). k < 2 ^ 64) number low;
-  line_is = is ∙ ap (λ (p : ℕ). close_line p lane n) at ∙ ap (λ (k : ℕ). close_line (next_position old.first old.entries) lane k) number;
-  outcome = outcome;
-  good = good;
-  only = only;
-  unrefused = good_not_refused settings roads batch kept after outcome rest good;
-  applied = closed_applied old new batch lane n outcome reply number sealed applied;
-}
+    → BeginsWithGood settings roads batch after outcome rest → IsApplied old lane (Close n outcome) reply new → TakesClose settings roads old batch lane line after rest new
+takes_close settings roads old new batch lane n position line after rest outcome reply number low sealed at is good applied = search (rules, close-is, close_line)

@@ -1,8 +1,8 @@
 -- The names that the proofs of this crate cite from elsewhere, passed on from one place. Declares nothing.
+pub use Rattle.std.proofs.lemmas.Result.{err_from_is_err_and}
 pub use Rattle.std.proofs.lemmas.Bool.{both_ways, cases_eq, cases_lt, cond-true}
 pub use Rattle.std.proofs.lemmas.List.{drop_all, drop_more, get_or-replicate, get_or_past, length-replicate}
 pub use Rattle.batch_snapshot.specs.Batch.{Batch}
-pub use Rattle.batch_snapshot.specs.Kept.{IsKept}
 pub use Rattle.batch_snapshot.specs.declared.vehicle.Vehicle.{Vehicle}
 pub use Rattle.block_audit.proofs.lemmas.AuditLemmas.{good_not_refused, one_refusal}
 pub use Rattle.block_audit.specs.Block.{BeginsWithGood, Refuses}
@@ -15,7 +15,7 @@ pub use Rattle.dispatch_engine.specs.Progress.{AreDone, HaveCome, IsNext, IsNext
 pub use Rattle.dispatch_engine.specs.Run.{IsRoundRun, IsRun, journal_of, position_after_run, state_after_run}
 pub use Rattle.dispatch_engine.specs.declared.stand.LaneStand.{LaneStand}
 pub use Rattle.dispatch_report.specs.Entry.{command_text, entry_line, refusal_text, reply_text, rider_status_text}
-pub use Rattle.dispatch_report.specs.Fits.{TellsEnd}
+pub use Rattle.dispatch_report.specs.Fits.{IsCommand, IsReply, TellsEnd}
 pub use Rattle.dispatch_report.specs.Head.{head_text}
 unfoldable pub use Rattle.dispatch_report.specs.Lines.{lines_text}
 unfoldable pub use Rattle.dispatch_report.specs.Round.{end_text, entries_lines, round_text}
@@ -28,25 +28,16 @@ pub use Rattle.report_audit.specs.Place.{AreAtEnd, BeginsRound, Extent, IsInForm
 pub use Rattle.report_audit.specs.Report.{IsAudited, IsReportOfRun, batches_after, closes, rounds_text}
 pub use Rattle.report_audit.specs.Types.{AreTold, HasFittingBlock, IsTold, JournalsAreTold}
 pub use Rattle.report_audit.specs.declared.fault.AuditFault.{AuditFault}
-pub use Rattle.report_audit.specs.declared.stop.LineFault.{LineFault}
-pub use Rattle.report_audit.specs.declared.stop.Stop.{Stop}
-pub use Rattle.report_audit.specs.declared.stop.Stop.TheVariants.{Block, Line, OutOfMemory}
-pub use Rattle.report_audit.specs.work.Closing.{CloseStops, TakesClose, close_line}
-pub use Rattle.report_audit.specs.work.Ends.{EndStops, IsEndText, IsRestBehind}
-pub use Rattle.report_audit.specs.work.Faults.{IsLeftOf, fault_of, fault_of_head, higher, line_left, next_line}
-pub use Rattle.report_audit.specs.work.Place.{with_entry}
-pub use Rattle.report_audit.specs.work.Rest.{EndsBehind, GoesOn, IsRestOfRounds, IsWrong, StopsAt, StopsHere, entries_text, with_more}
-pub use Rattle.report_audit.specs.work.Rounds.{EntriesSoFar, EntriesStop, HasReadEntries, HasReadRound, HasRoundLine, IsNoRoundLine, IsRoundStart, RoundStops, WhereRoundStops}
-pub use Rattle.report_audit.specs.work.Steps.{BeginsWithEntry, EntryRead, HasNoNext, HasRead, IsBookOf, IsWithin, MayBegin, StopsBehind, StopsWithin, Waits}
-pub use Rattle.report_audit.specs.work.Taking.{CommandStops, TakesCommand}
-pub use Rattle.report_audit.specs.work.Whole.{AllStops, HasComeTo, HasReadAll, WhereAllStops}
-pub use Rattle.report_lines.proofs.lemmas.NextLemmas.{no_entry_done, no_entry_round, one_kind}
+pub use Rattle.report_audit.specs.work.Place.{entries_text, with_entry, with_more}
+pub use Rattle.report_audit.specs.work.Standing.{BlockFails, EntryRead, IsBetween, IsBookOf, IsFaultAt, IsGiven, IsInRound, IsOpen, IsOtherLine, IsRoundStart, IsWithin, OnlyFollows, TakesClose, TakesCommand, Waits, close_line, fault_of_head, line_left}
+pub use Rattle.report_lines.proofs.lemmas.NextLemmas.{one_kind}
 pub use Rattle.report_lines.proofs.lemmas.OneBlock.{append_one_line, cut_once, no_one_line, numbered_one_line, spaced_one_line, two_line}
 pub use Rattle.report_lines.specs.Cut.{is_one_line}
 pub use Rattle.report_lines.specs.Head.{BeginsWithHead}
 pub use Rattle.report_lines.specs.HeadFault.{FitsLine, HasForm, HeadFails, HeadLine, LineFails, LinesFail, head_lines, sizes_of}
 pub use Rattle.report_lines.specs.HeadLines.{AreSizes}
 pub use Rattle.report_lines.specs.Line.{IsFirstLine}
+pub use Rattle.report_lines.specs.Settings.{AreOf}
 pub use Rattle.report_lines.specs.Next.{IsEntry, IsNextLine}
 pub use Rattle.report_lines.specs.declared.head_fault.HeadFault.{HeadFault}
 pub use Rattle.report_lines.specs.declared.next.NextLine.{NextLine}

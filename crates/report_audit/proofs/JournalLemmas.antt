@@ -1,6 +1,6 @@
 -- Journals, entry by entry.
-use Rattle.std.proofs.Common.{◌≡◌, ℕ, ◌<◌, ◌^◌, List, [], ◌∷◌, ◌++◌, Option, Some, None, Result, Ok, Err, refl, sym, ap, ◌∙◌, subst, eq-eqb, arith}
-use Rattle.report_audit.proofs.Common.{Batch, IsGoodClose, ClosesAreGood, last_sealed, plain-quiet, one_more, next_position, would_seal, IsNoClose, state_after, RepliesAreSteps, batch_of, sealed_state, answered, cancel, dropoff, pickup, report, seal, step, submit, Command, Submit, Cancel, Report, Pickup, Dropoff, Seal, Close, Entry, Outcome, BookRefusal, Reply, Accepted, Cancelled, Closed, Dropped, Picked, Placed, Sealed, Waiting, State, answer, seal_refusal, seal_step, close_step, table_step, batch_unless, by-table, would_seal-table, Settings, Roads, snapshot_before, IsTold, AreTold}
+use Rattle.std.proofs.Common.{◌≡◌, ℕ, ◌<◌, ◌^◌, List, [], ◌∷◌, ◌++◌, Option, Some, None, Result, Ok, Err, refl, sym, ap, ◌∙◌, subst, eq-eqb, arith, rules}
+use Rattle.report_audit.proofs.Common.{Batch, IsGoodClose, ClosesAreGood, last_sealed, plain-quiet, one_more, next_position, would_seal, IsNoClose, state_after, batch_of, sealed_state, answered, cancel, dropoff, pickup, report, seal, step, submit, Command, Submit, Cancel, Report, Pickup, Dropoff, Seal, Close, Entry, Outcome, BookRefusal, Reply, Cancelled, Closed, Dropped, Picked, Placed, Sealed, State, answer, seal_refusal, seal_step, close_step, table_step, batch_unless, by-table, would_seal-table, Settings, Roads, snapshot_before, IsTold, AreTold}
 use Rattle.dispatch_engine.specs.lemmas.Lanes.{IsPlain}
 use Rattle.request_book.specs.lemmas.Closing.{after_answer, closed_state}
 use Rattle.request_book.specs.lemmas.Refusals.{first_of}
@@ -12,18 +12,8 @@ module _ (nodes : List ℕ) (wait : ℕ) where
   unfolding state_after
   after-none s = refl
 
-  pub reply-at : (s : State) (xs : List Entry) (e : Entry) (ys : List Entry) → RepliesAreSteps nodes wait s (xs ++ e ∷ ys) → e.reply ≡ (step nodes wait (state_after nodes wait s xs) e.command).1
-  unfolding state_after RepliesAreSteps
-  reply-at s [] e ys replies = replies.0
-  reply-at s (f ∷ xs) e ys replies = reply-at (step nodes wait s f.command).0 xs e ys replies.1
-
 -- closes
 module _ (settings : Settings) (roads : Roads) where
-  pub close-at : (s : State) (xs : List Entry) (e : Entry) (ys : List Entry) → ClosesAreGood settings roads s (xs ++ e ∷ ys) → IsGoodClose settings roads (state_after roads.nodes settings.wait s xs) e.command e.reply
-  unfolding state_after ClosesAreGood
-  close-at s [] e ys closes = closes.0
-  close-at s (f ∷ xs) e ys closes = close-at (step roads.nodes settings.wait s f.command).0 xs e ys closes.1
-
   pub closes-push : (s : State) (es : List Entry) (e : Entry) → ClosesAreGood settings roads s es → IsGoodClose settings roads (state_after roads.nodes settings.wait s es) e.command e.reply → ClosesAreGood settings roads s (es ++ e ∷ [])
   unfolding state_after ClosesAreGood
   closes-push s [] e closes good = (good, tt)
@@ -76,8 +66,7 @@ answered_is s own (Err refused) other is = cc
 
 pub not_closed : (nodes : List ℕ) (wait : ℕ) (s : State) (c : Command) → IsNoClose c → (step nodes wait s c).1 ≡ Closed → ⊥
 unfolding step
-not_closed nodes wait s (Submit rider origin destination time party) plain is =
-    answered_is s Accepted (submit nodes s (record { id = rider; origin = origin; destination = destination; time = time; party = party; status = Waiting })) (λ e. cc) is
+not_closed nodes wait s (Submit rider origin destination time party) plain is = search (rules, answered_is, submit)
 not_closed nodes wait s (Cancel rider) plain is = answered_is s Cancelled (cancel s rider) (λ e. cc) is
 not_closed nodes wait s (Report vehicle node time) plain is = answered_is s Placed (report nodes s vehicle node time) (λ e. cc) is
 not_closed nodes wait s (Pickup vehicle rider time) plain is = answered_is s Picked (pickup s vehicle rider time) (λ e. cc) is

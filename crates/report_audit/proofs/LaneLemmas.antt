@@ -1,5 +1,5 @@
 -- Lanes, entry by entry.
-use Rattle.std.proofs.Common.{◌≡◌, ◌≢◌, ◌==◌, ℕ, zero, suc, ◌<◌, ◌≤◌, List, [], ◌∷◌, ◌++◌, length, set, drop, slice_get, Option, Some, None, refl, sym, ap, ◌∙◌, subst, ⊎_elim, arith, append-nil, append_assoc, eq-eqb, option_map}
+use Rattle.std.proofs.Common.{◌≡◌, ◌≢◌, ◌==◌, ℕ, zero, suc, ◌<◌, ◌≤◌, List, [], ◌∷◌, ◌++◌, length, set, drop, slice_get, Option, Some, None, refl, sym, ap, ◌∙◌, subst, ⊎_elim, arith, append-nil, append_assoc, eq-eqb, option_map, rules}
 use Rattle.report_audit.proofs.Common.{cases_eq, cond-true, get_or_past, Batch, of_lane, IsLaneRun, IsLaneRunFrom, IsLaneBeginning, last_sealed, plain-quiet, LaneStand, at_start, stand_at, IsRest, IsNext, IsNextFrom, stand_after, HaveCome, AreDone, IsNoClose, step, Command, Close, Entry, Outcome, Reply, Accepted, Closed, State, NumberedLanes, IsRound, MayStand, lane_at, sealed_by, snapshot_before, Waits}
 use Rattle.std.proofs.lemmas.List.{get_or-set_same, get_or-set_other}
 use Rattle.std.proofs.lemmas.List.Elements.{filter-append}
@@ -133,41 +133,16 @@ waits_command nodes wait s lanes lane command low waits pending stands = ⊎_eli
         last_none (Some b) = refl
 
     elsewhere : lane ≢ 0 → Waits (set lanes lane (stand_after (stand_at lanes lane) (step nodes wait s command).1)) (step nodes wait s command).0.sealed
-    elsewhere other =
-        let new : List LaneStand = set lanes lane (stand_after (stand_at lanes lane) (step nodes wait s command).1) in
-        let quiet = plain-quiet nodes wait s command (stands-plain lane command other stands) in
-        let zero_stands : (stand_at new 0).pending ≡ (stand_at lanes 0).pending =
-        ap (λ (t : LaneStand). t.pending) (stand_other lanes lane (stand_after (stand_at lanes lane) (step nodes wait s command).1) low 0 (λ e. other (sym e))) in
-        let here : (stand_at new lane).pending ≡ None =
-        ap (λ (t : LaneStand). t.pending) (stand_same lanes lane (stand_after (stand_at lanes lane) (step nodes wait s command).1) low)
-        ∙ after_none (stand_at lanes lane) (step nodes wait s command).1 pending ∙ quiet.told in
-        record {
-          first = zero_stands ∙ waits.first ∙ ap (option_map (λ b. b.number)) (sym quiet.sealed);
-          others = λ k k_other. ⊎_elim
-              (λ (same : k ≡ lane). ap (λ (i : ℕ). (stand_at new i).pending) same ∙ here)
-              (λ (apart : k ≢ lane). ap (λ (t : LaneStand). t.pending) (stand_other lanes lane (stand_after (stand_at lanes lane) (step nodes wait s command).1) low k apart) ∙ waits.others k k_other)
-              (cases_eq k lane);
-        }
+    elsewhere other = search (rules, stand_after, stand_at, plain-quiet, stands-plain, stand_other, stand_same, after_none, option_map, cases_eq)
 
 -- behind a close
 pub waits_close : (lanes : List LaneStand) (lane batch : ℕ) (sealed : Option Batch) → lane < length lanes → Waits lanes sealed
     → (stand_at lanes lane).pending ≡ Some batch → Waits (set lanes lane (stand_after (stand_at lanes lane) Closed)) None
-waits_close lanes lane batch sealed low waits pending =
-    let new : List LaneStand = set lanes lane (stand_after (stand_at lanes lane) Closed) in
-    let here : (stand_at new lane).pending ≡ None =
-    ap (λ (t : LaneStand). t.pending) (stand_same lanes lane (stand_after (stand_at lanes lane) Closed) low) ∙ after_some (stand_at lanes lane) batch Closed pending in
-    let zeroth : lane ≡ 0 = ⊎_elim (λ (e : lane ≡ 0). e) (λ (other : lane ≢ 0). absurd (let none = waits.others lane other in cc)) (cases_eq lane 0) in
-    record {
-      first = ap (λ (k : ℕ). (stand_at new k).pending) (sym zeroth) ∙ here;
-      others = λ k other. ap (λ (t : LaneStand). t.pending) (stand_other lanes lane (stand_after (stand_at lanes lane) Closed) low k (λ e. other (e ∙ zeroth))) ∙ waits.others k other;
-    }
+waits_close lanes lane batch sealed low waits pending = search (rules, stand_after, stand_at, stand_same, after_some, cases_eq, stand_other)
 
 -- the batch that a lane waits for is the one that is sealed
 pub waits_for : (lanes : List LaneStand) (lane batch : ℕ) (b : Batch) (sealed : Option Batch) → Waits lanes sealed → (stand_at lanes lane).pending ≡ Some batch → sealed ≡ Some b → batch ≡ b.number
-waits_for lanes lane batch b sealed waits pending is =
-    let zeroth : lane ≡ 0 = ⊎_elim (λ (e : lane ≡ 0). e) (λ (other : lane ≢ 0). absurd (let none = waits.others lane other in cc)) (cases_eq lane 0) in
-    let same : Some batch ≡ Some b.number = sym pending ∙ ap (λ (k : ℕ). (stand_at lanes k).pending) zeroth ∙ waits.first ∙ ap (option_map (λ c. c.number)) is in
-    cc
+waits_for lanes lane batch b sealed waits pending is = search (rules, cases_eq, stand_at, option_map)
 
 -- no lane from the sixteenth on has a command
 pub none_beyond : (round : NumberedLanes) (lanes : List LaneStand) (lane : ℕ) (command : Command) → IsRound round → length lanes ≡ 16 → 16 ≤ lane → IsNext (lane_at round lane) (stand_at lanes lane) command → ⊥

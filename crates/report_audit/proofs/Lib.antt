@@ -3,12 +3,12 @@ pub mod TextLemmas
 pub mod JournalLemmas
 pub mod LaneLemmas
 pub mod NextLemmas
-pub mod EntryLemmas
+pub mod FaultLemmas
 pub mod ClosingLemmas
+pub mod EntryLemmas
 pub mod RoundLemmas
-pub mod EndLemmas
 pub mod WholeLemmas
-pub mod GoingLemmas
 mod HeadFaults
-mod FaultLemmas
+pub mod OneEnd
+pub mod OneFault
 pub mod Common

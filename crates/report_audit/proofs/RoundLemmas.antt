@@ -1,275 +1,192 @@
--- Rounds of a report.
-use Rattle.std.proofs.Common.{◌≡◌, ◌⊎◌, ℕ, ◌<◌, ◌≤◌, ◌^◌, true, List, [], ◌∷◌, ◌++◌, length, replicate, drop, codes, Option, Some, None, refl, sym, ap, ◌∙◌, subst, ⊎_elim, append-nil, append_assoc, arith, option_map, count_by}
-use Rattle.report_audit.proofs.Common.{cases_lt, numbered_one_line, get_or_past, get_or-replicate, length-replicate, Batch, of_lane, ClosesAreGood, IsLaneBeginning, IsLaneRun, IsLaneRunFrom, journal_of, round_text, numbered, IsNextLine, NextLine, one_kind, LaneStand, at_start, stand_at, HaveCome, AreDone, cut_once, BookView, next_position, state_after, RepliesAreSteps, Command, Entry, Journal, State, round-book, Settings, Roads, NumberedLanes, IsRound, lane_at, sealed_by, IsFirstLine, Extent, AreAtEnd, IsInForm, position_behind, state_behind, closes, AreTold, Stop, OutOfMemory, Line, Block, GoesOn, IsRestOfRounds, StopsAt, StopsHere, entries_text, with_more, IsRoundStart, HasRoundLine, IsNoRoundLine, EntriesStop, HasReadEntries, HasReadRound, RoundStops, WhereRoundStops, HasRead, IsBookOf, IsWithin, StopsBehind, StopsWithin}
+-- A round that an audit reads.
+use Rattle.std.proofs.Common.{◌≡◌, ℕ, ◌<◌, ◌≤◌, ◌+◌, ◌-◌, ◌^◌, true, false, Bool, List, [], ◌∷◌, ◌++◌, length, replicate, drop, min, codes, Option, Some, None, refl, sym, ap, ◌∙◌, subst, append-nil, append_assoc, arith, option_map, count_by, rules}
+use Rattle.report_audit.proofs.Common.{cases_lt, get_or_past, get_or-replicate, length-replicate, Batch, Vehicle, ClosesAreGood, IsLaneRunFrom, IsRoundRun, IsRun, journal_of, round_text, numbered, IsNextLine, LaneStand, at_start, stand_at, HaveCome, AreDone, BookView, next_position, state_after, state_after_run, position_after_run, RepliesAreSteps, Entry, Journal, State, round-book, opening, Settings, Roads, NumberedLanes, IsRound, lane_at, IsFirstLine, Extent, HasFault, AuditFault, position_behind, closes, batches_after, rounds_text, head_text, AreTold, JournalsAreTold, entries_text, with_entry, IsRoundStart, IsBookOf, IsInRound, IsBetween, IsFaultAt, OnlyFollows, EntryRead}
 use Rattle.report_lines.specs.declared.next.NextLine.TheVariants.{Round as RoundOf}
 use Rattle.report_audit.proofs.JournalLemmas.{after-none, closes-none}
-use Rattle.report_audit.proofs.LaneLemmas.{come_begins, done_end, own-lane}
-use Rattle.report_audit.proofs.NextLemmas.{between_is_no_stop, book_state, in_form, same_stop}
-use Rattle.report_audit.proofs.EntryLemmas.{not_at_end}
-use Rattle.report_audit.proofs.TextLemmas.{entries-append, entries-none, next-append, next-low, next-none, round-is}
-use Rattle.report_audit.specs.declared.stop.LineFault.TheVariants as wrong
+use Rattle.report_audit.proofs.LaneLemmas.{come_begins, done_end, end_done}
+use Rattle.report_audit.proofs.NextLemmas.{book_state}
+use Rattle.report_audit.proofs.TextLemmas.{entries-append, entries-none, next-low, round-is}
 
 -- at the start of a round no lane has begun
 stand_start : (k : ℕ) → stand_at (replicate 16 at_start) k ≡ at_start
-stand_start k = ⊎_elim
-    (λ (low : k < 16). get_or-replicate 16 k at_start at_start low)
-    (λ (high : 16 ≤ k). get_or_past (replicate 16 at_start) k at_start (let n = length-replicate 16 at_start in omega (arith, n, high)))
-    (cases_lt k 16)
+stand_start k = search (rules, get_or-replicate, at_start, get_or_past, length-replicate, cases_lt)
 
 replies_none : (nodes : List ℕ) (wait : ℕ) (s : State) → RepliesAreSteps nodes wait s []
 unfolding RepliesAreSteps
 replies_none nodes wait s = tt
 
-pub within_start : (settings : Settings) (roads : Roads) (round : NumberedLanes) (b : BookView) (lanes : List LaneStand) (sealed : Option Batch) → IsRoundStart settings roads b → IsRound round
-    → lanes ≡ replicate 16 at_start → HaveCome round lanes [] → sealed ≡ None → IsWithin settings roads round b lanes sealed
-within_start settings roads round b lanes sealed start kept are come none =
-    let come_now : HaveCome round lanes b.entries = subst (λ (es : List Entry). HaveCome round lanes es) (sym start.empty) come in
-    record {
-      book = start.book;
-      round_kept = kept;
-      begins = record {
-        replies = subst (λ (es : List Entry). RepliesAreSteps roads.nodes settings.wait b.base es) (sym start.empty) (replies_none roads.nodes settings.wait b.base);
-        closes = subst (λ (es : List Entry). ClosesAreGood settings roads b.base es) (sym start.empty) (closes-none settings roads b.base);
-        lanes = come_begins round lanes b.entries come_now;
-        told = subst (λ (es : List Entry). AreTold b.first es) (sym start.empty) tt;
-      };
-      sixteen = ap length are ∙ length-replicate 16 at_start;
-      come = come_now;
-      waits = record {
-        first = ap (λ (ls : List LaneStand). (stand_at ls 0).pending) are ∙ ap (λ (t : LaneStand). t.pending) (stand_start 0) ∙ ap (option_map (λ x. x.number)) (sym start.closed);
-        others = λ k other. ap (λ (ls : List LaneStand). (stand_at ls k).pending) are ∙ ap (λ (t : LaneStand). t.pending) (stand_start k);
-      };
-      is_open = none ∙ sym start.closed;
-    }
-
--- nothing was read yet
-pub read_none : (settings : Settings) (roads : Roads) (round : NumberedLanes) (j : Journal) (text : List ℕ) → HasRead settings roads round j j text text
-read_none settings roads round j text = record {
-  read = [];
-  first = refl;
-  base = refl;
-  entries = sym (append-nil j.entries);
-  printed = ap (λ (t : List ℕ). t ++ text) (sym (entries-none (position_behind j)));
-  only = λ end passed later rest. rest;
-}
-
--- entries were read, and then more
-pub read_more : (settings : Settings) (roads : Roads) (round : NumberedLanes) (i j k : Journal) (text rest behind : List ℕ) → HasRead settings roads round i j text rest → HasRead settings roads round j k rest behind
-    → HasRead settings roads round i k text behind
-read_more settings roads round i j k text rest behind one two =
-    let p : ℕ = position_behind i in
-    let here : position_behind j ≡ next_position p one.read =
-    (λ n. next_position (one.first n) (one.entries n)) ∙ sym (next-append i.first i.entries one.read) in
-    record {
-      read = one.read ++ two.read;
-      first = two.first ∙ one.first;
-      base = two.base ∙ one.base;
-      entries = two.entries ∙ ap (λ (es : List Entry). es ++ two.read) one.entries ∙ append_assoc i.entries one.read two.read;
-      printed = one.printed
-          ∙ ap (λ (t : List ℕ). entries_text p one.read ++ t) (two.printed ∙ ap (λ (n : ℕ). entries_text n two.read ++ behind) here)
-          ∙ sym (append_assoc (entries_text p one.read) (entries_text (next_position p one.read) two.read) behind)
-          ∙ ap (λ (t : List ℕ). t ++ behind) (sym (entries-append p one.read two.read (next-low i.first i.entries)));
-      only = λ end passed later rest_of. two.only end passed later (one.only end passed later rest_of);
-    }
+-- the text of a round with one more entry
+round_more : (n : ℕ) (j : Journal) (e : Entry) → j.first < 2 ^ 64 → round_text n true (with_entry j e) ≡ round_text n true j ++ entries_text (position_behind j) (e ∷ [])
+round_more n j e low = search (rules, numbered, round-is, with_entry, entries-append, append_assoc, entries_text, position_behind)
 
 -- a lane that is done waits for nothing
-waits_none : (pending : Option ℕ) (cs : List Command) → IsLaneRunFrom pending cs [] → pending ≡ None
-waits_none None cs run = refl
-waits_none (Some batch) cs run = absurd run
+waits_none : (pending : Option ℕ) (commands : List _) → IsLaneRunFrom pending commands [] → pending ≡ None
+waits_none None commands run = refl
+waits_none (Some batch) commands run = absurd run
 
 number_none : (o : Option Batch) → None ≡ option_map (λ b. b.number) o → o ≡ None
 number_none None e = refl
 number_none (Some b) e = absurd cc
 
--- all entries were read
-pub entries_done : (settings : Settings) (roads : Roads) (round : NumberedLanes) (old b : BookView) (lanes : List LaneStand) (sealed : Option Batch) (text rest : List ℕ) → IsWithin settings roads round b lanes sealed
-    → HasRead settings roads round (journal_of old) (journal_of b) text rest → AreDone round lanes → HasReadEntries settings roads round old b text rest
-entries_done settings roads round old b lanes sealed text rest is has_read done = record {
-  book = is.book;
-  has_read = has_read;
-  run = record { replies = is.begins.replies; closes = is.begins.closes; lanes = done_end round lanes b.entries is.come done };
-  told = is.begins.told;
-  closed = number_none b.state.sealed (sym (waits_none (stand_at lanes 0).pending (drop (stand_at lanes 0).taken (lane_at round 0)) (done 0)) ∙ is.waits.first);
-}
+-- one more round of a run
+module _ (settings : Settings) (roads : Roads) where
+  run_push : (s : State) (p : ℕ) (rs : List NumberedLanes) (js : List Journal) (r : NumberedLanes) (j : Journal) → IsRun settings roads s p rs js
+      → j.base ≡ state_after_run settings roads s js → j.first ≡ position_after_run p js → IsRoundRun settings roads r j → IsRun settings roads s p (rs ++ r ∷ []) (js ++ j ∷ [])
+  run_push s p [] [] r j run base first round = (base, first, round, tt)
+  run_push s p [] (k ∷ ks) r j run base first round = absurd run
+  run_push s p (q ∷ qs) [] r j run base first round = absurd run
+  run_push s p (q ∷ qs) (k ∷ ks) r j run base first round =
+      (run.0, run.1, run.2, run_push (state_after roads.nodes settings.wait s k.entries) (next_position p k.entries) qs ks r j run.3 base first round)
 
--- an audit stops within the round
-pub entries_stop : (settings : Settings) (roads : Roads) (round : NumberedLanes) (old b : BookView) (lanes : List LaneStand) (sealed : Option Batch) (text rest : List ℕ) (stop : Stop) → IsWithin settings roads round b lanes sealed
-    → HasRead settings roads round (journal_of old) (journal_of b) text rest → (AreDone round lanes → ⊥) → StopsWithin settings roads round (journal_of b) rest stop → StopsBehind settings roads round (journal_of old) text stop
-entries_stop settings roads round old b lanes sealed text rest stop is has_read going stops = record {
-  here = journal_of b;
-  rest = rest;
-  has_read = has_read;
-  begins = is.begins;
-  going = not_at_end settings roads round b lanes sealed is going;
-  stops = stops;
-}
+  text_push : (s : State) (p : ℕ) (rs : List NumberedLanes) (js : List Journal) (r : NumberedLanes) (j : Journal) → IsRun settings roads s p rs js
+      → rounds_text (rs ++ r ∷ []) (js ++ j ∷ []) ≡ rounds_text rs js ++ round_text r.number true j
+  text_push s p [] [] r j run = append-nil (round_text r.number true j)
+  text_push s p [] (k ∷ ks) r j run = absurd run
+  text_push s p (q ∷ qs) [] r j run = absurd run
+  text_push s p (q ∷ qs) (k ∷ ks) r j run =
+      ap (λ (t : List ℕ). round_text q.number true k ++ t) (text_push (state_after roads.nodes settings.wait s k.entries) (next_position p k.entries) qs ks r j run.3)
+      ∙ sym (append_assoc (round_text q.number true k) (rounds_text qs ks) (round_text r.number true j))
 
-pub stop_of_entries : (settings : Settings) (roads : Roads) (round : NumberedLanes) (start : Journal) (text : List ℕ) (stop : Stop) → StopsBehind settings roads round start text stop → EntriesStop settings roads round start text stop
-stop_of_entries settings roads round start text OutOfMemory stops = tt
-stop_of_entries settings roads round start text (Line left fault) stops = stops
-stop_of_entries settings roads round start text (Block left refused) stops = stops
+  state_push : (s : State) (js : List Journal) (j : Journal) → state_after_run settings roads s (js ++ j ∷ []) ≡ state_after roads.nodes settings.wait (state_after_run settings roads s js) j.entries
+  state_push s [] j = refl
+  state_push s (k ∷ ks) j = state_push (state_after roads.nodes settings.wait s k.entries) ks j
 
--- a lane's run has no more entries than it needs
-run_ends : (pending : Option ℕ) (cs : List Command) (xs ys : List Entry) → IsLaneRunFrom pending cs xs → IsLaneRunFrom pending cs (xs ++ ys) → ys ≡ []
-run_ends None [] [] [] one two = refl
-run_ends None [] [] (y ∷ ys) one two = absurd two
-run_ends None [] (x ∷ xs) ys one two = absurd one
-run_ends None (c ∷ cs) [] ys one two = absurd one
-run_ends None (c ∷ cs) (x ∷ xs) ys one two = run_ends (sealed_by x.reply) cs xs ys one.1 two.1
-run_ends (Some batch) cs [] ys one two = absurd one
-run_ends (Some batch) cs (x ∷ xs) ys one two = run_ends None cs xs ys one.1 two.1
+position_push : (p : ℕ) (js : List Journal) (j : Journal) → position_after_run p (js ++ j ∷ []) ≡ next_position (position_after_run p js) j.entries
+position_push p [] j = refl
+position_push p (k ∷ ks) j = position_push (next_position p k.entries) ks j
 
--- nothing follows the entries of a round whose lanes are at their ends
-no_more : (round : NumberedLanes) (es more : List Entry) → ((lane : ℕ) → IsLaneRun (lane_at round lane) (of_lane lane es)) → ((lane : ℕ) → IsLaneBeginning (lane_at round lane) (of_lane lane (es ++ more))) → more ≡ []
-no_more round es [] one two = refl
-no_more round es (e ∷ more) one two =
-    let begun = two e.lane in
-    let own : of_lane e.lane (es ++ e ∷ more) ++ begun.0 ≡ of_lane e.lane es ++ (e ∷ (of_lane e.lane more ++ begun.0)) =
-    ap (λ (zs : List Entry). zs ++ begun.0) (own-lane es e more) ∙ append_assoc (of_lane e.lane es) (e ∷ of_lane e.lane more) begun.0 in
-    let none : e ∷ (of_lane e.lane more ++ begun.0) ≡ [] =
-    run_ends None (lane_at round e.lane) (of_lane e.lane es) (e ∷ (of_lane e.lane more ++ begun.0)) (one e.lane) (subst (IsLaneRun (lane_at round e.lane)) own begun.1) in
-    absurd cc
+batches_push : (n : ℕ) (js : List Journal) (j : Journal) → batches_after n (js ++ j ∷ []) ≡ min (batches_after n js + count_by (λ e. closes e.command e.reply) j.entries) (2 ^ 64 - 1)
+batches_push n [] j = refl
+batches_push n (k ∷ ks) j = batches_push (min (n + count_by (λ e. closes e.command e.reply) k.entries) (2 ^ 64 - 1)) ks j
 
--- behind the last entry of a round, the text goes on with the later rounds
-rest_behind : (settings : Settings) (roads : Roads) (end : Option Stop) (passed : List NumberedLanes) (round : NumberedLanes) (later : List NumberedLanes) (j : Journal) (text : List ℕ) → AreAtEnd round j
-    → GoesOn settings roads end passed round later j text → IsRestOfRounds settings roads end passed later (state_behind settings roads j) (position_behind j) text
-rest_behind settings roads end passed round later j text over rest =
-    let none : rest.more ≡ [] = no_more round j.entries rest.more over rest.begins.lanes in
-    let same : with_more j rest.more ≡ j = λ i. record { first = j.first; base = j.base; entries = (ap (λ (es : List Entry). j.entries ++ es) none ∙ append-nil j.entries) i } in
-    let text_is : text ≡ rest.behind =
-    rest.printed ∙ ap (λ (es : List Entry). entries_text (position_behind j) es ++ rest.behind) none ∙ ap (λ (t : List ℕ). t ++ rest.behind) (entries-none (position_behind j)) in
-    subst (λ (t : List ℕ). IsRestOfRounds settings roads end passed later (state_behind settings roads j) (position_behind j) t) (sym text_is)
-    (⊎_elim
-    (λ (stops : (AreAtEnd round j → ⊥) × StopsHere settings roads end (Extent.within round j) rest.behind). absurd (stops.0 over))
-    (λ (ended : AreAtEnd round j × IsRestOfRounds settings roads end passed later (state_behind settings roads j) (position_behind j) rest.behind). ended.1)
-    (subst (λ (k : Journal). ((AreAtEnd round k → ⊥) × StopsHere settings roads end (Extent.within round k) rest.behind)
-    ⊎ (AreAtEnd round k × IsRestOfRounds settings roads end passed later (state_behind settings roads k) (position_behind k) rest.behind)) same rest.ends))
+told_push : (js : List Journal) (j : Journal) → JournalsAreTold js → AreTold j.first j.entries → JournalsAreTold (js ++ j ∷ [])
+told_push [] j told one = (one, tt)
+told_push (k ∷ ks) j told one = (told.0, told_push ks j told.1 one)
 
--- the line of a round may stand before it
-round_goes : (settings : Settings) (roads : Roads) (before : List NumberedLanes) (round : NumberedLanes) (later : List NumberedLanes) (p : ℕ) (text after : List ℕ) → HasRoundLine text round.number after
-    → (end : Option Stop) → StopsHere settings roads end (Extent.between before (round ∷ later) p) text → ⊥
-round_goes settings roads before round later p text after line end here =
-    between_is_no_stop settings roads before (round ∷ later) p text (numbered (codes "round ") round.number) after line.has (form before) refl end here
-  where
-    form : (before : List NumberedLanes) → IsInForm (Extent.between before (round ∷ later) p) (numbered (codes "round ") round.number)
-    form [] = (RoundOf round.number, (line.low, refl), λ lane e. cc)
-    form (r ∷ rs) = (RoundOf round.number, (line.low, refl))
+some_behind : (rounds : List NumberedLanes) (r : NumberedLanes) → rounds ++ r ∷ [] ≡ [] → ⊥
+some_behind [] r none = cc
+some_behind (q ∷ qs) r none = cc
 
-module _ (settings : Settings) (roads : Roads) (round : NumberedLanes) (old : BookView) (start : IsRoundStart settings roads old) where
-  -- the book's state is its journal's base, and its first position the next
-  pub base_is : old.base ≡ old.state
-  base_is = sym (start.book.kept.state ∙ ap (state_after old.nodes old.wait old.base) start.empty ∙ after-none old.nodes old.wait old.base)
+-- before a round its line alone may follow
+pub only_round : (round : NumberedLanes) (later : List NumberedLanes) (number position : ℕ) → number ≡ round.number → round.number ≤ 1000000000 → OnlyFollows (RoundOf number) (round ∷ later) position
+only_round round later number position is within = λ settings roads before line follow. (omega (arith, is, within), follow ∙ ap (numbered (codes "round ")) (sym is))
 
-  pub position_is : position_behind (journal_of old) ≡ old.first
-  position_is = ap (next_position old.first) start.empty ∙ next-none old.first start.book.low
-
-  -- behind the line of the round, the text goes on with it
-  rest_of_round : (end : Option Stop) (passed later : List NumberedLanes) (text after : List ℕ) → HasRoundLine text round.number after → IsRestOfRounds settings roads end passed (round ∷ later) old.state old.first text
-      → GoesOn settings roads end (passed ++ round ∷ []) round later (journal_of old) after
-  rest_of_round end passed later text after line rest = ⊎_elim
-      (λ (here : StopsHere settings roads end (Extent.between passed (round ∷ later) old.first) text). absurd (round_goes settings roads passed round later old.first text after line end here))
-      (λ (goes : (behind : List ℕ) × (text ≡ numbered (codes "round ") round.number ++ 10 ∷ behind)
-      × GoesOn settings roads end (passed ++ round ∷ []) round later (record { first = old.first; base = old.state; entries = [] }) behind).
-      let same = cut_once (numbered (codes "round ") round.number) (numbered (codes "round ") round.number) goes.0 after line.has.one line.has.one (sym goes.1 ∙ line.has.whole) in
-      let journal : record { first = old.first; base = old.state; entries = [] } ≡ journal_of old = λ i. record { first = old.first; base = sym base_is i; entries = sym start.empty i } in
-      subst (λ (k : Journal). GoesOn settings roads end (passed ++ round ∷ []) round later k after) journal
-      (subst (λ (t : List ℕ). GoesOn settings roads end (passed ++ round ∷ []) round later (record { first = old.first; base = old.state; entries = [] }) t) same.1 goes.2))
-      rest
-
-  -- the text of a round so far
-  pub round_so_far : (j : Journal) (text after rest : List ℕ) → HasRoundLine text round.number after → HasRead settings roads round (journal_of old) j after rest → text ≡ round_text round.number true j ++ rest
-  round_so_far j text after rest line has_read =
+module _ {settings : Settings} {roads : Roads} (round : NumberedLanes) {old : BookView} where
+  -- behind the line of the round
+  pub in_round : IsRoundStart settings roads old → IsRound round → (lanes : List LaneStand) → lanes ≡ replicate 16 at_start → HaveCome round lanes [] → (text line after : List ℕ) → IsFirstLine text line after
+      → (number : ℕ) → number ≡ round.number → IsNextLine (RoundOf number) line → IsInRound settings roads round old old lanes None text after
+  in_round start kept lanes are come text line after has number number_is form =
+      let come_now : HaveCome round lanes old.entries = subst (λ (es : List Entry). HaveCome round lanes es) (sym start.empty) come in
       let words : List ℕ = numbered (codes "round ") round.number in
-      let entries : has_read.read ≡ j.entries = ap (λ (es : List Entry). es ++ has_read.read) (sym start.empty) ∙ sym has_read.entries in
-      let place : position_behind (journal_of old) ≡ j.first = position_is ∙ sym has_read.first in
-      line.has.whole
-      ∙ ap (λ (t : List ℕ). words ++ 10 ∷ t) (has_read.printed ∙ (λ i. entries_text (place i) (entries i) ++ rest))
-      ∙ sym (append_assoc words (10 ∷ entries_text j.first j.entries) rest)
-      ∙ ap (λ (t : List ℕ). t ++ rest) (sym (round-is round.number j))
-
-  -- a round was read
-  pub round_read : (b new : BookView) (text after rest : List ℕ) (batches : ℕ) → HasRoundLine text round.number after → HasReadEntries settings roads round old b after rest
-      → new ≡ record { nodes = b.nodes; wait = b.wait; first = next_position b.first b.entries; base = b.state; entries = []; state = b.state; spare = 0 }
-      → IsRoundStart settings roads new → batches ≡ count_by (λ e. closes e.command e.reply) b.entries → HasReadRound settings roads round old new text rest batches
-  round_read b new text after rest batches line read is begin counted =
-      let state : new.state ≡ state_behind settings roads (journal_of b) = ap (λ (x : BookView). x.state) is ∙ book_state settings roads b read.book in
-      let place : new.first ≡ position_behind (journal_of b) = ap (λ (x : BookView). x.first) is in
       record {
-        start = begin;
-        journal = journal_of b;
-        base = read.has_read.base ∙ base_is;
-        first = read.has_read.first;
-        run = read.run;
-        told = read.told;
-        state = state;
-        position = place;
-        printed = round_so_far (journal_of b) text after rest line read.has_read;
-        counted = counted;
-        only = λ end passed later whole.
-            let ahead : List NumberedLanes = passed ++ round ∷ [] in
-            let behind = rest_behind settings roads end ahead round later (journal_of b) rest read.run.lanes (read.has_read.only end ahead later (rest_of_round end passed later text after line whole)) in
-            subst (λ (k : ℕ). IsRestOfRounds settings roads end ahead later new.state k rest) (sym place)
-            (subst (λ (s : State). IsRestOfRounds settings roads end ahead later s (position_behind (journal_of b)) rest) (sym state) behind);
+        within = record {
+          book = start.book;
+          round_kept = kept;
+          begins = record {
+            replies = subst (λ (es : List Entry). RepliesAreSteps roads.nodes settings.wait old.base es) (sym start.empty) (replies_none roads.nodes settings.wait old.base);
+            closes = subst (λ (es : List Entry). ClosesAreGood settings roads old.base es) (sym start.empty) (closes-none settings roads old.base);
+            lanes = come_begins round lanes old.entries come_now;
+            told = subst (λ (es : List Entry). AreTold old.first es) (sym start.empty) tt;
+          };
+          sixteen = ap length are ∙ length-replicate 16 at_start;
+          come = come_now;
+          waits = record {
+            first = ap (λ (ls : List LaneStand). (stand_at ls 0).pending) are ∙ ap (λ (t : LaneStand). t.pending) (stand_start 0) ∙ ap (option_map (λ x. x.number)) (sym start.closed);
+            others = λ k other. ap (λ (ls : List LaneStand). (stand_at ls k).pending) are ∙ ap (λ (t : LaneStand). t.pending) (stand_start k);
+          };
+          is_open = sym start.closed;
+        };
+        first = refl;
+        base = sym (start.book.kept.state ∙ ap (state_after old.nodes old.wait old.base) start.empty ∙ after-none old.nodes old.wait old.base);
+        printed = has.whole ∙ ap (λ (l : List ℕ). l ++ 10 ∷ after) (form.1 ∙ ap (numbered (codes "round ")) number_is)
+            ∙ sym (append_assoc words (10 ∷ []) after)
+            ∙ ap (λ (t : List ℕ). (words ++ 10 ∷ t) ++ after) (sym (ap (entries_text old.first) start.empty ∙ entries-none old.first))
+            ∙ ap (λ (t : List ℕ). t ++ after) (sym (round-is round.number (journal_of old)));
       }
 
-  -- a stop within the round
-  pub round_stops_within : (text after : List ℕ) (stop : Stop) → HasRoundLine text round.number after → StopsBehind settings roads round (journal_of old) after stop → RoundStops settings roads round old text stop
-  round_stops_within text after stop line stops = record {
-    stops = WhereRoundStops.behind after line stops;
-    only = λ some end passed later begins rest. stops.stops.only some end (passed ++ round ∷ []) later (stops.has_read.only end (passed ++ round ∷ []) later (rest_of_round end passed later text after line rest));
-  }
+  -- behind one more entry
+  pub one_more_read : {b new : BookView} {lanes lanes_new : List LaneStand} {sealed sealed_new : Option Batch} {text rest behind : List ℕ} → IsInRound settings roads round old b lanes sealed text rest
+      → EntryRead settings roads round b new lanes_new sealed_new rest behind → IsInRound settings roads round old new lanes_new sealed_new text behind
+  one_more_read {b} {new} {lanes} {lanes_new} {sealed} {sealed_new} {text} {rest} {behind} here read =
+      let so_far : List ℕ = round_text round.number true (journal_of b) in
+      record {
+        within = read.within;
+        first = ap (λ (j : Journal). j.first) read.journal ∙ here.first;
+        base = ap (λ (j : Journal). j.base) read.journal ∙ here.base;
+        printed = here.printed ∙ ap (λ (t : List ℕ). so_far ++ t) read.printed
+            ∙ sym (append_assoc so_far (entries_text (position_behind (journal_of b)) (read.entry ∷ [])) behind)
+            ∙ ap (λ (t : List ℕ). t ++ behind) (sym (round_more round.number (journal_of b) read.entry here.within.book.low) ∙ ap (round_text round.number true) (sym read.journal));
+      }
 
-  -- a stop for want of memory
-  pub round_stops_memory : (text : List ℕ) → round.number < 2 ^ 32 → RoundStops settings roads round old text OutOfMemory
-  round_stops_memory text low = record {
-    stops = WhereRoundStops.before (record { low = low; stops = λ s r round_ before later position number begins. tt });
-    only = λ some end passed later begins rest. absurd (some refl);
-  }
+  module _ {report : List ℕ} {vehicles : List Vehicle} {rounds : List NumberedLanes} {workers : ℕ} {before later : List NumberedLanes} {first : Bool} {text : List ℕ} {count : ℕ}
+      (between : IsBetween settings roads report vehicles rounds workers before (round ∷ later) first old text count)
+      {b : BookView} {lanes : List LaneStand} {sealed : Option Batch} {rest : List ℕ} (here : IsInRound settings roads round old b lanes sealed text rest) where
+    -- the report is right up to there
+    read_so_far : List ℕ
+    read_so_far = between.read ++ round_text round.number true (journal_of b)
 
-  -- a stop among the entries
-  pub round_stops_entries : (text after : List ℕ) (stop : Stop) → HasRoundLine text round.number after → EntriesStop settings roads round (journal_of old) after stop → RoundStops settings roads round old text stop
-  round_stops_entries text after OutOfMemory line stops = round_stops_memory text line.low
-  round_stops_entries text after (Line left fault) line stops = round_stops_within text after (Line left fault) line stops
-  round_stops_entries text after (Block left refused) line stops = round_stops_within text after (Block left refused) line stops
+    whole_is : report ≡ read_so_far ++ rest
+    unfolding read_so_far
+    whole_is = between.whole ∙ ap (λ (t : List ℕ). between.read ++ t) here.printed ∙ sym (append_assoc between.read (round_text round.number true (journal_of b)) rest)
 
-  -- a stop at the line of the round
-  pub round_stops_before : (text : List ℕ) (stop : Stop) → IsNoRoundLine text round.number stop → RoundStops settings roads round old text stop
-  round_stops_before text stop no_line = record {
-    stops = WhereRoundStops.before no_line;
-    only = λ some end passed later begins rest.
-        let stops : StopsAt settings roads (Extent.between passed (round ∷ later) old.first) text stop = no_line.stops settings roads round passed later old.first refl begins in
-        ⊎_elim
-        (λ (here : StopsHere settings roads end (Extent.between passed (round ∷ later) old.first) text). same_stop settings roads (Extent.between passed (round ∷ later) old.first) text stop some stops end here)
-        (λ (goes : (behind : List ℕ) × (text ≡ numbered (codes "round ") round.number ++ 10 ∷ behind)
-        × GoesOn settings roads end (passed ++ round ∷ []) round later (record { first = old.first; base = old.state; entries = [] }) behind).
-        absurd (round_goes settings roads passed round later old.first text goes.0 (record { low = no_line.low; has = record { whole = goes.1; one = numbered_one_line (codes "round ") round.number refl } }) (Some stop) (some, stops)))
-        rest;
-  }
+    first_is : b.first ≡ position_after_run 0 between.right.made
+    first_is = here.first ∙ between.right.position_is
 
--- a book whose round was taken begins the next
-pub next_start : (settings : Settings) (roads : Roads) (b new : BookView) → IsBookOf settings roads b → b.state.sealed ≡ None
-    → new ≡ record { nodes = b.nodes; wait = b.wait; first = next_position b.first b.entries; base = b.state; entries = []; state = b.state; spare = 0 } → IsRoundStart settings roads new
-next_start settings roads b new of closed is =
-    let after : BookView = record { nodes = b.nodes; wait = b.wait; first = next_position b.first b.entries; base = b.state; entries = []; state = b.state; spare = 0 } in
-    let begin : IsRoundStart settings roads after = record {
-      book = record { nodes = of.nodes; wait = of.wait; kept = round-book b (next_position b.first b.entries) of.kept; low = next-low b.first b.entries };
-      empty = refl;
-      closed = closed;
-    } in
-    subst (IsRoundStart settings roads) (sym is) begin
+    -- a fault within the round
+    pub fault_within : (AreDone round lanes → ⊥) → (fault : AuditFault) → IsFaultAt settings roads report (Extent.within round (journal_of b)) rest fault → HasFault roads vehicles rounds workers report fault
+    unfolding read_so_far
+    fault_within going fault at = at vehicles rounds workers read_so_far between.audited whole_is (record {
+      before = before;
+      later = later;
+      made = between.right.made;
+      all = between.right.all;
+      rounds_made = between.right.rounds_made;
+      base_is = here.base ∙ between.state;
+      first_is = first_is;
+      begins = here.within.begins;
+      going = λ end. going (end_done round lanes b.entries here.within.come end);
+      printed = ap (λ (t : List ℕ). t ++ round_text round.number true (journal_of b)) between.right.printed;
+    })
 
-pub round_line_not : (text line after : List ℕ) (x : NextLine) (number : ℕ) → number < 2 ^ 32 → IsFirstLine text line after → IsNextLine x line → (x ≡ RoundOf number → ⊥) → IsNoRoundLine text number (Line (length text) wrong.Entry)
-round_line_not text line after x number low has form other = record {
-  low = low;
-  stops = λ settings roads round before later position number_is begins. (
-    refl,
-    (
-      line,
-      after,
-      has,
-      in_form before (round ∷ later) position text line after x begins has form,
-      λ follow.
-          other (one_kind x (RoundOf number) line form (low, follow ∙ ap (numbered (codes "round ")) number_is)),
-    ),
-  );
-}
+    -- the round was read
+    pub round_read : AreDone round lanes → (new : BookView) (batches : ℕ)
+        → new ≡ record { nodes = b.nodes; wait = b.wait; first = next_position b.first b.entries; base = b.state; entries = []; state = b.state; spare = 0 }
+        → batches ≡ count_by (λ e. closes e.command e.reply) b.entries
+        → IsBetween settings roads report vehicles rounds workers (before ++ round ∷ []) later false new rest (min (count + batches) (2 ^ 64 - 1))
+    unfolding read_so_far
+    round_read done new batches is counted =
+        let j : Journal = journal_of b in
+        let made : List Journal = between.right.made in
+        let s : State = opening vehicles in
+        let of : IsBookOf settings roads b = here.within.book in
+        let base : j.base ≡ state_after_run settings roads s made = here.base ∙ between.state in
+        let closed : b.state.sealed ≡ None = number_none b.state.sealed (sym (waits_none (stand_at lanes 0).pending (drop (stand_at lanes 0).taken (lane_at round 0)) (done 0)) ∙ here.within.waits.first) in
+        let run = between.right.rounds_made.run in
+        let after : BookView = record { nodes = b.nodes; wait = b.wait; first = next_position b.first b.entries; base = b.state; entries = []; state = b.state; spare = 0 } in
+        let behind : IsBetween settings roads report vehicles rounds workers (before ++ round ∷ []) later false after rest (min (count + batches) (2 ^ 64 - 1)) = record {
+          audited = between.audited;
+          read = read_so_far;
+          whole = whole_is;
+          right = record {
+            made = made ++ j ∷ [];
+            all = between.right.all ∙ sym (append_assoc before (round ∷ []) later);
+            rounds_made = record {
+              run = run_push settings roads s 0 before made round j run base first_is
+                  (record { replies = here.within.begins.replies; closes = here.within.begins.closes; lanes = done_end round lanes b.entries here.within.come done });
+              told = told_push made j between.right.rounds_made.told here.within.begins.told;
+            };
+            position_is = ap (λ (k : ℕ). next_position k j.entries) first_is ∙ sym (position_push 0 made j);
+            printed = ap (λ (t : List ℕ). t ++ round_text round.number true j) between.right.printed
+                ∙ append_assoc (head_text settings roads (length vehicles)) (rounds_text before made) (round_text round.number true j)
+                ∙ ap (λ (t : List ℕ). head_text settings roads (length vehicles) ++ t) (sym (text_push settings roads s 0 before made round j run));
+          };
+          start = record {
+            book = record { nodes = of.nodes; wait = of.wait; kept = round-book b (next_position b.first b.entries) of.kept; low = next-low b.first b.entries };
+            empty = refl;
+            closed = closed;
+          };
+          state = book_state settings roads b of ∙ ap (λ (t : State). state_after roads.nodes settings.wait t j.entries) base ∙ sym (state_push settings roads s made j);
+          counted = (λ i. min (between.counted i + counted i) (2 ^ 64 - 1)) ∙ sym (batches_push 0 made j);
+          is_first = (λ e. absurd cc, λ none. absurd (some_behind before round none));
+        } in
+        subst (λ (x : BookView). IsBetween settings roads report vehicles rounds workers (before ++ round ∷ []) later false x rest (min (count + batches) (2 ^ 64 - 1))) (sym is) behind

@@ -1,5 +1,5 @@
 -- Texts of entries and rounds.
-use Rattle.std.proofs.Common.{◌≡◌, ℕ, ◌<◌, ◌^◌, Bool, true, false, cond, eqb, List, [], ◌∷◌, ◌++◌, codes, decimal, Some, None, refl, sym, ap, ◌∙◌, append_assoc, length-append, arith}
+use Rattle.std.proofs.Common.{◌≡◌, ℕ, ◌<◌, ◌^◌, Bool, true, false, cond, eqb, List, [], ◌∷◌, ◌++◌, codes, decimal, Some, None, refl, sym, ap, ◌∙◌, append_assoc, arith, rules}
 use Rattle.report_audit.proofs.Common.{command_text, entry_line, refusal_text, reply_text, rider_status_text, lines_text, entries_lines, entry_block, round_text, end_text, numbered, spaced, one_more, is_one_line, append_one_line, numbered_one_line, spaced_one_line, two_line, next_position, Command, Submit, Cancel, Report, Pickup, Dropoff, Seal, Close, Entry, Journal, BookRefusal, IsAboard, Ended, TimeBack, NotPromised, BatchOpen, ClockBack, NotThisBatch, Reply, Sealed, Refused, Status, Waiting, entries_text}
 use Rattle.std.specs.List.{flat_map}
 use Rattle.std.proofs.lemmas.Grind.{flat_map-append}
@@ -27,9 +27,6 @@ next-more p e es = omega arith
 pub next-low : (p : ℕ) (es : List Entry) → next_position p es < 2 ^ 64
 next-low p es = omega arith
 
-pub next-append : (p : ℕ) (xs ys : List Entry) → next_position (next_position p xs) ys ≡ next_position p (xs ++ ys)
-next-append p xs ys = omega (arith, length-append xs ys)
-
 -- the text of entries
 pub entries-none : (p : ℕ) → entries_text p [] ≡ []
 unfolding entries_lines
@@ -37,17 +34,11 @@ entries-none p = lines-none
 
 pub entries-more : (p : ℕ) (e : Entry) (es : List Entry) → entries_text p (e ∷ es) ≡ entry_line p e ++ 10 ∷ (lines_text (entry_block true e.command e.reply) ++ entries_text (one_more p) es)
 unfolding entries_lines
-entries-more p e es =
-    let block : List (List ℕ) = entry_block true e.command e.reply in
-    let later : List (List ℕ) = entries_lines true (one_more p) es in
-    lines-append (entry_line p e ∷ block) later
-    ∙ ap (λ (t : List ℕ). t ++ lines_text later) (lines-more (entry_line p e) block)
-    ∙ append_assoc (entry_line p e) (10 ∷ lines_text block) (lines_text later)
+entries-more p e es = search (rules, entry_block, entries_lines, one_more, lines-append, entry_line, lines_text, lines-more, append_assoc)
 
 pub entries-append : (p : ℕ) (xs ys : List Entry) → p < 2 ^ 64 → entries_text p (xs ++ ys) ≡ entries_text p xs ++ entries_text (next_position p xs) ys
 unfolding entries_lines
-entries-append p [] ys low =
-    ap (λ (k : ℕ). entries_text k ys) (sym (next-none p low)) ∙ ap (λ (t : List ℕ). t ++ entries_text (next_position p []) ys) (sym lines-none)
+entries-append p [] ys low = search (rules, entries_text, next-none, next_position, lines-none)
 entries-append p (e ∷ es) ys low =
     let block : List (List ℕ) = (entry_line p e ∷ []) ++ entry_block true e.command e.reply in
     lines-append block (entries_lines true (one_more p) (es ++ ys))

@@ -1,13 +1,12 @@
 //! The close of a batch, and its block.
-ghost use Rattle.std.specs.Prelude.{◌≡◌, ◌<◌, ◌^◌, ◌↔◌, IfErr, IfOk, IsTrue, Some};
-ghost use Rattle.report_audit.specs.work.Closing.{TakesClose, CloseStops, close_line};
-ghost use Rattle.report_audit.specs.work.Steps.{IsBookOf};
+ghost use Rattle.std.specs.Prelude.{◌≡◌, ◌≢◌, ◌<◌, ◌^◌, ◌↔◌, IfOk, IsTrue, MatchOption, MatchResult, Some};
+ghost use Rattle.request_book.specs.Book.{next_position};
+ghost use Rattle.report_audit.specs.work.Standing.{BlockFails, IsBookOf, TakesClose, close_line};
 
-use crate::line::is_entry_line;
+use crate::line::{Between, is_entry_line};
 use crate::setup::Setup;
-use crate::stop::{Between, Stop, wrong_line};
 use batch_snapshot::Snapshot;
-use block_audit::{AuditedBlock, BlockRefusal, audit_block};
+use block_audit::{BlockRefusal, audit_block};
 use pool_base::{OutOfMemory, Sequence};
 use request_book::{Answer, Book, Command, Entry, Outcome, Reply};
 use std::alloc::Global;
@@ -15,25 +14,25 @@ use std::thread::Threads;
 use travel_times::NetworkWays;
 use worker_gate::Gate;
 
-/// The close of the batch that is sealed, with whose line and block a text begins: it is taken into the book, and what
-/// follows the block is the answer.
+/// The close of the batch that is sealed, by its line and its block: it is taken into the book, and what follows the block
+/// is the answer. `None` where the line isn't the close's.
 pub(crate) fn audit_close<'a, G: Gate>(
     rt: &(impl Threads + Sync),
     book: &mut Book,
     snapshot: &Snapshot,
     lane: u8,
     between: Between<'a>,
-    left: usize,
     setup: &Setup<'_, G>,
-) -> Result<&'a [u8], Stop>
+) -> Result<Option<&'a [u8]>, BlockRefusal>
     requires book { IsBookOf setup.now.settings.now setup.now.network.now book.old }
     requires sealed { book.old.state.sealed ≡ Some snapshot.now }
-    ensures takes { IfOk result (λ rest. TakesClose setup.entry.now.settings.now setup.entry.now.network.now book.old snapshot.entry.now lane between.entry.line.now between.entry.after.now rest.now book.new) }
-    ensures stops { IfErr result (CloseStops setup.entry.now.settings.now setup.entry.now.network.now book.old snapshot.entry.now lane between.entry.line.now between.entry.after.now left) }
+    ensures { MatchResult result (λ found. MatchOption found (between.entry.line.now ≢ close_line (next_position book.old.first book.old.entries) lane snapshot.entry.now.number)
+        (λ rest. TakesClose setup.entry.now.settings.now setup.entry.now.network.now book.old snapshot.entry.now lane between.entry.line.now between.entry.after.now rest.now book.new))
+        (BlockFails setup.entry.now.settings.now setup.entry.now.network.now book.old snapshot.entry.now lane between.entry.line.now between.entry.after.now) }
 {
     let position = book.next_position();
     if !is_close_line(setup.alloc, between.line, position, lane, snapshot.batch)? {
-        return Err(wrong_line(left));
+        return Ok(None);
     }
     let ways = NetworkWays {
         network: setup.network,
@@ -50,22 +49,16 @@ pub(crate) fn audit_close<'a, G: Gate>(
         setup.gate,
     );
     match found {
-        Ok(
-            AuditedBlock {
-                outcome,
-                rest,
-                lines: _,
-            },
-        ) => {
+        Ok(block) => {
+            let rest = block.rest;
             let close = Command::Close {
                 batch: snapshot.batch,
-                outcome,
+                outcome: block.outcome,
             };
             let _reply = book.apply(lane, close)?;
-            Ok(rest)
+            Ok(Some(rest))
         }
-        Err(BlockRefusal::OutOfMemory) => Err(Stop::OutOfMemory),
-        Err(refusal) => Err(Stop::Block { left, refusal }),
+        Err(refusal) => Err(refusal),
     }
 }
 

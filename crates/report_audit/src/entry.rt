@@ -1,27 +1,39 @@
 //! An entry of a report.
-ghost use Rattle.std.specs.Prelude.{◌≡◌, ◌<◌, IfErr, IfOk, MatchResult, None};
+ghost use Rattle.std.specs.Prelude.{◌≡◌, ◌≢◌, ◌<◌, ℕ, List, IfOk, MatchOption, MatchResult, None};
+ghost use Rattle.block_audit.specs.declared.refusal.BlockRefusal.TheVariants.{OutOfMemory as NoMemory};
+ghost use Rattle.dispatch_engine.specs.Lane.{last_sealed};
+ghost use Rattle.dispatch_engine.specs.Progress.{stand_at};
 ghost use Rattle.dispatch_engine.specs.Run.{journal_of};
-ghost use Rattle.dispatch_engine.specs.Progress.{AreDone, stand_at};
+ghost use Rattle.dispatch_report.specs.Entry.{entry_line};
+ghost use Rattle.dispatch_report.specs.Fits.{IsCommand, IsReply};
+ghost use Rattle.report_audit.specs.Fault.{IsWrongBlock};
+ghost use Rattle.report_audit.specs.Place.{Extent, MayFollow};
+ghost use Rattle.report_audit.specs.work.Standing.{EntryRead, IsFaultAt, IsOtherLine, IsWithin, TakesCommand};
+ghost use Rattle.report_lines.specs.Line.{IsFirstLine};
+ghost use Rattle.report_lines.specs.Next.{IsNextLine};
+ghost use Rattle.request_book.specs.Book.{IsApplied, next_position};
+ghost use Rattle.request_book.specs.Command.{IsNoClose};
+ghost use Rattle.request_book.specs.declared.reply.Reply.{Reply as OneReply};
 ghost use Rattle.script_rows.specs.Round.{IsRound};
-ghost use Rattle.report_audit.specs.work.Taking.{CommandStops, TakesCommand};
-ghost use Rattle.report_audit.specs.work.Steps.{EntryRead, IsWithin, StopsWithin};
 
 use crate::close::audit_close;
-use crate::command::{answered, put_up};
+use crate::fault::{AuditFault, block_fault};
+use crate::line::{Between, is_entry_line, line_at, line_between, wrong_line};
 use crate::setup::Setup;
-use crate::stop::{Stop, line_between, wrong_line};
 use batch_snapshot::Snapshot;
+use block_audit::BlockRefusal;
 use dispatch_engine::Progress;
+use pool_base::OutOfMemory;
 use report_lines::NextLine;
-use request_book::{Book, Reply};
+use request_book::{Book, Command, Entry, Reply};
 use script_rows::Round;
 use shared_book::sealed_by_command;
 use std::alloc::Global;
 use std::thread::Threads;
 use worker_gate::Gate;
 
-/// The entry with whose line a text begins, and behind a close the block of its batch: it is taken into the book, and
-/// what follows it is the answer. Some lane has still something to do.
+/// The entry with whose line the rest of a report begins, and behind a close the block of its batch: it is taken into the
+/// book, and what follows it is the answer.
 pub(crate) fn audit_entry<'a, G: Gate>(
     rt: &(impl Threads + Sync),
     book: &mut Book,
@@ -30,50 +42,72 @@ pub(crate) fn audit_entry<'a, G: Gate>(
     round: &Round,
     text: &'a [u8],
     setup: &Setup<'_, G>,
-) -> Result<&'a [u8], Stop>
-    requires within { IsWithin setup.now.settings.now setup.now.network.now round.now book.old lanes.old sealed.old }
-    requires going { AreDone round.now lanes.old → ⊥ }
+) -> Result<&'a [u8], AuditFault>
+    requires { IsWithin setup.now.settings.now setup.now.network.now round.now book.old lanes.old sealed.old }
     ensures { MatchResult result (λ rest. EntryRead setup.entry.now.settings.now setup.entry.now.network.now round.entry.now book.old book.new lanes.new sealed.new text.entry.now rest.now)
-        (StopsWithin setup.entry.now.settings.now setup.entry.now.network.now round.entry.now (journal_of book.old) text.entry.now) }
+        (IsFaultAt setup.entry.now.settings.now setup.entry.now.network.now setup.entry.now.report.now (Extent.within round.entry.now (journal_of book.old)) text.entry.now) }
 {
-    let left = text.len();
-    let between = match line_between(text) {
-        Ok(between) => between,
-        Err(stop) => return Err(stop),
-    };
+    let between = line_between(setup.report, text)?;
+    match take_entry(rt, book, lanes, sealed, round, between, setup) {
+        Ok(Some(rest)) => Ok(rest),
+        Ok(None) => Err(wrong_line(setup.report, text)),
+        Err(refusal) => Err(block_fault(line_at(setup.report, text), refusal)),
+    }
+}
+
+/// The same by the first line. `None` where it isn't that of an entry which may come next.
+fn take_entry<'a, G: Gate>(
+    rt: &(impl Threads + Sync),
+    book: &mut Book,
+    lanes: &mut Progress,
+    sealed: &mut Option<Snapshot>,
+    round: &Round,
+    between: Between<'a>,
+    setup: &Setup<'_, G>,
+) -> Result<Option<&'a [u8]>, BlockRefusal>
+    requires within { IsWithin setup.now.settings.now setup.now.network.now round.now book.old lanes.old sealed.old }
+    requires form { IsNextLine between.next between.line.now }
+    ensures { MatchResult result
+        (λ found. MatchOption found (MayFollow setup.entry.now.settings.now setup.entry.now.network.now (Extent.within round.entry.now (journal_of book.old)) between.entry.line.now → ⊥)
+        (λ rest. (text : List ℕ) → IsFirstLine text between.entry.line.now between.entry.after.now
+        → EntryRead setup.entry.now.settings.now setup.entry.now.network.now round.entry.now book.old book.new lanes.new sealed.new text rest.now))
+        (λ refusal. refusal ≢ NoMemory → (text : List ℕ) → IsFirstLine text between.entry.line.now between.entry.after.now
+        → IsWrongBlock setup.entry.now.settings.now setup.entry.now.network.now round.entry.now (journal_of book.old) text refusal) }
+{
     let NextLine::Entry { lane } = between.next else {
-        return Err(wrong_line(left));
+        return Ok(None);
     };
     if lane >= 16 {
-        return Err(wrong_line(left));
+        return Ok(None);
     }
     let place = usize::from(lane);
     match lanes.stand(place).pending {
-        None => match audit_command(setup.alloc, book, lanes, round, lane, between.line, left) {
-            Ok((reply, next)) => {
+        None => match audit_command(setup.alloc, book, lanes, round, lane, between.line)? {
+            Some((reply, next)) => {
                 lanes.take(round, place, reply);
                 put_up(sealed, next);
-                Ok(between.after)
+                Ok(Some(between.after))
             }
-            Err(stop) => Err(stop),
+            None => Ok(None),
         },
         Some(_batch) => {
             let Some(snapshot) = sealed.take() else {
                 unreachable!()
             };
-            match audit_close(rt, book, &snapshot, lane, between, left, setup) {
-                Ok(rest) => {
+            match audit_close(rt, book, &snapshot, lane, between, setup) {
+                Ok(Some(rest)) => {
                     lanes.take(round, place, Reply::Closed);
-                    Ok(rest)
+                    Ok(Some(rest))
                 }
-                Err(stop) => Err(stop),
+                Ok(None) => Ok(None),
+                Err(refusal) => Err(refusal),
             }
         }
     }
 }
 
-/// An entry of a lane that waits for no close: its line is that of the lane's next command and of the book's reply. The
-/// answer is the reply, and the batch that the command puts up.
+/// An entry of a lane that waits for no close, by its line: the reply, and the batch that the command puts up. `None` where
+/// the line isn't that of the lane's next command and of the book's reply.
 fn audit_command(
     alloc: Global,
     book: &mut Book,
@@ -81,20 +115,55 @@ fn audit_command(
     round: &Round,
     lane: u8,
     line: &[u8],
-    left: usize,
-) -> Result<(Reply, Option<Snapshot>), Stop>
+) -> Result<Option<(Reply, Option<Snapshot>)>, OutOfMemory>
     requires lane { lane < 16 }
     requires kept { IsRound round.now }
     requires going { (stand_at lanes.now lane).pending ≡ None }
-    ensures takes { IfOk result (λ r. TakesCommand round.entry.now lanes.entry.now book.old lane line.entry.now book.new r.1 r.0) }
-    ensures stops { IfErr result (CommandStops round.entry.now lanes.entry.now book.old lane line.entry.now left) }
+    ensures { IfOk result (λ found. MatchOption found (IsOtherLine round.entry.now lanes.entry.now book.old lane line.entry.now)
+        (λ r. TakesCommand round.entry.now lanes.entry.now book.old lane line.entry.now book.new r.1 r.0)) }
 {
     let Some(command) = lanes.command(round, usize::from(lane)) else {
-        return Err(wrong_line(left));
+        return Ok(None);
     };
     let sealed = sealed_by_command(book, command)?;
     match answered(alloc, book, lane, command, line)? {
-        Some(reply) => Ok((reply, sealed)),
-        None => Err(wrong_line(left)),
+        Some(reply) => Ok(Some((reply, sealed))),
+        None => Ok(None),
+    }
+}
+
+/// Answers a command, and says the reply where the line is that of the entry which this makes.
+fn answered(
+    alloc: Global,
+    book: &mut Book,
+    lane: u8,
+    command: &Command,
+    line: &[u8],
+) -> Result<Option<Reply>, OutOfMemory>
+    requires { IsNoClose command.now }
+    ensures { IfOk result (λ told. (reply : OneReply) × IsApplied book.old lane command.entry.now reply book.new
+        × MatchOption told (line.entry.now ≢ entry_line (next_position book.old.first book.old.entries) (record { lane = lane; command = command.entry.now; reply = reply }))
+        (λ r. (r ≡ reply) × IsCommand command.entry.now × IsReply r × (line.entry.now ≡ entry_line (next_position book.old.first book.old.entries) (record { lane = lane; command = command.entry.now; reply = reply })))) }
+{
+    let position = book.next_position();
+    let reply = book.apply(lane, command.copied())?;
+    let entry = Entry {
+        lane,
+        command: command.copied(),
+        reply,
+    };
+    if is_entry_line(alloc, line, position, &entry)? {
+        Ok(Some(entry.reply))
+    } else {
+        Ok(None)
+    }
+}
+
+/// Puts up the batch of a command, if it has one.
+fn put_up(sealed: &mut Option<Snapshot>, next: Option<Snapshot>)
+    ensures { sealed.new ≡ last_sealed sealed.old next }
+{
+    if next.is_some() {
+        *sealed = next;
     }
 }

@@ -1,3 +1,16 @@
+ghost use Rattle.std.specs.Prelude.{◌≡◌, ◌≢◌, ℕ, List};
+ghost use Rattle.batch_snapshot.specs.declared.vehicle.Vehicle.{Vehicle};
+ghost use Rattle.block_audit.specs.declared.refusal.BlockRefusal.TheVariants.{OutOfMemory as NoBlockMemory};
+ghost use Rattle.report_audit.specs.Fault.{FailsAt, HasFault, IsWrongBatch};
+ghost use Rattle.report_audit.specs.declared.fault.AuditFault.TheVariants.{OutOfMemory as NoMemory};
+ghost use Rattle.report_audit.specs.work.Standing.{fault_of_head};
+ghost use Rattle.road_network.specs.Roads.{Roads};
+ghost use Rattle.script_rows.specs.Round.{NumberedLanes};
+
+use block_audit::BlockRefusal;
+use pool_base::OutOfMemory;
+use report_lines::HeadFault;
+
 /// What an audit says of a report that is one of its script.
 #[derive(Clone, Copy)]
 pub struct Audited {
@@ -24,4 +37,41 @@ pub enum AuditFault {
     /// fails.
     Batch { line: u64, point: u64 },
     OutOfMemory,
+}
+
+impl From<OutOfMemory> for AuditFault {
+    ghost from_gives = { λ _ e. e ≡ NoMemory };
+
+    fn from(_error: OutOfMemory) -> AuditFault {
+        AuditFault::OutOfMemory
+    }
+}
+
+/// The fault of a head.
+pub(crate) fn of_head(fault: HeadFault) -> AuditFault
+    ensures { result ≡ fault_of_head fault }
+{
+    match fault {
+        HeadFault::Cut { line } => AuditFault::Cut { line },
+        HeadFault::Form { line } => AuditFault::Form { line },
+        HeadFault::Head { line } => AuditFault::Head { line },
+    }
+}
+
+/// The fault of a block behind the close of this line.
+pub(crate) fn block_fault(closing: u64, refusal: BlockRefusal) -> AuditFault
+    ensures { (roads : Roads) (vehicles : List Vehicle) (rounds : List NumberedLanes) (workers : ℕ) (text : List ℕ)
+        → (refusal ≢ NoBlockMemory → FailsAt roads vehicles rounds workers text (IsWrongBatch refusal) closing) → HasFault roads vehicles rounds workers text result }
+{
+    let line = closing.saturating_add(1);
+    match refusal {
+        BlockRefusal::OutOfMemory => AuditFault::OutOfMemory,
+        BlockRefusal::Cut { lines } => AuditFault::Cut {
+            line: line.saturating_add(lines),
+        },
+        BlockRefusal::Form { lines } => AuditFault::Form {
+            line: line.saturating_add(lines),
+        },
+        BlockRefusal::Wrong { point } => AuditFault::Batch { line, point },
+    }
 }

@@ -23,15 +23,12 @@
 #![tactic(auto)]
 
 mod close;
-mod command;
-mod end;
 mod entry;
 mod fault;
 mod line;
 mod report;
 mod round;
 mod setup;
-mod stop;
 
 pub use fault::{AuditFault, Audited};
 pub use report::audit;

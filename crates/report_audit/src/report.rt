@@ -1,23 +1,21 @@
 //! The audit of a report.
-ghost use Rattle.std.specs.Prelude.{◌≡◌, ◌≢◌, ◌==◌, ◌≤◌, All, IfErr, IfOk, MatchResult, count_by, length};
+ghost use Rattle.std.specs.Prelude.{◌≡◌, ◌≢◌, ◌≤◌, All, IfErr, IfOk, MatchResult, length};
 ghost use Rattle.request_book.specs.Consistent.{IsNode};
-ghost use Rattle.request_book.specs.Book.{opening};
 ghost use Rattle.report_audit.specs.Fault.{HasFault};
 ghost use Rattle.report_audit.specs.Report.{IsAudited, IsReportOfRun};
 ghost use Rattle.report_audit.specs.declared.fault.AuditFault.{AuditFault as OneFault};
 ghost use Rattle.report_audit.specs.declared.fault.AuditFault.TheVariants.{OutOfMemory as NoMemory};
-ghost use Rattle.report_audit.specs.work.Faults.{IsLeftOf, fault_of, fault_of_block, fault_of_head, fault_of_line, line_left};
-ghost use Rattle.report_audit.specs.work.Whole.{AllStops, HasReadAll};
+ghost use Rattle.report_audit.specs.work.Standing.{IsGiven, IsOpened};
+ghost use Rattle.report_lines.specs.Head.{BeginsWithHead};
 
-use crate::end::audit_end;
-use crate::fault::{AuditFault, Audited};
+use crate::fault::{AuditFault, Audited, of_head};
+use crate::line::{behind_line, nothing_behind};
 use crate::round::audit_round;
 use crate::setup::Setup;
-use crate::stop::{LineFault, Stop, begins_with_entry};
 use batch_snapshot::Fleet;
-use block_audit::BlockRefusal;
 use dispatch_engine::opened_book;
-use report_lines::{HeadFault, read_head};
+use report_lines::{NextLine, read_head};
+use request_book::Book;
 use road_network::Network;
 use script_rows::Script;
 use std::alloc::Global;
@@ -49,7 +47,7 @@ pub fn audit<G: Gate>(
     ensures sound { IfOk result (λ _. (other : OneFault) → other ≢ NoMemory → HasFault network.entry.now fleet.entry.now script.entry.now workers report.entry.now other → ⊥) }
     ensures only { IfErr result (λ fault. fault ≢ NoMemory → (other : OneFault) → other ≢ NoMemory → HasFault network.entry.now fleet.entry.now script.entry.now workers report.entry.now other → other ≡ fault) }
 {
-    let _sizes = (network.node_count(), network.arc_count());
+    fetch_bounds(network, fleet, script);
     let vehicles = fleet.vehicles().len() as u64;
     let (settings, rest) = match read_head(report, workers, network, vehicles) {
         Ok(head) => head,
@@ -57,125 +55,74 @@ pub fn audit<G: Gate>(
     };
     let setup = Setup {
         alloc,
+        report,
         network,
         settings: &settings,
         gate,
     };
-    match audit_behind(rt, rest, fleet, script, &setup) {
-        Ok(audited) => Ok(audited),
-        Err(stop) => Err(fault_at(report, stop)),
-    }
+    let (entries, batches) = audit_behind(rt, rest, fleet, script, &setup)?;
+    Ok(Audited { entries, batches })
 }
 
-/// The same of what follows the head.
+/// The same of what follows the head: how many entries and batches there are.
 fn audit_behind<G: Gate>(
     rt: &(impl Threads + Sync),
     text: &[u8],
     fleet: &Fleet,
     script: &Script,
     setup: &Setup<'_, G>,
-) -> Result<Audited, Stop>
-    requires { All (λ vehicle. IsNode setup.now.network.now.nodes vehicle.node) fleet.now }
-    ensures { MatchResult result (HasReadAll setup.entry.now.settings.now setup.entry.now.network.now script.entry.now (opening fleet.entry.now) text.entry.now)
-        (AllStops setup.entry.now.settings.now setup.entry.now.network.now script.entry.now (opening fleet.entry.now) text.entry.now) }
+) -> Result<(u64, u64), AuditFault>
+    requires nodes { All (λ vehicle. IsNode setup.now.network.now.nodes vehicle.node) fleet.now }
+    requires head { BeginsWithHead setup.now.settings.now.workers setup.now.network.now (length fleet.now) setup.now.report.now setup.now.settings.now text.now }
+    ensures { MatchResult result (λ r. IsAudited setup.entry.now.network.now fleet.entry.now script.entry.now setup.entry.now.settings.now.workers setup.entry.now.report.now (record { entries = r.0; batches = r.1 }))
+        (HasFault setup.entry.now.network.now fleet.entry.now script.entry.now setup.entry.now.settings.now.workers setup.entry.now.report.now) }
 {
-    if begins_with_entry(text) {
-        return Err(Stop::Line {
-            left: text.len(),
-            fault: LineFault::Form,
-        });
-    }
-    let mut book = match opened_book(setup.alloc, setup.network, fleet, setup.settings.wait) {
-        Ok(book) => book,
-        Err(_) => return Err(Stop::OutOfMemory),
-    };
+    let mut book = opened_book(setup.alloc, setup.network, fleet, setup.settings.wait)?;
     let _entries = book.entries();
+    audit_rounds(rt, &mut book, text, fleet, script, setup)
+}
+
+/// The same by the book that these vehicles open.
+fn audit_rounds<G: Gate>(
+    rt: &(impl Threads + Sync),
+    book: &mut Book,
+    text: &[u8],
+    fleet: &Fleet,
+    script: &Script,
+    setup: &Setup<'_, G>,
+) -> Result<(u64, u64), AuditFault>
+    requires opened { IsOpened setup.now.settings.now setup.now.network.now fleet.now book.old }
+    requires head { BeginsWithHead setup.now.settings.now.workers setup.now.network.now (length fleet.now) setup.now.report.now setup.now.settings.now text.now }
+    ensures { MatchResult result (λ r. IsAudited setup.entry.now.network.now fleet.entry.now script.entry.now setup.entry.now.settings.now.workers setup.entry.now.report.now (record { entries = r.0; batches = r.1 }))
+        (HasFault setup.entry.now.network.now fleet.entry.now script.entry.now setup.entry.now.settings.now.workers setup.entry.now.report.now) }
+{
+    let _vehicles = fleet.vehicles();
     let mut rest = text;
     let mut batches = 0u64;
+    let mut first = true;
     for round in script.rounds() {
-        match audit_round(rt, &mut book, round, rest, setup) {
+        match audit_round(rt, book, round, rest, first, setup) {
             Ok(read) => {
                 rest = read.rest;
                 batches = batches.saturating_add(read.batches);
+                first = false;
             }
-            Err(stop) => return Err(stop),
+            Err(fault) => return Err(fault),
         }
     }
     let entries = book.next_position();
-    match audit_end(rest, entries) {
-        Ok(()) => Ok(Audited { entries, batches }),
-        Err(stop) => Err(stop),
-    }
+    let behind = behind_line(setup.report, rest, NextLine::Done { entries }, first)?;
+    nothing_behind(setup.report, behind)?;
+    Ok((entries, batches))
 }
 
-/// The fault of a head.
-fn of_head(fault: HeadFault) -> AuditFault
-    ensures { result ≡ fault_of_head fault }
+/// Calls for what the inputs keep alone: their counts and numbers are within their types.
+fn fetch_bounds(network: &Network, fleet: &Fleet, script: &Script)
+    ensures { IsGiven network.now fleet.now script.now }
 {
-    match fault {
-        HeadFault::Cut { line } => AuditFault::Cut { line },
-        HeadFault::Form { line } => AuditFault::Form { line },
-        HeadFault::Head { line } => AuditFault::Head { line },
+    let _sizes = (network.node_count(), network.arc_count());
+    let _vehicles = fleet.vehicles();
+    for round in script.rounds() {
+        let _number = round.number();
     }
-}
-
-/// The fault of a report behind its head.
-fn fault_at(report: &[u8], stop: Stop) -> AuditFault
-    requires { IsLeftOf report.now stop }
-    ensures { result ≡ fault_of report.now stop }
-{
-    match stop {
-        Stop::OutOfMemory => AuditFault::OutOfMemory,
-        Stop::Line { left, fault } => line_fault(line_at(report, left), fault),
-        Stop::Block { left, refusal } => block_fault(line_at(report, left), refusal),
-    }
-}
-
-fn line_fault(line: u64, fault: LineFault) -> AuditFault
-    ensures { result ≡ fault_of_line line fault }
-{
-    match fault {
-        LineFault::Cut => AuditFault::Cut { line },
-        LineFault::Form => AuditFault::Form { line },
-        LineFault::Entry => AuditFault::Entry { line },
-    }
-}
-
-/// The fault of a block behind the close of this line.
-fn block_fault(closing: u64, refusal: BlockRefusal) -> AuditFault
-    ensures { result ≡ fault_of_block closing refusal }
-{
-    let line = closing.saturating_add(1);
-    match refusal {
-        BlockRefusal::OutOfMemory => AuditFault::OutOfMemory,
-        BlockRefusal::Cut { lines } => AuditFault::Cut {
-            line: line.saturating_add(lines),
-        },
-        BlockRefusal::Form { lines } => AuditFault::Form {
-            line: line.saturating_add(lines),
-        },
-        BlockRefusal::Wrong { point } => AuditFault::Batch { line, point },
-    }
-}
-
-/// The number of the line that begins where so many bytes are left.
-fn line_at(report: &[u8], left: usize) -> u64
-    requires { left ≤ length report.now }
-    ensures { result ≡ line_left report.now left }
-{
-    feeds(&report[..report.len() - left]) + 1
-}
-
-/// How many line feeds a text has.
-fn feeds(text: &[u8]) -> u64
-    ensures count { result ≡ count_by (λ c. c == 10) text.now }
-    ensures few { result ≤ length text.now }
-{
-    let mut count = 0;
-    for byte in text {
-        if *byte == b'\n' {
-            count += 1;
-        }
-    }
-    count
 }

@@ -3,10 +3,12 @@ use road_network::Network;
 use std::alloc::Global;
 use worker_gate::Gate;
 
-/// What the rounds of an audit share: the allocator, the network, the settings, and the gate that hears of pieces.
+/// What the rounds of an audit share: the allocator, the whole report, the network, the settings, and the gate that hears
+/// of pieces.
 #[derive(Drop)]
 pub(crate) struct Setup<'a, G: Gate> {
     pub(crate) alloc: Global,
+    pub(crate) report: &'a [u8],
     pub(crate) network: &'a Network,
     pub(crate) settings: &'a Settings,
     pub(crate) gate: &'a G,

@@ -4,11 +4,10 @@ pub use Rattle.std.proofs.lemmas.Fmt.{decimal_digit, decimal_is_IsNumeral_wide}
 pub use Rattle.std.proofs.lemmas.Grind.{flat_map-append}
 pub use Rattle.std.proofs.lemmas.List.{append_cancel_left, at_drop_more, map-append}
 pub use Rattle.std.proofs.lemmas.List.Elements.{All-append, All-cons, All-head, All-tail}
-pub use Rattle.std.proofs.lemmas.Result.{err_from_is_err_and}
 pub use Rattle.std.specs.Char.{is_ascii_digit}
 pub use Rattle.std.specs.List.{list_all}
 pub use Rattle.dispatch_report.specs.Block.{block_line_text, pair_line, stop_text}
-pub use Rattle.dispatch_report.specs.Entry.{command_text, entry_line, refusal_text, reply_text}
+pub use Rattle.dispatch_report.specs.Entry.{command_text, entry_line, reply_text}
 unfoldable pub use Rattle.dispatch_report.specs.Head.{head_text}
 pub use Rattle.dispatch_report.specs.Head.{settings_line}
 unfoldable pub use Rattle.dispatch_report.specs.Lines.{lines_text}
@@ -17,32 +16,23 @@ pub use Rattle.dispatch_report.specs.Words.{spaced}
 pub use Rattle.pool_base.specs.Number.{AllDigits, value_of}
 pub use Rattle.pool_base.specs.lemmas.Number.{value_after}
 pub use Rattle.report_lines.specs.Block.{BeginsBlock, BlockFails, IsBadBlock, IsBlock, IsCutBlock}
-pub use Rattle.report_lines.specs.BlockLine.{IsBlockLine}
-pub use Rattle.report_lines.specs.Both.{BothAre, both_texts}
+pub use Rattle.report_lines.specs.BlockLine.{IsBlockLine, AreIds, IsLong, IsWide, FitsStop}
+pub use Rattle.report_lines.specs.Reading.{BothAre, both_texts, BeginsWith, BeginsWithNone, ends_number}
 pub use Rattle.report_lines.specs.Cut.{is_one_line}
 pub use Rattle.report_lines.specs.HeadFault.{FitsLine, HasForm, HeadFails, HeadLine, LineFails, LinesFail, head_lines, sizes_of}
 pub use Rattle.report_lines.specs.HeadLines.{AreSettings, AreSizes, settings_text, sizes_text}
-pub use Rattle.report_lines.specs.Ids.{AreIds}
 pub use Rattle.dispatch_report.specs.Fits.{IsId, IsReply}
 pub use Rattle.report_lines.specs.Line.{IsFirstLine}
 pub use Rattle.report_lines.specs.Next.{IsNextLine}
 pub use Rattle.report_lines.specs.Order.{follow_on, is_between, kind_place, last_place, may_follow_at}
-pub use Rattle.report_lines.specs.Reading.{BeginsWith, BeginsWithNone, ends_number}
 pub use Rattle.report_lines.specs.Settings.{AreLawful, AreOf}
-pub use Rattle.report_lines.specs.Signed.{IsLong, IsWide}
-pub use Rattle.report_lines.specs.Stops.{FitsStop}
 pub use Rattle.dispatch_report.specs.declared.block_line.BlockLine.{BlockLine}
 pub use Rattle.dispatch_report.specs.declared.block_line.BlockLine.TheVariants.{Alone, Batch, Bound, Branch, Cost, Dead, End, Expired, Lapsed, Late, Leaf, Move, Nodes, Out, Overflow, Row, Shared, Trip}
 pub use Rattle.report_lines.specs.declared.head_fault.HeadFault.{HeadFault}
-pub use Rattle.report_lines.specs.declared.head_lines.SettingsText.{SettingsText}
-pub use Rattle.report_lines.specs.lemmas.HeadLines.{IsShortNumber, dwell_text}
-pub use Rattle.report_lines.specs.work.Commands.{AreFour, AreThree, IsEnding, IsSubmit, IsTold, ending_text, four_text, submit_text, three_text, told_text}
-pub use Rattle.report_lines.specs.work.Head.{HasHead, LinesThen, Passes, told_lines}
-pub use Rattle.report_lines.specs.work.Late.{IsOrder, order_text}
-pub use Rattle.report_lines.specs.work.Replies.{spaced_reply}
-pub use Rattle.report_lines.specs.work.Settings.{told_of}
-pub use Rattle.report_lines.specs.work.Stops.{IsVisit, visit_text}
-pub use Rattle.report_lines.specs.work.Told.{Told}
+pub use Rattle.report_lines.specs.declared.head.SettingsText.{SettingsText}
+pub use Rattle.report_lines.specs.work.Head.{IsShortNumber, dwell_text, HasHead, LinesThen, fleet_line, told_lines, told_of}
+pub use Rattle.report_lines.specs.work.Entries.{IsAnyReply, IsTold, IsToldBy, IsToldByAny, Told, fields_of, replies, spaced_reply, told_text, word_replies}
+pub use Rattle.report_lines.specs.work.Lines.{IsOrder, order_text, IsVisit, visit_text}
 pub use Rattle.request_book.specs.declared.outcome.Outcome.{Outcome}
 pub use Rattle.request_book.specs.declared.outcome.PlannedStop.{PlannedStop}
 pub use Rattle.request_book.specs.declared.reply.Reply.{Reply}

@@ -1,14 +1,7 @@
 pub mod lemmas
 pub mod ListLemmas
 pub mod StopLemmas
-pub mod LateLemmas
 pub mod SignedLemmas
-pub mod BlockLemmas
 pub mod OneLine
-pub mod SettingsLemmas
-pub mod FormLemmas
-pub mod ToldLemmas
-pub mod CommandLemmas
 pub mod EntryLemmas
-pub mod ReplyLemmas
 pub mod Common

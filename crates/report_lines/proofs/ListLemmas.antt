@@ -51,10 +51,6 @@ module _ {X : Type 0} {t : X → List ℕ} {Is : X → Type 0} (item : IsItem t 
       let tail : xs ≡ ys = many_of_one xs ys (All-tail Is x xs ia) (All-tail Is y ys ib) same.1 in
       cc
 
-  -- before the first item
-  pub so_far_none : {text : List ℕ} {items : List X} → items ≡ [] → ReadSoFar t Is text items text
-  so_far_none {text} {items} e = search rules
-
   -- where no text is left, the items are those that are given
   pub so_far_done : {text : List ℕ} {items : List X} {rest : List ℕ} → ReadSoFar t Is text items rest → nat_eq (length rest) 0 ≡ true → (given : List X) → given ≡ items → All Is given × (text ≡ flat_map t given)
   so_far_done {text} {items} {rest = []} so done given e = search rules
@@ -72,14 +68,9 @@ module _ {X : Type 0} {t : X → List ℕ} {Is : X → Type 0} (item : IsItem t 
   next_left items rest x after b all [] l = absurd (not_empty x after (sym l.text ∙ b.whole))
   next_left items rest x after b all (y ∷ ys) l =
       let same = item.form.once rest x y after (flat_map t ys) b (begins_many rest y ys l.lawful l.text) in
-      let head : x ≡ y = same.0 in (
-        ys,
-        record {
-          parts = l.parts ∙ ap (λ z. items ++ z ∷ ys) (sym head) ∙ sym (append_assoc items (x ∷ []) ys);
-          text = same.1;
-          lawful = All-tail Is y ys l.lawful;
-        },
-      )
+      let head : x ≡ y = same.0 in
+      let parts = l.parts ∙ ap (λ (z : X). items ++ z ∷ ys) (sym head) ∙ sym (append_assoc items (x ∷ []) ys) in
+      (ys, record { parts = parts; text = same.1; lawful = All-tail Is y ys l.lawful })
 
   -- one item more, of a list that is given as that
   pub so_far_more : {text : List ℕ} {items : List X} {rest : List ℕ} {x : X} {after : List ℕ} {new : List X} {given : X} → ReadSoFar t Is text items rest → BeginsWith t Is rest x after → new ≡ items ++ given ∷ [] → given ≡ x → ReadSoFar t Is text new after
@@ -93,6 +84,8 @@ module _ {X : Type 0} {t : X → List ℕ} {Is : X → Type 0} (item : IsItem t 
         lawful = All-append Is items (x ∷ []) so.lawful (All-cons Is x [] b.lawful (λ k d within. absurd (omega arith)));
         only = λ every lawful e. let l = so.only every lawful e in next_left items rest x after b every l.0 l.1;
       })
+
+pub ruleset so_far = (so_far_done, shorter_after)
 
 -- ids, each behind a space
 pub spaced_item : IsItem spaced IsId

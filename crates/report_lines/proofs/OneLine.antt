@@ -2,12 +2,11 @@
 use Rattle.std.proofs.Common.{◌≡◌, ℕ, ◌+◌, eqb, ◌*◌, ◌<◌, ◌≤◌, ◌^◌, List, ◌++◌, get_or, codes, Option, None, Some, false, refl, sym, ap, arith, rules}
 use Rattle.report_lines.proofs.Common.{eqb-false, append_cancel_left, stop_text, pair_line, numbered, signed, spaced, block_line_text, IsBlockLine, IsId, AreIds, FitsStop, both_texts, BothAre, order_text, IsOrder, PlannedStop, Batch, Expired, Overflow, Lapsed, Late, Alone, Shared, Row, Trip, Out, Move, Cost, Bound, Nodes, Branch, Leaf, Dead, End}
 use Rattle.std.specs.List.{All, flat_map}
-use Rattle.report_lines.proofs.LateLemmas.{order_ends}
+use Rattle.report_lines.proofs.StopLemmas.{order_ends, stop_item}
 use Rattle.report_lines.proofs.ListLemmas.{many_end, many_of_one, spaced_item}
 use Rattle.report_lines.proofs.lemmas.ReadingLemmas.{EndsOnce, TextIsOfOne, both_of_one, both_once, numbered_below, numbered_once, numbered_within, of_one, spaced_apart, spaced_ends}
 use Rattle.report_lines.proofs.SignedLemmas.{signed_words_once, long_item}
-use Rattle.report_lines.proofs.ToldLemmas.{no_number}
-use Rattle.report_lines.proofs.StopLemmas.{stop_item}
+use Rattle.report_lines.proofs.lemmas.NumeralLemmas.{no_number}
 use Rattle.dispatch_report.specs.declared.block_line.TripText.{TripText}
 use Rattle.dispatch_report.specs.declared.block_line.LateText.{LateText}
 use Rattle.request_book.specs.declared.outcome.MoveLine.{MoveLine}
@@ -64,10 +63,6 @@ late_of_one a b ia ib e =
     let late : ℕ × (ℕ × Option (List PlannedStop)) → LateText = λ p. record { vehicle = p.0; delay = p.1.0; stops = p.1.1 } in
     ap late (both_of_one order_text IsOrder order_ends (id_once (codes "late ")) order_of_one (a.vehicle, (a.delay, a.stops)) (b.vehicle, (b.delay, b.stops)) (ia.0, ia.1) (ib.0, ib.1) e)
 
-leaf_of_one : TextIsOfOne (λ x. block_line_text (Leaf x)) (λ x. IsBlockLine (Leaf x))
-leaf_of_one a b ia ib e =
-    many_of_one long_item a b ia ib (append_cancel_left (codes "leaf") (flat_map (signed (codes " ")) a) (flat_map (signed (codes " ")) b) e)
-
 -- the first three bytes of a line, which tell its kind
 abbrev first_bytes : List ℕ → ℕ
 first_bytes text = get_or text 0 0 * 65536 + get_or text 1 0 * 256 + get_or text 2 0
@@ -93,7 +88,7 @@ block_line_of_one (Cost x) (Cost y) ix iy e = ap Cost (numbered_below (codes "co
 block_line_of_one (Bound x) (Bound y) ix iy e = ap Bound (of_one (signed_words_once (codes "bound ")) x y ix iy e)
 block_line_of_one (Nodes x) (Nodes y) ix iy e = ap Nodes (numbered_below (codes "nodes ") x y ix iy e)
 block_line_of_one (Branch x) (Branch y) ix iy e = ap Branch (of_one (head_once (codes "branch ") (2 ^ 32) (omega arith)) x y ix iy e)
-block_line_of_one (Leaf x) (Leaf y) ix iy e = ap Leaf (leaf_of_one x y ix iy e)
+block_line_of_one (Leaf x) (Leaf y) ix iy e = ap Leaf (many_of_one long_item x y ix iy (append_cancel_left (codes "leaf") (flat_map (signed (codes " ")) x) (flat_map (signed (codes " ")) y) e))
 block_line_of_one Dead Dead ix iy e = refl
 block_line_of_one End End ix iy e = refl
 block_line_of_one _ _ ix iy e = absurd (kinds_differ _ _ e refl)

@@ -1,11 +1,11 @@
 -- Signed numbers at the beginning of a text.
-use Rattle.std.proofs.Common.{◌≡◌, ◌≢◌, ℕ, suc, ◌≤◌, ◌<◌, ◌^◌, true, ℤ, pos, negsuc, to_z, of_z, w64, Bor, Option, MatchOption, List, ◌∷◌, ◌++◌, decimal, codes, refl, sym, ◌∙◌, subst, arith, rules}
+use Rattle.std.proofs.Common.{◌≡◌, ℕ, suc, ◌≤◌, ◌<◌, ◌^◌, true, ℤ, pos, negsuc, to_z, of_z, w64, List, ◌∷◌, ◌++◌, decimal, codes, refl, sym, ◌∙◌, subst, arith, rules}
 use Rattle.report_lines.proofs.Common.{signed, BeginsWith, BeginsWithNone, ends_number, IsWide, IsLong}
 use Rattle.std.specs.Fmt.{signed_decimal}
 use Rattle.std.specs.Int.{w128}
 use Rattle.report_lines.proofs.ListLemmas.{IsItem}
-use Rattle.report_lines.proofs.ToldLemmas.{no_number}
-use Rattle.report_lines.proofs.lemmas.ReadingLemmas.{EndsOnce, decimal_once, behind_once, behind_none_words, behind_read}
+use Rattle.report_lines.proofs.lemmas.NumeralLemmas.{no_number}
+use Rattle.report_lines.proofs.lemmas.ReadingLemmas.{EndsOnce, decimal_once, behind_once}
 
 below_begins : (text : List ℕ) (n : ℕ) (rest : List ℕ) → n < 2 ^ 127 → ends_number rest ≡ true → 45 ∷ text ≡ signed_decimal (negsuc n) ++ rest → BeginsWith decimal (λ m. m ≤ 2 ^ 127) text (suc n) rest
 below_begins text n rest small ends e = search rules
@@ -43,14 +43,6 @@ pub wide_same : (z : ℤ) → IsWide z → to_z w128 (of_z w128 z) ≡ z
 wide_same z is = search rules
 
 -- behind words
-pub signed_none_words : (words text : List ℕ) → ((rest : List ℕ) → text ≢ words ++ rest) → BeginsWithNone (signed words) IsWide text
-unfolding signed
-signed_none_words words text none = behind_none_words signed_decimal IsWide words text none
-
-pub signed_read : (words text after : List ℕ) (r : Option (ℤ × Bor (List ℕ))) → text ≡ words ++ after → MatchOption r (BeginsWithNone signed_decimal IsWide after) (λ x. BeginsWith signed_decimal IsWide after x.0 x.1.now) → MatchOption r (BeginsWithNone (signed words) IsWide text) (λ x. BeginsWith (signed words) IsWide text x.0 x.1.now)
-unfolding signed
-signed_read words text after r = behind_read signed_decimal IsWide words text after r
-
 pub signed_words_once : (words : List ℕ) → EndsOnce (signed words) IsWide
 unfolding signed
 signed_words_once words = behind_once words signed_once

@@ -1,14 +1,15 @@
--- Stops, one behind the other.
-use Rattle.std.proofs.Common.{◌≡◌, ℕ, ◌≤◌, Bool, true, false, if◌then◌else◌, codes, List, ◌++◌, refl, sym, ap, ◌∙◌, arith, rules}
-use Rattle.report_lines.proofs.Common.{stop_text, numbered, IsId, BeginsWith, BeginsWithNone, both_texts, BothAre, FitsStop, visit_text, IsVisit, PlannedStop}
-use Rattle.report_lines.proofs.ListLemmas.{IsItem}
-use Rattle.report_lines.proofs.lemmas.ReadingLemmas.{EndsOnce, StandsApart, both_none_first, both_none_second, both_some, both_once, numbered_once}
+-- Stops, one behind the other, and a late vehicle's order.
+use Rattle.std.proofs.Common.{◌≡◌, ℕ, ◌≤◌, Bool, true, false, if◌then◌else◌, codes, List, ◌++◌, refl, sym, ap, ◌∙◌, arith, rules, ◌≢◌, Option, None, Some}
+use Rattle.report_lines.proofs.Common.{stop_text, numbered, IsId, BeginsWith, BeginsWithNone, both_texts, BothAre, FitsStop, visit_text, IsVisit, PlannedStop, spaced, ends_number, order_text, IsOrder}
+use Rattle.report_lines.proofs.ListLemmas.{IsItem, many_end}
+use Rattle.report_lines.proofs.lemmas.ReadingLemmas.{EndsOnce, StandsApart, both_once, numbered_once, same_begin}
+use Rattle.std.specs.List.{flat_map, All}
 
 pick_is_no_drop : (x y : ℕ) (r s : List ℕ) → numbered (codes " pick:") x ++ r ≡ numbered (codes " drop:") y ++ s → ⊥
 unfolding numbered
 pick_is_no_drop x y r s e = grind arith
 
-visit_once : EndsOnce visit_text IsVisit
+pub visit_once : EndsOnce visit_text IsVisit
 visit_once = record { once = once }
   where
     alike : (pick : Bool) (text : List ℕ) (x y : ℕ) (r s : List ℕ) → BeginsWith visit_text IsVisit text (pick, x) r → BeginsWith visit_text IsVisit text (pick, y) s → ◌≡◌ {A = Bool × ℕ} (pick, x) (pick, y) × (r ≡ s)
@@ -23,7 +24,7 @@ visit_once = record { once = once }
     once text (true, x) (false, y) r s bx by = absurd (pick_is_no_drop x y r s (sym bx.whole ∙ by.whole))
     once text (false, x) (true, y) r s bx by = absurd (pick_is_no_drop y x s r (sym by.whole ∙ bx.whole))
 
-mark_apart : StandsApart (numbered (codes "@")) × StandsApart (numbered (codes ":"))
+pub mark_apart : StandsApart (numbered (codes "@")) × StandsApart (numbered (codes ":"))
 unfolding numbered
 mark_apart = (record { apart = λ n rest ends. refl }, record { apart = λ n rest ends. refl })
 
@@ -47,37 +48,34 @@ parts_of stop = (((stop.pick, stop.rider), stop.node), stop.second)
 stop_begins : (text : List ℕ) (stop : PlannedStop) (rest : List ℕ) → BeginsWith stop_text FitsStop text stop rest → BeginsWith parts_text AreParts text (parts_of stop) rest
 stop_begins text stop rest b = search rules
 
-stop_none : (text : List ℕ) → BeginsWithNone parts_text AreParts text → BeginsWithNone stop_text FitsStop text
+pub stop_none : (text : List ℕ) → BeginsWithNone parts_text AreParts text → BeginsWithNone stop_text FitsStop text
 stop_none text none stop rest b = none (parts_of stop) rest (stop_begins text stop rest b)
 
-placed_once : EndsOnce place_text IsPlaced
+pub placed_once : EndsOnce place_text IsPlaced
 placed_once = both_once mark_apart.0 visit_once (numbered_once (codes "@") 1000000000 (omega arith))
-
-parts_once : EndsOnce parts_text AreParts
-parts_once = both_once mark_apart.1 placed_once (numbered_once (codes ":") 18446744073709551615 (omega arith))
 
 stop_once : EndsOnce stop_text FitsStop
 stop_once =
     record {
       once = λ text x y r s bx by.
-          let same = parts_once.once text (parts_of x) (parts_of y) r s (stop_begins text x r bx) (stop_begins text y s by) in
-          (stop_is x y (ap (λ p. p.0.0.0) same.0) (ap (λ p. p.0.0.1) same.0) (ap (λ p. p.0.1) same.0) (ap (λ p. p.1) same.0), same.1);
+          let same = (both_once mark_apart.1 placed_once (numbered_once (codes ":") 18446744073709551615 (omega arith))).once text (parts_of x) (parts_of y) r s (stop_begins text x r bx) (stop_begins text y s by) in
+          (grind (arith, same.0), same.1);
     }
-  where
-    stop_is : (a b : PlannedStop) → a.pick ≡ b.pick → a.rider ≡ b.rider → a.node ≡ b.node → a.second ≡ b.second → a ≡ b
-    stop_is a b pick rider node second = grind arith
 
 pub stop_item : IsItem stop_text FitsStop
 unfolding numbered
 stop_item = search (rules, stop_once)
 
--- where a stop's parts are missing
-module _ {text : List ℕ} where
-  pub stop_no_visit : BeginsWithNone visit_text IsVisit text → BeginsWithNone stop_text FitsStop text
-  stop_no_visit none = stop_none text (both_none_first (λ n. n ≤ 18446744073709551615) mark_apart.1 (both_none_first IsId mark_apart.0 none))
+pub order_no_delay : {text : List ℕ} → text ≢ codes " none" → BeginsWithNone spaced (λ n. n ≤ 18446744073709551615) text → (order : ℕ × Option (List PlannedStop)) → IsOrder order → text ≢ order_text order
+order_no_delay other none (delay, None) is e = other e
+order_no_delay other none (delay, Some stops) is e = none delay (flat_map stop_text stops) (record { whole = e; lawful = omega (arith, is.0); ends = many_end stop_item stops })
 
-  pub stop_no_place : {visit : Bool × ℕ} {after : List ℕ} → BeginsWith visit_text IsVisit text visit after → BeginsWithNone (numbered (codes "@")) IsId after → BeginsWithNone stop_text FitsStop text
-  stop_no_place b none = stop_none text (both_none_first (λ n. n ≤ 18446744073709551615) mark_apart.1 (both_none_second IsId mark_apart.0 visit_once b none))
+pub order_no_stops : {text : List ℕ} → text ≢ codes " none" → {given : ℕ} {after : List ℕ} → BeginsWith spaced (λ n. n ≤ 18446744073709551615) text given after → ((stops : List PlannedStop) → All FitsStop stops → after ≢ flat_map stop_text stops) → (order : ℕ × Option (List PlannedStop)) → IsOrder order → text ≢ order_text order
+order_no_stops other b none (delay, None) is e = other e
+order_no_stops other b none (delay, Some stops) is e =
+    none stops is.1 (same_begin (numbered_once (codes " ") 18446744073709551615 (omega arith)) b delay (flat_map stop_text stops) (omega (arith, is.0)) (many_end stop_item stops) e).1
 
-  pub stop_no_second : {visit : Bool × ℕ} {after : List ℕ} {place : ℕ} {last : List ℕ} → BeginsWith visit_text IsVisit text visit after → BeginsWith (numbered (codes "@")) IsId after place last → BeginsWithNone (numbered (codes ":")) (λ n. n ≤ 18446744073709551615) last → BeginsWithNone stop_text FitsStop text
-  stop_no_second b p none = stop_none text (both_none_second (λ n. n ≤ 18446744073709551615) mark_apart.1 placed_once (both_some b p) none)
+pub order_ends : (order : ℕ × Option (List PlannedStop)) → ends_number (order_text order) ≡ true
+unfolding numbered
+order_ends (delay, None) = refl
+order_ends (delay, Some stops) = refl

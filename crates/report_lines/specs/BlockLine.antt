@@ -1,12 +1,28 @@
 -- Which lines of a batch's block can be told.
-use Rattle.std.specs.Prelude.{◌≡◌, ℕ, ◌<◌, ◌^◌, MatchOption}
+use Rattle.std.specs.Prelude.{ℕ, ℤ, pos, negsuc, ◌<◌, ◌^◌, ◌≡◌, MatchOption}
+use Rattle.dispatch_report.specs.Fits.{IsId}
+use Rattle.request_book.specs.declared.outcome.PlannedStop.{PlannedStop}
 use Rattle.std.specs.List.{All}
 use Rattle.dispatch_report.specs.declared.block_line.BlockLine.{BlockLine}
 use Rattle.dispatch_report.specs.declared.block_line.BlockLine.TheVariants.{Batch, Expired, Overflow, Lapsed, Late, Alone, Shared, Row, Trip, Out, Move, Cost, Bound, Nodes, Branch, Leaf, Dead, End}
-use Rattle.report_lines.specs.Ids.{AreIds}
-use Rattle.dispatch_report.specs.Fits.{IsId}
-use Rattle.report_lines.specs.Signed.{IsWide, IsLong}
-use Rattle.report_lines.specs.Stops.{FitsStop}
+
+-- two ids
+abbrev pub AreIds : ℕ × ℕ → Type 0
+AreIds p = IsId p.0 × IsId p.1
+
+-- a signed number of 128 bits
+abbrev pub IsWide : ℤ → Type 0
+IsWide (pos n) = n < 2 ^ 127
+IsWide (negsuc n) = n < 2 ^ 127
+
+-- and of 64 bits
+abbrev pub IsLong : ℤ → Type 0
+IsLong (pos n) = n < 2 ^ 63
+IsLong (negsuc n) = n < 2 ^ 63
+
+-- the numbers of a stop are within their types
+abbrev pub FitsStop : PlannedStop → Type 0
+FitsStop stop = IsId stop.rider × IsId stop.node × (stop.second < 2 ^ 64)
 
 -- the numbers of a line are within their types; a late vehicle has an order, or none and no delay
 abbrev pub IsBlockLine : BlockLine → Type 0

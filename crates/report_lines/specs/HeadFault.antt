@@ -7,7 +7,7 @@ use Rattle.report_lines.specs.declared.head_fault.HeadFault.{HeadFault}
 use Rattle.report_lines.specs.declared.head_fault.HeadFault.TheVariants.{Cut, Form, Head}
 use Rattle.report_lines.specs.Cut.{is_one_line}
 use Rattle.report_lines.specs.HeadLines.{settings_text, AreSettings, sizes_text, AreSizes}
-use Rattle.report_lines.specs.declared.head_lines.SettingsText.{SettingsText}
+use Rattle.report_lines.specs.declared.head.SettingsText.{SettingsText}
 use Rattle.road_network.specs.Roads.{Roads}
 
 -- a line of a head: the report's name, the settings, the sizes of a network with so many nodes and arcs, and a fleet of so

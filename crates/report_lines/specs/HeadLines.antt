@@ -1,7 +1,7 @@
 -- The first lines of a report, by their numbers.
 use Rattle.std.specs.Prelude.{ℕ, ◌==◌, ◌<◌, ◌≤◌, ◌^◌, List, [], ◌++◌, codes, if◌then◌else◌}
 use Rattle.dispatch_report.specs.Words.{numbered}
-use Rattle.report_lines.specs.declared.head_lines.SettingsText.{SettingsText}
+use Rattle.report_lines.specs.declared.head.SettingsText.{SettingsText}
 
 -- the line of the settings; the dwell only where there is one
 abbrev pub settings_text : SettingsText → List ℕ

@@ -1,10 +1,6 @@
 pub mod Reading
 pub mod Cut
 pub mod Line
-pub mod Both
-pub mod Ids
-pub mod Signed
-pub mod Stops
 pub mod BlockLine
 pub mod Order
 pub mod Block
@@ -13,5 +9,4 @@ pub mod Settings
 pub mod Head
 pub mod HeadFault
 pub mod Next
-pub mod lemmas
 pub mod work

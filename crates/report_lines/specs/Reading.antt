@@ -1,6 +1,14 @@
 -- What reading a text gives.
-use Rattle.std.specs.Prelude.{◌≡◌, ◌≢◌, ℕ, Bool, true, not, List, [], ◌∷◌, ◌++◌, Option, None, Some}
+use Rattle.std.specs.Prelude.{List, ℕ, ◌++◌, ◌≡◌, ◌≢◌, Bool, true, not, [], ◌∷◌, Option, None, Some}
 use Rattle.std.specs.Char.{is_ascii_digit}
+
+-- the texts of a pair, one behind the other
+abbrev pub both_texts : {X Y : Type 0} → (X → List ℕ) → (Y → List ℕ) → X × Y → List ℕ
+both_texts first second p = first p.0 ++ second p.1
+
+-- each of a pair is lawful
+abbrev pub BothAre : {X Y : Type 0} → (X → Type 0) → (Y → Type 0) → X × Y → Type 0
+BothAre First Second p = First p.0 × Second p.1
 
 -- a number may end before this: no digit follows
 abbrev pub ends_number : List ℕ → Bool

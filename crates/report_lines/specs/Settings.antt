@@ -1,5 +1,5 @@
 use Rattle.std.specs.Prelude.{◌≡◌, ℕ, true}
-use Rattle.report_lines.specs.declared.head_lines.SettingsText.{SettingsText}
+use Rattle.report_lines.specs.declared.head.SettingsText.{SettingsText}
 use Rattle.rider_limits.specs.Range.{AreInRange}
 use Rattle.rider_limits.specs.declared.settings.Mode.TheVariants.{Run}
 use Rattle.rider_limits.specs.declared.settings.Settings.{Settings}

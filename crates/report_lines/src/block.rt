@@ -1,13 +1,13 @@
-ghost use Rattle.std.specs.Prelude.{◌≡◌, ℕ, List, IfOk, MatchOption, MatchResult, true};
+ghost use Rattle.std.specs.Prelude.{◌≡◌, ℕ, IfOk, MatchOption, MatchResult, true};
 ghost use Rattle.report_lines.specs.Block.{IsBlock, BlockFails};
-ghost use Rattle.report_lines.specs.work.LineKinds.{CannotFollow};
+ghost use Rattle.report_lines.specs.work.Lines.{CannotFollow};
 ghost use Rattle.dispatch_report.specs.Block.{block_line_text};
 ghost use Rattle.report_lines.specs.BlockLine.{IsBlockLine};
 ghost use Rattle.report_lines.specs.Order.{kind_place, may_follow_at, is_between as between};
 ghost use Rattle.report_lines.specs.declared.block.BlockFault.TheVariants.{OutOfMemory as NoMemory};
 
 use crate::block_line::read_block_line;
-use crate::cut::line_first;
+use crate::words::line_first;
 use dispatch_report::BlockLine;
 use pool_base::{OutOfMemory, Sequence};
 use std::alloc::{AllocFailed, Global};
@@ -39,6 +39,7 @@ impl<T: Drop> From<AllocFailed<T>> for BlockFault {
 }
 
 /// The lines of the block with which a text begins, and what follows them.
+#[tactic(auto, unfolding(dispatch_report::specs::Lines::lines_text))]
 pub fn read_block(alloc: Global, text: &[u8]) -> Result<(Sequence<BlockLine>, &[u8]), BlockFault>
     ensures { MatchResult result (λ block. IsBlock text.now block.0 block.1.now) (BlockFails text.now) }
 {
@@ -56,7 +57,7 @@ pub fn read_block(alloc: Global, text: &[u8]) -> Result<(Sequence<BlockLine>, &[
                 lines: lines.len() as u64,
             });
         };
-        place = place_of_line(&found);
+        place = order_of(&found).2;
         lines.push(found)?;
         rest = after;
     }
@@ -90,44 +91,32 @@ fn is_between(low: u8, high: u8, n: u8) -> bool
 fn may_follow(place: u8, line: &BlockLine) -> bool
     ensures { result ≡ may_follow_at place line.now }
 {
-    match line {
-        BlockLine::Batch(_) => place == 0,
-        BlockLine::Overflow | BlockLine::Expired(_) => is_between(1, 2, place),
-        BlockLine::Bound(_) => place == 11,
-        BlockLine::Nodes(_) => place == 12,
-        BlockLine::Branch(_) | BlockLine::Leaf(_) | BlockLine::Dead => is_between(13, 14, place),
-        BlockLine::End => is_between(13, 15, place),
-        BlockLine::Lapsed(_) => is_between(1, 3, place),
-        BlockLine::Late(_) => is_between(1, 4, place),
-        BlockLine::Alone(_) => is_between(1, 5, place),
-        BlockLine::Shared(_) => is_between(1, 6, place),
-        BlockLine::Row(_) => is_between(1, 7, place),
-        BlockLine::Trip(_) => is_between(1, 8, place),
-        BlockLine::Out(_) => is_between(1, 9, place),
-        BlockLine::Move(_) | BlockLine::Cost(_) => is_between(1, 10, place),
-    }
+    let (low, high, _) = order_of(line);
+    is_between(low, high, place)
 }
 
-/// The place of a line's kind in a block.
-fn place_of_line(line: &BlockLine) -> u8
-    ensures { result ≡ kind_place line.now }
+/// From which place to which a line may follow, and the place of its kind in a block.
+#[tactic(auto, using(std::proofs::lemmas::Bool::Decides::nat_tests))]
+fn order_of(line: &BlockLine) -> (u8, u8, u8)
+    ensures follows { (place : ℕ) → between result.0 result.1 place ≡ may_follow_at place line.now }
+    ensures place { result.2 ≡ kind_place line.now }
 {
     match line {
-        BlockLine::Batch(_) => 1,
-        BlockLine::Expired(_) => 2,
-        BlockLine::Lapsed(_) => 3,
-        BlockLine::Late(_) => 4,
-        BlockLine::Alone(_) => 5,
-        BlockLine::Shared(_) => 6,
-        BlockLine::Row(_) => 7,
-        BlockLine::Trip(_) => 8,
-        BlockLine::Out(_) => 9,
-        BlockLine::Move(_) => 10,
-        BlockLine::Cost(_) => 11,
-        BlockLine::Bound(_) => 12,
-        BlockLine::Nodes(_) => 13,
-        BlockLine::Branch(_) | BlockLine::Leaf(_) | BlockLine::Dead => 14,
-        BlockLine::Overflow => 15,
-        BlockLine::End => END,
+        BlockLine::Batch(_) => (0, 0, 1),
+        BlockLine::Expired(_) => (1, 2, 2),
+        BlockLine::Lapsed(_) => (1, 3, 3),
+        BlockLine::Late(_) => (1, 4, 4),
+        BlockLine::Alone(_) => (1, 5, 5),
+        BlockLine::Shared(_) => (1, 6, 6),
+        BlockLine::Row(_) => (1, 7, 7),
+        BlockLine::Trip(_) => (1, 8, 8),
+        BlockLine::Out(_) => (1, 9, 9),
+        BlockLine::Move(_) => (1, 10, 10),
+        BlockLine::Cost(_) => (1, 10, 11),
+        BlockLine::Bound(_) => (11, 11, 12),
+        BlockLine::Nodes(_) => (12, 12, 13),
+        BlockLine::Branch(_) | BlockLine::Leaf(_) | BlockLine::Dead => (13, 14, 14),
+        BlockLine::Overflow => (1, 2, 15),
+        BlockLine::End => (13, 15, END),
     }
 }

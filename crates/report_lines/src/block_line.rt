@@ -1,19 +1,17 @@
-ghost use Rattle.std.specs.Prelude.{◌≡◌, ◌≢◌, ℕ, ◌≤◌, ◌<◌, List, ◌++◌, MatchOption, IfOk, codes};
-ghost use Rattle.report_lines.specs.Reading.{IsReadAs};
-ghost use Rattle.dispatch_report.specs.Block.{block_line_text};
-ghost use Rattle.report_lines.specs.BlockLine.{IsBlockLine};
-ghost use Rattle.report_lines.specs.work.LineKinds.{IsPlainLine, IsPairLine, IsListLine};
+ghost use Rattle.std.specs.Prelude.{◌≤◌, ◌<◌, IfOk, codes};
+ghost use Rattle.report_lines.specs.Reading.{IsReadAs, both_texts, BothAre};
+ghost use Rattle.dispatch_report.specs.Block.{block_line_text, pair_line};
+ghost use Rattle.report_lines.specs.BlockLine.{IsBlockLine, AreIds};
+ghost use Rattle.report_lines.specs.work.Lines.{IsPlainLine, IsLongLine};
+ghost use Rattle.dispatch_report.specs.Words.{numbered, spaced};
+ghost use Rattle.dispatch_report.specs.Fits.{IsId};
+ghost use Rattle.dispatch_report.specs.declared.block_line.BlockLine.TheVariants.{Move, Branch};
 
-use crate::late::read_late;
-use crate::leaf::read_leaf;
-use crate::moves::{read_branch, read_move};
-use crate::pairs::{read_rider, read_rr, read_rv};
-use crate::row::read_row;
-use crate::signed::read_signed;
-use crate::trip::read_trip;
-use crate::words::{is_words, read_numbered};
+use crate::lists::{read_late, read_leaf, read_row, read_trip};
+use crate::words::{ID_MOST, is_words, pair_first, read_numbered, read_signed, rider, vehicle};
 use dispatch_report::BlockLine;
-use pool_base::OutOfMemory;
+use pool_base::{OutOfMemory, RiderId, VehicleId};
+use request_book::MoveLine;
 use std::alloc::Global;
 
 /// What a line of a block says; `None` where it is no such line.
@@ -23,16 +21,25 @@ pub fn read_block_line(alloc: Global, line: &[u8]) -> Result<Option<BlockLine>, 
     if let Some(found) = read_plain_line(line) {
         return Ok(Some(found));
     }
-    if let Some(found) = read_pair_line(line) {
-        return Ok(Some(found));
-    }
-    read_list_line(alloc, line)
+    read_long_line(alloc, line)
 }
 
-/// A line that goes on with riders, stops or multipliers.
-fn read_list_line(alloc: Global, line: &[u8]) -> Result<Option<BlockLine>, OutOfMemory>
-    ensures { IfOk result (λ found. IsReadAs block_line_text IsListLine line.now found) }
+/// A line of more numbers than one, or of riders, stops or multipliers.
+fn read_long_line(alloc: Global, line: &[u8]) -> Result<Option<BlockLine>, OutOfMemory>
+    ensures { IfOk result (λ found. IsReadAs block_line_text IsLongLine line.now found) }
 {
+    if let Some(alone) = read_rv(line) {
+        return Ok(Some(BlockLine::Alone(alone)));
+    }
+    if let Some(shared) = read_rr(line) {
+        return Ok(Some(BlockLine::Shared(shared)));
+    }
+    if let Some(move_line) = read_move(line) {
+        return Ok(Some(BlockLine::Move(move_line)));
+    }
+    if let Some(branch) = read_branch(line) {
+        return Ok(Some(BlockLine::Branch(branch)));
+    }
     if let Some(late) = read_late(alloc, line)? {
         return Ok(Some(BlockLine::Late(late)));
     }
@@ -83,19 +90,56 @@ fn read_plain_line(line: &[u8]) -> Option<BlockLine>
     Some(BlockLine::Out(out))
 }
 
-/// A line of two numbers or three.
-fn read_pair_line(line: &[u8]) -> Option<BlockLine>
-    ensures { IsReadAs block_line_text IsPairLine line.now result }
+/// The rider of a line that has words and a rider's id alone.
+pub fn read_rider(line: &[u8], words: &[u8]) -> Option<RiderId>
+    ensures { IsReadAs (numbered words.now) IsId line.now result }
 {
-    if let Some(alone) = read_rv(line) {
-        return Some(BlockLine::Alone(alone));
-    }
-    if let Some(shared) = read_rr(line) {
-        return Some(BlockLine::Shared(shared));
-    }
-    if let Some(move_line) = read_move(line) {
-        return Some(BlockLine::Move(move_line));
-    }
-    let branch = read_branch(line)?;
-    Some(BlockLine::Branch(branch))
+    let n = read_numbered(line, words, ID_MOST)?;
+    Some(rider(n))
+}
+
+/// A vehicle and a rider who can ride alone with it.
+pub fn read_rv(line: &[u8]) -> Option<(VehicleId, RiderId)>
+    ensures { IsReadAs (pair_line (codes "rv ")) AreIds line.now result }
+{
+    let (first, second) = read_pair(line, b"rv ", ID_MOST, ID_MOST)?;
+    Some((vehicle(first), rider(second)))
+}
+
+/// Two riders who can share a vehicle.
+pub fn read_rr(line: &[u8]) -> Option<(RiderId, RiderId)>
+    ensures { IsReadAs (pair_line (codes "rr ")) AreIds line.now result }
+{
+    let (first, second) = read_pair(line, b"rr ", ID_MOST, ID_MOST)?;
+    Some((rider(first), rider(second)))
+}
+
+/// The numbers of a line that has words and two numbers alone, apart by a space.
+#[tactic(auto, using(crate::proofs::lemmas::ReadingLemmas::line_none))]
+fn read_pair(line: &[u8], words: &[u8], most: u64, other: u64) -> Option<(u64, u64)>
+    ensures { IsReadAs (both_texts (numbered words.now) spaced) (BothAre (λ n. n ≤ most) (λ n. n ≤ other)) line.now result }
+{
+    let (pair, rest) = pair_first(line, words, most, other)?;
+    if rest.is_empty() { Some(pair) } else { None }
+}
+
+/// An idle vehicle that is sent to a rider, and the seconds of its way.
+pub fn read_move(line: &[u8]) -> Option<MoveLine>
+    ensures { IsReadAs (λ x. block_line_text (Move x)) (λ x. IsBlockLine (Move x)) line.now result }
+{
+    let (ids, after) = pair_first(line, b"move ", ID_MOST, ID_MOST)?;
+    let seconds = read_numbered(after, b" ", u32::MAX as u64)?;
+    Some(MoveLine {
+        vehicle: vehicle(ids.0),
+        rider: rider(ids.1),
+        seconds: seconds as u32,
+    })
+}
+
+/// A branch of a tree: the vehicle of a row, and which row line of the block it is.
+pub fn read_branch(line: &[u8]) -> Option<(VehicleId, u32)>
+    ensures { IsReadAs (λ x. block_line_text (Branch x)) (λ x. IsBlockLine (Branch x)) line.now result }
+{
+    let (id, row) = read_pair(line, b"branch ", ID_MOST, u32::MAX as u64)?;
+    Some((vehicle(id), row as u32))
 }

@@ -13,6 +13,7 @@ ghost use Rattle.request_book.specs.declared.outcome.Outcome.{Outcome};
 ghost use Rattle.dispatch_report.specs.declared.block_line.BlockLine.{BlockLine};
 
 /// A line of a block says one thing.
+#[tactic(auto, using(crate::proofs::OneLine::block_line_of_one))]
 pub fn a_line_says_one_thing()
     ensures { (x y : BlockLine) → IsBlockLine x → IsBlockLine y → block_line_text x ≡ block_line_text y → x ≡ y }
 {}
@@ -24,22 +25,26 @@ pub fn a_text_begins_with_one_block()
 {}
 
 /// The text of an outcome's block begins with the block of its lines.
+#[tactic(auto, using(crate::proofs::lemmas::OutcomeLemmas::outcome_block))]
 pub fn an_outcome_prints_a_block()
     ensures { (batch : ℕ) (outcome : Outcome) (rest : List ℕ) → All IsBlockLine (lines_of true batch outcome)
         → IsBlock (lines_text (block_lines true batch outcome) ++ rest) (lines_of true batch outcome) rest }
 {}
 
 /// A text that begins with a block isn't cut, and none of its lines is out of form.
+#[tactic(auto, using(crate::proofs::lemmas::OneBlock::block_no_fault))]
 pub fn a_block_has_no_fault()
     ensures { (text : List ℕ) (lines : List BlockLine) (rest : List ℕ) (fault : BlockFault) → IsBlock text lines rest → fault ≢ NoMemory → BlockFails text fault → ⊥ }
 {}
 
 /// A text fails in one way.
+#[tactic(auto, using(crate::proofs::lemmas::OneBlock::one_fault))]
 pub fn a_text_has_one_fault()
     ensures { (text : List ℕ) (fault other : BlockFault) → fault ≢ NoMemory → other ≢ NoMemory → BlockFails text fault → BlockFails text other → fault ≡ other }
 {}
 
 /// A line between blocks is of one kind, and says one number of it: entries of the same line have the same lane.
+#[tactic(auto, using(crate::proofs::lemmas::NextLemmas::one_kind))]
 pub fn a_line_is_of_one_kind()
     ensures { (x y : NextLine) (line : List ℕ) → IsNextLine x line → IsNextLine y line → x ≡ y }
 {}

@@ -22,49 +22,25 @@
 
 mod block;
 mod block_line;
-mod command;
-mod cut;
-mod entry;
 mod head;
 mod head_fault;
-mod head_lines;
-mod head_parts;
-mod ids;
-mod late;
 mod laws;
-mod leaf;
-mod moves;
+mod lists;
 mod next;
-mod numeral;
-mod pairs;
-mod refusal;
-mod reply;
-mod riders;
-mod row;
-mod settings;
-mod signed;
-mod stops;
-mod trip;
 mod words;
 
 pub use block::{BlockFault, read_block};
-pub use block_line::read_block_line;
-pub use cut::line_first;
+pub use block_line::{read_block_line, read_branch, read_move, read_rider, read_rr, read_rv};
 pub use dispatch_report::{BlockLine, LateText, RowText, TripText};
-pub use head::read_head;
+pub use head::{SettingsText, read_head, read_settings, read_sizes};
 pub use head_fault::HeadFault;
-pub use head_lines::{SettingsText, read_settings, read_sizes};
-pub use late::read_late;
 pub use laws::{
     a_block_has_no_fault, a_line_is_of_one_kind, a_line_says_one_thing,
     a_text_begins_with_one_block, a_text_has_one_fault, an_outcome_prints_a_block,
 };
-pub use leaf::read_leaf;
-pub use moves::{read_branch, read_move};
+pub use lists::{read_late, read_leaf, read_row, read_trip};
 pub use next::{NextLine, read_next};
-pub use numeral::number_first;
-pub use pairs::{read_rider, read_rr, read_rv};
-pub use row::read_row;
-pub use signed::read_signed;
-pub use trip::read_trip;
-pub use words::{is_words, numbered_first, pair_first, read_numbered, words_first};
+pub use words::{
+    is_words, line_first, number_first, numbered_first, pair_first, read_numbered, read_signed,
+    words_first,
+};

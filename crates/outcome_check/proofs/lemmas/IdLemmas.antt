@@ -53,9 +53,7 @@ module _ (settings : Settings) (points : List ℕ) (k places : ℕ) (tau : ℕ �
   stands_at v h = part_of aboard_of batch.vehicles v no_vehicle (let n = is.vehicle_count in omega (arith, n, h))
 
   told_id : (r : ℕ) → r < length settled.riders → rider_id settled r ≡ get_or (map (λ (x : Rider). x.id) batch.riders) r 0
-  told_id r h =
-      let low : r < length batch.riders = (let n = is.rider_count in omega (arith, n, h)) in
-      is.ids r (get_or batch.riders r no_rider) (slice_get-get_or batch.riders r no_rider low) ∙ sym (get_or-map (λ (x : Rider). x.id) batch.riders r no_rider 0 low)
+  told_id r h = search (rules, no_rider, slice_get-get_or, get_or-map)
 
   apart_at : (v r j : ℕ) → v < length settled.vehicles → r < length settled.riders → j < length (vehicle_at settled v).aboard_ids.items → rider_id settled r ≡ get_or (vehicle_at settled v).aboard_ids.items j 0 → ⊥
   apart_at v r j h a b e =

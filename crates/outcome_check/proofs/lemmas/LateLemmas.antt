@@ -1,11 +1,11 @@
 -- Late vehicles, and orders of their passengers.
-use Rattle.std.proofs.Common.{◌≡◌, ℕ, true, false, not, eqb, ⊎_elim, List, [], None, refl, sym, ap, ◌∙◌, subst, arith, rules}
-use Rattle.outcome_check.proofs.Common.{LateVehicle, PlannedStop, Settled, Stop, Task, trip_task, IsOrderOf, ReachesAll, order_delay, told_stops, IsLateOrder, IsLeast}
+use Rattle.std.proofs.Common.{IsTrue, ◌↔◌, ◌≡◌, ℕ, true, false, not, eqb, ⊎_elim, List, [], refl, sym, ap, ◌∙◌, subst, arith, rules}
+use Rattle.outcome_check.proofs.Common.{PlannedStop, Settled, Stop, Task, trip_task, IsOrderOf, ReachesAll, order_delay, told_stops, IsLateOrder, IsLeast}
 use Rattle.std.proofs.lemmas.Bool.Decides.{eqb_tells}
 
--- the late vehicle that is read where there is none
-abbrev pub no_late : LateVehicle
-no_late = record { vehicle = 0; delay = 0; stops = None }
+-- no is said of what isn't so
+pub rightly_no : {A : Type 0} → (A → ⊥) → IsTrue false ↔ A
+rightly_no none = (λ no. absurd (let f : false ≡ true = no in cc), λ is. absurd (none is))
 
 -- ids that don't differ are the same
 pub same_id : (a b : ℕ) → false ≡ not (eqb a b) → a ≡ b

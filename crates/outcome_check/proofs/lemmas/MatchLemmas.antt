@@ -1,55 +1,10 @@
 -- Moves, read as pairs of places, and matchings that grow.
-use Rattle.std.proofs.lemmas.Bool.Decides.{nat_tests}
-use Rattle.std.proofs.Common.{◌≡◌, ◌≢◌, ◌⊎◌, ℕ, suc, ◌+◌, ◌-◌, ◌<◌, ◌≤◌, Bool, true, false, List, [], ◌∷◌, ◌++◌, length, get_or, take, set, map, sum_by, All, AllPairs, refl, sym, ap, ◌∙◌, subst, inr, ⊎_elim, arith, rules}
-use Rattle.outcome_check.proofs.Common.{cases_eq, get_or_default, length-map, get_or-map, map_push, take_more, All-push, IsMatching, IsBestMatching, pair_seconds, MoveLine, Settled, rider_at, vehicle_at, AreMoves, move_line, HaveOwnPlaces, IsRisingMatching, IsWithin, TellsMoves}
-use Rattle.std.proofs.lemmas.List.{ext_get_or, length-take, get_or-take, get_or-set_same, get_or-set_other, length-set}
+use Rattle.std.proofs.Common.{◌≡◌, ◌↔◌, ℕ, suc, ◌+◌, ◌-◌, ◌<◌, ◌≤◌, List, [], ◌∷◌, ◌++◌, length, get_or, map, sum_by, fold, All, AllPairs, refl, sym, ap, ◌∙◌, subst, arith, rules}
+use Rattle.outcome_check.proofs.Common.{get_or_default, get_or_push, get_or_append_left, length_push, length-map, get_or-map, All-push, IsBestMatching, pair_seconds, MoveLine, Settled, vehicle_at, AreMoves, move_line, starts_of, origins_of, pairs_within, HaveOwnPlaces, CanPrecede, IsWithin, TellsMoves, no_move}
+use Rattle.std.proofs.lemmas.List.{ext_get_or}
 use Rattle.std.proofs.lemmas.List.Quantifiers.{all_pairs_push}
 use borrow.Author.Count.{below_more}
 use Rattle.pool_base.specs.TravelTime.{never}
-
-no_move : MoveLine
-no_move = record { vehicle = 0; rider = 0; seconds = 0 }
-
-module _ (tau : ℕ → ℕ → ℕ) (settled : Settled) (idle left : List ℕ) (moves : List MoveLine) where
-  -- one more move is read
-  pub tells_next : (k : ℕ) (step : MoveLine) → k < length moves → step ≡ get_or moves k step → (pairs : List (ℕ × ℕ)) (pair : ℕ × ℕ) → TellsMoves tau settled idle left (take k moves) pairs
-      → IsWithin (length idle) (length left) pair → step ≡ move_line tau settled idle left pair → TellsMoves tau settled idle left (take (k + 1) moves) (pairs ++ pair ∷ [])
-  tells_next k step h is pairs pair so_far within told = record {
-    within = All-push (IsWithin (length idle) (length left)) pairs pair so_far.within within;
-    told = take_more moves k step h ∙ ap (λ (m : MoveLine). take k moves ++ m ∷ []) (sym is ∙ told) ∙ ap (λ (ms : List MoveLine). ms ++ move_line tau settled idle left pair ∷ []) so_far.told
-        ∙ sym (map_push (move_line tau settled idle left) pairs pair);
-  }
-
-  -- a move that tells of no pair
-  pub tells_not : (k : ℕ) (step : MoveLine) → k < length moves → step ≡ get_or moves k step
-      → ((pair : ℕ × ℕ) → IsWithin (length idle) (length left) pair → step ≡ move_line tau settled idle left pair → ⊥) → (pairs : List (ℕ × ℕ)) → TellsMoves tau settled idle left moves pairs → ⊥
-  tells_not k step h is none pairs tells =
-      let long : length moves ≡ length pairs = ap (λ (ms : List MoveLine). length ms) tells.told ∙ length-map pairs (move_line tau settled idle left) in
-      let within : k < length pairs = omega (arith, long, h) in
-      none (get_or pairs k (0, 0)) (tells.within k (0, 0) within) (is ∙ at k within)
-    where
-      at : (k : ℕ) → k < length pairs → get_or moves k step ≡ move_line tau settled idle left (get_or pairs k (0, 0))
-      at k within = ap (λ (ms : List MoveLine). get_or ms k step) tells.told ∙ get_or-map (move_line tau settled idle left) pairs k (0, 0) step within
-
-module _ (tau : ℕ → ℕ → ℕ) (settled : Settled) (idle left : List ℕ) (moves : List MoveLine) where
-  told_at : (pairs : List (ℕ × ℕ)) → TellsMoves tau settled idle left moves pairs → (k : ℕ) → k < length pairs → get_or moves k no_move ≡ move_line tau settled idle left (get_or pairs k (0, 0))
-  told_at pairs tells k within = ap (λ (ms : List MoveLine). get_or ms k no_move) tells.told ∙ get_or-map (move_line tau settled idle left) pairs k (0, 0) no_move within
-
-  told_as_long : (pairs : List (ℕ × ℕ)) → TellsMoves tau settled idle left moves pairs → length moves ≡ length pairs
-  told_as_long pairs tells = ap (λ (ms : List MoveLine). length ms) tells.told ∙ length-map pairs (move_line tau settled idle left)
-
-  -- moves tell of one list of pairs
-  pub one_reading : (points : ℕ) → HaveOwnPlaces points settled idle left → (pairs others : List (ℕ × ℕ)) → TellsMoves tau settled idle left moves pairs → TellsMoves tau settled idle left moves others → pairs ≡ others
-  one_reading points own pairs others tells also = grind (arith, nat_tests, (told_as_long pairs tells), (told_as_long others also), (ext_get_or (0, 0) pairs others), (told_at pairs tells), (told_at others also))
-
-  -- best moves tell of their pairs
-  pub moves_tell : (are : AreMoves tau settled idle left moves) → TellsMoves tau settled idle left moves are.pairs
-  moves_tell are = search (rules, length-map)
-
-  -- pairs that best moves tell of are a best matching by rising first place
-  pub moves_best : (points : ℕ) → HaveOwnPlaces points settled idle left → (pairs : List (ℕ × ℕ)) → TellsMoves tau settled idle left moves pairs → AreMoves tau settled idle left moves
-      → IsBestMatching tau (map (λ v. (vehicle_at settled v).start) idle) (map (λ r. (rider_at settled r).leg.origin) left) pairs × AllPairs (λ (p q : ℕ × ℕ). p.0 < q.0) pairs
-  moves_best points own pairs tells are = grind (arith, nat_tests, (one_reading points own are.pairs pairs), (moves_tell are))
 
 -- rising numbers below a number are no more than it
 pub rising_short : (n m : ℕ) (ps : List (ℕ × ℕ)) → AllPairs (λ (p q : ℕ × ℕ). p.0 < q.0) ps → All (λ (p : ℕ × ℕ). (m ≤ p.0) × (p.0 < n)) ps → length ps ≤ n - m
@@ -60,62 +15,82 @@ rising_short n m (p ∷ ps) up all =
     (λ k d within. let low : p.0 < (get_or ps k d).0 = up 0 (suc k) d (omega arith) (omega arith) in let high = all (suc k) d (omega arith) in (omega (arith, low), high.1)) in
     omega (arith, rest, first.0, first.1)
 
--- matchings
-module _ (tau : ℕ → ℕ → ℕ) (from to : List ℕ) where
-  -- a matching as good as a best one is best
-  pub best_alike : (pairs best : List (ℕ × ℕ)) → IsMatching tau from to pairs → IsBestMatching tau from to best → length pairs ≡ length best → sum_by (pair_seconds tau from to) pairs ≡ sum_by (pair_seconds tau from to) best → IsBestMatching tau from to pairs
-  best_alike pairs best matching is long total = search rules
+sum_mapped : {X Y : Type 0} (f : Y → ℕ) (g : X → Y) (n : ℕ) (xs : List X) → fold (λ a y. a + f y) n (map g xs) ≡ fold (λ a x. a + f (g x)) n xs
+sum_mapped f g n [] = refl
+sum_mapped f g n (x ∷ xs) = sum_mapped f g (n + f (g x)) xs
 
-  pub best_long : (pairs best : List (ℕ × ℕ)) → IsBestMatching tau from to pairs → IsBestMatching tau from to best → length pairs ≡ length best
-  best_long pairs best is also = let most = also.most_pairs pairs is.matching in let other = is.most_pairs best also.matching in omega (arith, most, other)
+module _ (points : ℕ) (tau : ℕ → ℕ → ℕ) (settled : Settled) (idle left : List ℕ) (moves : List MoveLine) (own : HaveOwnPlaces points settled idle left) where
+  abbrev Tells : ℕ → List (ℕ × ℕ) → Type 0
+  Tells count pairs = TellsMoves tau settled idle left moves count pairs
 
-  pub best_total : (pairs best : List (ℕ × ℕ)) → IsBestMatching tau from to pairs → IsBestMatching tau from to best → sum_by (pair_seconds tau from to) pairs ≡ sum_by (pair_seconds tau from to) best
-  best_total pairs best is also = search rules
+  -- a move tells of one pair
+  same_pair : (p q : ℕ × ℕ) → IsWithin (length idle) (length left) p → IsWithin (length idle) (length left) q → move_line tau settled idle left p ≡ move_line tau settled idle left q → p ≡ q
+  same_pair p q a b e = search rules
 
--- the first i pairs are a matching by rising first place; marks of the places that they take, and a number just above the last first place
-pub record IsScanned (tau : ℕ → ℕ → ℕ) (from to : List ℕ) (pairs : List (ℕ × ℕ)) (i : ℕ) (taken : List Bool) (least : ℕ) : Type 0 where
-  pub so_far : IsRisingMatching tau from to (take i pairs)
-  pub sized : length taken ≡ length to
-  pub marked : (j : ℕ) → get_or taken j false ≡ true → (k : ℕ) × (k < i) × ((get_or pairs k (0, 0)).1 ≡ j)
-  pub marks : (k : ℕ) → k < i → get_or taken ((get_or pairs k (0, 0)).1) false ≡ true
-  pub above : (k : ℕ) → k < i → (get_or pairs k (0, 0)).0 < least
-  pub last : (least ≡ 0) ⊎ ((k : ℕ) × (k < i) × (least ≡ (get_or pairs k (0, 0)).0 + 1))
+  within_at : (count : ℕ) (pairs : List (ℕ × ℕ)) → Tells count pairs → (k : ℕ) → k < count → IsWithin (length idle) (length left) (get_or pairs k (0, 0))
+  within_at count pairs tells k h = pairs_within tau settled idle left pairs tells.matching k (0, 0) (let n = tells.sized in omega (arith, n, h))
 
-module _ (tau : ℕ → ℕ → ℕ) (from to : List ℕ) (pairs : List (ℕ × ℕ)) (i : ℕ) (taken : List Bool) (least : ℕ) (scan : IsScanned tau from to pairs i taken least) (low : i < length pairs) where
-  -- what stands among the first pairs stands there in all
-  read_front : (k : ℕ) (d : ℕ × ℕ) → k < length (take i pairs) → (k < i) × (get_or (take i pairs) k d ≡ get_or pairs k (0, 0))
-  read_front k d h = search (rules, length-take, get_or-take, get_or_default)
+  read_at : (n m : ℕ) (pairs others : List (ℕ × ℕ)) → Tells n pairs → Tells m others → (k : ℕ) → k < n → k < m → get_or pairs k (0, 0) ≡ get_or others k (0, 0)
+  read_at n m pairs others tells also k a b = same_pair _ _ (within_at n pairs tells k a) (within_at m others also k b) (sym (tells.told k a) ∙ also.told k b)
 
-  -- one more pair, whose first place is higher and whose second is free
-  pub scan_next : IsWithin (length from) (length to) (get_or pairs i (0, 0)) → least ≤ (get_or pairs i (0, 0)).0 → get_or taken (get_or pairs i (0, 0)).1 false ≡ false
-      → pair_seconds tau from to (get_or pairs i (0, 0)) < never → IsScanned tau from to pairs (i + 1) (set taken (get_or pairs i (0, 0)).1 true) ((get_or pairs i (0, 0)).0 + 1)
-  scan_next within above free reachable =
-      let p : ℕ × ℕ = get_or pairs i (0, 0) in
-      let more : take (i + 1) pairs ≡ take i pairs ++ p ∷ [] = take_more pairs i (0, 0) low in
-      let so_far = scan.so_far in
-      let inside : p.1 < length taken = (let n = scan.sized in omega (arith, n, within.1)) in
-      let higher : (k : ℕ) (d : ℕ × ℕ) → k < length (take i pairs) → (get_or (take i pairs) k d).0 < p.0 =
-      (λ k d h. let f = read_front k d h in let a = scan.above k f.0 in let e = ap (λ (q : ℕ × ℕ). q.0) f.1 in omega (arith, a, e, above)) in
-      let other : (k : ℕ) → k < i → (get_or pairs k (0, 0)).1 ≢ p.1 =
-      (λ k h e. let marked : get_or taken p.1 false ≡ true = ap (λ (j : ℕ). get_or taken j false) (sym e) ∙ scan.marks k h in let no : false ≡ true = sym free ∙ marked in cc) in
-      record {
-        so_far = subst (λ (ps : List (ℕ × ℕ)). IsRisingMatching tau from to ps) (sym more) (record {
-          matching = record {
-            within = All-push (λ (q : ℕ × ℕ). (q.0 < length from) × (q.1 < length to)) (take i pairs) p so_far.matching.within within;
-            reachable = All-push (λ (q : ℕ × ℕ). pair_seconds tau from to q < never) (take i pairs) p so_far.matching.reachable reachable;
-            once_from = all_pairs_push (λ (a b : ℕ × ℕ). a.0 ≢ b.0) (take i pairs) p so_far.matching.once_from (λ k d h e. let less = higher k d h in omega (arith, less, e));
-            once_to = all_pairs_push (λ (a b : ℕ × ℕ). a.1 ≢ b.1) (take i pairs) p so_far.matching.once_to
-                (λ k d h e. let f = read_front k d h in other k f.0 (sym (ap (λ (q : ℕ × ℕ). q.1) f.1) ∙ e));
-          };
-          rising = all_pairs_push (λ (a b : ℕ × ℕ). a.0 < b.0) (take i pairs) p so_far.rising higher;
-        });
-        sized = length-set taken p.1 true ∙ scan.sized;
-        marked = λ j is. ⊎_elim
-            (λ (e : j ≡ p.1). (i, omega arith, sym e))
-            (λ (ne : j ≢ p.1). let old = scan.marked j (sym (get_or-set_other taken p.1 j true false ne) ∙ is) in (old.0, let h = old.1 in omega (arith, h), old.2))
-            (cases_eq j p.1);
-        marks = below_more (λ k. get_or (set taken p.1 true) (get_or pairs k (0, 0)).1 false ≡ true) i
-            (λ k h. get_or-set_other taken p.1 (get_or pairs k (0, 0)).1 true false (other k h) ∙ scan.marks k h) (get_or-set_same taken p.1 true false inside);
-        above = below_more (λ k. (get_or pairs k (0, 0)).0 < p.0 + 1) i (λ k h. let a = scan.above k h in omega (arith, a, above)) (omega arith);
-        last = inr (i, omega arith, refl);
-      }
+  -- one more move is read
+  pub tells_next : (k : ℕ) (step : MoveLine) → k < length moves → step ≡ get_or moves k step → (pairs : List (ℕ × ℕ)) (pair : ℕ × ℕ) → Tells k pairs → IsWithin (length idle) (length left) pair
+      → step ≡ move_line tau settled idle left pair → step.seconds < never → All (CanPrecede pair) pairs → Tells (k + 1) (pairs ++ pair ∷ [])
+  tells_next k step h is pairs pair tells within told reachable follows = search (rules, length-map, All-push, all_pairs_push, length_push, below_more, get_or_append_left, get_or_default, get_or_push)
+
+  -- what moves that tell a matching have at the next place
+  module _ (k : ℕ) (step : MoveLine) (low : k < length moves) (is : step ≡ get_or moves k step) (all : List (ℕ × ℕ)) (tells : Tells (length moves) all) where
+    told_here : IsWithin (length idle) (length left) (get_or all k (0, 0)) × (step ≡ move_line tau settled idle left (get_or all k (0, 0)))
+    told_here = (within_at (length moves) all tells k low, is ∙ get_or_default moves k step no_move low ∙ tells.told k low)
+
+    pub is_reached : step.seconds < never
+    is_reached = subst (λ (s : MoveLine). s.seconds < never) (sym told_here.1) (tells.matching.reachable k (0, 0) (let n = tells.sized in omega (arith, n, low)))
+
+    pub follows_on : (pairs : List (ℕ × ℕ)) (pair : ℕ × ℕ) → Tells k pairs → IsWithin (length idle) (length left) pair → step ≡ move_line tau settled idle left pair → All (CanPrecede pair) pairs
+    follows_on pairs pair so_far within told i d l =
+        let before : i < k = (let n = so_far.sized in omega (arith, n, l)) in
+        let long = tells.sized in
+        let here : pair ≡ get_or all k (0, 0) = same_pair pair (get_or all k (0, 0)) within told_here.0 (sym told ∙ told_here.1) in
+        let there : get_or pairs i d ≡ get_or all i (0, 0) = get_or_default pairs i d (0, 0) l ∙ read_at k (length moves) pairs all so_far tells i before (omega (arith, before, low)) in
+        let less = tells.rising i k (0, 0) before (omega (arith, long, low)) in
+        let other = tells.matching.once_to i k (0, 0) before (omega (arith, long, low)) in
+        rw (here, there) (less, other)
+
+  -- best moves tell of their pairs
+  pub moves_tell : (are : AreMoves tau settled idle left moves) → Tells (length moves) are.pairs
+  moves_tell are = search (rules, length-map, get_or-map)
+
+  module _ (pairs : List (ℕ × ℕ)) (tells : Tells (length moves) pairs) where
+    all_told : moves ≡ map (move_line tau settled idle left) pairs
+    all_told =
+        let sized = tells.sized in
+        ext_get_or no_move moves (map (move_line tau settled idle left) pairs) (sym (length-map pairs (move_line tau settled idle left) ∙ sized))
+        (λ k h. tells.told k h ∙ sym (get_or-map (move_line tau settled idle left) pairs k (0, 0) no_move (omega (arith, sized, h))))
+
+    -- moves that tell these pairs are best where these are as good as a best matching
+    pub moves_best : (best : List (ℕ × ℕ)) → IsBestMatching tau (starts_of settled idle) (origins_of settled left) best
+        → AreMoves tau settled idle left moves ↔ ((length pairs ≡ length best) × (sum_by (λ (m : MoveLine). m.seconds) moves ≡ sum_by (pair_seconds tau (starts_of settled idle) (origins_of settled left)) best))
+    moves_best best is =
+        let seconds : sum_by (λ (m : MoveLine). m.seconds) moves ≡ sum_by (pair_seconds tau (starts_of settled idle) (origins_of settled left)) pairs =
+        ap (sum_by (λ (m : MoveLine). m.seconds)) all_told ∙ sum_mapped (λ (m : MoveLine). m.seconds) (move_line tau settled idle left) 0 pairs in (
+          λ are.
+              let also = moves_tell are in let long = also.sized in let sized = tells.sized in
+              let same : are.pairs ≡ pairs = ext_get_or (0, 0) are.pairs pairs (long ∙ sym sized) (λ k h. read_at (length moves) (length moves) are.pairs pairs also tells k (omega (arith, long, h)) (omega (arith, long, h))) in
+              let good = are.best in
+              let most = good.most_pairs best is.matching in let other = is.most_pairs are.pairs good.matching in
+              let long_best : length are.pairs ≡ length best = omega (arith, most, other) in
+              let one = good.least_total best is.matching (sym long_best) in let two = is.least_total are.pairs good.matching long_best in
+              let total : sum_by (pair_seconds tau (starts_of settled idle) (origins_of settled left)) are.pairs ≡ sum_by (pair_seconds tau (starts_of settled idle) (origins_of settled left)) best = omega (arith, one, two) in
+              (rw (← same) long_best, seconds ∙ rw (← same) total),
+          λ alike. record { pairs = pairs; best = as_good alike.0 (sym seconds ∙ alike.1); rising = tells.rising; told = all_told },
+        )
+      where
+        as_good : length pairs ≡ length best → sum_by (pair_seconds tau (starts_of settled idle) (origins_of settled left)) pairs ≡ sum_by (pair_seconds tau (starts_of settled idle) (origins_of settled left)) best
+            → IsBestMatching tau (starts_of settled idle) (origins_of settled left) pairs
+        as_good long total = let matching = tells.matching in search rules
+
+    pub few_told : length idle ≤ 500 → length moves ≤ 500
+    few_told few =
+        let starts = length-map idle (λ (v : ℕ). (vehicle_at settled v).start) in let sized = tells.sized in
+        let short = rising_short (length (starts_of settled idle)) 0 pairs tells.rising (λ k d h. (omega arith, (tells.matching.within k d h).0)) in
+        omega (arith, short, starts, sized, few)

@@ -1,23 +1,12 @@
 -- Orders are read back from what is told of them.
 use Rattle.std.proofs.Common.{◌≡◌, ℕ, ◌+◌, ◌<◌, ◌≤◌, List, [], ◌∷◌, ◌++◌, length, get_or, map, zip, take, refl, sym, ap, ◌∙◌, subst, arith, rules}
-use Rattle.outcome_check.proofs.Common.{get_or-map, length-map, rising_once, AllByRecursion, get_or_default, take_more, length_push, PlannedStop, Settled, SettledRider, Stop, Pick, IsKnown, IsTrip, trip_task, vehicle_at, rider_at, no_rider, IsOrderOf, seconds_of, rider_id, told_stop, told_stops, HasOwnIds}
+use Rattle.outcome_check.proofs.Common.{get_or-map, length-map, AllByRecursion, take_more, length_push, PlannedStop, Settled, Stop, Pick, IsKnown, trip_task, vehicle_at, rider_at, IsOrderOf, seconds_of, told_stop, told_stops}
 use Rattle.std.proofs.lemmas.List.{take_all}
 use Rattle.std.proofs.lemmas.List.Elements.{All-from_recursion}
 use Rattle.std.proofs.lemmas.Slice.Zip.{get_or-zip, length-zip}
 use Rattle.stop_orders.specs.declared.visit.Visit.{Visit}
 use Rattle.stop_orders.specs.Visit.{place_of, seconds_from}
 use Rattle.stop_orders.proofs.lemmas.DoneLemmas.{length-IsOrder}
-
--- the rider read at a number
-pub rider_read : (settled : Settled) (riders : List SettledRider) (r : ℕ) (x : SettledRider) → riders ≡ settled.riders → r < length settled.riders → get_or riders r x ≡ rider_at settled r
-rider_read settled riders r x e h = ap (λ (list : List SettledRider). get_or list r x) e ∙ get_or_default settled.riders r x no_rider h
-
-module _ (settled : Settled) (v : ℕ) (trip : List ℕ) (own : HasOwnIds settled) (there : v < length settled.vehicles) (is_trip : IsTrip (length settled.riders) trip) where
-  inside : (i : ℕ) → i < length trip → get_or trip i 0 < length settled.riders
-  inside i h = is_trip.within i 0 h
-
-  same_number : (i j id : ℕ) → i < length trip → j < length trip → rider_id settled (get_or trip i 0) ≡ id → rider_id settled (get_or trip j 0) ≡ id → i ≡ j
-  same_number i j id a b e f = rising_once trip is_trip.rising i j a b (own.riders (get_or trip i 0) (get_or trip j 0) (inside i a) (inside j b) (e ∙ sym f))
 
 zip_at : {A B C : Type 0} (f : A × B → C) (xs : List A) (ys : List B) (k : ℕ) (a : A) (b : B) (d : C) → k < length xs → length ys ≡ length xs → get_or (map f (zip xs ys)) k d ≡ f (get_or xs k a, get_or ys k b)
 zip_at f xs ys k a b d h e = get_or-map f (zip xs ys) k (a, b) d (omega (arith, length-zip xs ys)) ∙ ap f (get_or-zip xs ys k (a, b) h (omega arith))
@@ -48,9 +37,6 @@ pub record ReadsBack (settled : Settled) (v : ℕ) (trip : List ℕ) (told : Lis
   pub back : (points : List ℕ) (tau : ℕ → ℕ → ℕ) (stops : List Stop) → IsOrderOf (trip_task settled v trip) stops → told ≡ told_stops points tau settled v trip stops → order ≡ take k stops
 
 module _ (settled : Settled) (v : ℕ) (trip : List ℕ) (told : List PlannedStop) where
-  pub read_none : (order : List Stop) → order ≡ [] → ReadsBack settled v trip told 0 order
-  read_none order e = record { long = ap (λ (xs : List Stop). length xs) e; back = λ points tau stops o is. e }
-
   -- the told stop at a place, of an order that is told so
   pub told_here : (k : ℕ) (d : PlannedStop) → k < length told → (points : List ℕ) (tau : ℕ → ℕ → ℕ) (stops : List Stop) → told ≡ told_stops points tau settled v trip stops
       → (k < length stops) × (get_or told k d ≡ told_stop points settled v trip (get_or stops k (Pick 0), get_or (seconds_of tau (trip_task settled v trip) stops) k 0))

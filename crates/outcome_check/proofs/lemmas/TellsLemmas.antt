@@ -1,5 +1,5 @@
 -- The row of which a trip tells.
-use Rattle.std.proofs.Common.{◌≡◌, ℕ, List, sym, ap, ◌∙◌, subst}
+use Rattle.std.proofs.Common.{rules, ◌≡◌, ℕ, List, sym, ap, ◌∙◌, subst}
 use Rattle.outcome_check.proofs.Common.{Graph, riders_at, cost_at, ChosenTrip, Settled, Stop, Task, trip_task, Serves, order_delay, vehicle_id, told_stops, TellsRow}
 
 module _ (points : List ℕ) (tau : ℕ → ℕ → ℕ) (settled : Settled) (graph : Graph) (v row : ℕ) (trip : ChosenTrip) (riders : List ℕ) (task : Task)
@@ -18,11 +18,4 @@ module _ (points : List ℕ) (tau : ℕ → ℕ → ℕ) (settled : Settled) (gr
 
   pub tells_from : (stops : List Stop) → trip.vehicle ≡ vehicle_id settled v → trip.cost ≡ cost_at graph row → Serves tau task stops → order_delay tau task stops ≡ trip.cost
       → trip.stops.items ≡ told_stops points tau settled v riders stops → TellsRow points tau settled graph v row trip
-  tells_from stops vehicle cost serves delay told = record {
-    vehicle = vehicle;
-    cost = cost;
-    stops = stops;
-    serves = subst (λ (t : Task). Serves tau t stops) same_task serves;
-    delay = sym (ap (λ (t : Task). order_delay tau t stops) same_task) ∙ delay;
-    told = told ∙ ap (λ (rs : List ℕ). told_stops points tau settled v rs stops) riders_are;
-  }
+  tells_from stops vehicle cost serves delay told = search (rules, same_task)

@@ -1,64 +1,17 @@
 -- Trips give one plan, if any.
 use Rattle.std.proofs.lemmas.Bool.Decides.{nat_tests}
-use Rattle.std.proofs.Common.{◌≡◌, ◌≢◌, ℕ, zero, suc, ◌<◌, ◌⊎◌, not, Bool, true, false, cond, List, [], ◌∷◌, length, get_or, filter, Contains, Option, Some, None, MatchOption, refl, sym, ap, ◌∙◌, subst, inl, inr, arith, ⊎_elim, rules}
-use Rattle.outcome_check.proofs.Common.{filter_range_below, length-map, AllZip, range_with_len, IsStrictlyIncreasing, get_or_default, All-contains, filter_passes, length-range_with_len, get_or-range_with_len, Graph, IsRowOf, HasNoRow, choice_at, riders_at, no_row, ChosenTrip, PlannedStop, Settings, Settled, Stop, Pick, Drop, Alight, IsKnown, is_of_rider, IsTrip, trip_task, vehicle_at, rider_at, IsOrderOf, seconds_of, IsTripGraphOf, rider_id, told_stop, told_stops, IsTripOf, has_head, has_later, head_or_tail, same_rising, graph_in_order, one_place, HasOwnIds, GivesTrips, TellsRow, HasNoRowFor, GiveRows, no_chosen}
-use Rattle.std.proofs.lemmas.List.{ext_get_or}
-use Rattle.std.proofs.lemmas.Slice.Zip.{AllZip-long}
-use Rattle.std.proofs.lemmas.List.Kept.{IsStrictlyIncreasing-filter}
+use Rattle.std.proofs.Common.{◌≡◌, ◌↔◌, ℕ, ◌+◌, ◌<◌, ◌≤◌, not, Bool, true, false, List, [], ◌∷◌, ◌++◌, length, get_or, take, drop, filter, Contains, Option, Some, None, MatchOption, append_assoc, refl, sym, ap, ◌∙◌, subst, arith, rules}
+use Rattle.outcome_check.proofs.Common.{length-map, length_push, get_or_append_left, get_or_push, take_more, AllZip, get_or_default, Graph, IsPlan, IsRowOf, HasNoRow, choice_at, riders_at, no_row, AreTrips, ChosenTrip, PlannedStop, Settings, Settled, Stop, Pick, Drop, Alight, IsKnown, is_of_rider, IsTrip, trip_task, vehicle_at, rider_at, IsOrderOf, seconds_of, IsTripGraphOf, rider_id, told_stop, told_stops, IsTripOf, has_head, has_later, same_rising, graph_in_order, one_place, HasOwnIds, GivesTrips, TellsRow}
+use borrow.Author.Count.{below_more}
+use Rattle.std.proofs.lemmas.List.{append-nil, take_all}
 use Rattle.plan_rules.proofs.lemmas.PlanLemmas.{plan_choice}
 use Rattle.outcome_check.proofs.lemmas.OrderLemmas.{known_at, told_here, told_long}
-
--- between lists in pairs and their places
-pub all_zip_from : {A B : Type 0} (R : A → B → Type 0) (xs : List A) (ys : List B) (a : A) (b : B) → length xs ≡ length ys → ((k : ℕ) → k < length xs → R (get_or xs k a) (get_or ys k b)) → AllZip R xs ys
-all_zip_from R [] [] a b e each = tt
-all_zip_from R [] (y ∷ ys) a b e each = absurd (omega arith)
-all_zip_from R (x ∷ xs) [] a b e each = absurd (omega arith)
-all_zip_from R (x ∷ xs) (y ∷ ys) a b e each = (each 0 (omega arith), all_zip_from R xs ys a b (omega arith) (λ k h. each (suc k) (omega arith)))
-
-pub all_zip_long : {A B : Type 0} (R : A → B → Type 0) (xs : List A) (ys : List B) → AllZip R xs ys → length xs ≡ length ys
-all_zip_long R xs ys all = sym (AllZip-long R xs ys all)
-
-pub all_zip_at : {A B : Type 0} (R : A → B → Type 0) (xs : List A) (ys : List B) (a : A) (b : B) → AllZip R xs ys → (k : ℕ) → k < length xs → R (get_or xs k a) (get_or ys k b)
-all_zip_at R [] ys a b all k h = absurd (omega arith)
-all_zip_at R (x ∷ xs) [] a b all k h = absurd all
-all_zip_at R (x ∷ xs) (y ∷ ys) a b all zero h = all.0
-all_zip_at R (x ∷ xs) (y ∷ ys) a b all (suc k) h = all_zip_at R xs ys a b all.1 k (omega arith)
+use Rattle.outcome_check.proofs.lemmas.WalkLemmas.{passing, walk_end, walk_next, walk_skips, walk_stuck}
 
 -- what a filter begins with stands in the list
 filter_has : {X : Type 0} (R : X → X → Type 0) (p : X → Bool) (xs : List X) (y : X) (ys : List X) → filter p xs ≡ y ∷ ys → Contains xs y
 filter_has R p [] y ys e = absurd (cc)
 filter_has {X} R p (x ∷ xs) y ys e = grind (arith, nat_tests, (has_head R x xs), (has_later R x xs y), (filter_has R p xs y ys))
-
--- what passes stays in a filter
-pub filter_keeps : {X : Type 0} (R : X → X → Type 0) (p : X → Bool) (xs : List X) (y : X) → p y ≡ true → Contains xs y → Contains (filter p xs) y
-filter_keeps R p [] y pass found = absurd (let h = found.1 in omega (arith, h))
-filter_keeps {X} R p (x ∷ xs) y pass found = by (p x) refl (filter_keeps R p xs y pass)
-  where
-    by : (b : Bool) → p x ≡ b → (Contains xs y → Contains (filter p xs) y) → Contains (cond b (x ∷ filter p xs) (filter p xs)) y
-    by true e keeps = ⊎_elim
-        (λ (same : x ≡ y). subst (λ (z : X). Contains (x ∷ filter p xs) z) same (has_head R x (filter p xs)))
-        (λ later. has_later R x (filter p xs) y (keeps later))
-        (head_or_tail R x xs y found)
-    by false e keeps = ⊎_elim
-        (λ (same : x ≡ y). absurd (let no : true ≡ false = sym pass ∙ ap p (sym same) ∙ e in cc))
-        (λ later. keeps later)
-        (head_or_tail R x xs y found)
-
-abbrev Below : ℕ → ℕ → Type 0
-Below x y = x < y
-
--- a number that passes is among those below a number that pass, which rise
-pub kept_has : (p : ℕ → Bool) (n v : ℕ) → v < n → p v ≡ true → Contains (filter p (range_with_len 0 n)) v
-kept_has p n v h pass =
-    let within : v < length (range_with_len 0 n) = (let e = length-range_with_len 0 n in omega (arith, e)) in
-    let at : get_or (range_with_len 0 n) v v ≡ v = (let e = get_or-range_with_len 0 n v v h in omega (arith, e)) in
-    filter_keeps Below p (range_with_len 0 n) v pass (v, within, at)
-
-pub kept_passes : (p : ℕ → Bool) (n v : ℕ) → Contains (filter p (range_with_len 0 n)) v → p v ≡ true
-kept_passes p n v found = All-contains (λ (x : ℕ). p x ≡ true) (filter p (range_with_len 0 n)) v (filter_passes p (range_with_len 0 n)) found
-
-pub kept_rises : (p : ℕ → Bool) (n : ℕ) → IsStrictlyIncreasing (filter p (range_with_len 0 n))
-kept_rises p n = search (rules, IsStrictlyIncreasing-filter, length-range_with_len, get_or-range_with_len)
 
 module _ (points : List ℕ) (tau : ℕ → ℕ → ℕ) (settled : Settled) (v : ℕ) (own : HasOwnIds settled) where
   -- a rider of the trip is told to be picked up
@@ -107,6 +60,18 @@ module _ (points : List ℕ) (tau : ℕ → ℕ → ℕ) (settled : Settled) (v 
       → trip ≡ other
   one_trip trip other stops others told d is_trip is_other o p is also = search (rules, same_rising, rider_also)
 
+module _ (points : List ℕ) (tau : ℕ → ℕ → ℕ) (settled : Settled) (graph : Graph) (trips : List ChosenTrip) where
+  -- the trips from this place on are those of the vehicles from this one on
+  abbrev pub AreLater : (v place : ℕ) → List (Option ℕ) → Type 0
+  AreLater v place all = AllZip (IsTripOf points tau settled graph all) (passing (λ v. not (vehicle_at settled v).late) (length settled.vehicles) v) (drop place trips)
+
+  -- what the vehicles before this one are given, by the trips before this place
+  pub record IsPlanSoFar (v place : ℕ) (chosen : List (Option ℕ)) : Type 0 where
+    pub sized : length chosen ≡ v
+    pub own : (w : ℕ) → w < v → MatchOption (choice_at chosen w) (HasNoRow graph w) (IsRowOf graph w)
+    pub only : (all : List (Option ℕ)) → IsPlan graph all → AreTrips points tau settled graph all trips → (take v all ≡ chosen) × AreLater v place all
+    pub given : (later : List (Option ℕ)) → AreLater v place (chosen ++ later) → AreTrips points tau settled graph (chosen ++ later) trips
+
 no_stop : PlannedStop
 no_stop = record { pick = false; rider = 0; node = 0; second = 0 }
 
@@ -121,93 +86,60 @@ module _ (points : List ℕ) (settings : Settings) (tau : ℕ → ℕ → ℕ) (
       one_place graph.rows (graph_in_order settings tau settled graph exact) v (riders_at graph k) j k
       (record { within = a.within; own = a.own; trip = same }) (record { within = b.within; own = b.own; trip = refl })
 
-  abbrev timely : List ℕ
-  timely = filter (λ v. not (vehicle_at settled v).late) (range_with_len 0 (length settled.vehicles))
-
   no_row_of_late : (v : ℕ) → v < length settled.vehicles → (vehicle_at settled v).late ≡ true → HasNoRow graph v
-  no_row_of_late v h late =
-      let none : choice_at graph.held v ≡ None = rw late at (exact.hold v h) in
-      rw none at (exact.good.held.plan.own v (let n = exact.vehicle_total in omega (arith, n, h)))
+  no_row_of_late v h late = search rules
+
+  no_choice : (v : ℕ) → HasNoRow graph v → (c : Option ℕ) → MatchOption c (HasNoRow graph v) (IsRowOf graph v) → c ≡ None
+  no_choice v none None own' = refl
+  no_choice v none (Some k) own' = absurd (none k own')
 
   tells_of : (chosen : List (Option ℕ)) (v : ℕ) (trip : ChosenTrip) (of : IsTripOf points tau settled graph chosen v trip) → TellsRow points tau settled graph v of.row trip
   tells_of chosen v trip of = record { vehicle = of.vehicle; cost = of.cost; stops = of.stops; serves = of.serves; delay = of.delay; told = of.told }
 
   module _ (trips : List ChosenTrip) where
-    trip_at : (chosen : List (Option ℕ)) → GivesTrips points tau settled graph chosen trips → (k : ℕ) → k < length timely → IsTripOf points tau settled graph chosen (get_or timely k 0) (get_or trips k no_chosen)
-    trip_at chosen gives k h = all_zip_at (IsTripOf points tau settled graph chosen) timely trips 0 no_chosen gives.trips_given k h
+    pub trips_over : (v place : ℕ) (chosen : List (Option ℕ)) → length settled.vehicles ≤ v → IsPlanSoFar points tau settled graph trips v place chosen → place < length trips
+        → (all : List (Option ℕ)) → IsPlan graph all → AreTrips points tau settled graph all trips → ⊥
+    trips_over v place chosen end is more all plan given = search (rules, walk_end)
 
-    inside : (k : ℕ) → k < length timely → get_or timely k 0 < graph.vehicles
-    inside k h = let below = filter_range_below (λ v. not (vehicle_at settled v).late) (length settled.vehicles) k 0 h in let n = exact.vehicle_total in omega (arith, below, n)
-
-    pub no_plan_short : length timely ≢ length trips → (chosen : List (Option ℕ)) → GivesTrips points tau settled graph chosen trips → ⊥
-    no_plan_short differs chosen gives = differs (all_zip_long (IsTripOf points tau settled graph chosen) timely trips gives.trips_given)
-
-    pub no_plan : HasNoRowFor points tau settled graph timely trips → (chosen : List (Option ℕ)) → GivesTrips points tau settled graph chosen trips → ⊥
-    no_plan none chosen gives =
-        let of = trip_at chosen gives none.place none.within in
-        none.none of.row (plan_choice graph chosen (get_or timely none.place 0) of.row gives.plan (inside none.place none.within) of.chooses) (tells_of chosen (get_or timely none.place 0) (get_or trips none.place no_chosen) of)
-
-    timely_or_late : (v : ℕ) → v < length settled.vehicles → Contains timely v ⊎ ((vehicle_at settled v).late ≡ true)
-    timely_or_late v h = by (vehicle_at settled v).late refl
-      where
-        by : (b : Bool) → (vehicle_at settled v).late ≡ b → Contains timely v ⊎ ((vehicle_at settled v).late ≡ true)
-        by true e = inr e
-        by false e = inl (kept_has (λ n. not (vehicle_at settled n).late) (length settled.vehicles) v h (ap not e))
-
-    late_not_timely : (v : ℕ) → (vehicle_at settled v).late ≡ true → Contains timely v → ⊥
-    late_not_timely v late found =
-        let passes : not (vehicle_at settled v).late ≡ true = kept_passes (λ n. not (vehicle_at settled n).late) (length settled.vehicles) v found in
-        let no : true ≡ false = sym passes ∙ ap not late in cc
-
-    pub plan_given : (chosen : List (Option ℕ)) (rows : List ℕ) → length timely ≡ length trips → GiveRows points tau settled graph timely trips rows → length chosen ≡ graph.vehicles
-        → ((k : ℕ) → k < length timely → choice_at chosen (get_or timely k 0) ≡ Some (get_or rows k 0)) → ((v : ℕ) → (Contains timely v → ⊥) → choice_at chosen v ≡ None)
-        → GivesTrips points tau settled graph chosen trips
-    plan_given chosen rows as_long give sized given others = record {
-      plan = record {
-        sized = sized;
-        own = λ v h.
-            let inside' : v < length settled.vehicles = (let n = exact.vehicle_total in omega (arith, n, h)) in
-            ⊎_elim
-            (λ (found : Contains timely v).
-            let k = found.0 in
-            let is : get_or timely k 0 ≡ v = get_or_default timely k 0 v found.1 ∙ found.2 in
-            let chooses : choice_at chosen v ≡ Some (get_or rows k 0) = ap (choice_at chosen) (sym is) ∙ given k found.1 in
-            let row : IsRowOf graph v (get_or rows k 0) = subst (λ (n : ℕ). IsRowOf graph n (get_or rows k 0)) is (give.own k found.1) in
-            subst (λ (o : Option ℕ). MatchOption o (HasNoRow graph v) (IsRowOf graph v)) (sym chooses) row)
-            (λ (late : (vehicle_at settled v).late ≡ true).
-            let none : choice_at chosen v ≡ None = others v (late_not_timely v late) in
-            subst (λ (o : Option ℕ). MatchOption o (HasNoRow graph v) (IsRowOf graph v)) (sym none) (no_row_of_late v inside' late))
-            (timely_or_late v inside');
-      };
-      trips_given = all_zip_from (IsTripOf points tau settled graph chosen) timely trips 0 no_chosen as_long
-          (λ k h.
-          let tells = give.told k h in
-          record { row = get_or rows k 0; chooses = given k h; vehicle = tells.vehicle; cost = tells.cost; stops = tells.stops; serves = tells.serves; delay = tells.delay; told = tells.told });
+    pub plan_made : (v place : ℕ) (chosen : List (Option ℕ)) → length settled.vehicles ≤ v → v ≤ length settled.vehicles → length trips ≤ place → IsPlanSoFar points tau settled graph trips v place chosen → GivesTrips points tau settled graph chosen trips
+    plan_made v place chosen end most past is = record {
+      plan = record { sized = is.sized ∙ (let n = exact.vehicle_total in omega (arith, n, end, most)); own = λ w h. is.own w (let n = exact.vehicle_total in omega (arith, n, h, end)) };
+      trips_given = subst (λ (all : List (Option ℕ)). AreTrips points tau settled graph all trips) (append-nil chosen)
+          (is.given [] ((walk_end (IsTripOf points tau settled graph (chosen ++ [])) (λ v. not (vehicle_at settled v).late) (length settled.vehicles) v trips place end).1 past));
+      only = λ other plan given. sym (is.only other plan given).0 ∙ take_all v other (let n = exact.vehicle_total in let m = plan.sized in omega (arith, n, m, end));
     }
 
-    no_choice : (v : ℕ) → HasNoRow graph v → (c : Option ℕ) → MatchOption c (HasNoRow graph v) (IsRowOf graph v) → c ≡ None
-    no_choice v none None own' = refl
-    no_choice v none (Some k) own' = absurd (none k own')
+    module _ (v place : ℕ) (chosen : List (Option ℕ)) (low : v < length settled.vehicles) (is : IsPlanSoFar points tau settled graph trips v place chosen) where
+      inside : v < graph.vehicles
+      inside = let n = exact.vehicle_total in omega (arith, n, low)
 
-    same_choice : (a b : List (Option ℕ)) → GivesTrips points tau settled graph a trips → GivesTrips points tau settled graph b trips → (v : ℕ) → v < length settled.vehicles → choice_at a v ≡ choice_at b v
-    same_choice a b one other v h =
-        let low : v < graph.vehicles = (let n = exact.vehicle_total in omega (arith, n, h)) in
-        ⊎_elim
-        (λ (found : Contains timely v).
-        let k = found.0 in
-        let is : get_or timely k 0 ≡ v = get_or_default timely k 0 v found.1 ∙ found.2 in
-        let x = trip_at a one k found.1 in let y = trip_at b other k found.1 in
-        let w = get_or timely k 0 in
-        let row : x.row ≡ y.row = one_row w x.row y.row (get_or trips k no_chosen) (plan_choice graph a w x.row one.plan (inside k found.1) x.chooses) (plan_choice graph b w y.row other.plan (inside k found.1) y.chooses)
-        (tells_of a w (get_or trips k no_chosen) x) (tells_of b w (get_or trips k no_chosen) y) in
-        ap (choice_at a) (sym is) ∙ x.chooses ∙ ap (λ (n : ℕ). Some n) row ∙ sym y.chooses ∙ ap (choice_at b) is)
-        (λ (late : (vehicle_at settled v).late ≡ true).
-        let no = no_row_of_late v h late in
-        no_choice v no (choice_at a v) (one.plan.own v low) ∙ sym (no_choice v no (choice_at b v) (other.plan.own v low)))
-        (timely_or_late v h)
+      -- one more vehicle
+      given_next : (next : ℕ) (choice : Option ℕ) → MatchOption choice (HasNoRow graph v) (IsRowOf graph v)
+          → ((all : List (Option ℕ)) → IsPlan graph all → AreLater points tau settled graph trips v place all → (choice_at all v ≡ choice) × AreLater points tau settled graph trips (v + 1) next all)
+          → ((all : List (Option ℕ)) → choice_at all v ≡ choice → AreLater points tau settled graph trips (v + 1) next all → AreLater points tau settled graph trips v place all) → IsPlanSoFar points tau settled graph trips (v + 1) next (chosen ++ choice ∷ [])
+      given_next next choice rightly forth back = search (rules, length_push, below_more, get_or_append_left, get_or_push, take_more, append_assoc)
 
-    -- trips give one plan
-    pub one_plan : (a b : List (Option ℕ)) → GivesTrips points tau settled graph a trips → GivesTrips points tau settled graph b trips → a ≡ b
-    one_plan a b one other =
-        ext_get_or None a b (one.plan.sized ∙ sym other.plan.sized)
-        (λ v h. same_choice a b one other v (let n = one.plan.sized in let m = exact.vehicle_total in omega (arith, n, m, h)))
+      pub late_next : (vehicle_at settled v).late ≡ true → IsPlanSoFar points tau settled graph trips (v + 1) place (chosen ++ None ∷ [])
+      late_next late =
+          let none = no_row_of_late v low late in
+          let same = walk_skips (λ v. not (vehicle_at settled v).late) (length settled.vehicles) v low (ap not late) in
+          given_next place None none (λ all plan later. (no_choice v none (choice_at all v) (plan.own v inside), rw same at later)) (λ all at later. rw same later)
+
+      module _ (timely : (vehicle_at settled v).late ≡ false) where
+        pub no_trip : length trips ≤ place → (all : List (Option ℕ)) → IsPlan graph all → AreTrips points tau settled graph all trips → ⊥
+        no_trip past all plan given = search (rules, walk_stuck)
+
+        module _ (trip : ChosenTrip) (within : place < length trips) (at : trip ≡ get_or trips place trip) where
+          here : (all : List (Option ℕ)) → AreLater points tau settled graph trips v place all ↔ (IsTripOf points tau settled graph all v trip × AreLater points tau settled graph trips (v + 1) (place + 1) all)
+          here all = walk_next (IsTripOf points tau settled graph all) (λ v. not (vehicle_at settled v).late) (length settled.vehicles) v trips place low (ap not timely) trip within at
+
+          pub no_row_told : ((row : ℕ) → IsRowOf graph v row → TellsRow points tau settled graph v row trip → ⊥) → (all : List (Option ℕ)) → IsPlan graph all → AreTrips points tau settled graph all trips → ⊥
+          no_row_told none all plan given = search (rules, here, plan_choice, tells_of)
+
+          pub trip_next : (row : ℕ) → IsRowOf graph v row → TellsRow points tau settled graph v row trip → IsPlanSoFar points tau settled graph trips (v + 1) (place + 1) (chosen ++ Some row ∷ [])
+          trip_next row row_is tells = given_next (place + 1) (Some row) row_is
+              (λ all plan later.
+              let both = (here all).0 later in let of = both.0 in
+              (of.chooses ∙ ap (λ (k : ℕ). Some k) (one_row v of.row row trip (plan_choice graph all v of.row plan inside of.chooses) row_is (tells_of all v trip of) tells), both.1))
+              (λ all chooses later. (here all).1
+              (record { row = row; chooses = chooses; vehicle = tells.vehicle; cost = tells.cost; stops = tells.stops; serves = tells.serves; delay = tells.delay; told = tells.told }, later))

@@ -1,9 +1,9 @@
 -- The row of which a trip tells.
-use Rattle.std.specs.Prelude.{◌≡◌, ℕ, ◌<◌, ◌≤◌, List, [], Option, length, map, slice_index, slice_index_or}
+use Rattle.std.specs.Prelude.{◌≡◌, ℕ, ◌≤◌, List, Option, map}
 use Rattle.batch_solver.specs.Told.{rider_id, left_riders}
 use Rattle.batch_solver.specs.lemmas.Named.{vehicle_id, told_stops}
 use Rattle.batch_solver.specs.Trips.{AreTrips}
-use Rattle.plan_rules.specs.Graph.{Graph, IsRowOf, riders_at, cost_at}
+use Rattle.plan_rules.specs.Graph.{Graph, riders_at, cost_at}
 use Rattle.plan_rules.specs.Plan.{IsPlan, IsLawful, cost_of}
 use Rattle.request_book.specs.declared.outcome.ChosenTrip.{ChosenTrip}
 use Rattle.request_book.specs.declared.outcome.Planned.{Planned}
@@ -12,10 +12,6 @@ use Rattle.stop_orders.specs.Task.{Serves, IsOrderOf, ReachesAll, order_delay}
 use Rattle.stop_orders.specs.declared.settled.Settled.{Settled}
 use Rattle.stop_orders.specs.declared.stop.Stop.{Stop}
 use Rattle.stop_orders.specs.declared.task.Task.{Task}
-
--- what is read where there is no trip
-abbrev pub no_chosen : ChosenTrip
-no_chosen = record { vehicle = 0; cost = 0; stops = record { items = [] } }
 
 -- the trip is the vehicle's, has the row's cost, and its stops are an order that serves the row's riders at it
 pub record TellsRow (points : List ℕ) (tau : ℕ → ℕ → ℕ) (settled : Settled) (graph : Graph) (v row : ℕ) (trip : ChosenTrip) : Type 0 where
@@ -30,23 +26,12 @@ pub record TellsRow (points : List ℕ) (tau : ℕ → ℕ → ℕ) (settled : S
 abbrev pub IsLeast : (ℕ → ℕ → ℕ) → Task → ℕ → Type 0
 IsLeast tau task delay = (others : List Stop) → IsOrderOf task others → ReachesAll tau task others → delay ≤ order_delay tau task others
 
--- each vehicle that isn't late has a trip, that of the row of its own that the plan gives it
+-- each vehicle that isn't late has a trip, that of the row of its own that this plan alone gives it
 pub record GivesTrips (points : List ℕ) (tau : ℕ → ℕ → ℕ) (settled : Settled) (graph : Graph) (chosen : List (Option ℕ)) (trips : List ChosenTrip) : Type 0 where
   pub plan : IsPlan graph chosen
   pub trips_given : AreTrips points tau settled graph chosen trips
+  pub only : (other : List (Option ℕ)) → IsPlan graph other → AreTrips points tau settled graph other trips → chosen ≡ other
 
 -- the plan is lawful, costs what is told, and leaves out whom it is told to
 abbrev pub TellsPlan : Settled → Graph → List (Option ℕ) → Planned → Type 0
 TellsPlan settled graph chosen planned = IsLawful graph chosen × (planned.cost ≡ cost_of graph chosen) × (planned.left ≡ map (rider_id settled) (left_riders graph chosen))
-
--- some trip tells of no row of its vehicle
-pub record HasNoRowFor (points : List ℕ) (tau : ℕ → ℕ → ℕ) (settled : Settled) (graph : Graph) (vehicles : List ℕ) (trips : List ChosenTrip) : Type 0 where
-  pub place : ℕ
-  pub within : place < length vehicles
-  pub none : (row : ℕ) → IsRowOf graph (slice_index vehicles place) row → TellsRow points tau settled graph (slice_index vehicles place) row (slice_index_or trips place no_chosen) → ⊥
-
--- each vehicle's trip tells of the row beside it
-pub record GiveRows (points : List ℕ) (tau : ℕ → ℕ → ℕ) (settled : Settled) (graph : Graph) (vehicles : List ℕ) (trips : List ChosenTrip) (rows : List ℕ) : Type 0 where
-  pub sized : length rows ≡ length vehicles
-  pub own : (k : ℕ) → k < length vehicles → IsRowOf graph (slice_index vehicles k) (slice_index rows k)
-  pub told : (k : ℕ) → k < length vehicles → TellsRow points tau settled graph (slice_index vehicles k) (slice_index rows k) (slice_index_or trips k no_chosen)

@@ -26,13 +26,9 @@ pub dwell_not_zero : (text : List ℕ) (told : ℕ) → nat_eq (length text) 0 �
 dwell_not_zero text told some zero_told is zero within e = search rules
 dwell_not_zero text told some zero_told is (suc dwell) within e = search (rules, dwell_text, dwell_told, dwell_number)
 
--- no dwell is told by nothing
-no_dwell_told : (dwell : ℕ) → [] ≡ numbered (codes " dwell=") dwell → ⊥
-unfolding numbered
-no_dwell_told dwell e = grind arith
-
 dwell_of_one : (a b : ℕ) → IsShortNumber a → IsShortNumber b → dwell_text a ≡ dwell_text b → a ≡ b
-dwell_of_one a b ia ib e = grind (arith, nat_tests, dwell_number a b ia ib, no_dwell_told a, no_dwell_told b)
+unfolding numbered
+dwell_of_one a b ia ib e = grind (arith, nat_tests, dwell_number a b ia ib)
 
 -- a number for each of the words
 abbrev pub Numbers : List (List ℕ) → Type 0
@@ -81,9 +77,6 @@ none_behind {w} {ws} {text} {n} {after} b none =
           none.never (apart_behind w ws apart) ns.1 dwell short.1 is ((short_once w).once text n ns.0 after (fields_text ws ns.1 dwell) b (begins_field w ws text ns dwell apart short e)).1;
     }
 
-pub none_dwell : {text : List ℕ} → ((dwell : ℕ) → IsShortNumber dwell → text ≢ dwell_text dwell) → IsNoFields [] text
-none_dwell none = record { never = λ apart ns dwell short is. none dwell is }
-
 pub field_behind : (w : List ℕ) {Is : ℕ → Type 0} {text after rest : List ℕ} {n : ℕ} → BeginsWith (numbered w) Is text n after → after ≡ rest → text ≡ numbered w n ++ rest
 field_behind w {Is} {text} {after} {rest} {n} b e = b.whole ∙ ap (λ r. numbered w n ++ r) e
 
@@ -119,7 +112,4 @@ settings_of_one a b ia ib e =
     let same =
     same_fields settings_words (numbers_of a) (numbers_of b) a.dwell b.dwell refl (short_numbers a ia) (short_numbers b ib) ia.dwell ib.dwell (sym (settings_fields a) ∙ e ∙ settings_fields b)
     in
-    let told : Numbers settings_words → ℕ → SettingsText =
-    λ n dwell. record { wait = n.0; delay = n.1.0; trip = n.1.1.0; penalty = n.1.1.1.0; budget = n.1.1.1.1.0; pairs = n.1.1.1.1.1.0; proof = n.1.1.1.1.1.1.0; dwell = dwell }
-    in
-    ap (λ n. told n a.dwell) same.0 ∙ ap (told (numbers_of b)) same.1
+    grind (arith, same.0, same.1)

@@ -4,7 +4,7 @@ use Rattle.report_lines.proofs.Common.{is_ascii_digit, numbered, IsNextLine}
 use Rattle.report_lines.specs.declared.next.NextLine.{NextLine}
 use Rattle.report_lines.specs.declared.next.NextLine.TheVariants.{Round, Done, Entry as EntryOf}
 use Rattle.report_lines.proofs.EntryLemmas.{same_lane, entry_begins}
-use Rattle.report_lines.proofs.ToldLemmas.{no_number}
+use Rattle.report_lines.proofs.lemmas.NumeralLemmas.{no_number}
 use Rattle.report_lines.proofs.lemmas.ReadingLemmas.{numbered_below}
 
 pub no_line : (line : List ℕ) → ((n : ℕ) → n ≤ 4294967295 → line ≢ numbered (codes "round ") n) → ((n : ℕ) → n ≤ 18446744073709551615 → line ≢ numbered (codes "done ") n) → ((lane : ℕ) → IsNextLine (EntryOf lane) line → ⊥) → (x : NextLine) → IsNextLine x line → ⊥

@@ -1,5 +1,5 @@
 -- Numerals at the beginning of a text.
-use Rattle.std.proofs.Common.{◌≡◌, ℕ, suc, ◌+◌, ◌-◌, ◌*◌, ◌<◌, ◌≤◌, ◌^◌, get_or, drop, true, List, [], ◌∷◌, ◌++◌, length, decimal, refl, sym, ap, ◌∙◌, arith, rules}
+use Rattle.std.proofs.Common.{◌≡◌, ℕ, suc, ◌+◌, ◌-◌, ◌*◌, ◌<◌, ◌≤◌, ◌^◌, get_or, drop, true, List, [], ◌∷◌, ◌++◌, length, decimal, refl, sym, ap, ◌∙◌, arith, rules, Bool, false}
 use Rattle.report_lines.proofs.Common.{list_all, is_ascii_digit, at_drop_more, decimal_is_IsNumeral_wide, AllDigits, value_of, value_after, BeginsWith, BeginsWithNone, ends_number}
 use Rattle.std.proofs.lemmas.Bool.Decides.{nat_tests}
 use Rattle.std.proofs.lemmas.Str.Parse.{IsNumeralModel, numerals_by_fold, tells_by_index}
@@ -32,10 +32,6 @@ decimal_value n small =
     let numeral = decimal_is_IsNumeral_wide n (omega arith) in
     own.same (decimal n) numeral.0.1 ∙ numeral.1
 
--- numbers of the same text are the same
-pub decimal_same : (m n : ℕ) → m < 2 ^ 128 → n < 2 ^ 128 → decimal m ≡ decimal n → m ≡ n
-decimal_same m n small small_too e = sym (decimal_value m small) ∙ ap value_of e ∙ decimal_value n small_too
-
 -- digits end where they end
 pub digits_unique : (a b r s : List ℕ) → list_all is_ascii_digit a ≡ true → list_all is_ascii_digit b ≡ true → ends_number r ≡ true → ends_number s ≡ true → a ++ r ≡ b ++ s → (a ≡ b) × (r ≡ s)
 digits_unique [] [] r s da db er es e = (refl, e)
@@ -44,12 +40,9 @@ digits_unique (a ∷ xs) [] r s da db er es e = grind (arith, nat_tests)
 digits_unique (a ∷ xs) (b ∷ ys) r s da db er es e = grind (arith, nat_tests, digits_unique xs ys r s)
 
 -- a text that begins with a number begins with that number's digits, up to where they end
-module _ (text digits rest : List ℕ) (most : ℕ) (small : most < 2 ^ 128) (parts : text ≡ digits ++ rest) (all : list_all is_ascii_digit digits ≡ true) (ends : ends_number rest ≡ true) where
+module _ (text digits rest : List ℕ) (most : ℕ) (small : most < 2 ^ 128) (first : (text ≡ digits ++ rest) × (list_all is_ascii_digit digits ≡ true) × (ends_number rest ≡ true)) where
   begins_digits : (x : ℕ) (r : List ℕ) → BeginsWith decimal (λ n. n ≤ most) text x r → digits ≡ decimal x
-  begins_digits x r b =
-      let within : x ≤ most = b.lawful in
-      let same : digits ++ rest ≡ decimal x ++ r = sym parts ∙ b.whole in
-      (digits_unique digits (decimal x) rest r all (decimal_digits x (omega arith)) ends b.ends same).0
+  begins_digits x r b = (digits_unique digits (decimal x) rest r first.1 (decimal_digits x (omega (arith, b.lawful))) first.2 b.ends (sym first.0 ∙ b.whole)).0
 
   begins_value : (x : ℕ) (r : List ℕ) → BeginsWith decimal (λ n. n ≤ most) text x r → value_of digits ≡ x
   begins_value x r b = search (rules, begins_digits, decimal_value)
@@ -61,3 +54,15 @@ module _ (text digits rest : List ℕ) (most : ℕ) (small : most < 2 ^ 128) (pa
   -- digits with a zero before them, or none
   pub begins_with_other : (digits ≡ decimal (value_of digits) → ⊥) → BeginsWithNone decimal (λ n. n ≤ most) text
   begins_with_other other x r b = other (begins_digits x r b ∙ ap decimal (sym (begins_value x r b)))
+
+-- what begins with no digit begins with no number
+pub no_number : (c : ℕ) (cs : List ℕ) (n : ℕ) (rest : List ℕ) → is_ascii_digit c ≡ false → n < 2 ^ 128 → c ∷ cs ≡ decimal n ++ rest → ⊥
+no_number c cs n rest other small e = by (decimal n) (decimal_is_IsNumeral_wide n (omega arith)).0.0 (decimal_digits n small) e
+  where
+    by : (digits : List ℕ) → 0 < length digits → list_all is_ascii_digit digits ≡ true → c ∷ cs ≡ digits ++ rest → ⊥
+    by [] some all same = absurd (omega arith)
+    by (d ∷ ds) some all same = grind (arith, nat_tests)
+
+-- what is found not to hold
+pub not_so : {T : Type 0} (found : Bool) → (T → found ≡ true) → found ≡ false → T → ⊥
+not_so found whole off holds = search rules

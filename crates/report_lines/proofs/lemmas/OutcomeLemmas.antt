@@ -1,6 +1,6 @@
--- An outcome's lines are a block.
-use Rattle.std.proofs.Common.{◌≡◌, ℕ, ◌≤◌, true, ℤ, List, [], ◌∷◌, ◌++◌, length, map, nat_le, refl, arith, rules}
-use Rattle.report_lines.proofs.Common.{and_from, lines_text, Outcome, IsBlock, IsBlockLine, kind_place, is_between, may_follow_at, follow_on, last_place, BlockLine, Batch, Expired, Lapsed, Alone, Shared, Out, Move, Cost, Bound, Nodes, End}
+-- An outcome's lines are a block, and lines of a block are read one more at a time.
+use Rattle.std.proofs.Common.{◌≡◌, ℕ, ◌≤◌, true, List, [], ◌∷◌, ◌++◌, map, nat_le, refl, arith, rules, sym, ap, ◌∙◌, subst, append_assoc, append-nil}
+use Rattle.report_lines.proofs.Common.{and_from, lines_text, Outcome, IsBlock, IsBlockLine, kind_place, is_between, may_follow_at, follow_on, last_place, BlockLine, Batch, Expired, Lapsed, Alone, Shared, Out, Move, End, flat_map-append, map-append, All-append, All-cons, BeginsBlock, block_line_text}
 use Rattle.dispatch_report.specs.Block.{row_as_line, trip_as_line, late_as_line, tree_line, lines_of_answer, lines_of, block_lines}
 use Rattle.std.specs.List.{All}
 use Rattle.std.proofs.lemmas.Bool.{le-leb}
@@ -63,9 +63,6 @@ choice_run p l h plan =
     (kind_run trip_as_line 1 8 (omega arith) (λ x. refl) (λ q x. between 1 8 q) plan.chosen p l (omega arith))
     plan.left) plan.moves
 
-counts_run : (p : ℕ) → 1 ≤ p → p ≤ 10 → (cost nodes : ℕ) (bound : ℤ) → Run p ((Cost cost ∷ []) ++ (Bound bound ∷ []) ++ (Nodes nodes ∷ [])) 13 13
-counts_run p l h cost nodes bound = search rules
-
 tree_run : (rows : List RowLine) (p : ℕ) → 13 ≤ p → p ≤ 13 → (tree : List Node) → Run p (map (tree_line rows) tree) 13 14
 tree_run rows p l h tree = kind_run (tree_line rows) 13 14 (omega arith) at may tree p l (omega arith)
   where
@@ -86,7 +83,7 @@ answer_run (Plan plan) p l h =
     (run_join p _ _ 13 13 13 14
     (run_join p _ _ 1 10 13 13
     (run_join p _ _ 1 7 1 10 (graph_run p l h plan) (λ q lq hq. choice_run q lq hq plan))
-    (λ q lq hq. counts_run q lq hq plan.cost (length plan.tree) plan.bound))
+    (λ q lq hq. search rules))
     (λ q lq hq. tree_run plan.rows q lq hq plan.tree))
     (omega arith) (omega arith)
 
@@ -102,3 +99,27 @@ outcome_run batch outcome =
 -- the text of an outcome's block begins with the block of its lines
 pub outcome_block : (batch : ℕ) (outcome : Outcome) (rest : List ℕ) → All IsBlockLine (lines_of true batch outcome) → IsBlock (lines_text (block_lines true batch outcome) ++ rest) (lines_of true batch outcome) rest
 outcome_block batch outcome rest lawful = grind (arith, nat_tests, (outcome_run batch outcome))
+
+text_more : (lines : List BlockLine) (line : BlockLine) → lines_text (map block_line_text (lines ++ line ∷ [])) ≡ lines_text (map block_line_text lines) ++ (block_line_text line ++ 10 ∷ [])
+unfolding lines_text
+text_more lines line = search (rules, map-append, flat_map-append, append-nil)
+
+-- lines read so far, and the place of the last
+pub record BlockSoFar (text : List ℕ) (lines : List BlockLine) (rest : List ℕ) (place : ℕ) : Type 0 where
+  pub begins : BeginsBlock text lines rest
+  pub at : place ≡ last_place 0 lines
+
+pub block_more : {text : List ℕ} {lines : List BlockLine} {rest : List ℕ} {place : ℕ} {line : List ℕ} {after : List ℕ} (x : BlockLine) {new : List BlockLine} {next : ℕ} → BlockSoFar text lines rest place → rest ≡ line ++ 10 ∷ after → IsBlockLine x → line ≡ block_line_text x → may_follow_at place x ≡ true → next ≡ kind_place x → new ≡ lines ++ x ∷ [] → BlockSoFar text new after next
+block_more {text} {lines} {rest} {place} {line} {after} x {new} {next} so cut lawful is follows there e =
+    subst (λ (ls : List BlockLine). BlockSoFar text ls after next) (sym e)
+    (record {
+      begins = record {
+        whole =
+            so.begins.whole ∙ ap (λ r. lines_text (map block_line_text lines) ++ r) (cut ∙ ap (λ l. l ++ 10 ∷ after) is ∙ sym (append_assoc (block_line_text x) (10 ∷ []) after))
+            ∙ sym (append_assoc (lines_text (map block_line_text lines)) (block_line_text x ++ 10 ∷ []) after)
+            ∙ ap (λ r. r ++ after) (sym (text_more lines x));
+        lawful = All-append IsBlockLine lines (x ∷ []) so.begins.lawful (All-cons IsBlockLine x [] lawful (λ k d within. absurd (omega arith)));
+        order = follow_join 0 lines (x ∷ []) so.begins.order (and_from _ true (subst (λ p. may_follow_at p x ≡ true) so.at follows) refl);
+      };
+      at = there ∙ sym (last_join 0 lines (x ∷ []));
+    })

@@ -1,7 +1,7 @@
 -- Texts of one thing behind another, and of whole lines.
 use Rattle.std.proofs.Common.{◌≡◌, ◌≢◌, ℕ, ◌≤◌, ◌<◌, ◌^◌, Bool, true, false, nat_eq, length, List, [], ◌∷◌, ◌++◌, Option, Some, None, MatchOption, Bor, decimal, refl, sym, ap, ◌∙◌, append_assoc, append-nil, arith, rules}
-use Rattle.report_lines.proofs.Common.{append_cancel_left, numbered, spaced, BeginsWith, BeginsWithNone, ends_number, both_texts, BothAre, Told}
-use Rattle.report_lines.proofs.lemmas.NumeralLemmas.{digits_unique, decimal_digits, decimal_same}
+use Rattle.report_lines.proofs.Common.{append_cancel_left, value_of, numbered, spaced, BeginsWith, BeginsWithNone, ends_number, both_texts, BothAre}
+use Rattle.report_lines.proofs.lemmas.NumeralLemmas.{digits_unique, decimal_digits, decimal_value}
 
 -- the text of a thing ends at one place alone, and is that of one thing
 pub record EndsOnce {X : Type 0} (t : X → List ℕ) (Is : X → Type 0) : Type 0 where
@@ -69,17 +69,7 @@ both_once {X} {Y} {t} {Is} {u} {Us} behind first second =
           (pair_is p q same.0 more.0, more.1);
     }
 
--- one thing, and another behind it to the line's end
-module _ {X Y : Type 0} {t : X → List ℕ} {Is : X → Type 0} (u : Y → List ℕ) (Us : Y → Type 0) (ends : (y : Y) → ends_number (u y) ≡ true) {text : List ℕ} where
-  pub no_head : BeginsWithNone t Is text → Told (both_texts t u) (BothAre Is Us) text → ⊥
-  no_head none (p, is, e) = none p.0 (u p.1) (record { whole = e; lawful = is.0; ends = ends p.1 })
-
-  pub tail_told : {x : X} {after : List ℕ} → EndsOnce t Is → BeginsWith t Is text x after → Told (both_texts t u) (BothAre Is Us) text → Told u Us after
-  tail_told form b (p, is, e) = (p.1, is.1, (same_begin form b p.0 (u p.1) is.0 (ends p.1) e).1)
-
-  pub both_told : {x : X} {after : List ℕ} → BeginsWith t Is text x after → Told u Us after → Told (both_texts t u) (BothAre Is Us) text
-  both_told {x} b (y, is, e) = ((x, y), (b.lawful, is), b.whole ∙ ap (λ r. t x ++ r) e)
-
+-- one thing, and another behind it to the end of a line
 pub both_of_one : {X Y : Type 0} {t : X → List ℕ} {Is : X → Type 0} (u : Y → List ℕ) (Us : Y → Type 0) → ((y : Y) → ends_number (u y) ≡ true) → EndsOnce t Is → TextIsOfOne u Us → TextIsOfOne (both_texts t u) (BothAre Is Us)
 both_of_one {X} {Y} {t} {Is} u Us ends form one p q ip iq e =
     let here : BeginsWith t Is (both_texts t u p) p.0 (u p.1) = record { whole = refl; lawful = ip.0; ends = ends p.1 } in
@@ -115,21 +105,13 @@ decimal_within {Is} small =
           let wy : y < 2 ^ 128 = small y by.lawful in
           let same : decimal x ++ r ≡ decimal y ++ s = sym bx.whole ∙ by.whole in
           let parts = digits_unique (decimal x) (decimal y) r s (decimal_digits x wx) (decimal_digits y wy) bx.ends by.ends same in
-          (decimal_same x y wx wy parts.0, parts.1);
+          (sym (decimal_value x wx) ∙ ap value_of parts.0 ∙ decimal_value y wy, parts.1);
     }
 
 pub decimal_once : (most : ℕ) → most < 2 ^ 128 → EndsOnce decimal (λ n. n ≤ most)
 decimal_once most small = decimal_within (λ n is. omega (arith, is))
 
 -- a number behind words
-pub numbered_none_words : (words : List ℕ) (most : ℕ) (text : List ℕ) → ((rest : List ℕ) → text ≢ words ++ rest) → BeginsWithNone (numbered words) (λ n. n ≤ most) text
-unfolding numbered
-numbered_none_words words most text none = behind_none_words decimal (λ n. n ≤ most) words text none
-
-pub numbered_read : (words : List ℕ) (most : ℕ) (text after : List ℕ) (r : Option (ℕ × Bor (List ℕ))) → text ≡ words ++ after → MatchOption r (BeginsWithNone decimal (λ n. n ≤ most) after) (λ x. BeginsWith decimal (λ n. n ≤ most) after x.0 x.1.now) → MatchOption r (BeginsWithNone (numbered words) (λ n. n ≤ most) text) (λ x. BeginsWith (numbered words) (λ n. n ≤ most) text x.0 x.1.now)
-unfolding numbered
-numbered_read words most text after r = behind_read decimal (λ n. n ≤ most) words text after r
-
 pub numbered_within : {Is : ℕ → Type 0} (words : List ℕ) → ((n : ℕ) → Is n → n < 2 ^ 128) → EndsOnce (numbered words) Is
 unfolding numbered
 numbered_within words small = behind_once words (decimal_within small)

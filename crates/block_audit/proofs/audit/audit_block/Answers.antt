@@ -1,6 +1,6 @@
 use Rattle.std.proofs.Common.{◌≡◌, ◌≢◌, true, List, length, map, min, sym, ap, ◌∙◌, subst, arith}
-use Rattle.block_audit.proofs.Common.{Batch, IsKept, Vehicle, IsGoodOutcome, IsVerdictOf, Meets, block_lines, Point, Outcome, BeginsWithGood, CanBeTold, judged_outcome, Told, told_by, told_in, HoldUpTo, verdict_place}
-use Rattle.block_audit.proofs.lemmas.AuditLemmas.{begins_good, fails_at_once, fails_first, fails_no_good, fault_no_good, good_is_judged, is_good, line_count, right_up_to}
+use Rattle.block_audit.proofs.Common.{Batch, IsKept, Vehicle, IsGoodOutcome, block_lines, Point, Outcome, BeginsWithGood, CanBeTold, judged_outcome, Told, told_by, told_in, verdict_place}
+use Rattle.block_audit.proofs.lemmas.AuditLemmas.{begins_good, begins_wrong, fails_at_once, fault_no_good, good_is_judged, is_good, line_count, right_up_to, wrong_no_good}
 use Rattle.outcome_check.proofs.lemmas.VerdictLemmas.{last_place}
 use Rattle.block_audit.proofs.NumberedLemmas.{vehicle_ids}
 use Rattle.block_audit.proofs.audit.audit_block.Goals as goal
@@ -10,62 +10,38 @@ returns-in-Err-clause-none g c =
     λ some other behind good.
     fault_no_good c.args.settings.now c.args.network.now c.args.snapshot.now c.args.text.now c.in-Err.fault c.refusal_of.result c.in-Err.ensures c.refusal_of.ensures some other behind good
 
-pub returns-then-told-snapshot-clause-none : goal.returns-then-told-snapshot-clause-none
-returns-then-told-snapshot-clause-none g c =
-    let kept : IsKept c.args.snapshot.now = subst (λ (b : Batch). IsKept b) c.snapshot.view_is c.snapshot.invariant in
-    let other : (told_by c.in-Ok.block.0).batch ≢ c.args.snapshot.now.number =
-    λ h. c.if-told-snapshot.true (ap (λ (t : Told). t.batch) c.in_ok-told.ensures ∙ h ∙ sym (ap (λ (b : Batch). b.number) c.snapshot.view_is)) in
-    λ some outcome behind good.
-    fails_no_good c.args.settings.now c.args.network.now c.args.snapshot.now kept c.args.text.now c.in-Ok.block.0 c.in-Ok.block.1.now c.in-Ok.ensures 0
-    (fails_at_once c.args.settings.now c.args.network.now c.args.snapshot.now (told_by c.in-Ok.block.0) other) outcome behind good
-
-pub returns-then-told-snapshot-clause-fault : goal.returns-then-told-snapshot-clause-fault
-returns-then-told-snapshot-clause-fault g c =
-    let other : (told_by c.in-Ok.block.0).batch ≢ c.args.snapshot.now.number =
-    λ h. c.if-told-snapshot.true (ap (λ (t : Told). t.batch) c.in_ok-told.ensures ∙ h ∙ sym (ap (λ (b : Batch). b.number) c.snapshot.view_is)) in
-    let first = fails_at_once c.args.settings.now c.args.network.now c.args.snapshot.now (told_by c.in-Ok.block.0) other in
-    record { lines = c.in-Ok.block.0; rest = c.in-Ok.block.1.now; block = c.in-Ok.ensures; point = first.point; at = first.at; fails = first.first }
+pub returns-then-told-snapshot : goal.returns-then-told-snapshot
+returns-then-told-snapshot g c =
+    let settings = c.args.settings.now in let roads = c.args.network.now in let batch = c.args.snapshot.now in let lines = c.in-Ok.block.0 in
+    let kept : IsKept batch = subst (λ (b : Batch). IsKept b) c.snapshot.view_is c.snapshot.invariant in
+    let other : (told_by lines).batch ≢ batch.number = λ h. c.if-told-snapshot.true (ap (λ (t : Told). t.batch) c.in_ok-told.ensures ∙ h ∙ sym (ap (λ (b : Batch). b.number) c.snapshot.view_is)) in
+    let wrong = begins_wrong settings roads batch kept c.args.text.now lines c.in-Ok.block.1.now c.in-Ok.ensures 0 (omega arith) (fails_at_once settings roads batch (told_by lines) other) in
+    record { good = tt; lines = tt; only = tt; none = λ some. wrong_no_good settings roads batch kept c.args.text.now 0 wrong; fault = wrong }
 
 pub returns-then-point-lt9 : goal.returns-then-point-lt9
 returns-then-point-lt9 g c =
-    let settings = c.args.settings.now in
-    let roads = c.args.network.now in
-    let batch = c.args.snapshot.now in
-    let lines = c.in-Ok.block.0 in
+    let settings = c.args.settings.now in let roads = c.args.network.now in let batch = c.args.snapshot.now in let lines = c.in-Ok.block.0 in
     let kept : IsKept batch = subst (λ (b : Batch). IsKept b) c.snapshot.view_is c.snapshot.invariant in
     let number : (told_by lines).batch ≡ batch.number = sym (ap (λ (t : Told). t.batch) c.in_ok-told.ensures) ∙ c.if-told-snapshot.false ∙ ap (λ (b : Batch). b.number) c.snapshot.view_is in
     let is : c.in_ok-outcome.outcome ≡ judged_outcome (vehicle_ids batch) (told_by lines) =
     c.in_ok-outcome.ensures ∙ ap (λ (vs : List Vehicle). judged_outcome (map (λ v. v.id) vs) (told_in c.in_ok-told.told)) (c.as_slice.ensures ∙ ap (λ (b : Batch). b.vehicles) c.snapshot.view_is)
     ∙ ap (λ (t : Told). judged_outcome (vehicle_ids batch) t) c.in_ok-told.ensures in
     let at : c.least-point.result ≡ min (verdict_place c.in-Ok-judge.verdict) c.untold_place-untold.result = let least = c.least-point.ensures in let place = c.place_of.ensures in omega (arith, least, place) in
-    let points = right_up_to settings roads batch (told_by lines) c.in-Ok-judge.verdict c.untold_place-untold.result c.least-point.result
-    (subst (λ (o : Outcome). IsVerdictOf (Meets settings roads batch o) c.in-Ok-judge.verdict) is c.in-Ok-judge.ensures.points)
-    (subst (λ (t : Told). HoldUpTo (λ q. CanBeTold q t) c.untold_place-untold.result) c.in_ok-told.ensures c.untold_place-untold.ensures) at in
-    let first = fails_first settings roads batch (told_by lines) c.least-point.result number c.if-point-lt9.true points in
-    record {
-      good = tt;
-      lines = tt;
-      only = tt;
-      none = λ some outcome behind good. fails_no_good settings roads batch kept c.args.text.now lines c.in-Ok.block.1.now c.in-Ok.ensures c.least-point.result first outcome behind good;
-      fault = record { lines = lines; rest = c.in-Ok.block.1.now; block = c.in-Ok.ensures; point = first.point; at = first.at; fails = first.first };
-    }
+    let points = right_up_to settings roads batch (told_by lines) c.in-Ok-judge.verdict c.untold_place-untold.result c.least-point.result number (rw is at c.in-Ok-judge.ensures.points) (rw c.in_ok-told.ensures at c.untold_place-untold.ensures) at in
+    let wrong = begins_wrong settings roads batch kept c.args.text.now lines c.in-Ok.block.1.now c.in-Ok.ensures c.least-point.result c.if-point-lt9.true points in
+    record { good = tt; lines = tt; only = tt; none = λ some. wrong_no_good settings roads batch kept c.args.text.now c.least-point.result wrong; fault = wrong }
 
 pub returns-else-point-lt9 : goal.returns-else-point-lt9
 returns-else-point-lt9 g c =
-    let settings = c.args.settings.now in
-    let roads = c.args.network.now in
-    let batch = c.args.snapshot.now in
-    let lines = c.in-Ok.block.0 in
+    let settings = c.args.settings.now in let roads = c.args.network.now in let batch = c.args.snapshot.now in let lines = c.in-Ok.block.0 in
     let kept : IsKept batch = subst (λ (b : Batch). IsKept b) c.snapshot.view_is c.snapshot.invariant in
     let number : (told_by lines).batch ≡ batch.number = sym (ap (λ (t : Told). t.batch) c.in_ok-told.ensures) ∙ c.if-told-snapshot.false ∙ ap (λ (b : Batch). b.number) c.snapshot.view_is in
     let is : c.in_ok-outcome.outcome ≡ judged_outcome (vehicle_ids batch) (told_by lines) =
     c.in_ok-outcome.ensures ∙ ap (λ (vs : List Vehicle). judged_outcome (map (λ v. v.id) vs) (told_in c.in_ok-told.told)) (c.as_slice.ensures ∙ ap (λ (b : Batch). b.vehicles) c.snapshot.view_is)
     ∙ ap (λ (t : Told). judged_outcome (vehicle_ids batch) t) c.in_ok-told.ensures in
     let at : c.least-point.result ≡ min (verdict_place c.in-Ok-judge.verdict) c.untold_place-untold.result = let least = c.least-point.ensures in let place = c.place_of.ensures in omega (arith, least, place) in
-    let points = right_up_to settings roads batch (told_by lines) c.in-Ok-judge.verdict c.untold_place-untold.result c.least-point.result
-    (subst (λ (o : Outcome). IsVerdictOf (Meets settings roads batch o) c.in-Ok-judge.verdict) is c.in-Ok-judge.ensures.points)
-    (subst (λ (t : Told). HoldUpTo (λ q. CanBeTold q t) c.untold_place-untold.result) c.in_ok-told.ensures c.untold_place-untold.ensures) at in
-    let can : (q : Point) → CanBeTold q (told_by lines) = λ q. (points.before q (let low = last_place q in omega (arith, low, c.if-point-lt9.false))).1 in
+    let points = right_up_to settings roads batch (told_by lines) c.in-Ok-judge.verdict c.untold_place-untold.result c.least-point.result number (rw is at c.in-Ok-judge.ensures.points) (rw c.in_ok-told.ensures at c.untold_place-untold.ensures) at in
+    let can : (q : Point) → CanBeTold q (told_by lines) = λ q. (points.before q (let low = last_place q in omega (arith, low, c.if-point-lt9.false))).2 in
     let good = c.in-Ok-judge.ensures.good.0 (is_good c.in-Ok-judge.verdict (omega (arith, at, c.if-point-lt9.false))) in
     let begins = subst (λ (o : Outcome). BeginsWithGood settings roads batch c.args.text.now o c.in-Ok.block.1.now) (sym is)
     (begins_good settings roads batch kept c.args.text.now lines c.in-Ok.block.1.now c.in-Ok.ensures number can (subst (λ (o : Outcome). IsGoodOutcome settings roads batch o) is good)) in

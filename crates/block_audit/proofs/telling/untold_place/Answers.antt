@@ -1,30 +1,31 @@
-use Rattle.std.proofs.Common.{◌≤◌, List, length, IfSome, sym, subst}
-use Rattle.block_audit.proofs.Common.{both_ways, LateText, RowText, TripText, told_in}
-use Rattle.std.specs.List.{All}
-use Rattle.block_audit.proofs.TellingLemmas.{untold_rows, untold_late, untold_trips, untold_tree}
+use Rattle.std.proofs.Common.{arith}
+use Rattle.block_audit.proofs.Common.{both_ways, told_in}
+use Rattle.block_audit.proofs.TellingLemmas.{told_below, untold_at}
+use Rattle.batch_solver.specs.declared.point.Point.TheVariants as point
 use Rattle.block_audit.proofs.telling.untold_place.Goals as goal
 
 pub returns-then-not-are_short_rows : goal.returns-then-not-are_short_rows
 returns-then-not-are_short_rows c =
-    untold_rows (told_in c.args.told.now)
-    (λ all. absurd (both_ways _ c.if-not-are_short_rows.true (c.are_short_rows.ensures.1 (subst (λ (rows : List RowText). All (λ row. length row.riders ≤ 6) rows) (sym c.deref.ensures.value) all))))
+    let before = told_below (told_in c.args.told.now) 1 (λ h. absurd (omega (arith, h))) (λ h. absurd (omega (arith, h))) (λ h. absurd (omega (arith, h))) (λ h. absurd (omega (arith, h))) in
+    untold_at (told_in c.args.told.now) point.Graphs before (λ all. both_ways _ c.if-not-are_short_rows.true (c.are_short_rows.ensures.1 (rw c.deref.ensures.value all)))
 
 pub returns-then-not-are_short_lates : goal.returns-then-not-are_short_lates
 returns-then-not-are_short_lates c =
-    let rows = subst (λ (rows : List RowText). All (λ row. length row.riders ≤ 6) rows) c.deref.ensures.value (c.are_short_rows.ensures.0 c.if-not-are_short_rows.false) in
-    untold_late (told_in c.args.told.now) rows
-    (λ all. absurd (both_ways _ c.if-not-are_short_lates.true (c.are_short_lates.ensures.1 (subst (λ (lates : List LateText). All (λ late. IfSome late.stops (λ stops. length stops ≤ 10)) lates) (sym c.deref-2.ensures.value) all))))
+    let rows = rw c.deref.ensures.value at (c.are_short_rows.ensures.0 c.if-not-are_short_rows.false) in
+    let before = told_below (told_in c.args.told.now) 2 (λ h. rows) (λ h. absurd (omega (arith, h))) (λ h. absurd (omega (arith, h))) (λ h. absurd (omega (arith, h))) in
+    untold_at (told_in c.args.told.now) point.Late before (λ all. both_ways _ c.if-not-are_short_lates.true (c.are_short_lates.ensures.1 (rw c.deref-2.ensures.value all)))
 
 pub returns-then-not-are_short_trips : goal.returns-then-not-are_short_trips
 returns-then-not-are_short_trips c =
-    let rows = subst (λ (rows : List RowText). All (λ row. length row.riders ≤ 6) rows) c.deref.ensures.value (c.are_short_rows.ensures.0 c.if-not-are_short_rows.false) in
-    let late = subst (λ (lates : List LateText). All (λ late. IfSome late.stops (λ stops. length stops ≤ 10)) lates) c.deref-2.ensures.value (c.are_short_lates.ensures.0 c.if-not-are_short_lates.false) in
-    untold_trips (told_in c.args.told.now) rows late
-    (λ all. absurd (both_ways _ c.if-not-are_short_trips.true (c.are_short_trips.ensures.1 (subst (λ (trips : List TripText). All (λ trip. length trip.stops ≤ 22) trips) (sym c.deref-3.ensures.value) all))))
+    let rows = rw c.deref.ensures.value at (c.are_short_rows.ensures.0 c.if-not-are_short_rows.false) in
+    let late = rw c.deref-2.ensures.value at (c.are_short_lates.ensures.0 c.if-not-are_short_lates.false) in
+    let before = told_below (told_in c.args.told.now) 3 (λ h. rows) (λ h. late) (λ h. absurd (omega (arith, h))) (λ h. absurd (omega (arith, h))) in
+    untold_at (told_in c.args.told.now) point.Trips before (λ all. both_ways _ c.if-not-are_short_trips.true (c.are_short_trips.ensures.1 (rw c.deref-3.ensures.value all)))
 
 pub returns-else-is_tree_told : goal.returns-else-is_tree_told
 returns-else-is_tree_told c =
-    let rows = subst (λ (rows : List RowText). All (λ row. length row.riders ≤ 6) rows) c.deref.ensures.value (c.are_short_rows.ensures.0 c.if-not-are_short_rows.false) in
-    let late = subst (λ (lates : List LateText). All (λ late. IfSome late.stops (λ stops. length stops ≤ 10)) lates) c.deref-2.ensures.value (c.are_short_lates.ensures.0 c.if-not-are_short_lates.false) in
-    let trips = subst (λ (trips : List TripText). All (λ trip. length trip.stops ≤ 22) trips) c.deref-3.ensures.value (c.are_short_trips.ensures.0 c.if-not-are_short_trips.false) in
-    untold_tree (told_in c.args.told.now) rows late trips (λ tree. absurd (both_ways _ c.if-is_tree_told.false (c.is_tree_told.ensures.1 tree)))
+    let rows = rw c.deref.ensures.value at (c.are_short_rows.ensures.0 c.if-not-are_short_rows.false) in
+    let late = rw c.deref-2.ensures.value at (c.are_short_lates.ensures.0 c.if-not-are_short_lates.false) in
+    let trips = rw c.deref-3.ensures.value at (c.are_short_trips.ensures.0 c.if-not-are_short_trips.false) in
+    let before = told_below (told_in c.args.told.now) 5 (λ h. rows) (λ h. late) (λ h. trips) (λ h. absurd (omega (arith, h))) in
+    untold_at (told_in c.args.told.now) point.Bound before (λ tree. both_ways _ c.if-is_tree_told.false (c.is_tree_told.ensures.1 tree))

@@ -1,8 +1,9 @@
 use Rattle.std.proofs.lemmas.Bool.Decides.{nat_tests}
-use Rattle.std.proofs.Common.{rules, IsTrue, ◌≡◌, ℕ, true, false, List, map, sym, ap, ◌∙◌, arith}
+use Rattle.std.proofs.Common.{rules, IsTrue, ◌≡◌, ℕ, List, map, sym, ap, ◌∙◌, arith}
 use Rattle.outcome_check.proofs.Common.{both_ways, rider_id, vehicle_at}
 use Rattle.plan_rules.specs.declared.row.TripRow.{TripRow}
 use Rattle.request_book.specs.declared.outcome.RowLine.{RowLine}
+use Rattle.outcome_check.proofs.lemmas.LateLemmas.{rightly_no}
 use Rattle.outcome_check.proofs.graphs.tells_graphs.Goals as goal
 
 pub rv_lines-requires-clause-riders : goal.rv_lines-requires-clause-riders
@@ -17,12 +18,10 @@ row_lines-requires-clause-few c = rw c.rows.ensures.value
 
 pub returns-then-not-are_same_pairs : goal.returns-then-not-are_same_pairs
 returns-then-not-are_same_pairs c =
-    let settled = c.args.graphs.now.instance.now.settled.now in (
-      λ no. absurd (let f : false ≡ true = no in cc),
-      λ holds. absurd (both_ways _ c.if-not-are_same_pairs.true (c.are_same_pairs.ensures.1
-          (c.deref-3.ensures.value ∙ c.in_ok-pairs.ensures ∙ ap (λ (pairs : List (ℕ × ℕ)). map (λ (pair : ℕ × ℕ). (rider_id settled pair.0, rider_id settled pair.1)) pairs) c.all.ensures
-          ∙ sym holds.2 ∙ sym c.as_slice-3.ensures))),
-    )
+    let settled = c.args.graphs.now.instance.now.settled.now in rightly_no (λ holds.
+    both_ways _ c.if-not-are_same_pairs.true (c.are_same_pairs.ensures.1
+    (c.deref-3.ensures.value ∙ c.in_ok-pairs.ensures ∙ ap (λ (pairs : List (ℕ × ℕ)). map (λ (pair : ℕ × ℕ). (rider_id settled pair.0, rider_id settled pair.1)) pairs) c.all.ensures
+    ∙ sym holds.2 ∙ sym c.as_slice-3.ensures)))
 
 pub returns : goal.returns
 returns c =

@@ -17,22 +17,14 @@ judge_answer-requires-clause-ids g c =
     λ κs lives. own_ids c.args.settings.now c.in_ok-points.points c.args.settings.now.trip (point_count c.in_ok-times.times) (travel_time c.in_ok-times.times) c.args.snapshot.now c.in_ok-settled.settled
     (subst (λ (b : Batch). IsKept b) c.snapshot.view_is c.snapshot.invariant) c.in_ok-settled.ensures.settled c.in_ok-settled.ensures.sound
 
-pub returns-clause-points : goal.returns-clause-points
-returns-clause-points g c =
+pub returns : goal.returns
+returns g c =
     let settings = c.args.settings.now in let roads = c.args.network.now in let batch = c.args.snapshot.now in let outcome = c.args.outcome.now in
     let points = c.in_ok-points.points in let times = c.in_ok-times.times in let settled = c.in_ok-settled.settled in
-    let found = subst (λ (of : Roads). AreTravelTimes of.arcs (map (index_in of.nodes) c.nodes.result.now) times) c.requires.ways c.in_ok-times.ensures in
-    let table = subst (λ (ps : List ℕ). AreTravelTimes roads.arcs (map (index_in roads.nodes) ps) times) c.nodes.ensures.nodes found in
+    let table : AreTravelTimes roads.arcs (map (index_in roads.nodes) points) times = rw (c.requires.ways, c.nodes.ensures.nodes) at c.in_ok-times.ensures in
     let expired : outcome.expired ≡ batch.expired = sym c.as_slice.ensures ∙ c.are_same_riders.ensures.0 c.if-not-are_same_riders.false ∙ c.as_slice-2.ensures ∙ ap (λ (b : Batch). b.expired) c.snapshot.view_is in
-    IfOk-weaker c.judge_answer.result _ _ (meets_of settings roads batch outcome points times settled c.in_ok-points.ensures.points table c.in_ok-settled.ensures.settled expired) c.judge_answer.ensures
-
-pub returns-clause-good : goal.returns-clause-good
-returns-clause-good g c =
-    let settings = c.args.settings.now in let roads = c.args.network.now in let batch = c.args.snapshot.now in let outcome = c.args.outcome.now in
-    let points = c.in_ok-points.points in let times = c.in_ok-times.times in let settled = c.in_ok-settled.settled in
-    let found = subst (λ (of : Roads). AreTravelTimes of.arcs (map (index_in of.nodes) c.nodes.result.now) times) c.requires.ways c.in_ok-times.ensures in
-    let table = subst (λ (ps : List ℕ). AreTravelTimes roads.arcs (map (index_in roads.nodes) ps) times) c.nodes.ensures.nodes found in
-    let expired : outcome.expired ≡ batch.expired = sym c.as_slice.ensures ∙ c.are_same_riders.ensures.0 c.if-not-are_same_riders.false ∙ c.as_slice-2.ensures ∙ ap (λ (b : Batch). b.expired) c.snapshot.view_is in
-    IfOk-weaker c.judge_answer.result _ _
-    (λ verdict is. verdict_good settings roads batch outcome verdict (meets_of settings roads batch outcome points times settled c.in_ok-points.ensures.points table c.in_ok-settled.ensures.settled expired verdict is))
-    c.judge_answer.ensures
+    let meets = meets_of settings roads batch outcome points times settled c.in_ok-points.ensures.points table c.in_ok-settled.ensures.settled expired in
+    record {
+      points = IfOk-weaker c.judge_answer.result _ _ meets c.judge_answer.ensures;
+      good = IfOk-weaker c.judge_answer.result _ _ (λ verdict is. verdict_good settings roads batch outcome verdict (meets verdict is)) c.judge_answer.ensures;
+    }

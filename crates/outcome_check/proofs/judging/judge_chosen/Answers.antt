@@ -1,5 +1,4 @@
-use Rattle.std.proofs.Common.{◌≡◌, ℕ, List, Option, sym, ap, ◌∙◌, subst}
-use Rattle.outcome_check.proofs.Common.{both_ways, MoveLine, IsBestNear, AreMoves, idle_vehicles, TellsPlan, posed_by, Holds, left_riders}
+use Rattle.outcome_check.proofs.Common.{both_ways, IsBestNear, AreMoves, idle_vehicles, TellsPlan, posed_by, Holds, left_riders}
 use Rattle.outcome_check.proofs.lemmas.ChosenLemmas.{with_plan, at_plan, up_to_tree}
 use Rattle.outcome_check.proofs.lemmas.VerdictLemmas.{hold_more, hold_all}
 use Rattle.batch_solver.specs.declared.point.Point.TheVariants as point
@@ -9,47 +8,35 @@ pub returns-then-not-branch : goal.returns-then-not-branch
 returns-then-not-branch c =
     let settings = c.args.graphs.now.instance.now.settings.now in let p = posed_by c.args.graphs.now in let settled = p.settled in let graph = p.graph in let plan = c.args.plan.now in let planned = c.args.planned.now in (
       c.requires.before,
-      λ holds. both_ways _ c.if-not-branch.true (c.in_ok-tells_plan.ensures.1 (at_plan settings p planned c.requires.ids c.requires.exact.exact plan c.requires.gives (λ chosen. TellsPlan settled graph chosen planned) holds)),
+      λ holds. both_ways _ c.if-not-branch.true (c.in_ok-tells_plan.ensures.1 (at_plan settings p planned plan c.requires.gives (λ chosen. TellsPlan settled graph chosen planned) holds)),
     )
 
 pub returns-then-not-branch-4 : goal.returns-then-not-branch-4
 returns-then-not-branch-4 c =
     let settings = c.args.graphs.now.instance.now.settings.now in let p = posed_by c.args.graphs.now in let settled = p.settled in let graph = p.graph in let plan = c.args.plan.now in let planned = c.args.planned.now in (
-      up_to_tree settings p planned c.requires.ids c.requires.exact.exact plan c.requires.gives c.requires.before (c.in_ok-tells_plan.ensures.0 c.if-not-branch.false)
+      up_to_tree settings p planned plan c.requires.gives c.requires.before (c.in_ok-tells_plan.ensures.0 c.if-not-branch.false)
           (c.in_ok-shows_bound.ensures.0 c.if-not-branch-2.false) (c.in_ok-is_well_shown.ensures.0 c.if-not-branch-3.false),
-      λ holds. both_ways _ c.if-not-branch-4.true (c.in_ok-is_best_near.ensures.1 (at_plan settings p planned c.requires.ids c.requires.exact.exact plan c.requires.gives (λ chosen. IsBestNear graph chosen) holds)),
+      λ holds. both_ways _ c.if-not-branch-4.true (c.in_ok-is_best_near.ensures.1 (at_plan settings p planned plan c.requires.gives (λ chosen. IsBestNear graph chosen) holds)),
     )
 
 pub returns-then-not-branch-5 : goal.returns-then-not-branch-5
 returns-then-not-branch-5 c =
-    let settings = c.args.graphs.now.instance.now.settings.now in let p = posed_by c.args.graphs.now in let settled = p.settled in let graph = p.graph in let plan = c.args.plan.now in let planned = c.args.planned.now in
-    let tau = p.tau in
-    let left : c.deref.result.now ≡ left_riders graph plan = c.deref.ensures.value ∙ c.in_ok-left.ensures.left ∙ ap (λ (ch : List (Option ℕ)). left_riders graph ch) c.chosen.ensures in (
+    let settings = c.args.graphs.now.instance.now.settings.now in let p = posed_by c.args.graphs.now in let settled = p.settled in let graph = p.graph in let plan = c.args.plan.now in let planned = c.args.planned.now in (
       hold_more (λ q. Holds settings q planned p) point.Best
-          (up_to_tree settings p planned c.requires.ids c.requires.exact.exact plan c.requires.gives c.requires.before (c.in_ok-tells_plan.ensures.0 c.if-not-branch.false)
+          (up_to_tree settings p planned plan c.requires.gives c.requires.before (c.in_ok-tells_plan.ensures.0 c.if-not-branch.false)
           (c.in_ok-shows_bound.ensures.0 c.if-not-branch-2.false) (c.in_ok-is_well_shown.ensures.0 c.if-not-branch-3.false))
-          (with_plan settings p planned c.requires.ids c.requires.exact.exact plan c.requires.gives (λ chosen. IsBestNear graph chosen) (c.in_ok-is_best_near.ensures.0 c.if-not-branch-4.false)),
-      λ holds.
-          let own : AreMoves tau settled (idle_vehicles settled graph plan) (left_riders graph plan) planned.moves =
-          at_plan settings p planned c.requires.ids c.requires.exact.exact plan c.requires.gives (λ chosen. AreMoves tau settled (idle_vehicles settled graph chosen) (left_riders graph chosen) planned.moves) holds in
-          both_ways _ c.if-not-branch-5.true (c.in_ok-are_moves.ensures.1
-          (subst (λ (ms : List MoveLine). AreMoves tau settled (idle_vehicles settled graph c.chosen-2.result.now) c.deref.result.now ms) (sym c.as_slice-moves.ensures)
-          (subst (λ (rs : List ℕ). AreMoves tau settled (idle_vehicles settled graph c.chosen-2.result.now) rs planned.moves) (sym left)
-          (subst (λ (ch : List (Option ℕ)). AreMoves tau settled (idle_vehicles settled graph ch) (left_riders graph plan) planned.moves) (sym c.chosen-2.ensures) own)))),
+          (with_plan settings p planned plan c.requires.gives (λ chosen. IsBestNear graph chosen) (c.in_ok-is_best_near.ensures.0 c.if-not-branch-4.false)),
+      λ holds. both_ways _ c.if-not-branch-5.true (c.in_ok-are_moves.ensures.1 (rw (c.as_slice-moves.ensures, c.chosen-2.ensures, c.deref.ensures.value, c.in_ok-left.ensures.left, c.chosen.ensures)
+          (at_plan settings p planned plan c.requires.gives (λ chosen. AreMoves p.tau settled (idle_vehicles settled graph chosen) (left_riders graph chosen) planned.moves) holds))),
     )
 
 pub returns : goal.returns
 returns c =
     let settings = c.args.graphs.now.instance.now.settings.now in let p = posed_by c.args.graphs.now in let settled = p.settled in let graph = p.graph in let plan = c.args.plan.now in let planned = c.args.planned.now in
-    let tau = p.tau in
-    let left : c.deref.result.now ≡ left_riders graph plan = c.deref.ensures.value ∙ c.in_ok-left.ensures.left ∙ ap (λ (ch : List (Option ℕ)). left_riders graph ch) c.chosen.ensures in
-    let moves : AreMoves tau settled (idle_vehicles settled graph plan) (left_riders graph plan) planned.moves =
-    subst (λ (ch : List (Option ℕ)). AreMoves tau settled (idle_vehicles settled graph ch) (left_riders graph plan) planned.moves) c.chosen-2.ensures
-    (subst (λ (rs : List ℕ). AreMoves tau settled (idle_vehicles settled graph c.chosen-2.result.now) rs planned.moves) left
-    (subst (λ (ms : List MoveLine). AreMoves tau settled (idle_vehicles settled graph c.chosen-2.result.now) c.deref.result.now ms) c.as_slice-moves.ensures (c.in_ok-are_moves.ensures.0 c.if-not-branch-5.false))) in
+    let moves = rw (c.as_slice-moves.ensures, c.chosen-2.ensures, c.deref.ensures.value, c.in_ok-left.ensures.left, c.chosen.ensures) at (c.in_ok-are_moves.ensures.0 c.if-not-branch-5.false) in
     hold_all (λ q. Holds settings q planned p) (hold_more (λ q. Holds settings q planned p) point.Moves
     (hold_more (λ q. Holds settings q planned p) point.Best
-    (up_to_tree settings p planned c.requires.ids c.requires.exact.exact plan c.requires.gives c.requires.before (c.in_ok-tells_plan.ensures.0 c.if-not-branch.false)
+    (up_to_tree settings p planned plan c.requires.gives c.requires.before (c.in_ok-tells_plan.ensures.0 c.if-not-branch.false)
     (c.in_ok-shows_bound.ensures.0 c.if-not-branch-2.false) (c.in_ok-is_well_shown.ensures.0 c.if-not-branch-3.false))
-    (with_plan settings p planned c.requires.ids c.requires.exact.exact plan c.requires.gives (λ chosen. IsBestNear graph chosen) (c.in_ok-is_best_near.ensures.0 c.if-not-branch-4.false)))
-    (with_plan settings p planned c.requires.ids c.requires.exact.exact plan c.requires.gives (λ chosen. AreMoves tau settled (idle_vehicles settled graph chosen) (left_riders graph chosen) planned.moves) moves))
+    (with_plan settings p planned plan c.requires.gives (λ chosen. IsBestNear graph chosen) (c.in_ok-is_best_near.ensures.0 c.if-not-branch-4.false)))
+    (with_plan settings p planned plan c.requires.gives (λ chosen. AreMoves p.tau settled (idle_vehicles settled graph chosen) (left_riders graph chosen) planned.moves) moves))

@@ -1,7 +1,10 @@
-use Rattle.std.proofs.Common.{ℕ, ◌<◌, get_or}
-use Rattle.outcome_check.proofs.Common.{travel_time, IsLate}
-use Rattle.outcome_check.proofs.lemmas.LateLemmas.{no_late}
+use Rattle.std.proofs.Common.{◌↔◌, drop, length}
+use Rattle.outcome_check.proofs.Common.{AllZip, travel_time, vehicle_at, IsLate}
+use Rattle.batch_solver.specs.Trips.{AreLate}
+use Rattle.outcome_check.proofs.lemmas.WalkLemmas.{passing}
 use Rattle.outcome_check.proofs.late.are_late.Given as goal
 
-abbrev pub invariant-loop-place : goal.invariant-loop-place
-invariant-loop-place l = (k : ℕ) → k < l.place → IsLate l.instance.points.now (travel_time l.instance.times.now) l.instance.settled.now (get_or l.vehicles.items k 0) (get_or l.late k no_late)
+abbrev pub invariant-loop-vehicle : goal.invariant-loop-vehicle
+invariant-loop-vehicle l =
+    AreLate l.instance.points.now (travel_time l.instance.times.now) l.instance.settled.now l.late
+    ↔ AllZip (IsLate l.instance.points.now (travel_time l.instance.times.now) l.instance.settled.now) (passing (λ v. (vehicle_at l.instance.settled.now v).late) (length l.instance.settled.now.vehicles) l.vehicle) (drop l.place l.late)

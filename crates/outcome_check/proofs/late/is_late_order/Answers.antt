@@ -1,17 +1,14 @@
-use Rattle.std.proofs.Common.{◌≡◌, true, false, List, sym, ap, ◌∙◌, subst}
+use Rattle.std.proofs.Common.{List, sym, ap, ◌∙◌, subst}
 use Rattle.outcome_check.proofs.Common.{travel_time, Stop, ReachesAll, order_delay}
 use Rattle.std.proofs.lemmas.Bool.{eq-eqb, eqb-true}
-use Rattle.outcome_check.proofs.lemmas.LateLemmas.{late_order_of, late_reaches, late_delay, late_from}
+use Rattle.outcome_check.proofs.lemmas.LateLemmas.{rightly_no, late_order_of, late_reaches, late_delay, late_from}
 use Rattle.outcome_check.proofs.late.is_late_order.Goals as goal
 
 pub returns-in_default-delay_of : goal.returns-in_default-delay_of
 returns-in_default-delay_of c =
-    let instance = c.args.instance.now in let points = instance.points.now in let tau = travel_time instance.times.now in let settled = instance.settled.now in let v = c.args.vehicle in let task = c.args.task.now in (
-      λ no. absurd (let f : false ≡ true = no in cc),
-      λ late.
-          let only = c.in-Some.ensures.only late.stops (late_order_of points tau settled v task c.requires.task c.args.delay c.args.told.now late) late.told in
-          absurd (c.in_default-delay_of.ensures (late_reaches points tau settled v task c.requires.task c.args.delay c.args.told.now late c.as_slice.result.now (c.as_slice.ensures.value ∙ only))),
-    )
+    let instance = c.args.instance.now in let points = instance.points.now in let tau = travel_time instance.times.now in let settled = instance.settled.now in let v = c.args.vehicle in let task = c.args.task.now in rightly_no (λ late.
+    let only = c.in-Some.ensures.only late.stops (late_order_of points tau settled v task c.requires.task c.args.delay c.args.told.now late) late.told in
+    c.in_default-delay_of.ensures (late_reaches points tau settled v task c.requires.task c.args.delay c.args.told.now late c.as_slice.result.now (c.as_slice.ensures.value ∙ only)))
 
 pub returns : goal.returns
 returns c =

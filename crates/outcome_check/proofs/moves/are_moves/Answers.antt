@@ -1,9 +1,8 @@
 use Rattle.std.proofs.Common.{◌≡◌, ◌==◌, ◌<◌, ◌≤◌, ℕ, List, [], All, length, sym, ap, ◌∙◌, subst, arith}
-use Rattle.outcome_check.proofs.Common.{filter_range_below, kept_few, IsStrictlyIncreasing, nil_from_length, IfOk-weaker, point_count, travel_time, MoveLine, AreMoves, idle_vehicles, is_idle, no_moves}
+use Rattle.outcome_check.proofs.Common.{filter_range_below, filter_range_rises, kept_few, nil_from_length, point_count, travel_time, MoveLine, idle_vehicles, is_idle, no_moves}
 use Rattle.std.proofs.lemmas.Bool.{eq-eqb, eqb-true}
 use Rattle.plan_rules.specs.lemmas.Plan.{times_chosen}
 use Rattle.outcome_check.proofs.lemmas.IdleLemmas.{own_places, none_move}
-use Rattle.outcome_check.proofs.lemmas.TripLemmas.{kept_rises}
 use Rattle.outcome_check.proofs.moves.are_moves.Goals as goal
 
 pub returns-then-is_empty : goal.returns-then-is_empty
@@ -25,11 +24,10 @@ are_best-requires-clause-places c =
     let left_out : All (λ r. r < length settled.riders) left =
     subst (λ (n : ℕ). All (λ r. r < n) left) c.requires.exact.exact.rider_total
     (subst (λ (rs : List ℕ). All (λ r. r < graph.riders) rs) (sym c.requires.left) (filter_range_below (λ r. times_chosen graph chosen r == 0) graph.riders)) in
-    let idle : c.deref.result.now ≡ idle_vehicles settled graph chosen = c.deref.ensures.value ∙ c.in_ok-idle.ensures.value in
-    own_places c.args.graphs.now.instance.now.settings.now.trip (point_count c.args.graphs.now.instance.now.times.now) (travel_time c.args.graphs.now.instance.now.times.now) settled c.deref.result.now left c.requires.exact.sound (omega arith)
-    (subst (λ (vs : List ℕ). All (λ v. v < length settled.vehicles) vs) (sym idle) (filter_range_below (is_idle settled graph chosen) (length settled.vehicles))) left_out
-    (subst (λ (vs : List ℕ). IsStrictlyIncreasing vs) (sym idle) (kept_rises (is_idle settled graph chosen) (length settled.vehicles)))
-    (subst (λ (rs : List ℕ). IsStrictlyIncreasing rs) (sym c.requires.left) (kept_rises (λ r. times_chosen graph chosen r == 0) graph.riders))
+    rw (c.deref.ensures.value, c.in_ok-idle.ensures.value)
+    (own_places c.args.graphs.now.instance.now.settings.now.trip (point_count c.args.graphs.now.instance.now.times.now) (travel_time c.args.graphs.now.instance.now.times.now) settled (idle_vehicles settled graph chosen) left c.requires.exact.sound (omega arith)
+    (filter_range_below (is_idle settled graph chosen) (length settled.vehicles)) left_out (filter_range_rises (is_idle settled graph chosen) (length settled.vehicles))
+    (rw c.requires.left (filter_range_rises (λ r. times_chosen graph chosen r == 0) graph.riders)))
 
 pub are_best-requires-clause-few_riders : goal.are_best-requires-clause-few_riders
 are_best-requires-clause-few_riders c =
@@ -39,12 +37,4 @@ are_best-requires-clause-few_riders c =
     rw c.requires.left (omega arith)
 
 pub returns : goal.returns
-returns c =
-    let tau = travel_time c.args.graphs.now.instance.now.times.now in let settled = c.args.graphs.now.instance.now.settled.now in
-    let idle : c.deref.result.now ≡ idle_vehicles settled c.args.graphs.now.graph.now c.args.chosen.now = c.deref.ensures.value ∙ c.in_ok-idle.ensures.value in
-    IfOk-weaker c.are_best.result _ _
-    (λ yes told. (
-      λ is. subst (λ (vs : List ℕ). AreMoves tau settled vs c.args.left.now c.args.moves.now) idle (told.0 is),
-      λ are. told.1 (subst (λ (vs : List ℕ). AreMoves tau settled vs c.args.left.now c.args.moves.now) (sym idle) are),
-    ))
-    c.are_best.ensures
+returns c = rw (c.deref.ensures.value, c.in_ok-idle.ensures.value) at c.are_best.ensures

@@ -1,8 +1,8 @@
-use Rattle.std.proofs.Common.{◌≡◌, true, false, List, sym, ap, ◌∙◌, subst}
+use Rattle.std.proofs.Common.{◌≡◌, List, sym, ap, ◌∙◌, subst}
 use Rattle.outcome_check.proofs.Common.{row_read, vehicle_read, both_ways, TripRow, riders_at, travel_time, SettledVehicle, Stop, ReachesAll, Serves, order_delay}
 use Rattle.std.proofs.lemmas.Bool.{eq-eqb, eqb-true}
 use Rattle.stop_orders.proofs.lemmas.PlainLemmas.{ReachesAll-from_serves}
-use Rattle.outcome_check.proofs.lemmas.LateLemmas.{same_id}
+use Rattle.outcome_check.proofs.lemmas.LateLemmas.{rightly_no, same_id}
 use Rattle.outcome_check.proofs.lemmas.TellsLemmas.{tells_serves, tells_delay, tells_told, tells_from}
 use Rattle.outcome_check.proofs.trips.tells_row.Goals as goal
 
@@ -11,27 +11,21 @@ returns-in_default c =
     let instance = c.args.graphs.now.instance.now in let points = instance.points.now in let tau = travel_time instance.times.now in let settled = instance.settled.now in let graph = c.args.graphs.now.graph.now in
     let v = c.args.vehicle in let row = c.args.row in let trip = c.args.trip.now in let riders = c.as_slice-riders.result.now in let task = c.task_of-task.result in
     let row_is = row_read graph c.rows.result.now row c.index-rows-row.result c.rows.ensures.value c.requires.row.within c.index-rows-row.is in
-    let riders_are : riders ≡ riders_at graph row = c.as_slice-riders.ensures.value ∙ ap (λ (one : TripRow). one.riders.items) row_is in (
-      λ no. absurd (let f : false ≡ true = no in cc),
-      λ tells.
-          let serves = tells_serves points tau settled graph v row trip riders task riders_are c.task_of-task.ensures tells in
-          let told = tells_told points tau settled graph v row trip riders task riders_are c.task_of-task.ensures tells in
-          absurd (c.in_default.ensures.none tells.stops serves.order (c.as_slice-stops.ensures.value ∙ told)),
-    )
+    let riders_are : riders ≡ riders_at graph row = c.as_slice-riders.ensures.value ∙ ap (λ (one : TripRow). one.riders.items) row_is in rightly_no (λ tells.
+    let serves = tells_serves points tau settled graph v row trip riders task riders_are c.task_of-task.ensures tells in
+    let told = tells_told points tau settled graph v row trip riders task riders_are c.task_of-task.ensures tells in
+    c.in_default.ensures.none tells.stops serves.order (c.as_slice-stops.ensures.value ∙ told))
 
 pub returns-then-not-serves : goal.returns-then-not-serves
 returns-then-not-serves c =
     let instance = c.args.graphs.now.instance.now in let points = instance.points.now in let tau = travel_time instance.times.now in let settled = instance.settled.now in let graph = c.args.graphs.now.graph.now in
     let v = c.args.vehicle in let row = c.args.row in let trip = c.args.trip.now in let riders = c.as_slice-riders.result.now in let task = c.task_of-task.result in
     let row_is = row_read graph c.rows.result.now row c.index-rows-row.result c.rows.ensures.value c.requires.row.within c.index-rows-row.is in
-    let riders_are : riders ≡ riders_at graph row = c.as_slice-riders.ensures.value ∙ ap (λ (one : TripRow). one.riders.items) row_is in (
-      λ no. absurd (let f : false ≡ true = no in cc),
-      λ tells.
-          let serves = tells_serves points tau settled graph v row trip riders task riders_are c.task_of-task.ensures tells in
-          let told = tells_told points tau settled graph v row trip riders task riders_are c.task_of-task.ensures tells in
-          let only = c.in-Some.ensures.only tells.stops serves.order (c.as_slice-stops.ensures.value ∙ told) in
-          absurd (both_ways _ c.if-not-serves.true (c.serves.ensures.1 (subst (λ (stops : List Stop). Serves tau task stops) (sym (c.as_slice-2.ensures.value ∙ only)) serves))),
-    )
+    let riders_are : riders ≡ riders_at graph row = c.as_slice-riders.ensures.value ∙ ap (λ (one : TripRow). one.riders.items) row_is in rightly_no (λ tells.
+    let serves = tells_serves points tau settled graph v row trip riders task riders_are c.task_of-task.ensures tells in
+    let told = tells_told points tau settled graph v row trip riders task riders_are c.task_of-task.ensures tells in
+    let only = c.in-Some.ensures.only tells.stops serves.order (c.as_slice-stops.ensures.value ∙ told) in
+    both_ways _ c.if-not-serves.true (c.serves.ensures.1 (subst (λ (stops : List Stop). Serves tau task stops) (sym (c.as_slice-2.ensures.value ∙ only)) serves)))
 
 pub returns-in_default-delay_of : goal.returns-in_default-delay_of
 returns-in_default-delay_of c =

@@ -1,5 +1,5 @@
 use Rattle.std.proofs.Common.{length}
-use Rattle.report_lines.proofs.BlockLemmas.{BlockSoFar}
+use Rattle.report_lines.proofs.lemmas.OutcomeLemmas.{BlockSoFar}
 use Rattle.report_lines.proofs.block.read_block.Given as goal
 
 abbrev pub invariant-loop-place : goal.invariant-loop-place

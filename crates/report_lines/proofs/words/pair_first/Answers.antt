@@ -1,4 +1,4 @@
-use Rattle.std.proofs.Common.{◌≤◌, ◌<◌, ◌^◌, arith}
+use Rattle.std.proofs.Common.{◌≤◌, arith}
 use Rattle.report_lines.proofs.lemmas.ReadingLemmas.{both_none_first, both_none_second, numbered_once, spaced_apart}
 use Rattle.report_lines.proofs.words.pair_first.Goals as goal
 
@@ -7,5 +7,4 @@ returns-in_err-first c = rw c.from_residual.ensures (both_none_first (λ n. n �
 
 pub returns-in_err-second : goal.returns-in_err-second
 returns-in_err-second c =
-    let small : c.args.most < 2 ^ 128 = omega arith in
-    rw c.from_residual-in_err-second.ensures (both_none_second (λ n. n ≤ c.args.other) spaced_apart (numbered_once c.args.words.now c.args.most small) c.in_ok-first.ensures c.in_err-second.ensures)
+    rw c.from_residual-in_err-second.ensures (both_none_second (λ n. n ≤ c.args.other) spaced_apart (numbered_once c.args.words.now c.args.most (omega arith)) c.in_ok-first.ensures c.in_err-second.ensures)

@@ -1,4 +1,4 @@
-use Rattle.std.proofs.Common.{◌<◌, ◌^◌, sym, ◌∙◌, arith}
+use Rattle.std.proofs.Common.{sym, ◌∙◌, arith}
 use Rattle.report_lines.proofs.lemmas.ReadingLemmas.{line_none, line_more, numbered_once}
 use Rattle.report_lines.proofs.words.read_numbered.Goals as goal
 
@@ -7,5 +7,4 @@ returns-in_err-n c = rw c.from_residual.ensures (line_none c.in_err-n.ensures)
 
 pub returns-else-is_empty : goal.returns-else-is_empty
 returns-else-is_empty c =
-    let small : c.args.most < 2 ^ 128 = omega arith in
-    line_more (numbered_once c.args.words.now c.args.most small) c.in_ok-n.ensures (sym c.is_empty.ensures ∙ c.if-is_empty.false)
+    line_more (numbered_once c.args.words.now c.args.most (omega arith)) c.in_ok-n.ensures (sym c.is_empty.ensures ∙ c.if-is_empty.false)
