@@ -583,6 +583,23 @@ def a_kill_between_any_two_calls_loses_nothing_answered():
 
 
 @test
+def a_day_that_was_cut_behind_any_line_goes_on():
+    with folder_for_days() as folder:
+        with desk(*inputs(LINE), folder=folder) as it:
+            it.gives("POST", "/rides", {"from": 2, "to": 4})
+            it.plan()
+            it.gives("POST", "/rides", {"from": 1, "to": 3})
+        path = folder / "transcript"
+        lines = path.read_text().splitlines(keepends=True)
+        assert lines[4] == "round 0\n" and lines[-1] == "done 4\n", lines
+        for count in range(len(lines) + 1):
+            path.write_text("".join(lines[:count]))
+            with desk(folder=folder) as it:
+                rides = len(it.gives("GET", "/rides"))
+            assert rides == sum(" submit " in line for line in lines[:count]), (count, rides)
+
+
+@test
 def live_that_is_killed_is_started_again_three_times():
     with desk(*inputs(LINE)) as it:
         it.gives("POST", "/rides", {"from": 2, "to": 4})

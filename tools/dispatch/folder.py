@@ -92,12 +92,15 @@ class Folder:
         return self.path / f"{name}.csv"
 
     def kept_lines(self):
-        """The whole lines of the transcript so far, without the line `done N` of an ended one."""
+        """The whole lines of the transcript so far, but for last ones that answer no row: `done N`, where the day
+        ended, and the line of a round of which no entry was written yet."""
         path = self.path / TRANSCRIPT
         if not path.exists():
             return []
         lines = path.read_text(encoding="ascii", errors="replace").split("\n")[:-1]
-        return lines[:-1] if lines and lines[-1].startswith("done ") else lines
+        while lines and lines[-1].startswith(("done ", "round ")):
+            lines.pop()
+        return lines
 
     def keep(self, lines, replaced=False):
         """Begins the files anew with the lines of a transcript. A replaced transcript stays beside them."""
