@@ -1,9 +1,10 @@
 -- A text has one fault, and the report of a run none.
 use Rattle.std.proofs.Common.{◌≡◌, ◌≢◌, ℕ, ◌+◌, ◌-◌, ◌≤◌, ◌<◌, ◌^◌, min, true, codes, inl, inr, List, [], ◌∷◌, ◌++◌, length, refl, sym, ap, ◌∙◌, subst, append-nil, append_assoc, arith, rules, ◌⊎◌}
-use Rattle.report_audit.proofs.Common.{IsGiven, AreAtEnd, entries_text, AreSizes, AuditFault, BeginsWithHead, BeginsRound, Extent, FailsAsLine, FailsAt, HasFault, HeadFails, HeadFault, IsLaneBeginning, IsLaneRun, IsReportOfRun, IsRightUpTo, IsRun, Journal, JournalsAreTold, NumberedLanes, Roads, Settings, State, Vehicle, cut_once, end_text, fault_of_head, lane_at, next_position, numbered, of_lane, opening, position_after_run, round_text, rounds_so_far, rounds_text, sizes_of, state_after, state_after_run, is_one_line}
+use Rattle.report_audit.proofs.Common.{IsGiven, AreAtEnd, entries_text, AreSizes, AuditFault, BeginsWithHead, BeginsRound, Extent, FailsAsLine, FailsAt, HasFault, HeadFails, HeadFault, IsLaneBeginning, IsRound, IsLaneRun, IsReportOfRun, IsRightUpTo, IsRun, Journal, JournalsAreTold, NumberedLanes, Roads, Settings, State, Vehicle, cut_once, end_text, fault_of_head, lane_at, next_position, numbered, of_lane, opening, position_after_run, round_text, rounds_so_far, rounds_text, sizes_of, state_after, state_after_run, is_one_line}
 unfoldable use Rattle.dispatch_report.specs.Head.{head_text}
 unfoldable use Rattle.dispatch_report.specs.Lines.{lines_text}
 use Rattle.std.proofs.lemmas.List.{append_cancel_left, append_cancel_right}
+use Rattle.std.proofs.lemmas.List.Elements.{All-weaker}
 use Rattle.std.specs.List.{All}
 use Rattle.batch_snapshot.specs.Kept.{IsFleet}
 use Rattle.dispatch_report.specs.Head.{settings_line}
@@ -108,6 +109,9 @@ module _ (roads : Roads) (vehicles : List Vehicle) (rounds : List NumberedLanes)
   few : length vehicles < 2 ^ 64
   few = (let n = given.fleet.count in omega (arith, n))
 
+  numbers : All (λ r. r.number ≤ 1000000000) rounds
+  numbers = All-weaker IsRound (λ (r : NumberedLanes). r.number ≤ 1000000000) (λ r is. is.named) rounds given.rounds
+
   -- the text has a head, behind which it goes on to where it ends
   abbrev GoesTo : Settings → Cause → List ℕ → Type 0
   GoesTo settings cause rest = (behind : List ℕ) × BeginsWithHead workers roads (length vehicles) text settings behind × IsRestOf settings roads cause rest [] rounds (opening vehicles) 0 behind
@@ -125,8 +129,8 @@ module _ (roads : Roads) (vehicles : List Vehicle) (rounds : List NumberedLanes)
   one_way s t one other known also r q a b =
       let heads = one_head workers roads (length vehicles) text s t a.0 b.0 a.1 b.1 in
       let sound : IsSound (opening vehicles) = record { consistent = opening-consistent roads.nodes vehicles given.fleet; kept = λ c none. absurd cc } in
-      one_between t roads one other known also r q [] rounds 0 given.numbers (omega arith) b.0 (IsRestBehind t roads one r [] rounds (opening vehicles) 0) (IsRestBehind t roads other q [] rounds (opening vehicles) 0)
-      (λ after. one_behind t roads one other known also r q [] rounds (opening vehicles) 0 after given.numbers sound (omega arith)) (search (rules, heads)) b.2
+      one_between t roads one other known also r q [] rounds 0 numbers (omega arith) b.0 (IsRestBehind t roads one r [] rounds (opening vehicles) 0) (IsRestBehind t roads other q [] rounds (opening vehicles) 0)
+      (λ after. one_behind t roads one other known also r q [] rounds (opening vehicles) 0 after numbers sound (omega arith)) (search (rules, heads)) b.2
 
   -- a fault is one of the head, or an end behind it
   data Found (found : AuditFault) : Type 0 where

@@ -116,13 +116,11 @@ fn audit_rounds<G: Gate>(
     Ok((entries, batches))
 }
 
-/// Calls for what the inputs keep alone: their counts and numbers are within their types.
+/// Calls for what the inputs keep alone: their counts and numbers are in range.
 fn fetch_bounds(network: &Network, fleet: &Fleet, script: &Script)
     ensures { IsGiven network.now fleet.now script.now }
 {
     let _sizes = (network.node_count(), network.arc_count());
     let _vehicles = fleet.vehicles();
-    for round in script.rounds() {
-        let _number = round.number();
-    }
+    let _rounds = script.rounds();
 }

@@ -1,12 +1,9 @@
 //! A driven day keeps its promises.
-ghost use Rattle.std.specs.Prelude.{◌≡◌, [], All, List, None, IfErr, IfOk};
-ghost use Rattle.request_book.specs.Book.{IsBook};
-ghost use Rattle.road_network.specs.Roads.{IsNetwork};
+ghost use Rattle.std.specs.Prelude.{◌≡◌, [], List, None, IfErr, IfOk};
 ghost use Rattle.route_drive.specs.Day.{day_fault};
 ghost use Rattle.route_drive.specs.Driven.{IsLateAnswer, IsNewBook};
 ghost use Rattle.route_drive.specs.Promises.{IsRunOfDay};
 ghost use Rattle.route_drive.specs.declared.day_run.DayRound.{DayRound};
-ghost use Rattle.script_rows.specs.Round.{IsRound};
 
 use crate::day_run::DriveFault;
 use crate::drive::driven_day;
@@ -14,9 +11,8 @@ use crate::keeper::RoundKeeper;
 use dispatch_engine::Setup;
 use dispatch_report::DayCounts;
 use request_book::Book;
-use road_network::Network;
 use row_tables::Drafter;
-use script_rows::{Round, Script};
+use script_rows::Script;
 use std::alloc::Global;
 use std::sync::Wait;
 use std::thread::Threads;
@@ -51,25 +47,8 @@ pub fn drive_day<W: Ways, D: Drafter, G: Gate, K: RoundKeeper>(
     ensures run { IfOk result (λ run. (made : List DayRound) × K.took keeper.old keeper.new made × IsRunOfDay setup.now.settings.now setup.now.network.now book.state day.now made run) }
     ensures late { IfErr result (IsLateAnswer setup.now.settings.now setup.now.network.now (K.took keeper.old keeper.new) book.state day.now) }
 {
-    inputs_hold(&book, day.rounds(), setup.network);
+    let _entries = book.entries();
+    let _rounds = day.rounds();
+    let _nodes = setup.network.node_count();
     driven_day(rt, alloc, book, day, setup, keeper)
-}
-
-/// What a book, the rounds of a script and a network keep, as their types say.
-fn inputs_hold(book: &Book, rounds: &[Round], network: &Network)
-    ensures book { IsBook book.now }
-    ensures rounds { All IsRound rounds.now }
-    ensures network { IsNetwork network.now }
-{
-    let _ = book.entries();
-    let _ = network.node_count();
-    rounds_hold(rounds);
-}
-
-fn rounds_hold(rounds: &[Round])
-    ensures { All IsRound rounds.now }
-{
-    for round in rounds {
-        let _ = round.lane(0);
-    }
 }

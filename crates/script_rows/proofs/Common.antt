@@ -10,7 +10,7 @@ pub use Rattle.pool_io.specs.Table.{field_at, record_at}
 pub use Rattle.request_book.specs.declared.command.Command.{Command}
 unfoldable pub use Rattle.script_rows.specs.Line.{command_in, line_in, three_in}
 pub use Rattle.script_rows.specs.Line.{IsBehind, leaves_empty}
-pub use Rattle.script_rows.specs.Round.{MayStand, NumberedLanes, empty_round, with_command}
+pub use Rattle.script_rows.specs.Round.{IsRound, MayStand, NumberedLanes, empty_round, with_command}
 pub use Rattle.script_rows.specs.Script.{round_of, script_of}
 pub use Rattle.script_rows.specs.declared.fault.ScriptFault.{ScriptFault}
 pub use Rattle.script_rows.specs.declared.fault.ScriptFault.TheVariants.{ExtraField, LaneRange, Number, RoundBack, SealLane, UnknownCommand}

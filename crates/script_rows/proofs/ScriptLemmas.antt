@@ -1,7 +1,9 @@
-use Rattle.std.proofs.Common.{rules, ◌≡◌, ◌≢◌, ◌⊎◌, ℕ, ◌+◌, ◌-◌, ◌<◌, ◌≤◌, true, false, cond, eqb, List, [], ◌∷◌, ◌++◌, map, length, get_or, set, Result, Ok, Err, refl, sym, ap, subst, ◌∙◌, inl, inr, arith}
-use Rattle.script_rows.proofs.Common.{list_any, cases_order, and_parts, map-append, length_push, set_at, get_or_at, get_or_default, All-nil, All-push, All-weaker, All-same, ◌>>=◌, all_or_first, all_or_first-err, ScriptFault, Line, ScriptVersion, line_in, IsBehind, NumberedLanes, last_round, joins, with_line, empty_round, with_command, round_before, round_of, script_of, line_at, rounds_of}
+use Rattle.std.proofs.Common.{rules, ◌≡◌, ◌≢◌, ◌⊎◌, ℕ, ◌+◌, ◌-◌, ◌<◌, ◌≤◌, true, false, cond, eqb, List, [], ◌∷◌, ◌++◌, map, length, get_or, set, Result, Ok, Err, refl, sym, ap, subst, ◌∙◌, inl, inr, replicate, ⊎_elim, arith}
+use Rattle.script_rows.proofs.Common.{list_any, cases_order, and_parts, map-append, length_push, set_at, get_or_at, get_or_default, All-nil, All-push, All-weaker, All-same, ◌>>=◌, all_or_first, all_or_first-err, ScriptFault, Line, ScriptVersion, line_in, IsBehind, NumberedLanes, last_round, joins, with_line, empty_round, with_command, round_before, round_of, script_of, line_at, rounds_of, IsRound, MayStand, Command}
 use Rattle.std.specs.List.{All}
-use Rattle.std.proofs.lemmas.Bool.{lt-ltb, le-ltb, eq-eqb, ne_eqb, ltb-true}
+use Rattle.std.proofs.lemmas.List.{get_or-replicate, get_or-set_other, get_or-set_same, get_or_past, length-set}
+use Rattle.std.proofs.lemmas.List.Elements.{All-get_or, All-set}
+use Rattle.std.proofs.lemmas.Bool.{cases_eq, cases_lt, cond_both, lt-ltb, le-ltb, eq-eqb, ne_eqb, ltb-true}
 use Rattle.pool_base.specs.Distinct.{distinct}
 use Rattle.pool_base.proofs.lemmas.DistinctLemmas.{any-more, distinct-push_new, distinct-push_old}
 use Rattle.script_rows.proofs.GroupLemmas.{map-agree, round_of-push, round_of-push_other, round_of-none}
@@ -15,6 +17,34 @@ with_line-joins rounds line is = ap (λ b. cond b (set rounds (length rounds - 1
 pub with_line-begins : (rounds : List NumberedLanes) (line : Line) → joins rounds line.round ≡ false → with_line rounds line ≡ rounds ++ with_command (empty_round line.round) line.lane line.command ∷ []
 unfolding with_line
 with_line-begins rounds line is = ap (λ b. cond b (set rounds (length rounds - 1) (with_command (last_round rounds) line.lane line.command)) (rounds ++ with_command (empty_round line.round) line.lane line.command ∷ [])) is
+
+-- a round with one more command is a round
+with_command-kept : (round : NumberedLanes) (lane : ℕ) (command : Command) → IsRound round → lane < 16 → MayStand lane command → IsRound (with_command round lane command)
+with_command-kept round lane command kept within stands = record {
+  named = kept.named;
+  sixteen = length-set round.lanes lane _ ∙ kept.sixteen;
+  stand = λ k. ⊎_elim
+      (λ (same : k ≡ lane). subst (λ (l : ℕ). All (MayStand l) (get_or (with_command round lane command).lanes l [])) (sym same)
+      (All-same (MayStand lane) _ _ (get_or-set_same round.lanes lane _ [] (omega (arith, kept.sixteen))) (All-push (MayStand lane) _ command (kept.stand lane) stands)))
+      (λ other. All-same (MayStand k) _ _ (get_or-set_other round.lanes lane k _ [] other) (kept.stand k))
+      (cases_eq k lane);
+}
+
+empty_round-kept : (number : ℕ) → number ≤ 1000000000 → IsRound (empty_round number)
+empty_round-kept number low = record {
+  named = low;
+  sixteen = refl;
+  stand = λ k. All-same (MayStand k) (get_or (replicate 16 []) k []) [] (⊎_elim (λ within. get_or-replicate 16 k [] [] within) (λ past. get_or_past (replicate 16 []) k [] past) (cases_lt k 16)) (All-nil (MayStand k));
+}
+
+-- a row is put into rounds of a script
+pub with_line-kept : (rounds : List NumberedLanes) (line : Line) (last : ℕ) → All IsRound rounds → IsBehind last line → All IsRound (with_line rounds line)
+unfolding with_line
+with_line-kept rounds line last kept behind =
+    cond_both (joins rounds line.round) _ _ (All IsRound)
+    (λ joined. let within = ltb-true 0 (length rounds) (and_parts _ _ joined).0 in
+    All-set IsRound rounds (length rounds - 1) _ (with_command-kept _ line.lane line.command (All-get_or IsRound rounds (length rounds - 1) (empty_round 0) (omega (arith, within)) kept) behind.lane behind.stands) kept)
+    (λ apart. All-push IsRound rounds _ kept (with_command-kept _ line.lane line.command (empty_round-kept line.round behind.number) behind.lane behind.stands))
 
 -- the last round of a list that ends in it
 last_round-push : (rounds : List NumberedLanes) (round : NumberedLanes) → last_round (rounds ++ round ∷ []) ≡ round
@@ -54,7 +84,7 @@ below-push lines line last back below =
 
 -- the first row makes the first round
 first_line : (line : Line) → line.lane < 16 → with_line [] line ≡ rounds_of ([] ++ line ∷ [])
-first_line line within = search (rules, with_line-begins, round_of-push, round_of-none, All-nil)
+first_line line within = search (rules, with_line-begins, round_of-push)
 
 -- a row of the last round
 more_of_last : (lines : List Line) (line : Line) (front : List ℕ) → line.lane < 16 → distinct (numbers lines) ≡ front ++ line.round ∷ [] → All (λ n. n < line.round) front → list_any (λ n. eqb n line.round) (numbers lines) ≡ true → with_line (rounds_of lines) line ≡ rounds_of (lines ++ line ∷ [])

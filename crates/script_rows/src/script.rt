@@ -1,4 +1,5 @@
-ghost use Rattle.std.specs.Prelude.{◌≡◌};
+ghost use Rattle.std.specs.Prelude.{◌≡◌, All};
+ghost use Rattle.script_rows.specs.Round.{IsRound};
 
 use crate::round::Round;
 use std::marker::Model;
@@ -10,17 +11,20 @@ pub struct Script {
 }
 
 impl Model for Script {
-    ghost use Rattle.std.specs.Prelude.{List};
-    ghost use Rattle.script_rows.specs.Round.{NumberedLanes};
+    ghost use Rattle.std.specs.Prelude.{All, List};
+    ghost use Rattle.script_rows.specs.Round.{IsRound, NumberedLanes};
 
     ghost Value = { List NumberedLanes };
 
     ghost view = { λ script. script.rounds.items };
+
+    ghost invariant = { λ script. All IsRound script.rounds.items };
 }
 
 impl Script {
     /// A script of these rounds.
-    pub fn of(rounds: Vec<Round>) -> Script
+    pub(crate) fn of(rounds: Vec<Round>) -> Script
+        requires { All IsRound rounds.items }
         ensures { result ≡ rounds.items }
     {
         Script { rounds }
@@ -28,7 +32,8 @@ impl Script {
 
     /// The rounds, in the order of the rows.
     pub fn rounds(&self) -> &[Round]
-        ensures { result.now ≡ self.now }
+        ensures rounds { result.now ≡ self.now }
+        ensures kept { All IsRound self.now }
     {
         self.rounds.as_slice()
     }

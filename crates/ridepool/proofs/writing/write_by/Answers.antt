@@ -51,7 +51,7 @@ returns-in-Ok-write_first-clause-report g c =
     let i : Inputs = record { settings = c.args.setup.now.settings.now; roads = c.args.setup.now.network.now; vehicles = c.args.fleet.now; rounds = c.args.script.now } in
     let P = RunsFirst i.settings i.roads c.in-Ok.book c.rounds.result.now in
     let Q = RunsAll i.settings i.roads c.in-Ok.book c.rounds.result.now in
-    report_from i P Q (run_serves i c.in-Ok.book c.rounds.result.now c.in_default-mode.not-Drive c.in-Ok.ensures c.rounds.ensures)
+    report_from i P Q (run_serves i c.in-Ok.book c.rounds.result.now c.in_default-mode.not-Drive c.in-Ok.ensures c.rounds.ensures.rounds)
     (g.K.Sink.written c.args.out.now) (g.K.Sink.written c.write_each.new.out) _ _ (g.K.Sink.faults c.args.out.now) (g.K.Sink.faults c.write_each.new.out) c.write_each.result
     (behind_head i.settings i.roads P Q (head_of i) (g.K.Sink.written c.args.out.now) (g.K.Sink.written c.write_first.new.out) (g.K.Sink.written c.write_each.new.out) _ _
     (g.K.Sink.faults c.args.out.now) (g.K.Sink.faults c.write_first.new.out) (g.K.Sink.faults c.write_each.new.out) c.write_each.result

@@ -1,6 +1,5 @@
-use Rattle.std.proofs.Common.{subst, All}
 use Rattle.route_drive.proofs.EnterLemmas.{if_ok_map}
-use Rattle.route_drive.proofs.Common.{IsRound, entries_of, EntriesKeep}
+use Rattle.route_drive.proofs.Common.{entries_of, EntriesKeep}
 use Rattle.route_drive.proofs.WorstLemmas.{day_in_time}
 use Rattle.route_drive.proofs.kept.Promised.{new_book_keeps}
 use Rattle.route_drive.proofs.promised.drive_day.Goals as goal
@@ -11,8 +10,7 @@ returns-clause-run g c =
     let roads = c.args.setup.now.network.now in
     let s = c.args.book.state in
     let rounds = c.args.day.now in
-    let whole : All IsRound c.args.day.now = subst (All IsRound) c.rounds.ensures c.inputs_hold.ensures.rounds in
     if_ok_map c.driven_day.result _ _ c.driven_day.ensures.run (λ run counted.
     let keeps : EntriesKeep settings roads s (entries_of counted.made) =
-    new_book_keeps settings roads c.args.book rounds counted.made c.requires.new c.inputs_hold.ensures.book c.inputs_hold.ensures.network whole c.requires.day counted.driven in
+    new_book_keeps settings roads c.args.book rounds counted.made c.requires.new c.entries-entries.ensures.kept c.node_count-nodes.ensures.kept c.rounds-rounds.ensures.kept c.requires.day counted.driven in
     (counted.made, counted.taken, day_in_time settings roads s rounds counted.made run (record { driven = counted.driven; keeps = keeps }) counted.counts))

@@ -1,11 +1,11 @@
-use Rattle.std.proofs.Common.{◌≡◌, suc, ◌+◌, ◌<◌, ◌≤◌, [], ◌∷◌, ◌++◌, length, refl, Ok, Err, sym, ap, subst, ◌∙◌, arith}
-use Rattle.script_rows.proofs.Common.{err_from_is_err_and, record_at, all_or_first-ok, round_before, line_at}
+use Rattle.std.proofs.Common.{◌≡◌, All, suc, ◌+◌, ◌<◌, ◌≤◌, [], ◌∷◌, ◌++◌, length, refl, Ok, Err, sym, ap, subst, ◌∙◌, arith}
+use Rattle.script_rows.proofs.Common.{All-nil, IsRound, err_from_is_err_and, record_at, all_or_first-ok, round_before, line_at}
 use Rattle.script_rows.proofs.lemmas.LineLemmas.{IsRead-line_in, round_before-first}
-use Rattle.script_rows.proofs.ScriptLemmas.{Built, Built-none, Built-more, line_at-read, script_of-refused, script_of-all}
+use Rattle.script_rows.proofs.ScriptLemmas.{Built, Built-none, Built-more, with_line-kept, line_at-read, script_of-refused, script_of-all}
 use Rattle.script_rows.proofs.reading.read_script.Goals as goal
 
 pub loop-row-init : goal.loop-row-init
-loop-row-init c = record { lines = []; read = refl; built = subst (Built [] 0) (sym c.new-rounds.ensures.items) Built-none; before = sym (round_before-first c.args.rows.now.records) }
+loop-row-init c = record { lines = []; read = refl; built = subst (Built [] 0) (sym c.new-rounds.ensures.items) Built-none; before = sym (round_before-first c.args.rows.now.records); kept = subst (All IsRound) (sym c.new-rounds.ensures.items) (All-nil IsRound) }
 
 pub returns-in_err-line-clause-refused : goal.returns-in_err-line-clause-refused
 returns-in_err-line-clause-refused c =
@@ -40,6 +40,7 @@ loop-row-preserved c =
       read = all_or_first-ok (line_at version records) row kept.lines line kept.read (line_at-read version records row c.loop-row.last (Ok line) kept.before is);
       built = subst (Built (kept.lines ++ line ∷ []) line.round) (sym c.in_ok-add_line.ensures.added) (Built-more kept.lines c.loop-row.last c.loop-row.rounds.items line kept.built read.behind);
       before = read.named ∙ ap (round_before records) next;
+      kept = subst (All IsRound) (sym c.in_ok-add_line.ensures.added) (with_line-kept c.loop-row.rounds.items line c.loop-row.last kept.kept read.behind);
     }
 
 pub returns-clause-accepted : goal.returns-clause-accepted

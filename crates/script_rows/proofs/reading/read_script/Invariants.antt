@@ -1,5 +1,6 @@
 use Rattle.std.proofs.Common.{◌≡◌, ℕ, List, Ok}
-use Rattle.script_rows.proofs.Common.{all_or_first, Line, ScriptVersion, NumberedLanes, round_before, line_at}
+use Rattle.std.specs.List.{All}
+use Rattle.script_rows.proofs.Common.{IsRound, all_or_first, Line, ScriptVersion, NumberedLanes, round_before, line_at}
 use Rattle.script_rows.proofs.ScriptLemmas.{Built}
 use Rattle.script_rows.proofs.reading.read_script.Given as goal
 
@@ -9,6 +10,7 @@ pub record HasReadRows (version : ScriptVersion) (records : List (List (List ℕ
   pub read : all_or_first (line_at version records) row ≡ Ok lines
   pub built : Built lines last rounds
   pub before : last ≡ round_before records row
+  pub kept : All IsRound rounds
 
 abbrev pub invariant-loop-row : goal.invariant-loop-row
 invariant-loop-row l = HasReadRows l.version l.rows.records l.row l.last l.rounds.items
