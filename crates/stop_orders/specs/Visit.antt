@@ -33,6 +33,17 @@ abbrev pub Reaches : (ℕ → ℕ → ℕ) → ℕ → List Visit → Type 0
 Reaches tau place [] = Unit {0}
 Reaches tau place (v ∷ vs) = (tau place (place_of v) < never) × Reaches tau (place_of v) vs
 
+-- visits at these seconds: each can be reached from the place before, is in time, and finds its seats free
+abbrev pub AreServed : (ℕ → ℕ → ℕ) → ℕ → ℕ → List ℕ → List Visit → Type 0
+AreServed tau place room (second ∷ seconds) (v ∷ vs) =
+    (tau place (place_of v) < never) × (second ≤ latest_of v) × (boarding_of v ≤ room) × AreServed tau (place_of v) (room_after v room) seconds vs
+AreServed tau place room _ _ = Unit {0}
+
+-- the sum of the delays of visits at these seconds
+abbrev pub delay_at : List ℕ → List Visit → ℕ
+delay_at (second ∷ seconds) (v ∷ vs) = lateness v second + delay_at seconds vs
+delay_at _ _ = 0
+
 module _ (tau : ℕ → ℕ → ℕ) (dwell : ℕ) where
   -- the second at which each visit is reached by a vehicle that is free to leave the place at this second;
   -- a dwell lies between two visits
@@ -43,13 +54,8 @@ module _ (tau : ℕ → ℕ → ℕ) (dwell : ℕ) where
 
   -- each visit can be reached, is reached in time, and finds its seats free
   abbrev pub ServesFrom : ℕ → ℕ → ℕ → List Visit → Type 0
-  ServesFrom place free room [] = Unit {0}
-  ServesFrom place free room (v ∷ vs) =
-      (tau place (place_of v) < never) × (free + tau place (place_of v) ≤ latest_of v) × (boarding_of v ≤ room)
-      × ServesFrom (place_of v) (free + tau place (place_of v) + dwell) (room_after v room) vs
+  ServesFrom place free room vs = AreServed tau place room (seconds_from place free vs) vs
 
   -- the sum of the delays of the drop-offs
   abbrev pub delay_from : ℕ → ℕ → List Visit → ℕ
-  delay_from place free [] = 0
-  delay_from place free (v ∷ vs) =
-      lateness v (free + tau place (place_of v)) + delay_from (place_of v) (free + tau place (place_of v) + dwell) vs
+  delay_from place free vs = delay_at (seconds_from place free vs) vs
