@@ -16,7 +16,7 @@ pub use Rattle.dispatch_engine.specs.declared.stand.LaneStand.{LaneStand}
 pub use Rattle.dispatch_engine.specs.lemmas.Lanes.{IsPlain}
 pub use Rattle.dispatch_engine.specs.work.Crew.{AreInOrder, HasRunLane, HasTaken, HasWorked, HaveRunLanes, IsSharedBy, IsToWork, at_rest}
 pub use Rattle.dispatch_engine.specs.work.Lanes.{HaveRun, IsJointRun, calls_of_lane, calls_of_pass}
-pub use Rattle.request_book.specs.Book.{BookView, IsBook, IsSameBook, next_position}
+pub use Rattle.request_book.specs.Book.{BookView, IsBook, IsSameBook, is_light, next_position}
 unfoldable pub use Rattle.request_book.specs.Replay.{RepliesAreSteps, state_after}
 unfoldable pub use Rattle.request_book.specs.Sealing.{batch_of}
 unfoldable pub use Rattle.request_book.specs.lemmas.Named.{sealed_state}
@@ -34,6 +34,6 @@ pub use Rattle.script_rows.specs.Round.{IsRound, MayStand, NumberedLanes, lane_a
 pub use Rattle.seat_lock.specs.Values.{AreAllPasses, IsNew, IsPassOf, LockValue, calls_of, entry}
 pub use Rattle.seat_lock.specs.declared.logged.LoggedCall.{LoggedCall}
 unfoldable pub use Rattle.shared_book.specs.Locked.{calls_from}
-pub use Rattle.shared_book.specs.Locked.{call_of, entry_of, is_light, sealed_by, snapshot_after}
+pub use Rattle.shared_book.specs.Locked.{call_of, entry_of, sealed_by, snapshot_after}
 pub use Rattle.shared_book.specs.Shared.{BookPass, HasCalled, HasCalledSome, IsFinished, IsSamePass, with_snapshot}
 pub use Rattle.shared_book.specs.declared.locked.LockedReply.{LockedReply}

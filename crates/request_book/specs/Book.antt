@@ -1,4 +1,4 @@
-use Rattle.std.specs.Prelude.{◌≡◌, ℕ, ◌+◌, ◌-◌, ◌^◌, List, [], ◌∷◌, ◌++◌, length, min, Option, None, Ok, Err}
+use Rattle.std.specs.Prelude.{◌≡◌, ℕ, ◌+◌, ◌-◌, ◌^◌, Bool, true, false, List, [], ◌∷◌, ◌++◌, length, min, Option, None, Ok, Err}
 use Rattle.batch_snapshot.specs.Batch.{Batch}
 use Rattle.batch_snapshot.specs.declared.vehicle.Vehicle.{Vehicle}
 use Rattle.request_book.specs.declared.command.Command.{Command}
@@ -45,9 +45,9 @@ abbrev pub next_position : ℕ → List Entry → ℕ
 next_position first entries = min (first + length entries) (2 ^ 64 - 1)
 
 -- every command but a seal
-abbrev pub IsLight : Command → Type 0
-IsLight (Seal now) = ⊥
-IsLight _ = Unit {0}
+abbrev pub is_light : Command → Bool
+is_light (Seal now) = false
+is_light _ = true
 
 -- the batch that a seal would put into `sealed`; none where the step refuses the seal
 abbrev pub would_seal : ℕ → State → ℕ → Option Batch

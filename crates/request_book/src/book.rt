@@ -1,6 +1,6 @@
-ghost use Rattle.std.specs.Prelude.{◌≡◌, ◌==◌, ◌+◌, ◌<◌, ◌≤◌, ◌++◌, ◌∷◌, [], All, false, option_map, IfOk, OnOk, OnErr, IsOk, vec_len, vec_capacity};
+ghost use Rattle.std.specs.Prelude.{◌≡◌, ◌==◌, ◌+◌, ◌<◌, ◌≤◌, ◌++◌, ◌∷◌, [], All, false, option_map, IfOk, OnOk, OnErr, IsFalse, IsOk, IsTrue, vec_len, vec_capacity};
 ghost use Rattle.std.specs.List.{list_any};
-ghost use Rattle.request_book.specs.Book.{opening, next_position, would_seal, IsApplied, IsBook, IsLight, IsSameBook};
+ghost use Rattle.request_book.specs.Book.{opening, next_position, would_seal, IsApplied, IsBook, IsSameBook, is_light};
 ghost use Rattle.request_book.specs.Consistent.{IsConsistent, IsNode};
 ghost use Rattle.request_book.specs.State.{find_rider};
 
@@ -133,8 +133,8 @@ impl Book {
         ensures room { OnOk result (0 < self.new.spare) }
         ensures same { IsSameBook self.old self.new }
         ensures kept { self.old.spare ≤ self.new.spare }
-        ensures light { IsLight command.now → 0 < self.old.spare → IsOk result }
-        ensures heavy { OnOk result ((IsLight command.now → ⊥) → self.old.spare < self.new.spare) }
+        ensures light { IsTrue (is_light command.now) → 0 < self.old.spare → IsOk result }
+        ensures heavy { OnOk result (IsFalse (is_light command.now) → self.old.spare < self.new.spare) }
     {
         match command {
             Command::Seal { .. } => match self.reserved.checked_add(1) {
@@ -158,9 +158,9 @@ impl Book {
     pub fn apply(&mut self, lane: u8, command: Command) -> Result<Reply, OutOfMemory>
         ensures applied { IfOk result (λ reply. IsApplied self.old lane command reply self.new) }
         ensures unchanged { OnErr result (IsSameBook self.old self.new) }
-        ensures sure { IsLight command → 0 < self.old.spare → IsOk result }
+        ensures sure { IsTrue (is_light command) → 0 < self.old.spare → IsOk result }
         ensures room { self.old.spare ≤ self.new.spare + 1 }
-        ensures heavy { (IsLight command → ⊥) → self.old.spare ≤ self.new.spare }
+        ensures heavy { IsFalse (is_light command) → self.old.spare ≤ self.new.spare }
         ensures kept { OnErr result (self.old.spare ≤ self.new.spare) }
     {
         match self.make_room(&command) {

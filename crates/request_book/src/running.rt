@@ -1,8 +1,8 @@
 //! The register at work: how it begins, and one command of any kind.
 
-ghost use Rattle.std.specs.Prelude.{◌≡◌, ◌==◌, ◌+◌, ◌≤◌, ◌++◌, ◌∷◌, [], ℕ, None, false, map, IfOk, OnOk, OnErr, IsOk, vec_capacity, option_and_then, if◌then◌else◌};
+ghost use Rattle.std.specs.Prelude.{◌≡◌, ◌==◌, ◌+◌, ◌≤◌, ◌++◌, ◌∷◌, [], ℕ, None, false, map, IfOk, OnOk, OnErr, IsOk, IsTrue, vec_capacity, option_and_then, if◌then◌else◌};
 ghost use Rattle.std.specs.List.{list_any};
-ghost use Rattle.request_book.specs.Book.{opening, IsLight};
+ghost use Rattle.request_book.specs.Book.{opening, is_light};
 ghost use Rattle.request_book.specs.Consistent.{IsConsistent};
 ghost use Rattle.request_book.specs.Keyed.{look_up, placed, KeysRise, KeysDiffer};
 ghost use Rattle.request_book.specs.Rider.{is_active};
@@ -100,7 +100,7 @@ impl Register {
         requires room { HasRoom 1 self.old }
         ensures ok { IfOk result (λ reply. (state_of self.new, reply) ≡ step nodes.now.keys wait (state_of self.old) command.now) }
         ensures err { OnErr result (state_of self.new ≡ state_of self.old) }
-        ensures light { IsLight command.now → IsOk result }
+        ensures light { IsTrue (is_light command.now) → IsOk result }
         ensures indexed { IsIndexed self.new }
         ensures room { (n : ℕ) → HasRoom (n + 1) self.old → HasRoom n self.new }
         ensures kept { OnErr result ((n : ℕ) → HasRoom n self.old → HasRoom n self.new) }

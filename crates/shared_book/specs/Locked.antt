@@ -1,8 +1,8 @@
 -- A book as the lock plays it: the calls in its journal, each with its reply and the batch that it sealed.
-use Rattle.std.specs.Prelude.{◌≡◌, ℕ, Bool, true, false, List, [], ◌∷◌, All, Option, None, Some, option_map}
+use Rattle.std.specs.Prelude.{◌≡◌, ℕ, false, List, [], ◌∷◌, All, Option, None, Some, option_map}
 use Rattle.batch_snapshot.specs.Batch.{Batch}
 use Rattle.batch_snapshot.specs.Points.{named_nodes}
-use Rattle.request_book.specs.Book.{BookView, would_seal}
+use Rattle.request_book.specs.Book.{BookView, is_light, would_seal}
 use Rattle.request_book.specs.Consistent.{IsNode}
 use Rattle.request_book.specs.Step.{step}
 use Rattle.request_book.specs.declared.command.Command.{Command}
@@ -14,11 +14,6 @@ use Rattle.request_book.specs.declared.state.State.{State}
 use Rattle.seat_lock.specs.declared.logged.LoggedCall.{LoggedCall}
 use Rattle.shared_book.specs.declared.locked.BookRoot.{BookRoot}
 use Rattle.shared_book.specs.declared.locked.LockedReply.{LockedReply}
-
--- every command but a seal
-abbrev pub is_light : Command → Bool
-is_light (Seal now) = false
-is_light _ = true
 
 -- the number of the batch that a reply says is sealed
 abbrev pub sealed_by : Reply → Option ℕ

@@ -1,7 +1,8 @@
 //! A book as the lock plays it.
 ghost use Rattle.std.specs.Prelude.{◌≡◌, ◌^◌, ◌<◌, IfOk, IsOk, IsTrue, length};
 ghost use Rattle.request_book.specs.Book.{IsBook};
-ghost use Rattle.shared_book.specs.Locked.{is_light, snapshot_before};
+ghost use Rattle.request_book.specs.Book.{is_light};
+ghost use Rattle.shared_book.specs.Locked.{snapshot_before};
 
 use batch_snapshot::Snapshot;
 use pool_base::{NodeId, OutOfMemory, Sequence};
@@ -42,7 +43,8 @@ pub struct BookRoot {
 }
 
 impl Logged for LockedBook {
-    ghost use Rattle.shared_book.specs.Locked.{is_light, log_of, root_of, Fits};
+    ghost use Rattle.request_book.specs.Book.{is_light};
+    ghost use Rattle.shared_book.specs.Locked.{log_of, root_of, Fits};
 
     type Call = Command;
 

@@ -1,6 +1,6 @@
 //! The book that lanes share.
-ghost use Rattle.std.specs.Prelude.{◌≡◌, ◌≤◌, All, IfOk, IfErr, IsOk, OnErr};
-ghost use Rattle.request_book.specs.Book.{IsBook, IsLight};
+ghost use Rattle.std.specs.Prelude.{◌≡◌, ◌≤◌, All, IfOk, IfErr, IsOk, IsTrue, OnErr};
+ghost use Rattle.request_book.specs.Book.{IsBook, is_light};
 ghost use Rattle.request_book.specs.declared.command.Command.TheVariants.{Seal};
 ghost use Rattle.seat_lock.specs.Values.{AreAllPasses, IsNew, IsPassOf};
 ghost use Rattle.shared_book.specs.Shared.{with_snapshot, HasCalled, HasCalledSome, IsFinished, IsSamePass};
@@ -94,7 +94,7 @@ impl SharedBook {
         ensures refused { OnErr result (IsSamePass pass.old pass.new) }
 
         // Where the book has room, others have used it up.
-        ensures light { OnErr result (IsLight command → self.now.start.spare ≤ pass.new.seen) }
+        ensures light { OnErr result (IsTrue (is_light command) → self.now.start.spare ≤ pass.new.seen) }
     {
         let Played { position, reply } = self.lock.with_turn(rt, alloc, pass, command)?;
         let LockedReply { reply, snapshot: _ } = reply;

@@ -3,7 +3,7 @@ use Rattle.std.proofs.Common.{◌≡◌, ℕ, suc, false, List, [], ◌∷◌, �
 use Rattle.std.specs.Prelude.{All, option_map}
 use Rattle.batch_snapshot.specs.Batch.{Batch}
 use Rattle.batch_snapshot.specs.Points.{named_nodes}
-use Rattle.request_book.specs.Book.{BookView, IsApplied, IsBook}
+use Rattle.request_book.specs.Book.{BookView, IsApplied, IsBook, is_light}
 use Rattle.request_book.specs.Consistent.{IsNode}
 use Rattle.request_book.specs.Replay.{state_after}
 use Rattle.request_book.specs.Sealing.{batch_of}
@@ -14,7 +14,7 @@ use Rattle.request_book.specs.declared.journal.Entry.{Entry}
 use Rattle.request_book.specs.declared.reply.Reply.{Reply}
 use Rattle.request_book.specs.declared.state.State.{State}
 use Rattle.seat_lock.specs.declared.logged.LoggedCall.{LoggedCall}
-use Rattle.shared_book.specs.Locked.{is_light, sealed_by, snapshot_after, call_of, calls_from, log_of, Fits, snapshot_before}
+use Rattle.shared_book.specs.Locked.{sealed_by, snapshot_after, call_of, calls_from, log_of, Fits, snapshot_before}
 
 module _ (nodes : List ℕ) (wait : ℕ) where
   pub calls-append : (s : State) (es later : List Entry) → calls_from nodes wait s (es ++ later) ≡ calls_from nodes wait s es ++ calls_from nodes wait (state_after nodes wait s es) later
