@@ -48,11 +48,11 @@ pub record IsOutcomeWith (settings : Settings) (roads : Roads) (batch : Batch) (
   pub expired : outcome.expired ≡ batch.expired
   pub answer : AnswersWith settings points (travel_time times) settled P outcome.answer
 
--- the outcome is good: each point holds, the graphs exact, an order of stops for each trip, the plan lawful, a bound on every
--- lawful plan, shown by a tree, and best moves of idle vehicles
-abbrev pub IsGoodOutcome : Settings → Roads → Batch → Outcome → Type 0
-IsGoodOutcome settings roads batch outcome = IsOutcomeWith settings roads batch (λ planned p. (q : Point) → Holds settings q planned p) outcome
-
 -- each point holds of the plan
 abbrev pub IsGoodPlan : Settings → Planned → Posed → Type 0
 IsGoodPlan settings planned p = (q : Point) → Holds settings q planned p
+
+-- the outcome is good: each point holds, the graphs exact, an order of stops for each trip, the plan lawful, a bound on every
+-- lawful plan, shown by a tree, and best moves of idle vehicles
+abbrev pub IsGoodOutcome : Settings → Roads → Batch → Outcome → Type 0
+IsGoodOutcome settings roads batch outcome = IsOutcomeWith settings roads batch (IsGoodPlan settings) outcome

@@ -12,7 +12,7 @@ use Rattle.request_book.specs.declared.outcome.Outcome.{Outcome}
 use Rattle.request_book.specs.declared.reply.Reply.TheVariants.{Accepted}
 use Rattle.seat_lock.specs.declared.logged.LoggedCall.{LoggedCall}
 use Rattle.shared_book.specs.declared.locked.LockedReply.{LockedReply}
-use Rattle.live_dispatch.proofs.RowLemmas.{AreOf}
+use Rattle.live_dispatch.proofs.RowLemmas.{AreLinesOf}
 
 -- a row's command is no close
 pub stands-good : (settings : Settings) (roads : Roads) (lane : ℕ) (s : State) (command : Command) (reply : Reply) → MayStand lane command → IsGoodClose settings roads s command reply
@@ -57,7 +57,7 @@ rows-plain round rows going = All-weaker (GoesOn round) (λ (l : Line). IsPlain 
 lane-plain : (round lane : ℕ) (rows : List Line) → All (GoesOn round) rows → AllByRecursion IsPlain (in_lane rows lane)
 lane-plain round lane rows going = search (rules, recursion_from_All, All-map, All-filter, rows-plain)
 
-pub rows-of : (round : ℕ) (rows : List Line) → All (GoesOn round) rows → AreOf round rows
+pub rows-of : (round : ℕ) (rows : List Line) → All (GoesOn round) rows → AreLinesOf round rows
 rows-of round [] going = tt
 rows-of round (r ∷ rs) going =
     let here : GoesOn round r = All-head (GoesOn round) r rs going in

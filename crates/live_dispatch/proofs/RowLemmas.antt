@@ -8,9 +8,9 @@ use Rattle.pool_base.specs.Distinct.{distinct}
 use Rattle.pool_base.proofs.lemmas.DistinctLemmas.{any-more, distinct-push_new, distinct-push_old}
 
 -- each row is of this round, and of one of the sixteen lanes
-abbrev pub AreOf : ℕ → List Line → Type 0
-AreOf number [] = Unit {0}
-AreOf number (row ∷ rows) = (row.round ≡ number) × (row.lane < 16) × AreOf number rows
+abbrev pub AreLinesOf : ℕ → List Line → Type 0
+AreLinesOf number [] = Unit {0}
+AreLinesOf number (row ∷ rows) = (row.round ≡ number) × (row.lane < 16) × AreLinesOf number rows
 
 -- the commands of a round's lane
 abbrev of_round : List Line → ℕ → ℕ → List Command
@@ -20,17 +20,17 @@ of_round-append : (xs ys : List Line) (number lane : ℕ) → of_round (xs ++ ys
 of_round-append xs ys number lane = search (rules, filter-append, map-append)
 
 -- of rows of one round the lane alone decides
-of_round-own : (rows : List Line) (number lane : ℕ) → AreOf number rows → of_round rows number lane ≡ in_lane rows lane
+of_round-own : (rows : List Line) (number lane : ℕ) → AreLinesOf number rows → of_round rows number lane ≡ in_lane rows lane
 of_round-own [] number lane are = refl
 of_round-own (row ∷ rows) number lane are = grind (arith, nat_tests, are.0, of_round-own rows number lane are.2)
 
 -- rows of another round add nothing
-of_round-other : (rows : List Line) (own number lane : ℕ) → own ≢ number → AreOf own rows → of_round rows number lane ≡ []
+of_round-other : (rows : List Line) (own number lane : ℕ) → own ≢ number → AreLinesOf own rows → of_round rows number lane ≡ []
 of_round-other [] own number lane other are = refl
 of_round-other (row ∷ rows) own number lane other are = grind (arith, nat_tests, are.0, of_round-other rows own number lane other are.2)
 
 -- nor has a lane beyond the sixteenth any
-in_lane-beyond : (rows : List Line) (number lane : ℕ) → 16 ≤ lane → AreOf number rows → in_lane rows lane ≡ []
+in_lane-beyond : (rows : List Line) (number lane : ℕ) → 16 ≤ lane → AreLinesOf number rows → in_lane rows lane ≡ []
 in_lane-beyond [] number lane beyond are = refl
 in_lane-beyond (row ∷ rows) number lane beyond are = grind (arith, nat_tests, are.1, in_lane-beyond rows number lane beyond are.2)
 
@@ -42,7 +42,7 @@ round-beyond : (lines : List Line) (number lane : ℕ) → 16 ≤ lane → lane_
 round-beyond lines number lane beyond = search (rules, get_or_past, length-map-range_with_len)
 
 -- the round of these rows has their commands more
-pub lane-grows : (lines rows : List Line) (number lane : ℕ) → AreOf number rows → lane_at (round_of (lines ++ rows) number) lane ≡ lane_at (round_of lines number) lane ++ in_lane rows lane
+pub lane-grows : (lines rows : List Line) (number lane : ℕ) → AreLinesOf number rows → lane_at (round_of (lines ++ rows) number) lane ≡ lane_at (round_of lines number) lane ++ in_lane rows lane
 lane-grows lines rows number lane are = elim (cases_lt lane 16) [
   | inl within ↦
       round-lane (lines ++ rows) number lane within
@@ -59,7 +59,7 @@ map-on f g [] same = refl
 map-on f g (x ∷ xs) same = (λ i. All-head (λ y. f y ≡ g y) x xs same i ∷ map-on f g xs (All-tail (λ y. f y ≡ g y) x xs same) i)
 
 -- the rounds of other numbers stay as they were
-round-other : (lines rows : List Line) (own number : ℕ) → own ≢ number → AreOf own rows → round_of (lines ++ rows) number ≡ round_of lines number
+round-other : (lines rows : List Line) (own number : ℕ) → own ≢ number → AreLinesOf own rows → round_of (lines ++ rows) number ≡ round_of lines number
 round-other lines rows own number other are =
     let same = λ (lane : ℕ). of_round-append lines rows number lane ∙ ap (λ cs. of_round lines number lane ++ cs) (of_round-other rows own number lane other are) ∙ append-nil (of_round lines number lane) in
     ap (λ (ls : List (List Command)). record { number = number; lanes = ls }) (map-on (of_round (lines ++ rows) number) (of_round lines number) (range_with_len 0 16) (λ k d lt. same (get_or (range_with_len 0 16) k d)))
@@ -80,7 +80,7 @@ numbers-append xs ys = map-append (λ (l : Line). l.round) xs ys
 ends-more : (ns : List ℕ) (last : ℕ) (front : List ℕ) → EndsWith ns last front → EndsWith (ns ++ last ∷ []) last front
 ends-more ns last front e = search (rules, distinct-push_old, any-more, eq-eqb, All-push)
 
-ends-rows : (last : ℕ) (front : List ℕ) (rows : List Line) → AreOf last rows → (ns : List ℕ) → EndsWith ns last front → EndsWith (ns ++ round_numbers rows) last front
+ends-rows : (last : ℕ) (front : List ℕ) (rows : List Line) → AreLinesOf last rows → (ns : List ℕ) → EndsWith ns last front → EndsWith (ns ++ round_numbers rows) last front
 ends-rows last front [] are ns e = subst (λ (ms : List ℕ). EndsWith ms last front) (sym (append-nil ns)) e
 ends-rows last front (row ∷ rows) are ns e =
     subst (λ (ms : List ℕ). EndsWith ms last front) (append_assoc ns (last ∷ []) (round_numbers rows) ∙ ap (λ n. ns ++ n ∷ round_numbers rows) (sym are.0))
@@ -102,12 +102,12 @@ pub data RoundsGrow (round : Option ℕ) (lines rows : List Line) (number : ℕ)
       → ((lane : ℕ) → lane_at (round_of lines number) lane ≡ []) → RoundsGrow round lines rows number
 
 -- rounds before the last stay as they were
-fronts-same : (lines rows : List Line) (own : ℕ) (front : List ℕ) → All (λ n. n < own) front → AreOf own rows → map (round_of (lines ++ rows)) front ≡ map (round_of lines) front
+fronts-same : (lines rows : List Line) (own : ℕ) (front : List ℕ) → All (λ n. n < own) front → AreLinesOf own rows → map (round_of (lines ++ rows)) front ≡ map (round_of lines) front
 fronts-same lines rows own front low are =
     map-on (round_of (lines ++ rows)) (round_of lines) front
     (All-weaker (λ n. n < own) (λ n. round_of (lines ++ rows) n ≡ round_of lines n) (λ n h. round-other lines rows own n (λ e. omega (arith, h, e)) are) front low)
 
-rounds-shape : (lines rows : List Line) (own : ℕ) (front : List ℕ) → All (λ n. n < own) front → AreOf own rows → EndsWith (round_numbers lines ++ round_numbers rows) own front
+rounds-shape : (lines rows : List Line) (own : ℕ) (front : List ℕ) → All (λ n. n < own) front → AreLinesOf own rows → EndsWith (round_numbers lines ++ round_numbers rows) own front
     → rounds_of (lines ++ rows) ≡ map (round_of lines) front ++ round_of (lines ++ rows) own ∷ []
 rounds-shape lines rows own front low are ends =
     let all : List Line = lines ++ rows in
@@ -125,7 +125,7 @@ pub record AreMore (round : Option ℕ) (lines rows : List Line) (number : ℕ) 
   pub rounds : RoundsGrow round lines rows number
 
 -- rows of the last round
-more-last : (lines rows : List Line) (last : ℕ) (front : List ℕ) → EndsWith (round_numbers lines) last front → All (λ n. n < last) front → AreOf last rows → AreMore (Some last) lines rows last
+more-last : (lines rows : List Line) (last : ℕ) (front : List ℕ) → EndsWith (round_numbers lines) last front → All (λ n. n < last) front → AreLinesOf last rows → AreMore (Some last) lines rows last
 more-last lines rows last front was low are =
     let now : EndsWith (round_numbers lines ++ round_numbers rows) last front = ends-rows last front rows are (round_numbers lines) was in
     record {
@@ -137,7 +137,7 @@ more-last lines rows last front was low are =
 
 -- rows of a new round
 more-new : (round : Option ℕ) (lines : List Line) (row : Line) (rows : List Line) (number : ℕ) → start_text round number ≡ round_line number → All (λ n. n < number) (round_numbers lines)
-    → AreOf number (row ∷ rows) → All (λ n. n < number) (distinct (round_numbers lines)) → AreMore round lines (row ∷ rows) number
+    → AreLinesOf number (row ∷ rows) → All (λ n. n < number) (distinct (round_numbers lines)) → AreMore round lines (row ∷ rows) number
 more-new round lines row rows number starts low are apart =
     let now : EndsWith (round_numbers lines ++ round_numbers (row ∷ rows)) number (distinct (round_numbers lines)) =
     subst (λ (ns : List ℕ). EndsWith ns number (distinct (round_numbers lines))) (append_assoc (round_numbers lines) (number ∷ []) (round_numbers rows) ∙ ap (λ n. round_numbers lines ++ n ∷ round_numbers rows) (sym are.0))
@@ -149,7 +149,7 @@ more-new round lines row rows number starts low are apart =
     }
 
 -- rows of one round, not below the last
-pub rows-more : (round : Option ℕ) (lines : List Line) (row : Line) (rows : List Line) (number : ℕ) → EndsIn lines round → last_of round ≤ number → AreOf number (row ∷ rows)
+pub rows-more : (round : Option ℕ) (lines : List Line) (row : Line) (rows : List Line) (number : ℕ) → EndsIn lines round → last_of round ≤ number → AreLinesOf number (row ∷ rows)
     → AreMore round lines (row ∷ rows) number
 rows-more _ lines row rows number (EndsIn.in_none empty) low are =
     more-new None lines row rows number refl

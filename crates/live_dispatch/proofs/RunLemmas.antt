@@ -3,7 +3,7 @@ use Rattle.std.proofs.lemmas.Bool.Decides.{nat_tests}
 use Rattle.std.proofs.Common.{rules, arith, ◌≡◌, ℕ, ◌<◌, ◌^◌, Bool, List, [], ◌∷◌, ◌++◌, Option, None, codes, refl, sym, ap, subst, ◌∙◌, append_assoc, append-nil}
 use Rattle.live_dispatch.proofs.Common.{begun-next, run-append, map-append, filter-append, of_lane, IsLaneRun, IsLaneBeginning, ClosesAreGood, IsRoundRun, IsRun, position_after_run, state_after_run, position-more, state-more, lines_text, entries_lines, round_line, round_text, numbered, next_position, state_after, RepliesAreSteps, step, Entry, Journal, State, Settings, notices_from, Notice, Roads, NumberedLanes, lane_at, round_of, Line, rounds_of, ButLast, IsBegunRun, IsRoundBeginning, journals_notices, journals_text, EndsIn, in_lane, start_text, entries-append, lines-append, next-append, next-low, notices-append, state-append}
 use Rattle.std.proofs.lemmas.Grind.{flat_map-append}
-use Rattle.live_dispatch.proofs.RowLemmas.{AreOf, RoundsGrow, lane-grows}
+use Rattle.live_dispatch.proofs.RowLemmas.{AreLinesOf, RoundsGrow, lane-grows}
 
 -- a lane's entries
 lane-entries : (lane : ℕ) (xs ys : List Entry) → of_lane lane (xs ++ ys) ≡ of_lane lane xs ++ of_lane lane ys
@@ -118,7 +118,7 @@ module _ (settings : Settings) (roads : Roads) where
     pub state : after s (done ++ with_more front es ∷ []) ≡ state_after roads.nodes settings.wait (after s journals) es
     pub position : position_after_run p (done ++ with_more front es ∷ []) ≡ next_position (position_after_run p journals) es
 
-  module _ (s : State) (p : ℕ) (round : Option ℕ) (lines rows : List Line) (number : ℕ) (es : List Entry) (low : p < 2 ^ 64) (are : AreOf number rows) where
+  module _ (s : State) (p : ℕ) (round : Option ℕ) (lines rows : List Line) (number : ℕ) (es : List Entry) (low : p < 2 ^ 64) (are : AreLinesOf number rows) where
     -- the last round grows
     grown-last : (front : List NumberedLanes) (done : List Journal) (j : Journal) → IsRun settings roads s p front done → j.base ≡ after s done → j.first ≡ position_after_run p done
         → IsRoundRun settings roads (round_of lines number) j → start_text round number ≡ [] → rounds_of lines ≡ front ++ round_of lines number ∷ [] → rounds_of (lines ++ rows) ≡ front ++ round_of (lines ++ rows) number ∷ []

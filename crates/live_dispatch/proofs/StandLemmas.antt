@@ -2,7 +2,7 @@
 use Rattle.std.proofs.lemmas.Bool.Decides.{nat_tests}
 use Rattle.std.proofs.Common.{rules, ◌≡◌, ℕ, ◌+◌, ◌<◌, ◌≤◌, List, [], ◌∷◌, ◌++◌, codes, length, take, drop, Option, Some, refl, sym, ap, subst, ◌∙◌, append_assoc, append-nil, take-append-drop, length-append, inl, inr, arith}
 use Rattle.live_dispatch.proofs.Common.{Appends, Appends-nil, Appends-trans, take-append-add, of_lane, IsLaneRun, IsLaneBeginning, ClosesAreGood, IsReady, IsRun, position_after_run, run-more, lines_text, end_text, entries_lines, entry_text, Change, SinkView, numbered, AppendsPart, next_position, state_after, RepliesAreSteps, Entry, Journal, State, Settings, notices_from, HaveHeard, NotifierView, Notice, all-heard-more, Roads, round_of, Line, rounds_of, BeginWithRows, AreWhole, BeginsRows, ButLast, HasAppended, IsBegunRun, journals_notices, journals_text, rows_text, EndsIn, in_lane, last_of, start_text, Moment, Stands, entries-append, next-low, one-text}
-use Rattle.live_dispatch.proofs.RowLemmas.{AreMore, AreOf, rows-more}
+use Rattle.live_dispatch.proofs.RowLemmas.{AreMore, AreLinesOf, rows-more}
 use Rattle.live_dispatch.proofs.RunLemmas.{HasGrown, has-grown, run-begins, with_more}
 
 -- bytes and a part of a text are a part of both
@@ -19,7 +19,7 @@ end-some n = omega (arith, length-append (numbered (codes "done ") n ++ 10 ∷ [
 
 -- entries that rows of a round gave
 pub record Gives (settings : Settings) (roads : Roads) (s : State) (number : ℕ) (rows : List Line) (es : List Entry) : Type 0 where
-  pub are : AreOf number rows
+  pub are : AreLinesOf number rows
   pub replies : RepliesAreSteps roads.nodes settings.wait s es
   pub closes : ClosesAreGood settings roads s es
 

@@ -37,7 +37,7 @@ pub use Rattle.report_lines.specs.Head.{BeginsWithHead}
 pub use Rattle.report_lines.specs.HeadFault.{FitsLine, HasForm, HeadFails, HeadLine, LineFails, LinesFail, head_lines, sizes_of}
 pub use Rattle.report_lines.specs.HeadLines.{AreSizes}
 pub use Rattle.report_lines.specs.Line.{IsFirstLine}
-pub use Rattle.report_lines.specs.Settings.{AreOf}
+pub use Rattle.report_lines.specs.Settings.{AreSettingsOf}
 pub use Rattle.report_lines.specs.Next.{IsEntry, IsNextLine}
 pub use Rattle.report_lines.specs.declared.head_fault.HeadFault.{HeadFault}
 pub use Rattle.report_lines.specs.declared.next.NextLine.{NextLine}

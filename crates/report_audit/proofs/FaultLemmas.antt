@@ -1,6 +1,6 @@
 -- A fault, said where the rest of a report begins.
 use Rattle.std.proofs.Common.{◌≡◌, ℕ, ◌-◌, true, List, [], ◌∷◌, ◌++◌, length, take, ◌+◌, ◌==◌, count_by, refl, ap, ◌∙◌, length-append, arith}
-use Rattle.report_audit.proofs.Common.{Vehicle, AreOf, one_kind, IsNextLine, NextLine, IsFirstLine, Settings, Roads, NumberedLanes, FailsAt, IsCut, IsOutOfForm, FailsAsLine, HasFault, HeadFails, HeadFault, fault_of_head, IsWrongLine, Extent, IsInForm, IsRightUpTo, IsFaultAt, IsOpen, OnlyFollows, is_one_line, line_left}
+use Rattle.report_audit.proofs.Common.{Vehicle, AreSettingsOf, one_kind, IsNextLine, NextLine, IsFirstLine, Settings, Roads, NumberedLanes, FailsAt, IsCut, IsOutOfForm, FailsAsLine, HasFault, HeadFails, HeadFault, fault_of_head, IsWrongLine, Extent, IsInForm, IsRightUpTo, IsFaultAt, IsOpen, OnlyFollows, is_one_line, line_left}
 use Rattle.report_lines.specs.declared.next.NextLine.TheVariants.{Entry as EntryOf}
 use Rattle.report_lines.specs.declared.head_fault.HeadFault.TheVariants as head
 use Rattle.report_audit.specs.declared.fault.AuditFault.TheVariants as fault
@@ -16,7 +16,7 @@ line_is report read rest whole =
     ap (λ (t : List ℕ). count_by (λ c. c == 10) t + 1) ((λ i. take (count i) (whole i)) ∙ take_front read rest)
 
 module _ (settings : Settings) (roads : Roads) (report rest : List ℕ) (place : Extent) (line : ℕ) (at : line ≡ line_left report rest) where
-  pub fails_at : (Fails : Settings → Roads → Extent → List ℕ → Type 0) → Fails settings roads place rest → (vehicles : List Vehicle) (rounds : List NumberedLanes) (workers : ℕ) (read : List ℕ) → AreOf workers settings
+  pub fails_at : (Fails : Settings → Roads → Extent → List ℕ → Type 0) → Fails settings roads place rest → (vehicles : List Vehicle) (rounds : List NumberedLanes) (workers : ℕ) (read : List ℕ) → AreSettingsOf workers settings
       → report ≡ read ++ rest → IsRightUpTo settings roads vehicles rounds place read → FailsAt roads vehicles rounds workers report Fails line
   fails_at Fails fails vehicles rounds workers read of whole right = record {
     settings = settings;

@@ -8,7 +8,7 @@ use Rattle.block_audit.specs.declared.refusal.BlockRefusal.TheVariants as block
 use Rattle.dispatch_report.specs.Entry.{entry_line}
 use Rattle.report_lines.specs.HeadFault.{HeadFails}
 use Rattle.report_lines.specs.Line.{IsFirstLine}
-use Rattle.report_lines.specs.Settings.{AreOf}
+use Rattle.report_lines.specs.Settings.{AreSettingsOf}
 use Rattle.report_lines.specs.declared.head_fault.HeadFault.{HeadFault}
 use Rattle.report_lines.specs.declared.head_fault.HeadFault.TheVariants as head
 use Rattle.report_lines.specs.Cut.{is_one_line}
@@ -56,7 +56,7 @@ IsWrongBatch refusal settings roads _ text = ⊥
 -- behind its head a report is right up to this line, and there it fails
 pub record FailsAt (roads : Roads) (vehicles : List Vehicle) (rounds : List NumberedLanes) (workers : ℕ) (text : List ℕ) (Fails : Settings → Roads → Extent → List ℕ → Type 0) (line : ℕ) : Type 0 where
   pub settings : Settings
-  pub audited : AreOf workers settings
+  pub audited : AreSettingsOf workers settings
   pub place : Extent
   pub read : List ℕ
   pub rest : List ℕ

@@ -4,7 +4,7 @@ use Rattle.batch_snapshot.specs.declared.vehicle.Vehicle.{Vehicle}
 use Rattle.dispatch_engine.specs.Run.{IsRun, position_after_run}
 use Rattle.dispatch_report.specs.Head.{head_text}
 use Rattle.dispatch_report.specs.Round.{round_text, end_text}
-use Rattle.report_lines.specs.Settings.{AreOf}
+use Rattle.report_lines.specs.Settings.{AreSettingsOf}
 use Rattle.request_book.specs.Book.{opening}
 use Rattle.request_book.specs.declared.command.Command.{Command}
 use Rattle.request_book.specs.declared.command.Command.TheVariants.{Close}
@@ -25,7 +25,7 @@ rounds_text _ _ = []
 -- the text is the report of a run of these rounds from an empty book with these vehicles, printed with trees
 pub record IsReportOfRun (roads : Roads) (vehicles : List Vehicle) (rounds : List NumberedLanes) (workers : ℕ) (text : List ℕ) : Type 0 where
   pub settings : Settings
-  pub audited : AreOf workers settings
+  pub audited : AreSettingsOf workers settings
   pub made : List Journal
   pub run : IsRun settings roads (opening vehicles) 0 rounds made
   pub told : JournalsAreTold made

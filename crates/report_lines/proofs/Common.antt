@@ -25,7 +25,7 @@ pub use Rattle.dispatch_report.specs.Fits.{IsId, IsReply}
 pub use Rattle.report_lines.specs.Line.{IsFirstLine}
 pub use Rattle.report_lines.specs.Next.{IsNextLine}
 pub use Rattle.report_lines.specs.Order.{follow_on, is_between, kind_place, last_place, may_follow_at}
-pub use Rattle.report_lines.specs.Settings.{AreLawful, AreOf}
+pub use Rattle.report_lines.specs.Settings.{AreLawful, AreSettingsOf}
 pub use Rattle.dispatch_report.specs.declared.block_line.BlockLine.{BlockLine}
 pub use Rattle.dispatch_report.specs.declared.block_line.BlockLine.TheVariants.{Alone, Batch, Bound, Branch, Cost, Dead, End, Expired, Lapsed, Late, Leaf, Move, Nodes, Out, Overflow, Row, Shared, Trip}
 pub use Rattle.report_lines.specs.declared.head_fault.HeadFault.{HeadFault}

@@ -1,7 +1,7 @@
 -- A text that begins with the head of a report.
 use Rattle.std.specs.Prelude.{◌≡◌, ℕ, List, ◌++◌}
 use Rattle.dispatch_report.specs.Head.{head_text}
-use Rattle.report_lines.specs.Settings.{AreOf}
+use Rattle.report_lines.specs.Settings.{AreSettingsOf}
 use Rattle.rider_limits.specs.declared.settings.Settings.{Settings}
 use Rattle.road_network.specs.Roads.{Roads}
 
@@ -9,4 +9,4 @@ use Rattle.road_network.specs.Roads.{Roads}
 -- this follows
 pub record BeginsWithHead (workers : ℕ) (roads : Roads) (vehicles : ℕ) (text : List ℕ) (s : Settings) (rest : List ℕ) : Type 0 where
   pub whole : text ≡ head_text s roads vehicles ++ rest
-  pub settings : AreOf workers s
+  pub settings : AreSettingsOf workers s

@@ -8,7 +8,7 @@ use Rattle.rider_limits.specs.declared.settings.TimesWay.TheVariants.{Rows}
 -- The settings that a head tells.
 
 -- the settings of a run by searches, with so many workers, whose report prints the search trees
-pub record AreOf (count : ℕ) (s : Settings) : Type 0 where
+pub record AreSettingsOf (count : ℕ) (s : Settings) : Type 0 where
   pub mode : s.mode ≡ Run
   pub times : s.times ≡ Rows
   pub workers : s.workers ≡ count

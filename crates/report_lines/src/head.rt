@@ -5,7 +5,7 @@ ghost use Rattle.report_lines.specs.HeadLines.{AreSizes, settings_text, AreSetti
 ghost use Rattle.report_lines.specs.work.Head.{HasHead, HasLines, LinesThen, fleet_line, sizes_lines, dwell_text, IsShortNumber, told_of};
 ghost use Rattle.rider_limits.specs.declared.settings.Settings.{Settings};
 ghost use Rattle.report_lines.specs.Reading.{IsReadAs};
-ghost use Rattle.report_lines.specs.Settings.{AreOf, AreLawful};
+ghost use Rattle.report_lines.specs.Settings.{AreSettingsOf, AreLawful};
 
 use crate::head_fault::HeadFault;
 use crate::words::{is_words, line_first, numbered_first, read_numbered};
@@ -208,7 +208,7 @@ fn settings_of(told: &SettingsText, workers: u8) -> Settings
     requires lawful { AreLawful told.now }
     requires some { 1 ≤ workers }
     requires few { workers ≤ 64 }
-    ensures settings { AreOf workers result }
+    ensures settings { AreSettingsOf workers result }
     ensures numbers { told_of result ≡ told.now }
 {
     Settings {

@@ -24,7 +24,7 @@ pub use Rattle.ridepool.specs.Live.{AnswersLive, AreLimited, AreRowsOf, BeginsLi
 pub use Rattle.ridepool.specs.Load.{AnswersLoad, AreTexts}
 unfoldable pub use Rattle.ridepool.specs.Reading.{network_in, script_in, vehicles_in}
 pub use Rattle.ridepool.specs.Reading.{IsFleetIn, first_version, in_rows, own_fault}
-pub use Rattle.ridepool.specs.Report.{AppendsWithPart, EndsText, IsCutShort, IsPart, IsWhole, Runs, journals_of, rounds_notices}
+pub use Rattle.ridepool.specs.Report.{AppendsWithPart, EndsText, IsCutShort, IsPart, IsWhole, RunsRounds, journals_of, rounds_notices}
 pub use Rattle.ridepool.specs.Run.{AnswersRun, RunsScript, RunsSome}
 pub use Rattle.ridepool.specs.Seen.{IsSilent, IsUntouched, Seen, SourceView, Sources, source_at, source_seen}
 pub use Rattle.ridepool.specs.Status.{HidesNoMemory}
@@ -35,7 +35,7 @@ pub use Rattle.ridepool.specs.work.Auditing.{IsAuditFault, IsSameSink, RefusesBy
 pub use Rattle.ridepool.specs.work.Ended.{IsLimited, IsNoReport, IsRunReport}
 pub use Rattle.ridepool.specs.work.Held.{HoldsRound, HoldsRounds}
 pub use Rattle.ridepool.specs.work.Reading.{AreInputs, GotInputs, IsNoInput, IsReadAsNoDay, IsUnread, ReadSources, RefusesFleet, RefusesNetwork, RefusesRounds, StopsAt, inputs_got}
-pub use Rattle.ridepool.specs.work.Writing.{AreAllWith, AreFirst, BeginsRounds, EndsRounds, HasPut, IsDayFor, IsReportFault, IsReportWhole, IsRoundFault, IsTextFault, IsUnput, IsWritingFault, NextJournal, PutsRound, RunsAll, RunsFirst, RunsFrom, StopsIn, WritesRound, added_by, added_text, day_ending, first_text, head_of, late_status, made_of, rounds_text, status_of}
+pub use Rattle.ridepool.specs.work.Writing.{AreAllRoundsWith, AreFirstRounds, BeginsRounds, EndsRounds, HasPut, IsDayFor, IsReportFault, IsReportWhole, IsRoundFault, IsTextFault, IsUnput, IsWritingFault, NextJournal, PutsRound, RunsAll, RunsFirst, RunsFrom, StopsIn, WritesRound, added_by, added_text, day_ending, first_text, head_of, late_status, made_of, rounds_text, status_of}
 pub use Rattle.rider_limits.specs.Words.{fault_of}
 pub use Rattle.rider_limits.specs.declared.load_shape.LoadShape.{LoadShape}
 pub use Rattle.rider_limits.specs.declared.settings.Mode.{Mode}

@@ -1,6 +1,6 @@
 -- How the parts of a call explain its end.
 use Rattle.std.proofs.Common.{◌≡◌, ℕ, List, Option, Some, Ok, Err, length, refl, sym, ap, subst, inl, inr, ⊎_elim, arith, ◌⊎◌, MatchOption}
-use Rattle.ridepool.proofs.Common.{texts_of, Which, AppendsPart, Audited, fault_of, LoadShape, Mode, Run, Load, Drive, Audit, Settings, DayFault, AnswersAudit, Confirms, EndsAudit, yes_text, AnswersDrive, EndsDrive, Inputs, AreGood, AreReadFrom, AreUntouched, CameTo, IsStop, IsWithin, Reads, StopsOrReads, AnswersLoad, AreTexts, EndsText, AnswersRun, RunsScript, RunsSome, Change, SinkView, IsUntouched, SourceView, Sources, Seen, IsSilent, source_at, ReadInputs, RunStatus, Done, Words, Network, Fleet, Script, TooLong, ReadFault, WriteFault, OutOfMemory, Day, TooLate, Report, IsSameSink, RefusesBytes, WritesYes, IsAuditFault, IsLimited, IsRunReport, HidesNoMemory, AreInputs, IsUnread, IsNoInput, IsReadAsNoDay, GotInputs, inputs_got, AreAllWith, AreFirst, IsDayFor, IsReportFault, IsReportWhole, IsTextFault, IsWritingFault, added_by, added_text, first_text, head_of}
+use Rattle.ridepool.proofs.Common.{texts_of, Which, AppendsPart, Audited, fault_of, LoadShape, Mode, Run, Load, Drive, Audit, Settings, DayFault, AnswersAudit, Confirms, EndsAudit, yes_text, AnswersDrive, EndsDrive, Inputs, AreGood, AreReadFrom, AreUntouched, CameTo, IsStop, IsWithin, Reads, StopsOrReads, AnswersLoad, AreTexts, EndsText, AnswersRun, RunsScript, RunsSome, Change, SinkView, IsUntouched, SourceView, Sources, Seen, IsSilent, source_at, ReadInputs, RunStatus, Done, Words, Network, Fleet, Script, TooLong, ReadFault, WriteFault, OutOfMemory, Day, TooLate, Report, IsSameSink, RefusesBytes, WritesYes, IsAuditFault, IsLimited, IsRunReport, HidesNoMemory, AreInputs, IsUnread, IsNoInput, IsReadAsNoDay, GotInputs, inputs_got, AreAllRoundsWith, AreFirstRounds, IsDayFor, IsReportFault, IsReportWhole, IsTextFault, IsWritingFault, added_by, added_text, first_text, head_of}
 use Rattle.dispatch_report.specs.Head.{head_text}
 use Rattle.dispatch_report.specs.Round.{round_text}
 use Rattle.dispatch_report.specs.Summary.{load_text, summary_text}
@@ -153,7 +153,7 @@ same_sink c bytes faults = grind (arith, bytes, faults)
 
 -- a text that is written, or a beginning of it
 text_answers : (m : Mode) (seen : Seen) (i : Inputs) (e : RunStatus) → (m ≡ Audit → ⊥) → AreInputs m seen.sources i → IsUntouched seen.sources.report
-    → EndsText i.settings i.roads (added_text m i.settings.proof) (first_text m i.settings i.roads (length i.vehicles)) (AreFirst m i) (AreAllWith m i) seen e → AnswersAs m i.settings seen e
+    → EndsText i.settings i.roads (added_text m i.settings.proof) (first_text m i.settings i.roads (length i.vehicles)) (AreFirstRounds m i) (AreAllRoundsWith m i) seen e → AnswersAs m i.settings seen e
 text_answers Run seen i e prints inputs report ends = run_answers i.settings seen e (inr (i, refl, inputs.0, (report, ends)))
 text_answers Drive seen i e prints inputs report ends = drive_answers i.settings seen e (inr (i, refl, inputs.0, (report, EndsDrive.driven e inputs.1 ends)))
 text_answers (Load shape) seen i e prints inputs report ends = load_answers shape i.settings seen e inputs.1 (inr (i, refl, inputs.0, ends))
@@ -165,7 +165,7 @@ module _ (seen : Seen) (settings : Settings) (got : ReadInputs) (good : AreGood 
   i = inputs_got settings got
 
   text_answer : (e : RunStatus) → HidesNoMemory e
-      → EndsText i.settings i.roads (added_by i.settings) (head_of i) (AreFirst i.settings.mode i) (AreAllWith i.settings.mode i) seen e → Answers seen e
+      → EndsText i.settings i.roads (added_by i.settings) (head_of i) (AreFirstRounds i.settings.mode i) (AreAllRoundsWith i.settings.mode i) seen e → Answers seen e
   text_answer e hides ends =
       good_answer seen settings e good (text_answers settings.mode seen i e prints inputs.inputs report ends) hides
       (inputs_limited settings.mode seen.sources i e inputs.inputs (untouched_report seen.sources e report))

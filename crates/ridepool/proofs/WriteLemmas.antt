@@ -1,6 +1,6 @@
 -- Texts of rounds, one after the other, and what stands where the last isn't whole.
 use Rattle.std.proofs.Common.{◌≡◌, ℕ, ◌+◌, ◌-◌, ◌^◌, ◌<◌, ◌≤◌, List, [], ◌∷◌, ◌++◌, length, take, drop, get_or, Option, Result, Ok, Err, MatchResult, refl, sym, subst, ap, ◌∙◌, append_assoc, append-nil, arith, Bool, true, false, not, ◌==◌}
-use Rattle.ridepool.proofs.Common.{Appends, Appends-nil, Appends-trans, Appends-kept, map-append, AppendsPart, IsReady, IsRoundRun, IsRun, IsSameRun, journal_of, position_after_run, state_after_run, Audited, yes_text, ReportFault, Rose, BookView, IsBook, next_position, opening, Mode, Load, Drive, Settings, Roads, DayRound, NumberedLanes, Inputs, notices, NotifierView, HaveHeard, DrivesDay, AppendsWithPart, IsCutShort, IsPart, IsWhole, Runs, journals_of, rounds_notices, RunsScript, RunsSome, AreAllWith, AreFirst, IsReportWhole, added_by, first_text, head_of, BeginsRounds, EndsRounds, NextJournal, HasPut, PutsRound, IsUnput, StopsIn, RunsAll, RunsFirst, RunsFrom, WritesRound, IsReportFault, IsTextFault, IsRoundFault, IsWritingFault, day_ending, late_status, made_of, status_of, rounds_text, RunStatus, WriteFault, OutOfMemory}
+use Rattle.ridepool.proofs.Common.{Appends, Appends-nil, Appends-trans, Appends-kept, map-append, AppendsPart, IsReady, IsRoundRun, IsRun, IsSameRun, journal_of, position_after_run, state_after_run, Audited, yes_text, ReportFault, Rose, BookView, IsBook, next_position, opening, Mode, Load, Drive, Settings, Roads, DayRound, NumberedLanes, Inputs, notices, NotifierView, HaveHeard, DrivesDay, AppendsWithPart, IsCutShort, IsPart, IsWhole, RunsRounds, journals_of, rounds_notices, RunsScript, RunsSome, AreAllRoundsWith, AreFirstRounds, IsReportWhole, added_by, first_text, head_of, BeginsRounds, EndsRounds, NextJournal, HasPut, PutsRound, IsUnput, StopsIn, RunsAll, RunsFirst, RunsFrom, WritesRound, IsReportFault, IsTextFault, IsRoundFault, IsWritingFault, day_ending, late_status, made_of, status_of, rounds_text, RunStatus, WriteFault, OutOfMemory}
 use Rattle.std.specs.List.{flat_map}
 use Rattle.std.proofs.lemmas.Bool.{eqb-true, false≢true}
 use Rattle.std.proofs.lemmas.Grind.{flat_map-append}
@@ -330,19 +330,19 @@ last_position js = omega (arith, position_after_run-most 0 js (omega arith))
 
 -- where rounds are the first of those of a call, and are all of them with the last lines
 pub record Serves (i : Inputs) (P : List DayRound → Type 0) (Q : List DayRound → List ℕ → Type 0) : Type 0 where
-  pub first : (made : List DayRound) → P made → AreFirst i.settings.mode i made
-  pub all : (made : List DayRound) (end : List ℕ) → Q made end → AreAllWith i.settings.mode i made end
+  pub first : (made : List DayRound) → P made → AreFirstRounds i.settings.mode i made
+  pub all : (made : List DayRound) (end : List ℕ) → Q made end → AreAllRoundsWith i.settings.mode i made end
 
 module _ (i : Inputs) (P : List DayRound → Type 0) (Q : List DayRound → List ℕ → Type 0) (serves : Serves i P Q) (a c : Option (List ℕ)) (n m : List NotifierView) where
   report_whole : IsWhole i.settings i.roads (added_by i.settings) (head_of i) P Q a c n m → IsReportWhole i a c n m
   report_whole w = record { made = w.made; end = w.end; all = serves.all w.made w.end w.all; text = w.text; told = w.told }
 
-  report_cut : IsCutShort i.settings i.roads (added_by i.settings) (head_of i) P Q a c n m → IsCutShort i.settings i.roads (added_by i.settings) (head_of i) (AreFirst i.settings.mode i) (AreAllWith i.settings.mode i) a c n m
+  report_cut : IsCutShort i.settings i.roads (added_by i.settings) (head_of i) P Q a c n m → IsCutShort i.settings i.roads (added_by i.settings) (head_of i) (AreFirstRounds i.settings.mode i) (AreAllRoundsWith i.settings.mode i) a c n m
   report_cut (IsCutShort.first_lines part same) = IsCutShort.first_lines part same
   report_cut (IsCutShort.round made next first part told) = IsCutShort.round made next (serves.first (made ++ next ∷ []) first) part told
   report_cut (IsCutShort.last_lines made end all part told) = IsCutShort.last_lines made end (serves.all made end all) part told
 
-  report_part : IsPart i.settings i.roads (added_by i.settings) (head_of i) P Q a c n m → IsPart i.settings i.roads (added_by i.settings) (head_of i) (AreFirst i.settings.mode i) (AreAllWith i.settings.mode i) a c n m
+  report_part : IsPart i.settings i.roads (added_by i.settings) (head_of i) P Q a c n m → IsPart i.settings i.roads (added_by i.settings) (head_of i) (AreFirstRounds i.settings.mode i) (AreAllRoundsWith i.settings.mode i) a c n m
   report_part (IsPart.cut short) = IsPart.cut (report_cut short)
   report_part (IsPart.rounds made first text told) = IsPart.rounds made (serves.first made first) text told
   report_part (IsPart.untold made last first text told) = IsPart.untold made last (serves.first (made ++ last ∷ []) first) text told
@@ -359,15 +359,15 @@ module _ (i : Inputs) (P : List DayRound → Type 0) (Q : List DayRound → List
   report_from low high (Err s) why = report_fault low high s why
 
 -- a run's rounds
-runs_of : (i : Inputs) (book : BookView) (rounds : List NumberedLanes) (made : List DayRound) → book ≡ opened i → RunsFrom i.settings i.roads book rounds made → Runs i rounds made
+runs_of : (i : Inputs) (book : BookView) (rounds : List NumberedLanes) (made : List DayRound) → book ≡ opened i → RunsFrom i.settings i.roads book rounds made → RunsRounds i rounds made
 runs_of i book rounds made is runs =
     record { numbers = runs.numbers; run = subst (λ b. IsRun i.settings i.roads b.base b.first rounds (journals_of made)) is runs.run }
 
-first_run : (m : Mode) (i : Inputs) (made : List DayRound) → (m ≡ Drive → ⊥) → RunsSome i made → AreFirst m i made
+first_run : (m : Mode) (i : Inputs) (made : List DayRound) → (m ≡ Drive → ⊥) → RunsSome i made → AreFirstRounds m i made
 first_run Drive i made undriven first = absurd (undriven refl)
 first_run _ i made undriven first = first
 
-all_run : (m : Mode) (i : Inputs) (made : List DayRound) (end : List ℕ) → (m ≡ Drive → ⊥) → RunsScript i made end → AreAllWith m i made end
+all_run : (m : Mode) (i : Inputs) (made : List DayRound) (end : List ℕ) → (m ≡ Drive → ⊥) → RunsScript i made end → AreAllRoundsWith m i made end
 all_run Drive i made end undriven all = absurd (undriven refl)
 all_run _ i made end undriven all = all
 
@@ -377,10 +377,10 @@ run_serves i book rounds undriven is all =
     record {
       first = λ made first.
           first_run i.settings.mode i made undriven
-          (first.0, subst (λ rs. Runs i (take first.0 rs) made) all (runs_of i book (take first.0 rounds) made is first.1));
+          (first.0, subst (λ rs. RunsRounds i (take first.0 rs) made) all (runs_of i book (take first.0 rounds) made is first.1));
       all = λ made end report.
           all_run i.settings.mode i made end undriven (
-            subst (λ rs. Runs i rs made) all (runs_of i book rounds made is report.0),
+            subst (λ rs. RunsRounds i rs made) all (runs_of i book rounds made is report.0),
             report.1 ∙ ap (λ b. end_text (next_position (position_after_run b.first (journals_of made)) [])) is ∙ ap end_text (last_position (journals_of made)),
           );
     }
@@ -392,9 +392,9 @@ day_serves i book made run driven is day =
     let opens : IsRunOfDay i.settings i.roads (opening i.vehicles) i.rounds made run = subst (λ b. IsRunOfDay i.settings i.roads b.state i.rounds made run) is day in
     let whole : DrivesDay i made (day_ending run made) = record { counts = run; day = opens; text_is = refl } in
     record {
-      first = λ begun first. subst (λ m. AreFirst m i begun) (sym driven) (first.0, subst (IsKeptDay i.settings i.roads (opening i.vehicles) i.rounds) (sym first.1) opens.day);
+      first = λ begun first. subst (λ m. AreFirstRounds m i begun) (sym driven) (first.0, subst (IsKeptDay i.settings i.roads (opening i.vehicles) i.rounds) (sym first.1) opens.day);
       all = λ begun end report.
-          subst (λ m. AreAllWith m i begun end) (sym driven) (subst (λ rs. DrivesDay i rs end) (sym report.0) (subst (DrivesDay i made) (sym report.1) whole));
+          subst (λ m. AreAllRoundsWith m i begun end) (sym driven) (subst (λ rs. DrivesDay i rs end) (sym report.0) (subst (DrivesDay i made) (sym report.1) whole));
     }
 
 -- where nobody is told anything, there is no notifier

@@ -24,7 +24,7 @@ abbrev pub journals_of : List DayRound → List Journal
 journals_of made = map (λ r. r.journal) made
 
 -- what was made is a run of these rounds, from an empty book with all vehicles as the fleet gives them
-pub record Runs (i : Inputs) (rounds : List NumberedLanes) (made : List DayRound) : Type 0 where
+pub record RunsRounds (i : Inputs) (rounds : List NumberedLanes) (made : List DayRound) : Type 0 where
   pub numbers : map (λ r. r.number) made ≡ map (λ r. r.number) rounds
   pub run : IsRun i.settings i.roads (opening i.vehicles) 0 rounds (journals_of made)
 
@@ -42,12 +42,12 @@ begun_text added head made = head ++ flat_map added made
 
 -- what stands of a text of these first lines, to which each round adds its own, where some rounds are its first, and some are all
 -- with their last lines
-module _ (settings : Settings) (roads : Roads) (added : DayRound → List ℕ) (head : List ℕ) (AreFirst : List DayRound → Type 0) (AreAllWith : List DayRound → List ℕ → Type 0) where
+module _ (settings : Settings) (roads : Roads) (added : DayRound → List ℕ) (head : List ℕ) (AreFirstRounds : List DayRound → Type 0) (AreAllRoundsWith : List DayRound → List ℕ → Type 0) where
   -- all is written, and each notifier that is left was told its notices
   pub record IsWhole (before after : Option (List ℕ)) (notifiers left : List NotifierView) : Type 0 where
     pub made : List DayRound
     pub end : List ℕ
-    pub all : AreAllWith made end
+    pub all : AreAllRoundsWith made end
     pub text : Appends before after (begun_text added head made ++ end)
     pub told : HaveHeard (rounds_notices settings roads made) notifiers left
 
@@ -55,19 +55,19 @@ module _ (settings : Settings) (roads : Roads) (added : DayRound → List ℕ) (
   -- told
   pub data IsCutShort (before after : Option (List ℕ)) (notifiers left : List NotifierView) : Type 0 where
     first_lines : AppendsPart before after head → left ≡ notifiers → IsCutShort before after notifiers left
-    round : (made : List DayRound) (next : DayRound) → AreFirst (made ++ next ∷ [])
+    round : (made : List DayRound) (next : DayRound) → AreFirstRounds (made ++ next ∷ [])
         → AppendsWithPart before after (begun_text added head made) (added next)
         → HaveHeard (rounds_notices settings roads made) notifiers left → IsCutShort before after notifiers left
-    last_lines : (made : List DayRound) (end : List ℕ) → AreAllWith made end
+    last_lines : (made : List DayRound) (end : List ℕ) → AreAllRoundsWith made end
         → AppendsWithPart before after (begun_text added head made) end
         → HaveHeard (rounds_notices settings roads made) notifiers left → IsCutShort before after notifiers left
 
   -- or it ends behind a round, whose notices were told or not
   pub data IsPart (before after : Option (List ℕ)) (notifiers left : List NotifierView) : Type 0 where
     cut : IsCutShort before after notifiers left → IsPart before after notifiers left
-    rounds : (made : List DayRound) → AreFirst made → Appends before after (begun_text added head made)
+    rounds : (made : List DayRound) → AreFirstRounds made → Appends before after (begun_text added head made)
         → HaveHeard (rounds_notices settings roads made) notifiers left → IsPart before after notifiers left
-    untold : (made : List DayRound) (last : DayRound) → AreFirst (made ++ last ∷ []) → Appends before after (begun_text added head (made ++ last ∷ []))
+    untold : (made : List DayRound) (last : DayRound) → AreFirstRounds (made ++ last ∷ []) → Appends before after (begun_text added head (made ++ last ∷ []))
         → HaveHeard (rounds_notices settings roads made) notifiers left → IsPart before after notifiers left
 
   -- how a call ends that writes the text: it is whole, a write failed, or there was no memory

@@ -6,18 +6,18 @@ use Rattle.dispatch_report.specs.Round.{round_text, end_text}
 use Rattle.rider_limits.specs.declared.settings.Settings.{Settings}
 use Rattle.route_drive.specs.declared.day_run.DayRound.{DayRound}
 use Rattle.ridepool.specs.Inputs.{Inputs, TellInputs, HasNoWriteFault, StopsOrReads}
-use Rattle.ridepool.specs.Report.{EndsText, Runs, journals_of}
+use Rattle.ridepool.specs.Report.{EndsText, RunsRounds, journals_of}
 use Rattle.ridepool.specs.Seen.{IsUntouched, Seen}
 use Rattle.ridepool.specs.declared.status.RunStatus.{RunStatus}
 use Rattle.ridepool.specs.declared.status.RunStatus.TheVariants.{Done, OutOfMemory}
 
 -- some first rounds of the script were run
 abbrev pub RunsSome : Inputs → List DayRound → Type 0
-RunsSome i made = (count : ℕ) × Runs i (take count i.rounds) made
+RunsSome i made = (count : ℕ) × RunsRounds i (take count i.rounds) made
 
 -- all of them were run, and these are the last lines
 abbrev pub RunsScript : Inputs → List DayRound → List ℕ → Type 0
-RunsScript i made end = Runs i i.rounds made × (end ≡ end_text (position_after_run 0 (journals_of made)))
+RunsScript i made end = RunsRounds i i.rounds made × (end ≡ end_text (position_after_run 0 (journals_of made)))
 
 -- what a call of `run` answers
 pub record AnswersRun (settings : Settings) (seen : Seen) (status : RunStatus) : Type 0 where

@@ -17,7 +17,7 @@ use Rattle.dispatch_report.specs.Words.{numbered, spaced}
 use Rattle.report_lines.specs.HeadFault.{sizes_of}
 use Rattle.report_lines.specs.HeadLines.{AreSizes}
 use Rattle.report_lines.specs.Next.{IsNextLine}
-use Rattle.report_lines.specs.Settings.{AreOf}
+use Rattle.report_lines.specs.Settings.{AreSettingsOf}
 use Rattle.report_lines.specs.declared.head_fault.HeadFault.{HeadFault}
 use Rattle.report_lines.specs.declared.head_fault.HeadFault.TheVariants as head
 use Rattle.report_lines.specs.declared.next.NextLine.{NextLine}
@@ -59,7 +59,7 @@ line_left report rest = count_by (λ c. c == 10) (take (length report - length r
 -- a report that is right up to the place before this rest has the fault
 abbrev pub IsFaultAt : Settings → Roads → List ℕ → Extent → List ℕ → AuditFault → Type 0
 IsFaultAt settings roads report place rest fault = (vehicles : List Vehicle) (rounds : List NumberedLanes) (workers : ℕ) (read : List ℕ)
-    → AreOf workers settings → report ≡ read ++ rest → IsRightUpTo settings roads vehicles rounds place read → HasFault roads vehicles rounds workers report fault
+    → AreSettingsOf workers settings → report ≡ read ++ rest → IsRightUpTo settings roads vehicles rounds place read → HasFault roads vehicles rounds workers report fault
 
 -- a line must follow
 abbrev pub IsOpen : Extent → Type 0
@@ -153,7 +153,7 @@ IsThrough settings roads round old b text rest = (lanes : List LaneStand) × (op
 -- is behind the rounds that were read
 pub record IsBetween (settings : Settings) (roads : Roads) (report : List ℕ) (vehicles : List Vehicle) (rounds : List NumberedLanes) (workers : ℕ) (before later : List NumberedLanes)
     (first : Bool) (b : BookView) (text : List ℕ) (batches : ℕ) : Type 0 where
-  pub audited : AreOf workers settings
+  pub audited : AreSettingsOf workers settings
   pub read : List ℕ
   pub whole : report ≡ read ++ text
   pub right : IsRightBetween settings roads vehicles rounds before later b.first read

@@ -1,6 +1,6 @@
 -- The head of a report, line by line.
 use Rattle.std.proofs.Common.{◌≡◌, ℕ, ◌<◌, ◌^◌, true, List, ◌∷◌, ◌++◌, codes, refl, sym, ◌∙◌, subst, arith, Bool, [], ap, rules, ◌+◌, get_or, length, inl, inr}
-use Rattle.report_lines.proofs.Common.{numbered, HeadLine, HasForm, FitsLine, is_one_line, AreLawful, settings_text, AreSettings, sizes_text, AreSizes, SettingsText, BothAre, and_parts, decimal_digit, list_all, settings_line, AreOf, told_of, Settings, and_from, head_text, lines_text, HeadFails, LinesFail, head_lines, sizes_of, IsFirstLine, HeadFault, LinesThen, told_lines, HasHead}
+use Rattle.report_lines.proofs.Common.{numbered, HeadLine, HasForm, FitsLine, is_one_line, AreLawful, settings_text, AreSettings, sizes_text, AreSizes, SettingsText, BothAre, and_parts, decimal_digit, list_all, settings_line, AreSettingsOf, told_of, Settings, and_from, head_text, lines_text, HeadFails, LinesFail, head_lines, sizes_of, IsFirstLine, HeadFault, LinesThen, told_lines, HasHead}
 use Rattle.report_lines.specs.declared.head_fault.HeadFault.TheVariants.{Head}
 use Rattle.report_lines.proofs.lemmas.HeadLemmas.{settings_of_one, Numbers, fields_text, numbers_of, settings_fields, settings_words}
 use Rattle.report_lines.proofs.lemmas.ReadingLemmas.{EndsOnce, StandsApart, TextIsOfOne, both_once, numbered_within, of_one}
@@ -63,7 +63,7 @@ same_from f g e p =
     let here : (q : InRange f) → settings_from f p ≡ settings_from f q = λ q. let same : p ≡ q = Prim.hlevel props in ap (settings_from f) same in
     subst (λ (x : Fields). (q : InRange x) → settings_from f p ≡ settings_from x q) e here
 
-pub same_settings : (count : ℕ) (s t : Settings) → AreOf count s → AreOf count t → told_of s ≡ told_of t → s ≡ t
+pub same_settings : (count : ℕ) (s t : Settings) → AreSettingsOf count s → AreSettingsOf count t → told_of s ≡ told_of t → s ≡ t
 same_settings count s t is it told =
     let e : fields_of s ≡ fields_of t = grind (arith, is.mode ∙ sym it.mode, is.times ∙ sym it.times, is.proof ∙ sym it.proof, is.workers ∙ sym it.workers, told) in
     same_from (fields_of s) (fields_of t) e s.in_range t.in_range
@@ -129,7 +129,7 @@ module _ (workers : ℕ) (roads : Roads) (vehicles : ℕ) (text : List ℕ) (few
       (refl, refl, ((told, short, refl), (told, short, lawful, refl), ((sizes_of roads, few, refl), refl, ((vehicles, few_vehicles, refl), refl, tt))))
       (head_then s rest h) fails
 
-  module _ (told : SettingsText) (end : List ℕ) (has : HasHead told (sizes_of roads) vehicles text end) (read : Settings) (of : AreOf workers read) (numbers : told_of read ≡ told) where
+  module _ (told : SettingsText) (end : List ℕ) (has : HasHead told (sizes_of roads) vehicles text end) (read : Settings) (of : AreSettingsOf workers read) (numbers : told_of read ≡ told) where
     -- a text has one head
     pub head_only : (s : Settings) (rest : List ℕ) → BeginsWithHead workers roads vehicles text s rest → (s ≡ read) × (rest ≡ end)
     head_only s rest h =

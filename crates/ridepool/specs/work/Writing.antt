@@ -54,13 +54,13 @@ abbrev pub added_by : Settings → DayRound → List ℕ
 added_by settings = added_text settings.mode settings.proof
 
 -- these are some first rounds of a call, and all with its last lines
-abbrev pub AreFirst : Mode → Inputs → List DayRound → Type 0
-AreFirst Drive i made = (rest : List DayRound) × IsKeptDay i.settings i.roads (opening i.vehicles) i.rounds (made ++ rest)
-AreFirst _ i made = RunsSome i made
+abbrev pub AreFirstRounds : Mode → Inputs → List DayRound → Type 0
+AreFirstRounds Drive i made = (rest : List DayRound) × IsKeptDay i.settings i.roads (opening i.vehicles) i.rounds (made ++ rest)
+AreFirstRounds _ i made = RunsSome i made
 
-abbrev pub AreAllWith : Mode → Inputs → List DayRound → List ℕ → Type 0
-AreAllWith Drive i made end = DrivesDay i made end
-AreAllWith _ i made end = RunsScript i made end
+abbrev pub AreAllRoundsWith : Mode → Inputs → List DayRound → List ℕ → Type 0
+AreAllRoundsWith Drive i made end = DrivesDay i made end
+AreAllRoundsWith _ i made end = RunsScript i made end
 
 -- the first lines of a call's text
 abbrev pub head_of : Inputs → List ℕ
@@ -69,7 +69,7 @@ head_of i = first_text i.settings.mode i.settings i.roads (length i.vehicles)
 -- the text of a call is written whole
 abbrev pub IsReportWhole : Inputs → Option (List ℕ) → Option (List ℕ) → List NotifierView → List NotifierView → Type 0
 IsReportWhole i before after notifiers left =
-    IsWhole i.settings i.roads (added_by i.settings) (head_of i) (AreFirst i.settings.mode i) (AreAllWith i.settings.mode i) before after notifiers left
+    IsWhole i.settings i.roads (added_by i.settings) (head_of i) (AreFirstRounds i.settings.mode i) (AreAllRoundsWith i.settings.mode i) before after notifiers left
 
 -- what rounds add, one after the other
 abbrev pub rounds_text : Settings → List DayRound → List ℕ
@@ -168,9 +168,9 @@ module _ (settings : Settings) (roads : Roads) where
   RunsAll book rounds made end = RunsFrom book rounds made × (end ≡ end_text (next_position (position_after_run book.first (journals_of made)) []))
 
   -- why a text isn't written whole, where these are its first lines, its first rounds, and all with its last lines
-  pub data IsReportFault (head : List ℕ) (AreFirst : List DayRound → Type 0) (AreAllWith : List DayRound → List ℕ → Type 0) (before after : Option (List ℕ)) (notifiers left : List NotifierView) (low high : ℕ) : RunStatus → Type 0 where
-    failed : Rose low high → IsCutShort settings roads (added_by settings) head AreFirst AreAllWith before after notifiers left → IsReportFault head AreFirst AreAllWith before after notifiers left low high WriteFault
-    unstored : IsPart settings roads (added_by settings) head AreFirst AreAllWith before after notifiers left → IsReportFault head AreFirst AreAllWith before after notifiers left low high OutOfMemory
+  pub data IsReportFault (head : List ℕ) (AreFirstRounds : List DayRound → Type 0) (AreAllRoundsWith : List DayRound → List ℕ → Type 0) (before after : Option (List ℕ)) (notifiers left : List NotifierView) (low high : ℕ) : RunStatus → Type 0 where
+    failed : Rose low high → IsCutShort settings roads (added_by settings) head AreFirstRounds AreAllRoundsWith before after notifiers left → IsReportFault head AreFirstRounds AreAllRoundsWith before after notifiers left low high WriteFault
+    unstored : IsPart settings roads (added_by settings) head AreFirstRounds AreAllRoundsWith before after notifiers left → IsReportFault head AreFirstRounds AreAllRoundsWith before after notifiers left low high OutOfMemory
 
 -- these are the rounds, and these the last lines
 abbrev pub EndsRounds : List DayRound → List ℕ → List DayRound → List ℕ → Type 0
@@ -178,7 +178,7 @@ EndsRounds rounds last made end = (made ≡ rounds) × (end ≡ last)
 
 -- why the report of these inputs isn't written whole; or a day comes too late, and nothing is written
 pub data IsWritingFault (i : Inputs) (before after : Option (List ℕ)) (notifiers left : List NotifierView) (low high : ℕ) : RunStatus → Type 0 where
-  unwritten : (status : RunStatus) → IsReportFault i.settings i.roads (head_of i) (AreFirst i.settings.mode i) (AreAllWith i.settings.mode i) before after notifiers left low high status
+  unwritten : (status : RunStatus) → IsReportFault i.settings i.roads (head_of i) (AreFirstRounds i.settings.mode i) (AreAllRoundsWith i.settings.mode i) before after notifiers left low high status
       → IsWritingFault i before after notifiers left low high status
   late : (round : ℕ) (made : List DayRound) → i.settings.mode ≡ Drive → IsTooLateDay i.settings i.roads (opening i.vehicles) i.rounds round made
       → after ≡ before → high ≡ low → left ≡ notifiers → IsWritingFault i before after notifiers left low high (TooLate round)
