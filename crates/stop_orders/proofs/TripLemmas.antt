@@ -1,5 +1,5 @@
 use Rattle.std.proofs.lemmas.Bool.Decides.{nat_tests}
-use Rattle.std.proofs.Common.{◌≡◌, ℕ, zero, suc, ◌+◌, ◌-◌, ◌*◌, ◌<◌, ◌≤◌, List, [], ◌∷◌, ◌++◌, length, map, get_or, take, drop, refl, sym, ap, ◌∙◌, subst, arith, inl, inr, ◌⊎◌, All, remove, rules}
+use Rattle.std.proofs.Common.{◌≡◌, ℕ, zero, suc, ◌+◌, ◌*◌, ◌<◌, ◌≤◌, List, [], ◌∷◌, ◌++◌, length, map, get_or, take, drop, refl, sym, ap, ◌∙◌, subst, arith, inl, inr, ◌⊎◌, All, remove, rules}
 use Rattle.stop_orders.proofs.Common.{AllByRecursion, false≢true, map-append, take-map, drop-map, length-map, get_or-map, nil_from_length, length-remove, IsTravelTime, Task, Stop, Pick, Drop, Alight, Visit, Pickup, Dropoff, IsKnown, IsOrder, latest_of, lateness, ServesFrom, delay_from, no_leg, leg_at, IsTask, IsServable, IsLeastDelay, visit_at, visits_of, free_seats, Serves, order_delay, IsNextStop, no_vehicle, no_rider, vehicle_at, rider_at, trip_task, pair_task, greatest, IsTrip, IsRrEdge, without_rider, without_passenger, stops_without_rider, stops_without_passenger, StillServes}
 use Rattle.stop_orders.specs.declared.settled.Settled.{Settled}
 use Rattle.stop_orders.specs.declared.settled_vehicle.SettledVehicle.{SettledVehicle}
