@@ -99,7 +99,7 @@ pub use Rattle.road_network.specs.declared.hop.Hop.{Hop}
 pub use Rattle.route_drive.specs.Counts.{AreCounts, IsDelayOf, dropped_among, entries_of, ideal_dropoff, is_dropped, is_picked, picked_among, wait_of}
 pub use Rattle.route_drive.specs.Day.{day_fault, first_seal, is_of_day, is_seal_command, lane_fault, latest_seal, round_fault, seal_of, seals_fault}
 pub use Rattle.route_drive.specs.Driven.{AreDriven, ComesTooLate, HasDrivenToTheEnd, IsDrivenDay, IsDrivenRound, IsLateAnswer, IsNewBook, IsPrecededBy, IsTooLateDay, courses_after, courses_from, courses_left, first_courses, left_course, number_after, plan_in, planned_course, planned_in}
-pub use Rattle.route_drive.specs.Entering.{AreEntered, EntersTooLate, IsEntered, IsReported, arrived, due, goal_of, is_cut_off, left_commands, second_of, standing_after, stop_command, to_come, walk_end, walks}
+pub use Rattle.route_drive.specs.Entering.{AreEntered, EntersTooLate, IsEntered, IsReported, due, goal_of, left_commands, reached_by, second_of, standing_after, stop_command, to_come}
 pub use Rattle.route_drive.specs.Promises.{DaysKeep, EntriesKeep, EntryKeeps, IsClosedInTime, IsDroppedInTime, IsKeptDay, IsPickedBy, IsRunOfDay, StateKeeps}
 pub use Rattle.route_drive.specs.Walk.{IsShortestWalk, steps_of}
 pub use Rattle.route_drive.specs.declared.counts.ServedRider.{ServedRider}
@@ -112,7 +112,7 @@ pub use Rattle.route_drive.specs.declared.day_run.DriveFault.TheVariants.{OutOfM
 pub use Rattle.route_drive.specs.declared.tree.Found.{Found}
 pub use Rattle.route_drive.specs.declared.walk.WalkStep.{WalkStep}
 pub use Rattle.route_drive.specs.work.Counting.{AddsServed, AreServed, IsDelayed, all_served_by, waited}
-pub use Rattle.route_drive.specs.work.Drive.{HasCome, HasEnded, IsCounted, IsInTime, IsLastOn, IsLateAt, IsRoundOn, IsStoppedAt, IsTaken, IsUnderWay, Takes, at_rest, fault_at, reported_place, step_from}
+pub use Rattle.route_drive.specs.work.Drive.{HasCome, HasEnded, IsCounted, IsInTime, IsLastOn, IsLateAt, IsRoundOn, IsStoppedAt, IsTaken, IsUnderWay, Takes, at_rest, fault_at, reported_place}
 pub use Rattle.route_drive.specs.work.Places.{ArePlaced, heading_of, headings_of, told_by, told_of}
 pub use Rattle.route_drive.specs.work.Rounds.{Adds}
 pub use Rattle.route_drive.specs.work.Serving.{AreReached, AreReported, HasCalls, HasSeatsFor, IsBound, IsBoundBy, IsDayState, IsDone, IsKept, IsOfVehicle, IsPromiseKept, IsReadyForSeal, IsRightDropoff, IsRightPickup, IsRightStop, IsServing, KeepsBounds, LeavesAll, LeavesOthers, ShowsRiders, calls_of, chosen_stops, closed, course_of, is_stop_of, party_at, seats_after, stops_with}

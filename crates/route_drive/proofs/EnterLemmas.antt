@@ -1,6 +1,6 @@
 -- What is entered, stop by stop and vehicle by vehicle.
-use Rattle.std.proofs.Common.{◌≡◌, ℕ, zero, suc, ◌+◌, ◌<◌, ◌≤◌, Bool, true, false, List, [], ◌∷◌, ◌++◌, length, get_or, map, filter, take, drop, Some, Result, Ok, Err, refl, sym, ap, ◌∙◌, inl, subst, arith, append_assoc, append-nil, length-append, IsSome, All, Contains, IfOk, MatchResult, find, IfErr, min, rules}
-use Rattle.route_drive.proofs.Common.{AllZip, cond-true, cond-false, take_more, get_or_append_left, All-nil, All-cons, All-push, Vehicle, Command, PlannedStop, Roads, NumberedLanes, Course, NodeAt, Stay, WalkStep, longest, Pickup, Dropoff, Report, AreEntered, EntersTooLate, IsInTime, due, left_commands, standing_after, stop_command, walk_end, step_from, ArePlaced, heading_of, headings_of, told_by, told_of, Adds, second_of, cond_both, le-leb, drop_more, flat_map_more, length-take, map_push, filter_more, length-zip, nat_tests}
+use Rattle.std.proofs.Common.{◌≡◌, ℕ, zero, suc, ◌+◌, ◌<◌, ◌≤◌, Bool, true, false, List, [], ◌∷◌, ◌++◌, length, get_or, map, filter, take, drop, Some, Result, Ok, Err, refl, sym, ap, ◌∙◌, inl, subst, arith, append_assoc, append-nil, length-append, All, Contains, IfOk, MatchResult, find, IfErr, min, rules}
+use Rattle.route_drive.proofs.Common.{AllZip, cond-true, cond-false, take_more, get_or_append_left, All-nil, All-cons, All-push, Vehicle, Command, PlannedStop, Roads, NumberedLanes, Course, NodeAt, Stay, longest, Pickup, Dropoff, Report, AreEntered, EntersTooLate, IsInTime, due, left_commands, standing_after, stop_command, ArePlaced, heading_of, headings_of, told_by, told_of, Adds, second_of, cond_both, drop_more, flat_map_more, length-take, map_push, filter_more, length-zip, nat_tests}
 use Rattle.std.specs.List.{Any, flat_map, zip}
 use Rattle.std.proofs.lemmas.List.Quantifiers.{Any-push}
 use Rattle.std.proofs.lemmas.Bool.Decides.{leb_tells}
@@ -15,18 +15,6 @@ module _ {X : Type 0} where
 
   pub filter_skips : (p : X → Bool) (xs : List X) (i : ℕ) (d : X) → i < length xs → p (get_or xs i d) ≡ false → filter p (take (i + 1) xs) ≡ filter p (take i xs)
   filter_skips p xs i d h e = filter_more p xs i d h ∙ ap (λ ys. filter p (take i xs) ++ ys) (cond-false (p (get_or xs i d)) (get_or xs i d ∷ []) [] e) ∙ append-nil (filter p (take i xs))
-
--- the last step
-pub walk_end-push : (steps : List WalkStep) (s : WalkStep) → walk_end (steps ++ s ∷ []) ≡ s.seconds
-walk_end-push [] s = refl
-walk_end-push (x ∷ []) s = refl
-walk_end-push (x ∷ y ∷ steps) s = walk_end-push (y ∷ steps) s
-
--- a walk that ends later has a step that is reached then
-pub step_there : (now left : ℕ) (steps : List WalkStep) → left ≤ now → now < left + walk_end steps → IsSome (step_from now left steps)
-step_there now left [] le h = absurd (omega arith)
-step_there now left (x ∷ []) le h = rw (le-leb now (left + x.seconds) (omega arith)) refl
-step_there now left (x ∷ y ∷ steps) le h = grind (arith, nat_tests, step_there now left (y ∷ steps) le)
 
 pub standing-push : (dwell : ℕ) (at : Stay) (stops : List PlannedStop) (s : PlannedStop) → standing_after dwell at (stops ++ s ∷ []) ≡ record { node = s.node; second = s.second; free = s.second + dwell }
 standing-push dwell at [] s = refl

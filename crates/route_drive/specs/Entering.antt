@@ -1,6 +1,6 @@
 -- What is on its way for a vehicle, and what is entered of it before a seal.
-use Rattle.std.specs.Prelude.{◌≡◌, ◌⊎◌, ℕ, ◌+◌, ◌<◌, ◌≤◌, max, nat_lt, nat_le, if◌then◌else◌, List, [], ◌∷◌, ◌++◌, Option, None, Some, map, filter, find, Contains, fold}
-use Rattle.std.specs.List.{Any, flat_map, zip}
+use Rattle.std.specs.Prelude.{◌≡◌, ◌⊎◌, ℕ, ◌+◌, ◌<◌, ◌≤◌, max, nat_lt, nat_le, ◌&&◌, if◌then◌else◌, List, [], ◌∷◌, ◌++◌, Option, None, Some, map, filter, Contains, fold}
+use Rattle.std.specs.List.{Any, flat_map, list_any, zip}
 use Rattle.pool_base.specs.TravelTime.{longest}
 use Rattle.batch_snapshot.specs.declared.vehicle.Vehicle.{Vehicle}
 use Rattle.request_book.specs.declared.command.Command.{Command}
@@ -35,29 +35,24 @@ abbrev pub goal_of : Option ℕ → List PlannedStop → Option ℕ
 goal_of target [] = target
 goal_of target (stop ∷ stops) = Some stop.node
 
--- the seconds of a walk's last step, 0 without a step
-abbrev pub walk_end : List WalkStep → ℕ
-walk_end [] = 0
-walk_end (step ∷ []) = step.seconds
-walk_end (step ∷ steps) = walk_end steps
+-- the steps that lead a vehicle from a node to its goal: those of a shortest walk; none without a goal, and none where no walk leads there
+abbrev pub IsWay : Roads → ℕ → Option ℕ → List WalkStep → Type 0
+IsWay roads from None steps = steps ≡ []
+IsWay roads from (Some to) steps =
+    IsShortestWalk roads from to steps
+    ⊎ ((steps ≡ []) × (Contains roads.nodes from → Contains roads.nodes to → HasNoWalk roads.arcs (index_in roads.nodes from) (index_in roads.nodes to)))
 
--- where a vehicle is reported at a seal
-pub data IsReported (roads : Roads) (now : ℕ) (at : Stay) (goal : Option ℕ) (there : NodeAt) : Type 0 where
-  -- it can't leave before the seal: where it is, when it can
-  stays : now < at.free → there ≡ record { node = at.node; second = at.free } → IsReported roads now at goal there
-  -- it goes nowhere: where it is, by now
-  rests : at.free ≤ now → goal ≡ None → there ≡ record { node = at.node; second = max now at.second } → IsReported roads now at goal there
-  -- no walk leads where it goes: the same
-  is_cut_off : (to : ℕ) → at.free ≤ now → goal ≡ Some to
-      → (Contains roads.nodes at.node → Contains roads.nodes to → HasNoWalk roads.arcs (index_in roads.nodes at.node) (index_in roads.nodes to))
-      → there ≡ record { node = at.node; second = max now at.second } → IsReported roads now at goal there
-  -- it is on its way at the seal: the first node of a shortest walk that it reaches by then or later, when it does
-  walks : (to : ℕ) (steps : List WalkStep) (step : WalkStep) → at.free ≤ now → goal ≡ Some to → IsShortestWalk roads at.node to steps
-      → now < at.free + walk_end steps → find (λ step. nat_le now (at.free + step.seconds)) steps ≡ Some step
-      → there ≡ record { node = step.node; second = at.free + step.seconds } → IsReported roads now at goal there
-  -- it has arrived: at the end of the walk, by now
-  arrived : (to : ℕ) (steps : List WalkStep) → at.free ≤ now → goal ≡ Some to → IsShortestWalk roads at.node to steps
-      → at.free + walk_end steps ≤ now → there ≡ record { node = to; second = max now at.second } → IsReported roads now at goal there
+-- where a vehicle is that leaves a node at a second on these steps: at the first that it comes to at now or later, while one is later than now; else at the last, by now
+abbrev pub reached_by : ℕ → ℕ → ℕ → List WalkStep → NodeAt
+reached_by now free node [] = record { node = node; second = max now free }
+reached_by now free node (step ∷ steps) =
+    if nat_le now (free + step.seconds) && list_any (λ s. nat_lt now (free + s.seconds)) (step ∷ steps) then record { node = step.node; second = free + step.seconds } else reached_by now free step.node steps
+
+-- where a vehicle is reported at a seal: on its way to its goal; where it can't leave before the seal it has no way yet
+pub record IsReported (roads : Roads) (now : ℕ) (at : Stay) (goal : Option ℕ) (there : NodeAt) : Type 0 where
+  pub steps : List WalkStep
+  pub way : IsWay roads at.node (if nat_lt now at.free then None else goal) steps
+  pub is : there ≡ reached_by now at.free at.node steps
 
 -- what is entered of a vehicle before a seal: its stops that are due, each at its second, and where it is then
 pub record IsEntered (roads : Roads) (dwell now : ℕ) (v : Vehicle) (course : Course) (commands : List Command) : Type 0 where

@@ -1,14 +1,13 @@
 //! Where vehicles are at a seal.
-ghost use Rattle.std.specs.Prelude.{◌≡◌, ◌+◌, ◌<◌, ◌≤◌, Some, Contains, IfOk, IfSome, MatchOption, length, max};
-ghost use Rattle.std.specs.List.{AllZip};
+ghost use Rattle.std.specs.Prelude.{◌≡◌, ◌+◌, ◌≤◌, Contains, IfOk, MatchOption, length, nat_lt};
+ghost use Rattle.std.specs.List.{AllZip, list_any};
 ghost use Rattle.pool_base.specs.TravelTime.{longest};
 ghost use Rattle.road_network.specs.Roads.{index_in};
 ghost use Rattle.road_network.specs.Walk.{HasNoWalk};
-ghost use Rattle.route_drive.specs.Entering.{IsReported, due, goal_of, standing_after, to_come, walk_end};
-ghost use Rattle.route_drive.specs.work.Drive.{reported_place, step_from};
+ghost use Rattle.route_drive.specs.Entering.{IsReported, due, goal_of, reached_by, standing_after, to_come};
+ghost use Rattle.route_drive.specs.work.Drive.{reported_place};
 ghost use Rattle.route_drive.specs.work.Places.{ArePlaced, IsPlaced, heading_of, headings_of};
 ghost use Rattle.route_drive.specs.Walk.{IsShortestWalk};
-ghost use Rattle.route_drive.specs.declared.walk.WalkStep.{WalkStep};
 
 use crate::course::{Course, Heading, NodeAt, Stay};
 use crate::walk::{WalkStep, shortest_walk_with};
@@ -168,31 +167,6 @@ fn walk_between(
     }
 }
 
-/// The seconds of the last step.
-fn last_seconds(steps: &[WalkStep]) -> u32
-    ensures { result ≡ walk_end steps.now }
-{
-    let mut end = 0;
-    for step in steps {
-        end = step.seconds;
-    }
-    end
-}
-
-/// The first step that is reached by now or later.
-fn first_step(now: u64, left: u64, steps: &[WalkStep]) -> Option<WalkStep>
-    requires left { left ≤ now }
-    requires now { now ≤ longest }
-    ensures { result ≡ step_from now left steps.now }
-{
-    for step in steps {
-        if now <= left + step.seconds as u64 {
-            return Some(*step);
-        }
-    }
-    None
-}
-
 /// Where a vehicle is reported.
 fn reported(
     search: &mut Search,
@@ -204,43 +178,48 @@ fn reported(
     ensures { IfOk result (IsReported arcs.now.network.now now at goal) }
 {
     let now = now.get() as u64;
-    if now < at.free {
-        return Ok(NodeAt {
-            node: at.node,
-            second: at.free,
-        });
-    }
     let rest = NodeAt {
         node: at.node,
-        second: now.max(at.second),
+        second: now.max(at.free),
     };
+    if now < at.free {
+        return Ok(rest);
+    }
     let Some(to) = goal else {
         return Ok(rest);
     };
     let Some(steps) = walk_between(search, arcs, at.node, to)? else {
         return Ok(rest);
     };
-    Ok(on_walk(now, at, to, &steps))
+    Ok(reached_by(now, at, &steps))
 }
 
-/// Where a vehicle is reported on a walk that it left for.
-fn on_walk(now: u64, at: Stay, to: NodeId, steps: &[WalkStep]) -> NodeAt
+/// Where a vehicle is that leaves here on these steps.
+fn reached_by(now: u64, at: Stay, steps: &[WalkStep]) -> NodeAt
     requires free { at.free ≤ now }
     requires now { now ≤ longest }
-    ensures walks { now < at.free + walk_end steps.now → (step : WalkStep) × (step_from now at.free steps.now ≡ Some step) × (result ≡ record { node = step.node; second = at.free + step.seconds }) }
-    ensures arrived { at.free + walk_end steps.now ≤ now → result ≡ record { node = to; second = max now at.second } }
+    ensures { result ≡ reached_by now at.free at.node steps.now }
 {
-    let end = at.free + last_seconds(steps) as u64;
-    if now < end {
-        let step = first_step(now, at.free, steps).unwrap();
-        NodeAt {
-            node: step.node,
-            second: at.free + step.seconds as u64,
+    let is_under_way = has_later(now, at.free, steps);
+    let mut node = at.node;
+    for step in steps {
+        let second = at.free + step.seconds as u64;
+        if is_under_way && now <= second {
+            return NodeAt {
+                node: step.node,
+                second,
+            };
         }
-    } else {
-        NodeAt {
-            node: to,
-            second: now.max(at.second),
-        }
+        node = step.node;
     }
+    NodeAt { node, second: now }
+}
+
+/// Whether some step is reached later than now.
+fn has_later(now: u64, free: u64, steps: &[WalkStep]) -> bool
+    requires free { free ≤ now }
+    requires now { now ≤ longest }
+    ensures { result ≡ list_any (λ step. nat_lt now (free + step.seconds)) steps.now }
+{
+    steps.iter().any(|step| now < free + step.seconds as u64)
 }

@@ -1,5 +1,5 @@
 -- A day under way.
-use Rattle.std.specs.Prelude.{◌≡◌, ◌≢◌, ◌<◌, ◌≤◌, ℕ, List, [], ◌∷◌, ◌++◌, Some, All, length, map, Option, take, slice_index_or, None, ◌+◌, nat_le, find}
+use Rattle.std.specs.Prelude.{◌≡◌, ◌≢◌, ◌<◌, ◌≤◌, ℕ, List, [], ◌∷◌, ◌++◌, Some, All, length, map, Option, take, slice_index_or, None}
 use Rattle.std.specs.List.{Any}
 use Rattle.request_book.specs.Book.{BookView, next_position}
 use Rattle.request_book.specs.Replay.{state_after}
@@ -27,15 +27,10 @@ use Rattle.route_drive.specs.Entering.{EntersTooLate, left_commands, second_of}
 use Rattle.route_drive.specs.declared.day.DayFault.{DayFault}
 use Rattle.batch_snapshot.specs.declared.vehicle.Vehicle.{Vehicle}
 use Rattle.route_drive.specs.declared.course.Stay.{Stay}
-use Rattle.route_drive.specs.declared.walk.WalkStep.{WalkStep}
 
 -- where a vehicle was reported, and from when on it can leave
 abbrev pub reported_place : Vehicle → Stay
 reported_place v = record { node = v.node; second = v.time; free = v.time }
-
--- the first step that is reached by now or later, by a walk that is left at a second
-abbrev pub step_from : ℕ → ℕ → List WalkStep → Option WalkStep
-step_from now left steps = find (λ step. nat_le now (left + step.seconds)) steps
 
 -- a command has a second of at most 1,000,000,000
 abbrev pub IsInTime : Command → Type 0
