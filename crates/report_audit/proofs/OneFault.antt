@@ -110,7 +110,7 @@ module _ (roads : Roads) (vehicles : List Vehicle) (rounds : List NumberedLanes)
   few = (let n = given.fleet.count in omega (arith, n))
 
   numbers : All (λ r. r.number ≤ 1000000000) rounds
-  numbers = All-weaker IsRound (λ (r : NumberedLanes). r.number ≤ 1000000000) (λ r is. is.named) rounds given.rounds
+  numbers = All-weaker IsRound (λ (r : NumberedLanes). r.number ≤ 1000000000) (λ r is. is.named) rounds given.kept
 
   -- the text has a head, behind which it goes on to where it ends
   abbrev GoesTo : Settings → Cause → List ℕ → Type 0

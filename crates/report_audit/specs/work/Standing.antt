@@ -44,7 +44,7 @@ use Rattle.report_audit.specs.work.Place.{entries_text, with_entry}
 pub record IsGiven (roads : Roads) (vehicles : List Vehicle) (rounds : List NumberedLanes) : Type 0 where
   pub sizes : AreSizes (sizes_of roads)
   pub fleet : IsFleet vehicles
-  pub rounds : All IsRound rounds
+  pub kept : All IsRound rounds
 
 -- the fault of a head
 abbrev pub fault_of_head : HeadFault → AuditFault

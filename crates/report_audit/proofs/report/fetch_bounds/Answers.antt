@@ -5,5 +5,5 @@ pub returns : goal.returns
 returns c = record {
   sizes = (subst (λ (k : ℕ). k < 2 ^ 64) c.node_count.ensures.count (omega arith), subst (λ (k : ℕ). k < 2 ^ 64) c.arc_count.ensures.count (omega arith));
   fleet = c.vehicles-vehicles.ensures.kept;
-  rounds = c.rounds-rounds.ensures.kept;
+  kept = c.rounds-rounds.ensures.kept;
 }
