@@ -12,7 +12,8 @@ pub use Rattle.dispatch_report.specs.Round.{entry_block}
 unfoldable pub use Rattle.dispatch_report.specs.Summary.{load_text, summary_text}
 pub use Rattle.dispatch_report.specs.Summary.{batch_lines}
 pub use Rattle.dispatch_report.specs.Words.{numbered, signed, spaced}
-pub use Rattle.dispatch_report.specs.Written.{Change, SinkView, WritesText, sink_seen}
+pub use Rattle.pool_io.specs.Views.{Change, SinkView, sink_seen}
+pub use Rattle.dispatch_report.specs.Written.{WritesText}
 pub use Rattle.dispatch_report.specs.work.Lines.{IsSame, WritesBytes, WritesLines}
 pub use Rattle.pool_io.specs.Faults.{Rose, one_more}
 pub use Rattle.pool_io.specs.Sink.{AppendsPart}

@@ -3,7 +3,7 @@ ghost use Rattle.std.specs.List.{flat_map};
 ghost use Rattle.dispatch_report.specs.Block.{stop_text, block_line_text, row_as_line, trip_as_line, late_as_line, tree_line, lines_of_answer, block_lines};
 ghost use Rattle.dispatch_report.specs.declared.block_line.BlockLine.TheVariants.{Alone, Shared, Move as Moved};
 ghost use Rattle.dispatch_report.specs.Words.{numbered, signed};
-ghost use Rattle.dispatch_report.specs.Written.{sink_seen};
+ghost use Rattle.pool_io.specs.Views.{sink_seen};
 ghost use Rattle.dispatch_report.specs.work.Block.{late_order};
 ghost use Rattle.dispatch_report.specs.work.Lines.{WritesLines};
 ghost use Rattle.request_book.specs.declared.outcome.Answer.TheVariants.{Planned as Plan};

@@ -1,7 +1,8 @@
 ghost use Rattle.std.specs.Prelude.{◌≡◌, ◌++◌, OnOk, codes};
 ghost use Rattle.dispatch_report.specs.Day.{day_line, day_end_text};
 ghost use Rattle.dispatch_report.specs.Words.{numbered};
-ghost use Rattle.dispatch_report.specs.Written.{sink_seen, WritesText};
+ghost use Rattle.pool_io.specs.Views.{sink_seen};
+ghost use Rattle.dispatch_report.specs.Written.{WritesText};
 
 use crate::block::write_number;
 use crate::fault::ReportFault;

@@ -1,7 +1,8 @@
 ghost use Rattle.std.specs.Prelude.{◌≡◌, ◌==◌, ◌++◌, ◌∷◌, [], OnOk, codes, length, if◌then◌else◌};
 ghost use Rattle.dispatch_report.specs.Head.{settings_line, head_text};
 ghost use Rattle.dispatch_report.specs.Words.{numbered};
-ghost use Rattle.dispatch_report.specs.Written.{sink_seen, WritesText};
+ghost use Rattle.pool_io.specs.Views.{sink_seen};
+ghost use Rattle.dispatch_report.specs.Written.{WritesText};
 ghost use Rattle.dispatch_report.specs.work.Lines.{WritesLines};
 
 use crate::block::{write_number, write_words};

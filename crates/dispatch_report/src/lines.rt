@@ -1,5 +1,5 @@
 ghost use Rattle.std.specs.Prelude.{◌≡◌, ◌++◌, ◌∷◌, [], List, ℕ, OnOk, map, MatchResult, Err};
-ghost use Rattle.dispatch_report.specs.Written.{sink_seen};
+ghost use Rattle.pool_io.specs.Views.{sink_seen};
 ghost use Rattle.dispatch_report.specs.work.Lines.{IsSame, WritesBytes, WritesLines};
 
 use crate::fault::ReportFault;

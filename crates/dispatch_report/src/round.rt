@@ -2,7 +2,8 @@ ghost use Rattle.std.specs.Prelude.{◌++◌, ◌∷◌, [], codes};
 ghost use Rattle.dispatch_report.specs.Entry.{entry_line};
 ghost use Rattle.dispatch_report.specs.Round.{entry_block, entries_lines, round_text, end_text};
 ghost use Rattle.dispatch_report.specs.Words.{numbered};
-ghost use Rattle.dispatch_report.specs.Written.{sink_seen, WritesText};
+ghost use Rattle.pool_io.specs.Views.{sink_seen};
+ghost use Rattle.dispatch_report.specs.Written.{WritesText};
 ghost use Rattle.dispatch_report.specs.work.Lines.{WritesLines};
 
 use crate::block::{write_block, write_number};

@@ -1,6 +1,7 @@
 //! The texts of a report that is written while its run goes on: the line that begins a round, and each entry.
 ghost use Rattle.dispatch_report.specs.Round.{entry_text, round_line};
-ghost use Rattle.dispatch_report.specs.Written.{sink_seen, WritesText};
+ghost use Rattle.pool_io.specs.Views.{sink_seen};
+ghost use Rattle.dispatch_report.specs.Written.{WritesText};
 
 use crate::fault::ReportFault;
 use crate::lines::write_rest;

@@ -3,7 +3,8 @@ ghost use Rattle.std.specs.List.{flat_map, list_any};
 ghost use Rattle.dispatch_report.specs.Summary.{answer_text, batch_lines, load_text, summary_text};
 ghost use Rattle.dispatch_report.specs.work.Named.{pickups};
 ghost use Rattle.dispatch_report.specs.Words.{numbered, signed};
-ghost use Rattle.dispatch_report.specs.Written.{sink_seen, WritesText};
+ghost use Rattle.pool_io.specs.Views.{sink_seen};
+ghost use Rattle.dispatch_report.specs.Written.{WritesText};
 ghost use Rattle.dispatch_report.specs.work.Lines.{WritesLines};
 
 use crate::fault::ReportFault;

@@ -13,6 +13,7 @@ mod ordering;
 mod pivots;
 mod pool;
 mod pricing;
+mod solution;
 mod sparse;
 
 use crate::allowance::Allowance;
@@ -20,13 +21,10 @@ use crate::relaxation::basis::Basis;
 use crate::relaxation::pool::Pool;
 use crate::relaxation::sparse::Sparse;
 pub use dual::Ended;
-use row_tables::fixed_point::{ONE, at, copy, item, reset, set_at, times, write_over};
-use row_tables::{Made, RowTable, Share};
+use row_tables::fixed_point::{at, copy, item, reset, set_at, write_over};
+use row_tables::{Made, RowTable};
 use std::alloc::Global;
 use std::mem::replace;
-
-/// Within so much of what it may be at most a solution counts as the best, in 1/1024 second.
-const NEAR: i64 = 200;
 
 /// No column costs more, in units of 2^scale seconds.
 const MOST_COST: i64 = 10_000_000;
@@ -357,45 +355,9 @@ impl Relaxation {
         self.basis.copy_from(&saved.basis)
     }
 
-    /// What the solution costs, in units of 2^-32 of 2^scale seconds.
-    pub fn cost(&self) -> i64 {
-        self.cost_of_all(&self.basis.levels)
-    }
-
-    /// What so much of each column of the basis costs.
-    fn cost_of_all(&self, parts: &[i64]) -> i64 {
-        let mut cost: i64 = 0;
-        for (column, part) in self.basis.columns.iter().zip(parts) {
-            cost = cost.wrapping_add(times(self.cost_of(*column as usize), *part));
-        }
-        cost
-    }
-
     /// A number of seconds in the units of costs.
     pub fn in_prices(&self, seconds: i64) -> i64 {
         in_prices(seconds, self.scale)
-    }
-
-    /// Lists the rows of which the solution chooses more than a hundredth.
-    pub fn find_shares(&mut self, table: &RowTable, shares: &mut Vec<Share>) -> Made<()> {
-        self.basis.find_parts(&mut self.parts);
-        shares.clear();
-        for (column, part) in self.basis.columns.iter().zip(&self.parts) {
-            if (*column as usize) < table.row_count() && *part > ONE / 100 {
-                shares.push(Share {
-                    row: *column,
-                    part: *part,
-                })?;
-            }
-        }
-        Ok(())
-    }
-
-    /// Whether the value is so near to what the solution costs that it is the best.
-    fn is_near(&mut self) -> bool {
-        self.basis.find_parts(&mut self.parts);
-        let bound = self.in_multipliers(self.cost_of_all(&self.parts));
-        bound.saturating_sub(self.value) < NEAR
     }
 
     /// A price in 1/1024 second.

@@ -16,7 +16,7 @@ use Rattle.rider_notices.specs.Told.{HaveHeard, NotifierView}
 use Rattle.rider_notices.specs.declared.notice.Notice.{Notice}
 use Rattle.dispatch_report.specs.Lines.{lines_text}
 use Rattle.dispatch_report.specs.Round.{entries_lines, entry_text}
-use Rattle.dispatch_report.specs.Written.{SinkView}
+use Rattle.pool_io.specs.Views.{SinkView}
 use Rattle.dispatch_report.specs.declared.fault.ReportFault.{ReportFault}
 use Rattle.dispatch_report.specs.declared.fault.ReportFault.TheVariants.{WriteFault}
 

@@ -17,7 +17,8 @@ unfoldable pub use Rattle.dispatch_report.specs.Lines.{lines_text}
 unfoldable pub use Rattle.dispatch_report.specs.Round.{end_text, round_text}
 pub use Rattle.dispatch_report.specs.Round.{entries_lines, entry_text, round_line}
 pub use Rattle.dispatch_report.specs.Words.{numbered}
-pub use Rattle.dispatch_report.specs.Written.{Change, SinkView, WritesText}
+pub use Rattle.pool_io.specs.Views.{Change, SinkView}
+pub use Rattle.dispatch_report.specs.Written.{WritesText}
 pub use Rattle.dispatch_report.specs.declared.fault.ReportFault.{ReportFault}
 pub use Rattle.live_batch.proofs.lemmas.RowLemmas.{all-begin, runs-begin, runs-more, takes-all, takes-begin, takes-more, takes-none, takes-start}
 pub use Rattle.live_batch.specs.Phase.{AreRows, BeginWithRows, ClosesBatch, FaultsFrom, GoesOn, TakesRun, commands_of_pass, desk_after, entry_command, row_command}

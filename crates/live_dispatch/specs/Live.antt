@@ -7,7 +7,7 @@ use Rattle.pool_io.specs.Sink.{AppendsPart}
 use Rattle.dispatch_engine.specs.Lane.{ClosesAreGood, IsLaneBeginning, of_lane}
 use Rattle.dispatch_engine.specs.Run.{IsRun, position_after_run, state_after_run}
 use Rattle.dispatch_report.specs.Round.{end_text, round_text}
-use Rattle.dispatch_report.specs.Written.{Change, SinkView}
+use Rattle.pool_io.specs.Views.{Change, SinkView}
 use Rattle.live_batch.specs.Phase.{AreRows, BeginWithRows}
 use Rattle.request_book.specs.Book.{BookView}
 use Rattle.request_book.specs.Replay.{RepliesAreSteps}

@@ -1,7 +1,8 @@
 //! A run between two rows, and its end.
 ghost use Rattle.std.specs.Prelude.{◌≡◌, Result, Err};
 ghost use Rattle.dispatch_report.specs.Round.{end_text};
-ghost use Rattle.dispatch_report.specs.Written.{sink_seen, WritesText};
+ghost use Rattle.pool_io.specs.Views.{sink_seen};
+ghost use Rattle.dispatch_report.specs.Written.{WritesText};
 ghost use Rattle.dispatch_report.specs.declared.fault.ReportFault.{ReportFault};
 ghost use Rattle.request_book.specs.Book.{next_position};
 ghost use Rattle.live_dispatch.specs.work.Standing.{ended_by};

@@ -1,7 +1,8 @@
 //! A row, while no batch is open.
 ghost use Rattle.std.specs.Prelude.{◌≡◌, ◌<◌, ◌∷◌, ◌++◌, [], List, length, IfOk};
 ghost use Rattle.dispatch_report.specs.Round.{entry_text};
-ghost use Rattle.dispatch_report.specs.Written.{sink_seen, WritesText};
+ghost use Rattle.pool_io.specs.Views.{sink_seen};
+ghost use Rattle.dispatch_report.specs.Written.{WritesText};
 ghost use Rattle.request_book.specs.Book.{next_position};
 ghost use Rattle.request_book.specs.declared.journal.Entry.{Entry};
 ghost use Rattle.live_dispatch.specs.work.Rows.{start_text};

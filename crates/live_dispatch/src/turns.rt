@@ -3,7 +3,7 @@ ghost use Rattle.std.specs.Prelude.{◌≡◌, ℕ, List, ◌<◌, ◌≤◌, �
 ghost use Rattle.std.specs.Result.{IsErrOf};
 ghost use Rattle.pool_io.specs.Faults.{Rose};
 ghost use Rattle.dispatch_engine.specs.Run.{IsReady};
-ghost use Rattle.dispatch_report.specs.Written.{Change, sink_seen};
+ghost use Rattle.pool_io.specs.Views.{Change, sink_seen};
 ghost use Rattle.live_desk.specs.Desk.{outputs_seen};
 ghost use Rattle.live_rows.specs.Rows.{ComesBehind};
 ghost use Rattle.rider_notices.specs.Seen.{notifiers_seen};

@@ -9,6 +9,7 @@ pub mod EntryLemmas
 pub mod RoundLemmas
 pub mod WholeLemmas
 mod HeadFaults
+pub mod CauseLemmas
 pub mod OneEnd
 pub mod OneFault
 pub mod Common

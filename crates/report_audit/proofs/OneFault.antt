@@ -14,7 +14,8 @@ use Rattle.report_lines.proofs.lemmas.LineLemmas.{line_more}
 use Rattle.report_lines.proofs.lemmas.WholeHead.{lawful_short, no_head as fails_no_head, same_settings, settings_line_is, settings_one_line, told_lawful}
 use Rattle.request_book.proofs.lemmas.BookLemmas.{opening-consistent}
 use Rattle.report_audit.proofs.HeadFaults.{head_fails_once}
-use Rattle.report_audit.proofs.OneEnd.{Cause, Over, Cut, Form, Wrong, Block, Ends, EndsHere, IsRestBehind, IsRestOf, IsSound, journal_from, one_behind, one_between}
+use Rattle.report_audit.proofs.CauseLemmas.{Cause, Over, Cut, Form, Wrong, Block, Ends}
+use Rattle.report_audit.proofs.OneEnd.{EndsHere, IsRestBehind, IsRestOf, IsSound, journal_from, one_behind, one_between}
 use Rattle.report_audit.proofs.TextLemmas.{end-is, round-is}
 use Rattle.report_audit.specs.Place.{HasRounds}
 use Rattle.report_audit.specs.declared.fault.AuditFault.TheVariants as fault

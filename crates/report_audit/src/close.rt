@@ -4,7 +4,7 @@ ghost use Rattle.request_book.specs.Book.{next_position};
 ghost use Rattle.report_audit.specs.work.Standing.{BlockFails, IsBookOf, TakesClose, close_line};
 
 use crate::line::{Between, is_entry_line};
-use crate::setup::Setup;
+use crate::setup::AuditSetup;
 use batch_snapshot::Snapshot;
 use block_audit::{BlockRefusal, audit_block};
 use pool_base::{OutOfMemory, Sequence};
@@ -22,7 +22,7 @@ pub(crate) fn audit_close<'a, G: Gate>(
     snapshot: &Snapshot,
     lane: u8,
     between: Between<'a>,
-    setup: &Setup<'_, G>,
+    setup: &AuditSetup<'_, G>,
 ) -> Result<Option<&'a [u8]>, BlockRefusal>
     requires book { IsBookOf setup.now.settings.now setup.now.network.now book.old }
     requires sealed { book.old.state.sealed ≡ Some snapshot.now }

@@ -19,7 +19,7 @@ ghost use Rattle.script_rows.specs.Round.{IsRound};
 use crate::close::audit_close;
 use crate::fault::{AuditFault, block_fault};
 use crate::line::{Between, is_entry_line, line_at, line_between, wrong_line};
-use crate::setup::Setup;
+use crate::setup::AuditSetup;
 use batch_snapshot::Snapshot;
 use block_audit::BlockRefusal;
 use dispatch_engine::Progress;
@@ -41,7 +41,7 @@ pub(crate) fn audit_entry<'a, G: Gate>(
     sealed: &mut Option<Snapshot>,
     round: &Round,
     text: &'a [u8],
-    setup: &Setup<'_, G>,
+    setup: &AuditSetup<'_, G>,
 ) -> Result<&'a [u8], AuditFault>
     requires { IsWithin setup.now.settings.now setup.now.network.now round.now book.old lanes.old sealed.old }
     ensures { MatchResult result (λ rest. EntryRead setup.entry.now.settings.now setup.entry.now.network.now round.entry.now book.old book.new lanes.new sealed.new text.entry.now rest.now)
@@ -63,7 +63,7 @@ fn take_entry<'a, G: Gate>(
     sealed: &mut Option<Snapshot>,
     round: &Round,
     between: Between<'a>,
-    setup: &Setup<'_, G>,
+    setup: &AuditSetup<'_, G>,
 ) -> Result<Option<&'a [u8]>, BlockRefusal>
     requires within { IsWithin setup.now.settings.now setup.now.network.now round.now book.old lanes.old sealed.old }
     requires form { IsNextLine between.next between.line.now }

@@ -11,7 +11,7 @@ ghost use Rattle.report_lines.specs.Head.{BeginsWithHead};
 use crate::fault::{AuditFault, Audited, of_head};
 use crate::line::{behind_line, nothing_behind};
 use crate::round::audit_round;
-use crate::setup::Setup;
+use crate::setup::AuditSetup;
 use batch_snapshot::Fleet;
 use dispatch_engine::opened_book;
 use report_lines::{NextLine, read_head};
@@ -53,7 +53,7 @@ pub fn audit<G: Gate>(
         Ok(head) => head,
         Err(fault) => return Err(of_head(fault)),
     };
-    let setup = Setup {
+    let setup = AuditSetup {
         alloc,
         report,
         network,
@@ -70,7 +70,7 @@ fn audit_behind<G: Gate>(
     text: &[u8],
     fleet: &Fleet,
     script: &Script,
-    setup: &Setup<'_, G>,
+    setup: &AuditSetup<'_, G>,
 ) -> Result<(u64, u64), AuditFault>
     requires nodes { All (λ vehicle. IsNode setup.now.network.now.nodes vehicle.node) fleet.now }
     requires head { BeginsWithHead setup.now.settings.now.workers setup.now.network.now (length fleet.now) setup.now.report.now setup.now.settings.now text.now }
@@ -89,7 +89,7 @@ fn audit_rounds<G: Gate>(
     text: &[u8],
     fleet: &Fleet,
     script: &Script,
-    setup: &Setup<'_, G>,
+    setup: &AuditSetup<'_, G>,
 ) -> Result<(u64, u64), AuditFault>
     requires opened { IsOpened setup.now.settings.now setup.now.network.now fleet.now book.old }
     requires head { BeginsWithHead setup.now.settings.now.workers setup.now.network.now (length fleet.now) setup.now.report.now setup.now.settings.now text.now }

@@ -6,7 +6,7 @@ ghost use Rattle.report_audit.specs.work.Standing.{IsRoundStart, IsThrough, Roun
 use crate::entry::audit_entry;
 use crate::fault::AuditFault;
 use crate::line::behind_line;
-use crate::setup::Setup;
+use crate::setup::AuditSetup;
 use dispatch_engine::Progress;
 use report_lines::NextLine;
 use request_book::{Book, Command, Entry, Reply};
@@ -29,7 +29,7 @@ pub(crate) fn audit_round<'a, G: Gate>(
     round: &Round,
     text: &'a [u8],
     first: bool,
-    setup: &Setup<'_, G>,
+    setup: &AuditSetup<'_, G>,
 ) -> Result<RoundRead<'a>, AuditFault>
     requires { IsRoundStart setup.now.settings.now setup.now.network.now book.old }
     ensures { MatchResult result (λ r. IsRead setup.entry.now.settings.now setup.entry.now.network.now setup.entry.now.report.now round.entry.now book.old text.entry.now first book.new r.rest.now r.batches)
@@ -51,7 +51,7 @@ fn audit_entries<'a, G: Gate>(
     round: &Round,
     text: &'a [u8],
     first: bool,
-    setup: &Setup<'_, G>,
+    setup: &AuditSetup<'_, G>,
 ) -> Result<&'a [u8], AuditFault>
     requires { IsRoundStart setup.now.settings.now setup.now.network.now book.old }
     ensures { MatchResult result (λ rest. IsThrough setup.entry.now.settings.now setup.entry.now.network.now round.entry.now book.old book.new text.entry.now rest.now)

@@ -6,7 +6,7 @@ use worker_gate::Gate;
 /// What the rounds of an audit share: the allocator, the whole report, the network, the settings, and the gate that hears
 /// of pieces.
 #[derive(Drop)]
-pub(crate) struct Setup<'a, G: Gate> {
+pub(crate) struct AuditSetup<'a, G: Gate> {
     pub(crate) alloc: Global,
     pub(crate) report: &'a [u8],
     pub(crate) network: &'a Network,

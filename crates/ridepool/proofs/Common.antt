@@ -6,7 +6,8 @@ pub use Rattle.std.specs.Io.KnownBytes.{Appends}
 pub use Rattle.std.specs.List.{AllZip}
 pub use Rattle.batch_snapshot.specs.declared.vehicle.Vehicle.{Vehicle}
 pub use Rattle.dispatch_engine.specs.Run.{IsReady, IsRoundRun, IsRun, IsSameRun, journal_of, position_after_run, state_after_run}
-pub use Rattle.dispatch_report.specs.Written.{Change, SinkView, WritesText}
+pub use Rattle.pool_io.specs.Views.{Change, IsUntouched, SinkView, SourceView, source_seen}
+pub use Rattle.dispatch_report.specs.Written.{WritesText}
 pub use Rattle.dispatch_report.specs.declared.fault.ReportFault.{ReportFault}
 pub use Rattle.live_rows.specs.Lines.{Streamed, lines_in}
 pub use Rattle.load_maker.specs.Texts.{texts_of}
@@ -26,7 +27,7 @@ unfoldable pub use Rattle.ridepool.specs.Reading.{network_in, script_in, vehicle
 pub use Rattle.ridepool.specs.Reading.{IsFleetIn, first_version, in_rows, own_fault}
 pub use Rattle.ridepool.specs.Report.{AppendsWithPart, EndsText, IsCutShort, IsPart, IsWhole, RunsRounds, journals_of, rounds_notices}
 pub use Rattle.ridepool.specs.Run.{AnswersRun, RunsScript, RunsSome}
-pub use Rattle.ridepool.specs.Seen.{IsSilent, IsUntouched, Seen, SourceView, Sources, source_at, source_seen}
+pub use Rattle.ridepool.specs.Seen.{IsSilent, Seen, Sources, source_at}
 pub use Rattle.ridepool.specs.Status.{HidesNoMemory}
 pub use Rattle.ridepool.specs.declared.inputs.ReadInputs.{ReadInputs}
 pub use Rattle.ridepool.specs.declared.status.RunStatus.{RunStatus}

@@ -1,6 +1,7 @@
 pub mod ReadingLemmas
 pub mod ExitLemmas
 pub mod HeldLemmas
+pub mod BookLemmas
 pub mod WriteLemmas
 pub mod CompleteLemmas
 pub mod InputLemmas

@@ -1,12 +1,11 @@
 -- Texts of rounds, one after the other, and what stands where the last isn't whole.
-use Rattle.std.proofs.Common.{◌≡◌, ℕ, ◌+◌, ◌-◌, ◌^◌, ◌<◌, ◌≤◌, List, [], ◌∷◌, ◌++◌, length, take, drop, get_or, Option, Result, Ok, Err, MatchResult, refl, sym, subst, ap, ◌∙◌, append_assoc, append-nil, arith, Bool, true, false, not, ◌==◌}
+use Rattle.std.proofs.Common.{◌≡◌, ℕ, ◌+◌, ◌<◌, ◌≤◌, List, [], ◌∷◌, ◌++◌, length, take, drop, get_or, Option, Result, Ok, Err, MatchResult, refl, sym, subst, ap, ◌∙◌, append_assoc, append-nil, arith}
+use Rattle.ridepool.proofs.BookLemmas.{last_position, opened}
 use Rattle.ridepool.proofs.Common.{Appends, Appends-nil, Appends-trans, Appends-kept, map-append, AppendsPart, IsReady, IsRoundRun, IsRun, IsSameRun, journal_of, position_after_run, state_after_run, Audited, yes_text, ReportFault, Rose, BookView, IsBook, next_position, opening, Mode, Load, Drive, Settings, Roads, DayRound, NumberedLanes, Inputs, notices, NotifierView, HaveHeard, DrivesDay, AppendsWithPart, IsCutShort, IsPart, IsWhole, RunsRounds, journals_of, rounds_notices, RunsScript, RunsSome, AreAllRoundsWith, AreFirstRounds, IsReportWhole, added_by, first_text, head_of, BeginsRounds, EndsRounds, NextJournal, HasPut, PutsRound, IsUnput, StopsIn, RunsAll, RunsFirst, RunsFrom, WritesRound, IsReportFault, IsTextFault, IsRoundFault, IsWritingFault, day_ending, late_status, made_of, status_of, rounds_text, RunStatus, WriteFault, OutOfMemory}
 use Rattle.std.specs.List.{flat_map}
-use Rattle.std.proofs.lemmas.Bool.{eqb-true, false≢true}
 use Rattle.std.proofs.lemmas.Grind.{flat_map-append}
 use Rattle.std.proofs.lemmas.List.{take-append-drop, length-append}
 use Rattle.std.proofs.Math.Seq.{take-length}
-use Rattle.batch_snapshot.specs.Kept.{IsFleet}
 use Rattle.dispatch_engine.proofs.lemmas.RunLemmas.{position-more, run-more, state-more, take_next}
 use Rattle.dispatch_report.specs.Head.{head_text}
 use Rattle.dispatch_report.specs.Lines.{lines_text}
@@ -15,17 +14,12 @@ use Rattle.dispatch_report.specs.Summary.{load_text}
 use Rattle.request_book.specs.Replay.{state_after}
 use Rattle.request_book.specs.declared.journal.Journal.{Journal}
 use Rattle.dispatch_report.specs.declared.day.DayCounts.{DayCounts}
-use Rattle.route_drive.specs.Driven.{IsLateAnswer, IsNewBook, IsTooLateDay}
+use Rattle.route_drive.specs.Driven.{IsLateAnswer, IsTooLateDay}
 use Rattle.route_drive.specs.Promises.{IsKeptDay, IsRunOfDay}
 use Rattle.route_drive.specs.declared.day_run.DriveFault.{DriveFault}
 use Rattle.rider_notices.proofs.lemmas.HeardLemmas.{all-heard-nothing, all-heard-more}
 use Rattle.dispatch_report.specs.declared.fault.ReportFault.TheVariants as report
 use Rattle.route_drive.specs.declared.day_run.DriveFault.TheVariants as drive
-
--- positions stay below 2 ^ 64
-pub position_after_run-most : (position : ℕ) (js : List Journal) → position ≤ 2 ^ 64 - 1 → position_after_run position js ≤ 2 ^ 64 - 1
-position_after_run-most position [] most = most
-position_after_run-most position (k ∷ js) most = position_after_run-most (next_position position k.entries) js (omega arith)
 
 -- journals, numbers, texts and notices of rounds, and of one more
 journals_more : (made : List DayRound) (r : DayRound) → journals_of (made ++ r ∷ []) ≡ journals_of made ++ r.journal ∷ []
@@ -320,14 +314,6 @@ nothing_written i a n low =
     IsWritingFault.unwritten OutOfMemory
     (IsReportFault.unstored (IsPart.cut (IsCutShort.first_lines (nothing_of (head_of i) a (some_head i.settings.mode i.settings i.roads (length i.vehicles))) refl)))
 
--- the book of a call before its first round
-abbrev pub opened : Inputs → BookView
-opened i = record { nodes = i.roads.nodes; wait = i.settings.wait; first = 0; base = opening i.vehicles; entries = []; state = opening i.vehicles; spare = 0 }
-
--- no position lies behind the last
-last_position : (js : List Journal) → next_position (position_after_run 0 js) [] ≡ position_after_run 0 js
-last_position js = omega (arith, position_after_run-most 0 js (omega arith))
-
 -- where rounds are the first of those of a call, and are all of them with the last lines
 pub record Serves (i : Inputs) (P : List DayRound → Type 0) (Q : List DayRound → List ℕ → Type 0) : Type 0 where
   pub first : (made : List DayRound) → P made → AreFirstRounds i.settings.mode i made
@@ -396,28 +382,6 @@ day_serves i book made run driven is day =
       all = λ begun end report.
           subst (λ m. AreAllRoundsWith m i begun end) (sym driven) (subst (λ rs. DrivesDay i rs end) (sym report.0) (subst (DrivesDay i made) (sym report.1) whole));
     }
-
--- where nobody is told anything, there is no notifier
-pub nobody_told : (len size : ℕ) (none told : Bool) → size ≡ len → none ≡ (len == 0) → told ≡ not none → told ≡ false → size ≡ 0
-nobody_told len size true told same empty is nobody = same ∙ eqb-true len 0 (sym empty)
-nobody_told len size false told same empty is nobody = absurd (false≢true (sym nobody ∙ is))
-
--- the book of a call is new
-pub new_book : (i : Inputs) (book : BookView) → IsFleet i.vehicles → book ≡ opened i → IsNewBook i.settings i.roads book
-new_book i book fleet is =
-    record {
-      vehicles = i.vehicles;
-      fleet = fleet;
-      nodes = ap (λ b. b.nodes) is;
-      wait = ap (λ b. b.wait) is;
-      first = ap (λ b. b.first) is;
-      entries = ap (λ b. b.entries) is;
-      base = ap (λ b. b.base) is;
-      state = ap (λ b. b.state) is;
-    }
-
-pub ready_book : (i : Inputs) (book : BookView) → book ≡ opened i → IsReady i.settings i.roads book
-ready_book i book is = record { nodes = ap (λ b. b.nodes) is; wait = ap (λ b. b.wait) is; closed = ap (λ b. b.state.sealed) is }
 
 -- a day that comes too late, or lacks memory
 pub day_fault : (i : Inputs) (book : BookView) (a : Option (List ℕ)) (n : List NotifierView) (low : ℕ) (fault : DriveFault) (s : RunStatus) → i.settings.mode ≡ Drive → book ≡ opened i

@@ -12,7 +12,8 @@ use Rattle.report_audit.specs.declared.fault.AuditFault.{AuditFault}
 use Rattle.report_audit.specs.declared.fault.Audited.{Audited}
 use Rattle.rider_limits.specs.declared.settings.Settings.{Settings}
 use Rattle.ridepool.specs.Inputs.{Inputs, AreReadFrom, TellInputs, HasNoWriteFault, IsSourceTooLong, IsWithin, Reads, StopsOrReads, Tells}
-use Rattle.ridepool.specs.Seen.{IsSilent, IsUntouched, Seen}
+use Rattle.pool_io.specs.Views.{IsUntouched}
+use Rattle.ridepool.specs.Seen.{IsSilent, Seen}
 use Rattle.ridepool.specs.declared.status.RunStatus.{RunStatus}
 use Rattle.ridepool.specs.declared.status.RunStatus.TheVariants.{Done, TooLong, ReadFault, WriteFault, OutOfMemory, Report}
 

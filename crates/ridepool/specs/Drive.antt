@@ -14,7 +14,8 @@ use Rattle.route_drive.specs.declared.day.DayFault.{DayFault}
 use Rattle.route_drive.specs.declared.day_run.DayRound.{DayRound}
 use Rattle.ridepool.specs.Inputs.{Inputs, TellInputs, HasNoWriteFault, StopsOrReads}
 use Rattle.ridepool.specs.Report.{EndsText, journals_of}
-use Rattle.ridepool.specs.Seen.{IsSilent, IsUntouched, Seen}
+use Rattle.pool_io.specs.Views.{IsUntouched}
+use Rattle.ridepool.specs.Seen.{IsSilent, Seen}
 use Rattle.ridepool.specs.declared.status.RunStatus.{RunStatus}
 use Rattle.ridepool.specs.declared.status.RunStatus.TheVariants.{Done, OutOfMemory, Day, TooLate}
 

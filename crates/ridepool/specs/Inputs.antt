@@ -11,8 +11,8 @@ use Rattle.rider_limits.specs.declared.settings.Settings.{Settings}
 use Rattle.road_network.specs.Roads.{Roads}
 use Rattle.script_rows.specs.Round.{NumberedLanes}
 use Rattle.ridepool.specs.Reading.{network_in, vehicles_in, IsFleetIn, script_in}
-use Rattle.dispatch_report.specs.Written.{Change}
-use Rattle.ridepool.specs.Seen.{IsSilent, IsUntouched, Seen, SourceView, Sources, source_at}
+use Rattle.pool_io.specs.Views.{Change, IsUntouched, SourceView}
+use Rattle.ridepool.specs.Seen.{IsSilent, Seen, Sources, source_at}
 use Rattle.ridepool.specs.declared.status.RunStatus.{RunStatus}
 use Rattle.ridepool.specs.declared.status.RunStatus.TheVariants.{Network, Fleet, Script, TooLong, ReadFault, OutOfMemory}
 

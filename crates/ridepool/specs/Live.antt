@@ -3,7 +3,7 @@ use Rattle.std.specs.Prelude.{◌≡◌, ℕ, List, [], ◌∷◌, ◌++◌, Opt
 use Rattle.std.specs.Io.KnownBytes.{Appends}
 use Rattle.batch_snapshot.specs.declared.vehicle.Vehicle.{Vehicle}
 use Rattle.dispatch_report.specs.Head.{head_text}
-use Rattle.dispatch_report.specs.Written.{Change, SinkView}
+use Rattle.pool_io.specs.Views.{Change, IsUntouched, SinkView, SourceView}
 use Rattle.fleet_state.specs.declared.fault.FleetFault.{FleetFault}
 use Rattle.live_dispatch.specs.Live.{BeginsRows, RunsRows}
 use Rattle.live_rows.specs.Lines.{lines_in}
@@ -24,7 +24,6 @@ use Rattle.road_network.specs.declared.fault.NetworkFault.{NetworkFault}
 use Rattle.script_rows.specs.declared.line.Line.{Line}
 use Rattle.ridepool.specs.Inputs.{AreGood, IsSourceTooLong, IsWithin, Reads, Tells}
 use Rattle.ridepool.specs.Reading.{network_in, vehicles_in, IsFleetIn}
-use Rattle.ridepool.specs.Seen.{IsUntouched, SourceView}
 use Rattle.ridepool.specs.Status.{HidesNoMemory}
 use Rattle.ridepool.specs.declared.status.RunStatus.{RunStatus}
 use Rattle.ridepool.specs.declared.status.RunStatus.TheVariants.{Done, Words, Network, Fleet, Script, TooLong, ReadFault, WriteFault, OutOfMemory}

@@ -7,7 +7,8 @@ use Rattle.rider_limits.specs.declared.settings.Settings.{Settings}
 use Rattle.route_drive.specs.declared.day_run.DayRound.{DayRound}
 use Rattle.ridepool.specs.Inputs.{Inputs, TellInputs, HasNoWriteFault, StopsOrReads}
 use Rattle.ridepool.specs.Report.{EndsText, RunsRounds, journals_of}
-use Rattle.ridepool.specs.Seen.{IsUntouched, Seen}
+use Rattle.pool_io.specs.Views.{IsUntouched}
+use Rattle.ridepool.specs.Seen.{Seen}
 use Rattle.ridepool.specs.declared.status.RunStatus.{RunStatus}
 use Rattle.ridepool.specs.declared.status.RunStatus.TheVariants.{Done, OutOfMemory}
 

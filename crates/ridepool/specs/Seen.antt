@@ -1,26 +1,9 @@
 -- What is seen of a call: its words, its sources and its sink, at entry and at exit.
-use Rattle.std.specs.Prelude.{◌≡◌, ℕ, List, Option}
-use Rattle.dispatch_report.specs.Written.{Change, SinkView}
+use Rattle.std.specs.Prelude.{ℕ, List}
+use Rattle.pool_io.specs.Views.{Change, IsUntouched, SinkView, SourceView}
 use Rattle.pool_base.specs.declared.which.Which.{Which}
 use Rattle.pool_base.specs.declared.which.Which.TheVariants.{Network, Fleet, Script, Report}
 use Rattle.rider_notices.specs.Told.{NotifierView}
-
--- what a source tells: the bytes still to come, if it tells any; how many came so far; how many reads failed
-pub record SourceView : Type 0 where
-  pub left : Option (List ℕ)
-  pub taken : ℕ
-  pub faults : ℕ
-
--- a thing is as it was
-abbrev pub IsUntouched : {A : Type 0} → Change A → Type 0
-IsUntouched c = c.after ≡ c.before
-
--- a source in a call, by what its type tells of it
-abbrev pub source_seen : {S : Type 0} → (S → Option (List ℕ)) → (S → ℕ) → (S → ℕ) → S → S → Change SourceView
-source_seen left taken faults old new = record {
-  before = record { left = left old; taken = taken old; faults = faults old };
-  after = record { left = left new; taken = taken new; faults = faults new };
-}
 
 -- the sources of the inputs
 pub record Sources : Type 0 where

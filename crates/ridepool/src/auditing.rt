@@ -3,7 +3,7 @@ ghost use Rattle.std.specs.Io.KnownBytes.{Appends};
 ghost use Rattle.request_book.specs.Consistent.{IsNode};
 ghost use Rattle.ridepool.specs.Audit.{yes_text};
 ghost use Rattle.ridepool.specs.work.Ended.{IsRunReport};
-ghost use Rattle.ridepool.specs.Seen.{source_seen};
+ghost use Rattle.pool_io.specs.Views.{source_seen};
 ghost use Rattle.ridepool.specs.work.Auditing.{IsAuditFault, RefusesBytes, WritesYes};
 ghost use Rattle.ridepool.specs.work.Reading.{inputs_got};
 ghost use Rattle.ridepool.specs.work.Writing.{IsTextFault};

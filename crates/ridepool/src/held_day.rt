@@ -1,7 +1,8 @@
 //! The rounds of a day, held until it is driven to its end.
 ghost use Rattle.std.specs.Prelude.{◌≡◌, ◌≤◌, [], false, length, map, Bool, IfOk, List, MatchResult};
 ghost use Rattle.dispatch_engine.specs.Run.{position_after_run};
-ghost use Rattle.dispatch_report.specs.Written.{sink_seen, WritesText};
+ghost use Rattle.pool_io.specs.Views.{sink_seen};
+ghost use Rattle.dispatch_report.specs.Written.{WritesText};
 ghost use Rattle.request_book.specs.Consistent.{IsConsistent};
 ghost use Rattle.rider_limits.specs.declared.settings.Settings.{Settings as SettingsValue};
 ghost use Rattle.rider_notices.specs.Seen.{notifier_seen};

@@ -2,7 +2,7 @@
 ghost use Rattle.std.specs.Prelude.{◌≡◌, ◌≤◌, List, map, All, MatchResult, IfOk, IfErr};
 ghost use Rattle.std.specs.Io.KnownBytes.{Appends};
 ghost use Rattle.std.specs.String.{string_bytes};
-ghost use Rattle.dispatch_report.specs.Written.{sink_seen};
+ghost use Rattle.pool_io.specs.Views.{sink_seen, source_seen};
 ghost use Rattle.live_rows.specs.Start.{HasStarted};
 ghost use Rattle.request_book.specs.Consistent.{IsNode};
 ghost use Rattle.rider_notices.specs.Seen.{notifiers_seen};
@@ -10,7 +10,6 @@ ghost use Rattle.rider_notices.specs.Told.{NotifierView};
 ghost use Rattle.pool_base.specs.declared.which.Which.TheVariants as file;
 ghost use Rattle.ridepool.specs.Inputs.{IsWithin};
 ghost use Rattle.ridepool.specs.Live.{AnswersLive, AreLimited, AreLiveInputs, EndsLive, ExplainsLive, IsSilentCall, LiveCall, LiveInputs, LiveSeen, live_head, opened_book};
-ghost use Rattle.ridepool.specs.Seen.{source_seen};
 ghost use Rattle.ridepool.specs.Status.{HidesNoMemory};
 ghost use Rattle.ridepool.specs.work.Live.{live_seen, status_of_end, status_of_start};
 

@@ -6,7 +6,7 @@ ghost use Rattle.request_book.specs.Consistent.{IsNode};
 ghost use Rattle.ridepool.specs.Status.{HidesNoMemory};
 ghost use Rattle.ridepool.specs.Inputs.{Reads, most_bytes};
 ghost use Rattle.ridepool.specs.Reading.{network_in, vehicles_in, IsFleetIn, script_in, in_rows, own_fault};
-ghost use Rattle.ridepool.specs.Seen.{source_seen};
+ghost use Rattle.pool_io.specs.Views.{source_seen};
 ghost use Rattle.ridepool.specs.declared.status.RunStatus.TheVariants as status;
 ghost use Rattle.ridepool.specs.work.Reading.{IsUnread, StopsAt, RefusesNetwork, RefusesFleet, RefusesRounds};
 ghost use Rattle.script_rows.specs.Script.{script_of};

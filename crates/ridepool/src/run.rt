@@ -1,8 +1,7 @@
 ghost use Rattle.std.specs.Prelude.{map};
 ghost use Rattle.std.specs.String.{string_bytes};
 ghost use Rattle.ridepool.specs.Answers.{Answers};
-ghost use Rattle.dispatch_report.specs.Written.{sink_seen};
-ghost use Rattle.ridepool.specs.Seen.{source_seen};
+ghost use Rattle.pool_io.specs.Views.{sink_seen, source_seen};
 ghost use Rattle.rider_notices.specs.Seen.{notifier_seen};
 
 use crate::auditing::write_audit;

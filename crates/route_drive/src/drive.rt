@@ -1,32 +1,27 @@
-ghost use Rattle.std.specs.Prelude.{◌≡◌, ◌≢◌, ◌<◌, [], ℕ, All, None, Some, Err, IfErr, IfOk, List, length, map};
-ghost use Rattle.std.specs.List.{Any};
-ghost use Rattle.pool_base.specs.TravelTime.{longest};
+ghost use Rattle.std.specs.Prelude.{◌≡◌, [], ℕ, None, Some, Err, IfErr, IfOk, length, map};
 ghost use Rattle.request_book.specs.Book.{next_position};
 ghost use Rattle.request_book.specs.Consistent.{IsConsistent};
-ghost use Rattle.request_book.specs.declared.journal.Entry.{Entry as EntryValue};
 ghost use Rattle.route_drive.specs.declared.day_run.DriveFault.TheVariants.{OutOfMemory as NoMemory};
-ghost use Rattle.script_rows.specs.Round.{lane_at};
 ghost use Rattle.dispatch_engine.specs.Run.{IsReady};
-ghost use Rattle.route_drive.specs.Counts.{AreCounts};
 ghost use Rattle.route_drive.specs.Day.{day_fault, seal_of};
-ghost use Rattle.route_drive.specs.Entering.{EntersTooLate, left_commands, second_of};
+ghost use Rattle.route_drive.specs.Entering.{EntersTooLate};
 ghost use Rattle.route_drive.specs.declared.entering.Stopped.TheVariants.{TooLate as Late};
-ghost use Rattle.route_drive.specs.Driven.{IsDrivenRound, IsLateAnswer, IsNewBook, courses_after, number_after};
+ghost use Rattle.route_drive.specs.Driven.{IsDrivenRound, IsLateAnswer, IsNewBook, courses_after};
 ghost use Rattle.route_drive.specs.work.Counting.{AddsServed, AreServed};
-ghost use Rattle.route_drive.specs.work.Drive.{HasCome, HasEnded, IsCounted, IsInTime, IsLastOn, IsLateAt, IsRoundOn, IsStoppedAt, IsTaken, Takes, at_rest};
+ghost use Rattle.route_drive.specs.work.Drive.{HasCome, IsCounted, IsLateAt, IsRoundOn, IsStoppedAt, IsTaken, Takes, at_rest};
 
-use crate::counts::{Served, counts_of, note_entries};
+use crate::counts::{Served, note_entries};
 use crate::course::Course;
+use crate::day_end::{counted, drive_end};
 use crate::day_run::{DayRound, DriveFault};
 use crate::entering::Stopped;
 use crate::keeper::RoundKeeper;
 use crate::plan::{courses_after, first_courses};
-use crate::rounds::{driven_round, last_round};
+use crate::rounds::driven_round;
 use dispatch_engine::{Setup, run_round};
 use dispatch_report::DayCounts;
 use pool_base::OutOfMemory;
 use request_book::{Book, Journal};
-use road_network::Network;
 use row_tables::Drafter;
 use script_rows::{Round, Script};
 use std::alloc::Global;
@@ -175,7 +170,7 @@ fn driven_of<W: Ways, D: Drafter, G: Gate>(
 }
 
 /// Why a day stopped at a round.
-fn stopped_at(stopped: Stopped, round: u32) -> DriveFault
+pub(crate) fn stopped_at(stopped: Stopped, round: u32) -> DriveFault
     ensures { IsStoppedAt stopped round result }
 {
     match stopped {
@@ -220,7 +215,7 @@ fn run_driven<W: Ways, D: Drafter, G: Gate, K: RoundKeeper>(
 }
 
 /// Runs a round and takes its journal.
-fn run_taken<W: Ways, D: Drafter, G: Gate>(
+pub(crate) fn run_taken<W: Ways, D: Drafter, G: Gate>(
     rt: &(impl Threads + Wait + Sync),
     alloc: Global,
     book: Book,
@@ -312,7 +307,7 @@ fn next_courses(
 }
 
 /// A day whose last round is noted and handed to the keeper.
-fn with_round<K: RoundKeeper>(
+pub(crate) fn with_round<K: RoundKeeper>(
     alloc: Global,
     drive: Drive,
     last: DayRound,
@@ -335,102 +330,6 @@ fn with_round<K: RoundKeeper>(
         Ok(()) => Ok(drive),
         Err(_) => {
             drop(drive);
-            Err(DriveFault::OutOfMemory)
-        }
-    }
-}
-
-/// Drives a day to its end, whose rounds were driven: the stops that are left, unless there was no round.
-fn drive_end<W: Ways, D: Drafter, G: Gate, K: RoundKeeper>(
-    rt: &(impl Threads + Wait + Sync),
-    alloc: Global,
-    drive: Drive,
-    rounds: &[Round],
-    setup: &Setup<'_, W, D, G>,
-    keeper: &mut K,
-) -> Result<Drive, DriveFault>
-    requires ready { IsReady setup.now.settings.now setup.now.network.now drive.book }
-    requires entries { drive.book.entries ≡ [] }
-    requires each { length drive.courses.items ≡ length drive.book.state.vehicles }
-    ensures run { IfOk result (λ next. (first : K) → HasEnded setup.now.settings.now setup.now.network.now rounds.now drive (K.took first keeper.old) (K.took first keeper.new) next) }
-    ensures late { IfErr result (λ fault. (first : K) → IsLateAt (number_after rounds.now) (Any (λ c. longest < second_of c) (left_commands drive.book.state.vehicles drive.courses.items)) (K.took first keeper.old) (K.took first keeper.new) fault) }
-{
-    if rounds.is_empty() {
-        return Ok(drive);
-    }
-    let number = rounds[rounds.len() - 1].number() + 1;
-    match left_of(alloc, &drive) {
-        Ok(left) => run_last(rt, alloc, drive, number, &left, setup, keeper),
-        Err(stopped) => {
-            drop(drive);
-            Err(stopped_at(stopped, number))
-        }
-    }
-}
-
-/// The last round of a day.
-fn left_of(alloc: Global, drive: &Drive) -> Result<Round, Stopped>
-    requires same { length drive.now.courses.items ≡ length drive.now.book.state.vehicles }
-    ensures first { IfOk result (λ round. lane_at round 0 ≡ left_commands drive.now.book.state.vehicles drive.now.courses.items) }
-    ensures others { IfOk result (λ round. (lane : ℕ) → lane ≢ 0 → lane_at round lane ≡ []) }
-    ensures in_time { IfOk result (λ round. All IsInTime (left_commands drive.now.book.state.vehicles drive.now.courses.items)) }
-    ensures late { result ≡ Err Late → Any (λ c. longest < second_of c) (left_commands drive.now.book.state.vehicles drive.now.courses.items) }
-{
-    match drive.book.state() {
-        Ok(state) => last_round(alloc, state.vehicles.as_slice(), drive.courses.as_slice()),
-        Err(_) => Err(Stopped::OutOfMemory),
-    }
-}
-
-/// Runs the last round.
-fn run_last<W: Ways, D: Drafter, G: Gate, K: RoundKeeper>(
-    rt: &(impl Threads + Wait + Sync),
-    alloc: Global,
-    drive: Drive,
-    number: u32,
-    left: &Round,
-    setup: &Setup<'_, W, D, G>,
-    keeper: &mut K,
-) -> Result<Drive, DriveFault>
-    requires ready { IsReady setup.now.settings.now setup.now.network.now drive.book }
-    requires entries { drive.book.entries ≡ [] }
-    requires first { lane_at left.now 0 ≡ left_commands drive.book.state.vehicles drive.courses.items }
-    requires others { (lane : ℕ) → lane ≢ 0 → lane_at left.now lane ≡ [] }
-    requires in_time { All IsInTime (left_commands drive.book.state.vehicles drive.courses.items) }
-    ensures run { IfOk result (λ next. (first : K) → IsLastOn setup.now.settings.now setup.now.network.now number drive (K.took first keeper.old) (K.took first keeper.new) next) }
-    ensures late { IfErr result (λ fault. fault ≡ NoMemory) }
-{
-    let Drive {
-        book,
-        courses,
-        served,
-    } = drive;
-    match run_taken(rt, alloc, book, left, setup) {
-        Ok((book, journal)) => {
-            let drive = Drive {
-                book,
-                courses,
-                served,
-            };
-            with_round(alloc, drive, DayRound { number, journal }, keeper)
-        }
-        Err(_) => Err(DriveFault::OutOfMemory),
-    }
-}
-
-/// What is counted of a day that was driven to its end.
-fn counted(alloc: Global, end: Drive, network: &Network) -> Result<DayCounts, DriveFault>
-    requires nodes { end.book.nodes ≡ network.now.nodes }
-    ensures counts { IfOk result (λ run. (entries : List EntryValue) → AreServed entries end.served → AreCounts network.now end.book.state.riders entries run) }
-    ensures late { IfErr result (λ fault. fault ≡ NoMemory) }
-{
-    match counts_of(alloc, &end.book, &end.served, network) {
-        Ok(run) => {
-            drop(end);
-            Ok(run)
-        }
-        Err(_) => {
-            drop(end);
             Err(DriveFault::OutOfMemory)
         }
     }

@@ -32,6 +32,7 @@
 mod counts;
 mod course;
 mod day;
+mod day_end;
 mod day_run;
 mod drive;
 mod entering;

@@ -1,40 +1,16 @@
 -- Each move keeps the lock's rule.
 use Rattle.std.proofs.lemmas.Bool.Decides.{nat_tests}
 use Rattle.std.proofs.Common.{rules, ◌≡◌, ◌≢◌, ℕ, zero, suc, ◌+◌, ◌%◌, ◌^◌, ◌<◌, ◌≤◌, ◌⊎◌, List, [], ◌∷◌, ◌++◌, length, drop, set, get_or, Option, Some, sym, refl, ap, ◌∙◌, subst, inl, inr, ⊎_elim, arith, le_refl, append-nil, length-append, mod-eq_of_lt}
-use Rattle.seat_lock.proofs.Common.{drop-append_seam, some, none, some-injective, some-ne-none, dite, ℕ_discrete, get_elem?, State, Me, step, keeps, takes, gives, stepped, Allows, Splits, Joins, opening, Final, Seen, LoggedCall, View, Claim, Idle, Waiting, InTurn, calls_of, fresh_claims, first_claim, other_claims, with_stage, in_turn, lane_view, first_view, spent_view, lane_given, lanes_kept, lanes_joined, total, below, ticket_weight, lane_weight, IsInTurn, Claimed, Laned, Knows, Agrees, Sound, IsHome, IsOut, Kept, since, drew, LooksAt, looked, noted, gave_way, IsClosed, CanNote, CanServe}
+use Rattle.seat_lock.proofs.Common.{drop-append_seam, some, none, some-injective, some-ne-none, dite, ℕ_discrete, get_elem?, State, Me, step, keeps, takes, gives, stepped, Allows, Splits, Joins, opening, Final, Seen, LoggedCall, View, Claim, Idle, Waiting, InTurn, calls_of, fresh_claims, first_claim, other_claims, with_stage, in_turn, lane_view, first_view, spent_view, lane_given, lanes_kept, lanes_joined, total, below, ticket_weight, lane_weight, IsInTurn, Claimed, Laned, Agrees, Sound, IsHome, IsOut, Kept, since, drew, LooksAt, looked, noted, gave_way, IsClosed, CanNote, CanServe}
 use Rattle.std.proofs.Math.Nat.{mod-add-mod}
 use Rattle.std.proofs.lemmas.List.{set-get_or}
 use mathlib.Core.List.{append_assoc}
 use Rattle.atomic_table.proofs.Lists.{at_set, at_snoc, at_longer, set_else, set_again, one_turn}
 use Rattle.seat_lock.specs.declared.view.Stage.{Stage}
 use Rattle.seat_lock.proofs.Totals.{total-set, total-append, term-le, terms-le, total-le, total-ext, at, at-same, below-past, below-hit, below-most, below-count, lane_weight-count, lane_weight-append, lane_weight-cut, length-fresh, fresh-most, fresh-within}
+use Rattle.seat_lock.proofs.StageLemmas.{same_at, set_at, in_turn_weight, knows_on, idle_out, waiting_out}
 use Rattle.seat_lock.proofs.Calls.{Claimed-push, Claimed-append, Laned-push}
 use mathlib.Core.Option as maybe
-
-module _ {A : Type 0} where
-  same_at : (l : List A) (i : ℕ) (a b : A) → get_elem? l i ≡ some a → get_elem? l i ≡ some b → a ≡ b
-  same_at l i a b p q = some-injective a b (sym p ∙ q)
-
-  set_at : (l : List A) (i : ℕ) (a b : A) → get_elem? l i ≡ some a → get_elem? (set l i b) i ≡ some b
-  set_at [] i a b e = absurd (some-ne-none a (sym e))
-  set_at (x ∷ xs) zero a b e = refl
-  set_at (x ∷ xs) (suc i) a b e = set_at xs i a b e
-
-module _ {C R : Type 0} where
-  in_turn_weight : (n : ℕ) (es : List (LoggedCall C R)) (st : Stage C R) → IsInTurn st → Knows n es st → ticket_weight (at n) st ≡ 1
-  in_turn_weight n es (InTurn x l) t k = at-same n x k.0
-  in_turn_weight n es _ t k = absurd t
-
-  -- what a seat out of turn knows stays so
-  knows_on : (n n' : ℕ) (es es' : List (LoggedCall C R)) (st : Stage C R) → ¬ IsInTurn st → Knows n es st → Knows n' es' st
-  knows_on n n' es es' (InTurn x l) t k = absurd (t tt)
-  knows_on n n' es es' _ t k = tt
-
-  idle_out : (st : Stage C R) → st ≡ Idle → ¬ IsInTurn st
-  idle_out st is t = subst IsInTurn is t
-
-  waiting_out : (st : Stage C R) (x : ℕ) → st ≡ Waiting x → ¬ IsInTurn st
-  waiting_out st x is t = subst IsInTurn is t
 
 module _ {B C R Root : Type 0} (root : B → Root) (log : B → List (LoggedCall C R)) (spare : B → ℕ) (start : B) (lanes : ℕ) where
   abbrev V : Type 0

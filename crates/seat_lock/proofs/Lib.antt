@@ -1,5 +1,6 @@
 pub mod Totals
 pub mod Calls
+pub mod StageLemmas
 pub mod Keeps
 pub mod Handing
 pub mod Turning

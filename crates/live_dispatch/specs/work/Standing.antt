@@ -5,7 +5,7 @@ use Rattle.std.specs.Io.KnownBytes.{Appends}
 use Rattle.batch_snapshot.specs.Batch.{Batch}
 use Rattle.dispatch_engine.specs.Run.{IsReady, IsRun, position_after_run, state_after_run}
 use Rattle.dispatch_report.specs.Round.{entry_text}
-use Rattle.dispatch_report.specs.Written.{Change, SinkView}
+use Rattle.pool_io.specs.Views.{Change, SinkView}
 use Rattle.dispatch_report.specs.declared.fault.ReportFault.{ReportFault}
 use Rattle.dispatch_report.specs.declared.fault.ReportFault.TheVariants as report
 use Rattle.live_batch.specs.Phase.{HasRunOpen, desk_after}

@@ -1,14 +1,13 @@
 -- What comes of an audit whose inputs pass.
 use Rattle.std.specs.Prelude.{◌≡◌, ◌≢◌, ℕ, List, Option}
 use Rattle.std.specs.Io.KnownBytes.{Appends}
-use Rattle.dispatch_report.specs.Written.{Change}
+use Rattle.pool_io.specs.Views.{Change, SourceView}
 use Rattle.pool_base.specs.declared.which.Which.TheVariants as file
 use Rattle.report_audit.specs.declared.fault.Audited.{Audited}
 use Rattle.report_audit.specs.declared.fault.AuditFault.TheVariants as audit
 use Rattle.ridepool.specs.Audit.{yes_text}
 use Rattle.ridepool.specs.work.Ended.{IsRunReport, IsNoReport}
 use Rattle.ridepool.specs.Inputs.{Inputs, Reads}
-use Rattle.ridepool.specs.Seen.{SourceView}
 use Rattle.ridepool.specs.declared.status.RunStatus.{RunStatus}
 use Rattle.ridepool.specs.declared.status.RunStatus.TheVariants.{OutOfMemory, Report}
 use Rattle.ridepool.specs.work.Reading.{IsUnread}

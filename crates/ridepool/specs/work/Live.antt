@@ -1,6 +1,6 @@
 -- The steps of a call of `live`.
 use Rattle.std.specs.Prelude.{◌≡◌, List, ℕ, Option, Some, Result, Ok, Err}
-use Rattle.dispatch_report.specs.Written.{Change, SinkView}
+use Rattle.pool_io.specs.Views.{Change, SinkView}
 use Rattle.live_dispatch.specs.declared.fault.LiveFault.{LiveFault}
 use Rattle.live_dispatch.specs.declared.fault.LiveFault.TheVariants as live
 use Rattle.live_rows.specs.declared.start.StartFault.{StartFault}

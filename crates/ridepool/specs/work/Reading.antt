@@ -15,8 +15,8 @@ use Rattle.ridepool.specs.Status.{HidesNoMemory}
 use Rattle.ridepool.specs.Inputs.{Inputs, IsWithin, IsSourceTooLong, Reads, AreReadFrom, AreUntouched, IsStop}
 use Rattle.ridepool.specs.Load.{AreTexts}
 use Rattle.ridepool.specs.Reading.{network_in, vehicles_in}
-use Rattle.dispatch_report.specs.Written.{Change}
-use Rattle.ridepool.specs.Seen.{SourceView, Sources}
+use Rattle.pool_io.specs.Views.{Change, SourceView}
+use Rattle.ridepool.specs.Seen.{Sources}
 use Rattle.ridepool.specs.declared.inputs.ReadInputs.{ReadInputs}
 use Rattle.ridepool.specs.declared.status.RunStatus.{RunStatus}
 use Rattle.ridepool.specs.declared.status.RunStatus.TheVariants.{Network, Fleet, Script, TooLong, ReadFault, OutOfMemory, Day}

@@ -1,6 +1,7 @@
 use Rattle.std.proofs.Common.{◌≡◌, Err, arith, ap, length, refl, subst, ◌∙◌}
 use Rattle.ridepool.proofs.Common.{Inputs, IsDayFor, BeginsRounds, EndsRounds, RunsAll, RunsFirst, day_ending, head_of}
-use Rattle.ridepool.proofs.WriteLemmas.{nothing_written, behind_head, unbegun, report_from, run_serves, day_serves, new_book, ready_book, nobody_told, day_fault}
+use Rattle.ridepool.proofs.BookLemmas.{new_book, nobody_told, ready_book}
+use Rattle.ridepool.proofs.WriteLemmas.{nothing_written, behind_head, unbegun, report_from, run_serves, day_serves, day_fault}
 use Rattle.ridepool.proofs.writing.write_by.Goals as goal
 
 pub returns-in_default-clause-report : goal.returns-in_default-clause-report

@@ -1,6 +1,6 @@
 use Rattle.route_drive.proofs.DriveLemmas.{last_on}
 use Rattle.route_drive.proofs.EnterLemmas.{if_ok_and, if_ok_map}
-use Rattle.route_drive.proofs.drive.run_last.Goals as goal
+use Rattle.route_drive.proofs.day_end.run_last.Goals as goal
 
 pub returns-in-Ok-clause-run : goal.returns-in-Ok-clause-run
 returns-in-Ok-clause-run g c = if_ok_map c.with_round.result _ _ (if_ok_and c.with_round.result _ _ c.with_round.ensures.book (if_ok_and c.with_round.result _ _ c.with_round.ensures.served c.with_round.ensures.kept))

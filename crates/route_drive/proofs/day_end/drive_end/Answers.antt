@@ -3,7 +3,7 @@ use Rattle.route_drive.proofs.EnterLemmas.{if_err_map, if_ok_map}
 use Rattle.route_drive.proofs.Common.{DriveFault, OutOfMemory, number_after, IsLateAt, IsStoppedAt, Command, longest, second_of, left_commands, Any}
 use Rattle.std.proofs.lemmas.Grind.{common_steps}
 use Rattle.route_drive.proofs.DriveLemmas.{end_of, number_after_is, stopped_late}
-use Rattle.route_drive.proofs.drive.drive_end.Goals as goal
+use Rattle.route_drive.proofs.day_end.drive_end.Goals as goal
 
 pub returns-in-Ok-clause-run : goal.returns-in-Ok-clause-run
 returns-in-Ok-clause-run g c =

@@ -1,0 +1,45 @@
+//! What a solution costs, how near it is to the best, and which rows it chooses.
+use crate::relaxation::Relaxation;
+use row_tables::fixed_point::{ONE, times};
+use row_tables::{Made, RowTable, Share};
+
+/// Within so much of what it may be at most a solution counts as the best, in 1/1024 second.
+const NEAR: i64 = 200;
+
+impl Relaxation {
+    /// What the solution costs, in units of 2^-32 of 2^scale seconds.
+    pub fn cost(&self) -> i64 {
+        self.cost_of_all(&self.basis.levels)
+    }
+
+    /// What so much of each column of the basis costs.
+    fn cost_of_all(&self, parts: &[i64]) -> i64 {
+        let mut cost: i64 = 0;
+        for (column, part) in self.basis.columns.iter().zip(parts) {
+            cost = cost.wrapping_add(times(self.cost_of(*column as usize), *part));
+        }
+        cost
+    }
+
+    /// Lists the rows of which the solution chooses more than a hundredth.
+    pub fn find_shares(&mut self, table: &RowTable, shares: &mut Vec<Share>) -> Made<()> {
+        self.basis.find_parts(&mut self.parts);
+        shares.clear();
+        for (column, part) in self.basis.columns.iter().zip(&self.parts) {
+            if (*column as usize) < table.row_count() && *part > ONE / 100 {
+                shares.push(Share {
+                    row: *column,
+                    part: *part,
+                })?;
+            }
+        }
+        Ok(())
+    }
+
+    /// Whether the value is so near to what the solution costs that it is the best.
+    pub fn is_near(&mut self) -> bool {
+        self.basis.find_parts(&mut self.parts);
+        let bound = self.in_multipliers(self.cost_of_all(&self.parts));
+        bound.saturating_sub(self.value) < NEAR
+    }
+}
