@@ -74,7 +74,7 @@ const LARGER_PART: i64 = 2;
 /// through most, and of scouts as often as one of four workers has a scout.
 const MOST_WORK: u64 = 3_200_000_000;
 
-/// How many numbers a row counts as that is judged at a node.
+/// How many numbers a row counts as that is judged at a node. At most as many nodes count as most budgets have.
 const A_ROW: u64 = 2;
 
 /// How many hundredths of what is left the first solution takes at most, and each dive, scout and merge.
@@ -101,12 +101,14 @@ impl Drafter for RelaxationDrafter {
         workers: u8,
     ) -> Made<Draft> {
         let mut allowance = Allowance::new(MOST_WORK);
-        allowance.spend(work_above(table, budget));
+        let rows = (table.row_count() as u64).saturating_mul(A_ROW);
+        allowance.spend(rows.saturating_mul(budget.min(MERGE_NODES) as u64));
         let mut drafting = Drafting::new(alloc, table, held, workers, allowance)?;
         drafting.make_plans()?;
         let first = drafting.tree.draft.bound;
         drafting.grow(rt, budget.min(PROBE))?;
-        if drafting.is_growing(first) {
+        let closed = drafting.tree.draft.bound.saturating_sub(first);
+        if closed.saturating_mul(3) >= drafting.tree.gap(first) {
             drafting.grow(rt, budget)?;
         }
         if drafting.tree.is_open() {
@@ -215,12 +217,6 @@ impl<'a> Drafting<'a> {
         self.tree.gap(draft.bound).saturating_mul(NEAR_PART) <= draft.cost
     }
 
-    /// Whether a third of the gap is closed that there was at this bound.
-    fn is_growing(&self, first: i64) -> bool {
-        let closed = self.tree.draft.bound.saturating_sub(first);
-        closed.saturating_mul(3) >= self.tree.gap(first)
-    }
-
     /// Has scouts look for plans, and merges these. Scouts anneal where the gap is so wide that a rider more might be
     /// served.
     fn make_more_plans<R: Threads + Sync>(&mut self, rt: &R) -> Made<()> {
@@ -313,13 +309,6 @@ fn send_scouts<R: Threads + Sync>(
         },
     );
     Ok(scouts)
-}
-
-/// How many numbers who judges a draft goes through: each node is judged over all rows, and at most as many nodes count
-/// as most budgets have.
-fn work_above(table: &RowTable, budget: usize) -> u64 {
-    let rows = (table.row_count() as u64).saturating_mul(A_ROW);
-    rows.saturating_mul(budget.min(MERGE_NODES) as u64)
 }
 
 /// Solves the relaxation, at first with little to pay for a rider who is left out. If it tires before it is solved, an
