@@ -1,0 +1,191 @@
+"""Tests of the desk's page in a browser."""
+
+import concurrent.futures
+import contextlib
+import os
+import pathlib
+import shutil
+import signal
+import time
+
+from desk_parts.shared import LINE, PATIENCE, TOWN, Skipped, desk, folder_for_days, inputs, test, until
+
+
+@contextlib.contextmanager
+def page(it, width, height):
+    """The desk's page in a browser without a window, which must say nothing in its console."""
+    try:
+        from selenium import webdriver
+        from selenium.webdriver.chrome.service import Service
+    except ImportError:
+        raise Skipped("there is no Selenium: apt-get install python3-selenium chromium-driver") from None
+    driver = shutil.which("chromedriver")
+    if driver is None:
+        raise Skipped("there is no browser: apt-get install chromium chromium-driver")
+    options = webdriver.ChromeOptions()
+    for word in ("headless=new", "no-sandbox", "disable-gpu", "disable-dev-shm-usage", f"window-size={width},{height}"):
+        options.add_argument("--" + word)
+    options.set_capability("goog:loggingPrefs", {"browser": "ALL"})
+    browser = webdriver.Chrome(service=Service(driver), options=options)
+    try:
+        browser.execute_cdp_cmd("Emulation.setDeviceMetricsOverride", {
+            "width": width, "height": height, "deviceScaleFactor": 1, "mobile": width < 500})
+        browser.get(f"http://127.0.0.1:{it.port}/")
+        until(lambda: text_of(browser, "#status-text").startswith(("Ready", "Solving")), "the page is ready")
+        yield browser
+        said = browser.get_log("browser")
+        assert said == [], said
+    finally:
+        browser.quit()
+
+
+def text_of(browser, selector):
+    """The text of the first element of a selector; empty where there is none."""
+    return browser.execute_script("return (document.querySelector(arguments[0]) || {textContent: ''}).textContent", selector)
+
+
+def click_node(browser, share_x, share_y):
+    """Clicks the map at shares of its width and height."""
+    from selenium.webdriver.common.action_chains import ActionChains
+    from selenium.webdriver.common.by import By
+
+    element = browser.find_element(By.ID, "map")
+    x, y = (round(element.size[side] * (share - 0.5)) for side, share in (("width", share_x), ("height", share_y)))
+    ActionChains(browser).move_to_element_with_offset(element, x, y).click().perform()
+
+
+def keep_picture(browser, name):
+    """Keeps a picture of the page where DESK_PICTURES names a folder."""
+    if os.environ.get("DESK_PICTURES"):
+        browser.save_screenshot(str(pathlib.Path(os.environ["DESK_PICTURES"]) / f"{name}.png"))
+
+
+def fits(browser):
+    """Nothing may stand out to the side."""
+    wide, inner = browser.execute_script("return [document.documentElement.scrollWidth, innerWidth]")
+    assert wide <= inner, (wide, inner)
+
+
+@test
+def a_ride_asked_by_two_clicks_is_picked_up_and_delivered():
+    with folder_for_days() as folder, desk("demo", "riders=0", "every=20", folder=folder) as it:
+        with page(it, 1280, 800) as browser:
+            from selenium.webdriver.common.by import By
+
+            browser.find_element(By.ID, "pick").click()
+            click_node(browser, 0.2, 0.35)
+            click_node(browser, 0.8, 0.75)
+            ends = [browser.find_element(By.ID, name).get_attribute("value") for name in ("from", "to")]
+            assert all(ends) and ends[0] != ends[1], ends
+            browser.find_element(By.ID, "ask-button").click()
+            until(lambda: text_of(browser, "#message").startswith("Rider 1 waits"), "the answer")
+            seen = []
+            for state in ("promised", "aboard", "delivered"):
+                until(lambda: state in text_of(browser, "#chosen h2"), f"rider 1 is {state}")
+                seen.append(state)
+            ride = it.gives("GET", "/rides/1")
+            assert [str(ride["from"]), str(ride["to"]), ride["state"]] == [*ends, "delivered"], ride
+            assert text_of(browser, "#count-delivered") == "1"
+
+
+@test
+def the_page_works_by_the_keyboard():
+    with desk(*inputs(TOWN)) as it, page(it, 1280, 800) as browser:
+        from selenium.webdriver.common.action_chains import ActionChains
+        from selenium.webdriver.common.keys import Keys
+
+        def press(*keys):
+            actions = ActionChains(browser)
+            for key in keys:
+                actions.send_keys(key)
+            actions.perform()
+
+        press("m", Keys.ENTER)
+        for _ in range(3):
+            press(Keys.ARROW_RIGHT)
+            time.sleep(0.4)
+        press(Keys.ENTER)
+        assert browser.switch_to.active_element.get_attribute("id") == "ask-button"
+        press(Keys.ENTER)
+        until(lambda: text_of(browser, "#message").startswith("Rider 1 waits"), "the answer")
+        press(Keys.ESCAPE, "2")
+        browser.execute_script("document.querySelector('#vehicles .list').focus()")
+        press(Keys.ARROW_DOWN, Keys.ARROW_DOWN)
+        until(lambda: "Vehicle 2" in text_of(browser, "#chosen h2"), "vehicle 2 is chosen")
+        press("3")
+        assert browser.execute_script("return !document.getElementById('batches').hidden")
+
+
+@test
+def the_page_says_when_live_or_the_desk_ends():
+    with desk(*inputs(LINE)) as it:
+        with page(it, 390, 844) as browser:
+            for turn in range(4):
+                old = it.live()
+                os.kill(old, signal.SIGKILL)
+                if turn < 3:
+                    until(lambda: it.call("GET", "/health")[1]["restarts"] == turn + 1, "a new start")
+                    until(lambda: it.call("GET", "/health")[0] == 200, "ready again")
+            until(lambda: "The dispatcher has ended" in text_of(browser, "#status-text"), "the end is shown")
+            fits(browser)
+            keep_picture(browser, "ended-390")
+            assert browser.execute_script("return document.getElementById('ask-button').disabled")
+            it.end()
+            until(lambda: "Connection lost" in text_of(browser, "#status-text"), "the loss is shown")
+            browser.get_log("browser")
+
+
+@test
+def the_page_fits_both_widths():
+    with folder_for_days() as folder, desk("demo", "speed=60", folder=folder) as it:
+        until(lambda: it.call("GET", "/health")[1]["batches"] >= 12, "twelve plans")
+        for width, height in ((1280, 800), (390, 844)):
+            with page(it, width, height) as browser:
+                fits(browser)
+                keep_picture(browser, f"desk-{width}")
+                for tab in ("vehicles", "batches", "rides"):
+                    browser.execute_script("document.getElementById(arguments[0]).click()", f"tab-{tab}")
+                    fits(browser)
+                browser.execute_script("document.querySelector('#rides li').click()")
+                until(lambda: text_of(browser, "#chosen h2"), "a rider is chosen")
+                fits(browser)
+                keep_picture(browser, f"chosen-{width}")
+
+
+@test
+def five_hundred_vehicles_and_a_thousand_riders_at_one_update_a_second():
+    with folder_for_days() as folder:
+        folder.parent.mkdir(exist_ok=True)
+        files = made_inputs(folder.parent)
+        with desk(*files, "trip=1", folder=folder) as it, page(it, 1280, 800) as browser:
+            browser.execute_script("document.getElementById('tab-vehicles').click()")
+            with concurrent.futures.ThreadPoolExecutor(8) as pool:
+                list(pool.map(lambda n: it.gives("POST", "/rides", {"from": 1 + n % 899, "to": 900}), range(1000)))
+                until(lambda: text_of(browser, "#count-waiting") == "1000", "all riders are shown")
+                waits = sorted(watched_round(it, browser, pool, turn) for turn in range(9))
+            print(f"  the page showed the last of 500 places after {waits[4]:.2f} s, at most after {waits[-1]:.2f} s")
+            assert waits[4] < 2 and waits[-1] < PATIENCE, waits
+
+
+def made_inputs(place):
+    """A square of 30 nodes a side with 500 vehicles, without the coordinates of a map."""
+    rows = [(n, m) for n in range(1, 901) for m in (n + 1, n + 30) if m <= 900 and (m == n + 30 or n % 30)]
+    arcs = "".join(f"{a},{b},40\n{b},{a},40\n" for a, b in rows)
+    nodes = "".join(f"{n},{100 * ((n - 1) % 30)},{-100 * ((n - 1) // 30)},,,\n" for n in range(1, 901))
+    fleet = "".join(f"{v},4,{v},0\n" for v in range(1, 501))
+    for name, header, text in (("network", "from,to,seconds", arcs), ("nodes", "node,x,y,lon,lat,name", nodes),
+                               ("fleet", "vehicle,seats,node,second", fleet)):
+        (place / f"{name}.csv").write_text(f"{header}\n{text}")
+    return inputs(place)
+
+
+def watched_round(it, browser, pool, turn):
+    """Places all vehicles within a second. Gives how long after the last answer the page shows the last of them."""
+    began = time.monotonic()
+    node = 100 + turn
+    list(pool.map(lambda v: it.gives("POST", f"/vehicles/{v}/position", {"node": node}), range(1, 501)))
+    placed = time.monotonic()
+    until(lambda: f"stands at {node}" in text_of(browser, "#vehicle-500"), f"vehicle 500 at {node}")
+    shown = time.monotonic() - placed
+    time.sleep(max(0.0, began + 1 - time.monotonic()))
+    return shown

@@ -1,0 +1,50 @@
+"""The test of a simulator as client: SUMO's taxis, which `tools/sumo_client.py` dispatches."""
+
+import pathlib
+import re
+import shutil
+import subprocess
+import sys
+import tempfile
+
+import make_sumo_day
+import words
+from desk_parts import shared
+from desk_parts.shared import TOOLS, Skipped, audited, test
+
+
+@test
+def a_simulations_taxis_are_dispatched():
+    if shutil.which("sumo") is None or words.missing_modules(["traci", "sumolib"]):
+        raise Skipped("there is no SUMO: apt-get install sumo sumo-tools")
+    with tempfile.TemporaryDirectory(prefix="desk-test-") as folder:
+        place = pathlib.Path(folder)
+        make_sumo_day.make_day(place)
+        own = not words.missing_modules(["pulp"])
+        call = [sys.executable, str(TOOLS / "sumo_client.py"), str(place / "day.sumocfg"), "wait=600", "delay=900",
+                f"network={place}/town/network.csv", f"nodes={place}/town/nodes.csv", f"own={int(own)}", "proof=1",
+                f"transcript={place}/transcript", f"fleet={place}/fleet.csv", f"program={shared.PROGRAM}"]
+        done = subprocess.run(call, capture_output=True, text=True)
+        assert done.returncode == 0, done.stderr
+        lines = done.stdout.splitlines()
+        assert lines[0].startswith("ridepool: served 8 of 8, wait "), done.stdout
+        assert not own or lines[2].startswith("drtOnline.py: served "), done.stdout
+        wait, worst = map(int, re.search(r"wait (\d+) s, at most (\d+) s", lines[0]).groups())
+        assert 0 < wait <= worst <= 700, lines[0]
+        confirmed(place)
+        fleet = (place / "fleet.csv").read_text()
+        again = subprocess.run(call, capture_output=True, text=True)
+        assert again.returncode == 2 and "a file is there already" in again.stderr, again
+        assert (place / "fleet.csv").read_text() == fleet
+
+
+def confirmed(place):
+    """The simulation's transcript must be that of a run of its rows."""
+    from dispatch import rows
+
+    lines = (place / "transcript").read_text().splitlines()
+    text = rows.rows_of(lines)
+    assert text.count("dropoff") == text.count("pickup") == 8, text
+    (place / "rows.csv").write_text(rows.HEADER + "\n" + text)
+    shutil.copyfile(place / "town" / "network.csv", place / "network.csv")
+    audited(place, sum(line.startswith("batch ") for line in lines))
