@@ -18,7 +18,8 @@ from pathlib import Path
 
 TESTS = Path(__file__).resolve().parent.parent / "tests"
 sys.path.insert(0, str(TESTS))
-from live import HEADERS, Client, made_city, street  # noqa: E402
+from live_parts.client import Client  # noqa: E402
+from live_parts.given import HEADERS, made_city, street  # noqa: E402
 
 
 def reports(count, seal_every=0):

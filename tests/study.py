@@ -17,7 +17,7 @@ import sys
 import time
 from collections import defaultdict
 
-from tools import PICTURES, TOOLS, TOP, Svg, find_python, refuses, run_tests, works
+from tools_parts.shared import PICTURES, TOOLS, TOP, Svg, find_python, refuses, run_tests, works
 
 CITY = """[city]
 seed = 5

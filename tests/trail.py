@@ -4,7 +4,7 @@
 import sys
 from pathlib import Path
 
-from tools import TOOLS, run_tests
+from tools_parts.shared import TOOLS, run_tests
 
 sys.path.insert(0, str(TOOLS))
 

@@ -1,0 +1,204 @@
+"""Tests of `live` on given rows: answers in time, refused rows and headers, the end of input, notices, words and files."""
+
+import os
+import random
+import subprocess
+import time
+
+from live_parts.client import Client, judged, need
+from live_parts.given import HEADERS, NOTICED, ONE_BY_ONE, made_city, street
+
+HEAD = 4  # lines before the first round
+
+
+def one_row_at_a_time(program, folder):
+    """The head comes before the first row, and each answer before the next row is sent."""
+    street(folder)
+    client = Client(program, folder, "proof=1")
+    client.send(HEADERS[0] + "\n")
+    client.wait_for(lambda line: line.startswith("fleet vehicles="))
+    need(len(client.lines()) == HEAD, "more than the head stands before the first row")
+    for row in ONE_BY_ONE:
+        client.ask(row)
+    status, report, errors = client.end()
+    need((status, errors) == (0, ""), f"status {status}, {errors!r}")
+    judged(program, folder, ONE_BY_ONE, report, "proof=1")
+
+
+def cut_anywhere(program, folder):
+    """Rows cut at any byte, with other line ends, quotes, a mark at the front and no last end: the same report."""
+    street(folder)
+    plain = "\n".join([HEADERS[0], *ONE_BY_ONE])
+    lane_zero = [row for row in ONE_BY_ONE if row.split(",")[1] == "0"]
+    plain = "\n".join([HEADERS[0], *lane_zero])
+    quoted = plain.replace("submit", '"submit"')
+    forms = [plain, plain.replace("\n", "\r\n"), plain.replace("\n", "\r"), plain.replace("\n", "\n\n") + "\n", quoted, "\ufeff" + plain]
+    reports = set()
+    for form in forms:
+        text = form.encode()
+        for piece in (1, 7, len(text)):
+            client = Client(program, folder)
+            for at in range(0, len(text), piece):
+                client.send(text[at : at + piece])
+            status, report, errors = client.end()
+            need((status, errors) == (0, ""), f"status {status}, {errors!r} at {form[:40]!r}")
+            reports.add(report)
+    need(len(reports) == 1, f"{len(reports)} reports of one script")
+    judged(program, folder, lane_zero, reports.pop())
+
+
+BAD_ROWS = [
+    ("0,0,submit,1,2,4", "row N has another length"),
+    ("0,0,submit,1,2,4,0,9", "row N has another length"),
+    ("x,0,submit,1,2,4,0", "bad number at row N column 1"),
+    ("0,0,submit,1,2,4,", "bad number at row N column 7"),
+    ("0,16,submit,1,2,4,0", "lane above 15 at row N"),
+    ("0,0,jump,1,2,4,0", "unknown command at row N"),
+    ("0,0,cancel,1,2,,", "field not empty at row N"),
+    ("0,1,seal,1,,,", "seal outside lane 0 at row N"),
+    ('0,0,"submit,1,2,4,0', "row N has another length"),
+    ("0,0,cancel," + "1" * 65_536 + ",,,", "row N is too long"),
+]
+
+
+def bad_rows_among_good(program, folder):
+    """A bad row is told on standard error, with its number, and nothing is written; the next row is run."""
+    street(folder)
+    client = Client(program, folder)
+    client.send(HEADERS[0] + "\n")
+    told, accepted = [], []
+    for number, (row, text) in enumerate(BAD_ROWS):
+        client.send(row + "\n")
+        told.append("ridepool: script: " + text.replace("N", str(2 * number + 1)))
+        accepted.append(f"0,0,report,1,1,{number},")
+        client.ask(accepted[-1])
+    accepted.append("1,0,report,1,1,98,")
+    client.ask(accepted[-1])
+    client.send("0,0,report,1,1,99,\n")
+    told.append(f"ridepool: script: round goes back at row {2 * len(BAD_ROWS) + 2}")
+    status, report, errors = client.end()
+    need(status == 0, f"status {status}")
+    need(errors.splitlines() == told, f"{errors.splitlines()} was told, and not {told}")
+    judged(program, folder, accepted, report)
+
+
+def wrong_headers(program, folder):
+    """A wrong header, or none, is status 5, with nothing written."""
+    street(folder)
+    for text, fields in [("", 0), ("\n\r\n", 0), ("round,lane\n", 2), ("0,0,cancel,1,,,\n", 7), (HEADERS[1] + ",f\n", 9)]:
+        client = Client(program, folder)
+        client.send(text)
+        got = client.end()
+        need(got == (5, "", f"ridepool: script: wrong header of {fields} fields\n"), f"{got} at {text!r}")
+
+
+def second_version(program, folder):
+    """Rows below the second header have a party. A bad party is refused."""
+    street(folder)
+    rows = ["0,0,submit,1,2,4,0,2", "0,0,seal,5,,,,"]
+    client = Client(program, folder)
+    client.send(HEADERS[1] + "\n")
+    for row in rows:
+        client.ask(row)
+    client.send("0,0,submit,3,2,4,6,7\n")
+    status, report, errors = client.end()
+    need((status, errors) == (0, "ridepool: script: bad party at row 3\n"), f"status {status}, {errors!r}")
+    judged(program, folder, rows, report, header=HEADERS[1])
+
+
+def end_with_an_open_batch(program, folder):
+    """At the end of input the batch that is open is closed, and the report is whole."""
+    street(folder)
+    rows = ["0,0,submit,1,2,4,0", "0,0,seal,10,,,"]
+    client = Client(program, folder)
+    client.send("\n".join([HEADERS[0], *rows]))
+    status, report, errors = client.end()
+    need((status, errors) == (0, "") and "\nend\ndone 3\n" in report, f"status {status}, {report!r}")
+    judged(program, folder, rows, report)
+
+
+def notices_right_behind(program, folder):
+    """The notices of a batch are there in time behind its block, though no other row is sent."""
+    street(folder)
+    told, expected = folder / "told", folder / "expected"
+    client = Client(program, folder, f"notices={told}")
+    need(not told.exists(), "the file of notices is there before the header")
+    client.send(HEADERS[0] + "\n")
+    sent = []
+    for row in NOTICED:
+        client.ask(row)
+        sent.append(row)
+        if row.split(",")[2] == "seal":
+            client.wait_for_end(sum(row.split(",")[2] == "seal" for row in sent))
+            wanted = notices_of_run(program, folder, sent, expected)
+            need(wanted, "the batch has no notices")
+            end = time.monotonic() + client.patience
+            while told.read_text() != wanted and time.monotonic() < end:
+                time.sleep(0.01)
+            need(told.read_text() == wanted, f"{told.read_text()!r} in place of {wanted!r}")
+    status, report, errors = client.end()
+    need((status, errors) == (0, ""), f"status {status}, {errors!r}")
+    need(told.read_text() == notices_of_run(program, folder, NOTICED, expected), "other notices at the end")
+
+
+def notices_of_run(program, folder, rows, path):
+    """The notices that `run` writes of these rows, in lane 0 or not touching its batches."""
+    (folder / "rows.csv").write_text("\n".join([HEADERS[0], *rows, ""]))
+    named = ["network=network.csv", "fleet=fleet.csv", "script=rows.csv", f"notices={path}"]
+    ran = subprocess.run([program, "run", *named], cwd=folder, capture_output=True, text=True)
+    need(ran.returncode == 0, f"run: {ran.stderr}")
+    return path.read_text()
+
+
+def words_and_files(program, folder):
+    """Words, network and fleet are judged as by `run`, and a fifo serves as the script."""
+    street(folder)
+    none = subprocess.run([program, "live", f"network={folder}/network.csv"], capture_output=True, text=True, input="")
+    need((none.returncode, none.stdout, none.stderr) == (2, "", "ridepool: words: missing fleet\n"), f"{none}")
+    bad = subprocess.run([program, "live", "network=x", "fleet=y", "wait=z"], capture_output=True, text=True, input="")
+    need((bad.returncode, bad.stderr) == (2, "ridepool: words: bad value at word 4\n"), f"{bad}")
+    lost = subprocess.run([program, "live", "network=/none", "fleet=/none", f"notices={folder}/none"], capture_output=True, text=True, input="")
+    need((lost.returncode, lost.stderr) == (7, "ridepool: network: read failed\n"), f"{lost}")
+    need(not (folder / "none").exists(), "a file of notices is made though nothing is written")
+    rows = HEADERS[0] + "\n0,0,report,1,1,3,\n"
+    (folder / "own").write_text(rows)
+    files = [f"network={folder}/network.csv", f"fleet={folder}/fleet.csv", f"notices={folder}/own"]
+    with open(folder / "own", "rb") as source:
+        own = subprocess.run([program, "live", *files], stdin=source, capture_output=True, text=True)
+    said = "ridepool: notices: the file is an input or standard output: not written\n"
+    need((own.returncode, own.stdout[-7:], own.stderr) == (0, "done 1\n", said), f"{own}")
+    need((folder / "own").read_text() == rows, "the file at standard input isn't as it was")
+    os.mkfifo(folder / "rows")
+    client = Client(program, folder, script=folder / "rows")
+    with open(folder / "rows", "wb", buffering=0) as rows:
+        rows.write((HEADERS[0] + "\n0,0,report,1,1,3,\n").encode())
+        client.wait_for(lambda line: line == "0 0 report 1 1 3 placed")
+    status, report, errors = client.end()
+    need((status, errors) == (0, "") and report.endswith("done 1\n"), f"status {status}, {errors!r}")
+
+
+def rows_while_a_batch_is_solved(program, folder):
+    """200 rows in fifteen lanes are answered while a batch is solved, nearly all before its close; a row of lane 0 and
+    one of a later round wait for it."""
+    nodes, rng = made_city(folder), random.Random(1)
+    words = "wait=600", "delay=600", "trip=4", "budget=20", "pairs=400000"
+    client = Client(program, folder, *words)
+    client.send(HEADERS[0] + "\n")
+    riders = 260
+    rows = [f"0,0,submit,{rider},{rng.randint(1, nodes // 2)},{rng.randint(nodes // 2 + 1, nodes)},0" for rider in range(1, riders)]
+    client.send("".join(row + "\n" for row in rows))
+    client.ask("0,0,seal,1,,,", 10)
+    during = [f"0,{1 + number % 15},cancel,{1000 + number},,," for number in range(200)]
+    for row in during:
+        client.ask(row, 20)
+    client.send("0,0,cancel,1,,,\n1,4,cancel,2,,,\n")
+    client.wait_for(lambda line: line.endswith(" closed"), 60 * client.patience)
+    lines = client.lines()
+    close = next(place for place, line in enumerate(lines) if line.endswith(" closed"))
+    before = sum(line.split(" ")[2:3] == ["cancel"] for line in lines[:close])
+    need(before >= 190, f"{before} of 200 rows were answered before the close")
+    need(not any(line.split(" ")[1:4] == ["0", "cancel", "1"] for line in lines[:close]), "a row of lane 0 didn't wait")
+    need("round 1" not in lines[:close], "a row of a later round didn't wait")
+    status, report, errors = client.end(60)
+    need((status, errors) == (0, ""), f"status {status}, {errors!r}")
+    need("round 1" in report.split("\n") and report.endswith("\n"), "the rows that waited weren't run")
