@@ -1,7 +1,8 @@
 // The desk's page: follows the stream of events, shows map and lists, sends commands.
 
-import { DeskMap, isAhead, isOpen, waitStep } from "./map.js";
+import { DeskMap } from "./map.js";
 import { KeyedList, makeTabs } from "./lists.js";
+import { isAhead, isOpen, moment, persons, rideWords, span, vehicleWords } from "./words.js";
 
 const LOST_AFTER = 8000, SHOWN_BATCHES = 20, SHOWN_OVER = 100, KEPT_OVER = 200;
 const byId = id => document.getElementById(id);
@@ -13,21 +14,6 @@ let delivered = 0, over = [];
 // Seconds of the book now.
 function now() {
   return clock.second + (performance.now() - clock.at) / 1000 * clock.speed;
-}
-
-// How long something takes, as minutes:seconds or hours:minutes:seconds.
-function span(seconds) {
-  return seconds < 3600 ? moment(seconds).slice(2).replace(/^0(?=.:)/, "") : moment(seconds);
-}
-
-// A second of the book as hours:minutes:seconds.
-function moment(second) {
-  const whole = Math.max(0, Math.floor(second)), two = it => String(it % 60).padStart(2, "0");
-  return `${Math.floor(whole / 3600)}:${two(Math.floor(whole / 60))}:${two(whole)}`;
-}
-
-function persons(count) {
-  return count === 1 ? "1 person" : `${count} persons`;
 }
 
 // --- events ---------------------------------------------------------------------------------------------------
@@ -165,37 +151,11 @@ function write(id, text) {
   if (element.textContent !== String(text)) element.textContent = text;
 }
 
-const MARKS = { waiting: "◆", promised: "◆", aboard: "●", delivered: "✓", cancelled: "–", expired: "✕" };
 const RANKS = { waiting: 1, promised: 2, aboard: 3, delivered: 4, cancelled: 4, expired: 4 };
 
-function rideWords(ride) {
-  const waits = isAhead(ride), place = `${ride.from} → ${ride.to}`;
-  const state = waits && ride.left_out ? "left out" : ride.state;
-  const when = ride.state === "promised" ? `in ${span(ride.pickup_second - now())}`
-    : ride.state === "waiting" ? `waits ${span(now() - ride.time)}`
-    : ride.state === "aboard" && ride.drop_off_second !== null ? `out in ${span(ride.drop_off_second - now())}` : "";
-  const who = ride.vehicle === null || !isOpen(ride) ? "" : (waits ? " to " : " ") + ride.vehicle;
-  return {
-    over: !isOpen(ride), mark: waits && ride.left_out ? "✕" : MARKS[ride.state], number: String(ride.ride),
-    markClass: waits ? "w" + waitStep(now() - ride.time) : ride.state, what: `${state}${who}, ${place}`, when,
-  };
-}
-
-function vehicleWords(vehicle) {
-  const next = vehicle.stops[0];
-  const what = next ? `${next.kind === "pick" ? "picks up" : "drops off"} ${next.ride} at ${next.node}`
-    : vehicle.move !== null ? `drives toward ${vehicle.move}` : `stands at ${vehicle.node}`;
-  const left = next && next.second !== null ? next.second - now() : 0;
-  return {
-    over: !next, mark: vehicle.persons ? "●" : "○", markClass: "car-mark", number: String(vehicle.vehicle),
-    what: `${vehicle.persons} of ${vehicle.max_capacity}, ${what}`,
-    when: !next || next.second === null ? "" : left < -60 ? `${span(-left)} late` : left < 0 ? "due now" : `in ${span(left)}`,
-  };
-}
-
 const lists = {
-  rides: new KeyedList(document.querySelector("#rides .list"), "ride", rideWords, select),
-  vehicles: new KeyedList(document.querySelector("#vehicles .list"), "vehicle", vehicleWords, select),
+  rides: new KeyedList(document.querySelector("#rides .list"), "ride", ride => rideWords(ride, now()), select),
+  vehicles: new KeyedList(document.querySelector("#vehicles .list"), "vehicle", vehicle => vehicleWords(vehicle, now()), select),
 };
 
 function drawList() {

@@ -1,15 +1,12 @@
 // The map: streets by Leaflet, and over them a canvas with ways, stops, riders and vehicles.
 
+import { BLUE, DARK, INK, drawCircle, drawCross, drawLevel, drawStop, drawText } from "./shapes.js";
 import { Ways } from "./ways.js";
+import { isAhead, isOpen, waitStep } from "./words.js";
 
-const INK = "#17212b", DARK = "#0b3c5d", BLUE = "#0072b2", STREET = "#b4c0c9";
+const STREET = "#b4c0c9";
 const WAITS = ["#ffe9a8", "#f6b04c", "#d95f0e", "#7f2704"];
 const TWEEN = 500, REACH = 18, MOST_WAYS = 40, MANY = 60, MANYS_PAUSE = 100;
-
-// The step of a wait's colour: under 1, 3, 5 minutes, and above.
-export function waitStep(seconds) {
-  return seconds < 60 ? 0 : seconds < 180 ? 1 : seconds < 300 ? 2 : 3;
-}
 
 export class DeskMap {
   // `told` has onNode(node) for a node that was chosen, onSelect(kind, number) for what was clicked.
@@ -233,23 +230,8 @@ export class DeskMap {
     vehicle.stops.forEach((stop, i) => {
       const count = seen.get(stop.node) || 0, { x, y } = this.point(this.at.get(stop.node));
       seen.set(stop.node, count + 1);
-      this.drawStop(pen, x + 18 * count, y, stop.kind, String(i + 1));
+      drawStop(pen, x + 18 * count, y, stop.kind, String(i + 1));
     });
-  }
-
-  drawStop(pen, x, y, kind, text) {
-    const up = kind === "pick" ? 1 : -1;
-    pen.beginPath();
-    pen.moveTo(x, y - 11 * up);
-    pen.lineTo(x + 11, y + 8 * up);
-    pen.lineTo(x - 11, y + 8 * up);
-    pen.closePath();
-    pen.fillStyle = "#fff";
-    pen.strokeStyle = DARK;
-    pen.lineWidth = 2;
-    pen.fill();
-    pen.stroke();
-    this.text(pen, text, x, y + 3 * up, 11, INK);
   }
 
   // One mark for all who wait at a node, in the colour of the longest wait, with their number.
@@ -277,19 +259,8 @@ export class DeskMap {
     pen.lineWidth = isChosen ? 3 : many ? 1 : 1.3;
     pen.fill();
     pen.stroke();
-    if (group.some(it => it.left_out)) this.drawCross(pen, x, y, size / 2 - 0.5, step < 2 ? INK : "#fff");
-    if (group.length > 1 && !many) this.text(pen, String(group.length), x + size + 7, y + 7, 11, INK, true);
-  }
-
-  drawCross(pen, x, y, size, color) {
-    pen.beginPath();
-    pen.moveTo(x - size, y - size);
-    pen.lineTo(x + size, y + size);
-    pen.moveTo(x - size, y + size);
-    pen.lineTo(x + size, y - size);
-    pen.strokeStyle = color;
-    pen.lineWidth = size / 2;
-    pen.stroke();
+    if (group.some(it => it.left_out)) drawCross(pen, x, y, size / 2 - 0.5, step < 2 ? INK : "#fff");
+    if (group.length > 1 && !many) drawText(pen, String(group.length), x + size + 7, y + 7, 11, INK, true);
   }
 
   drawChosenRide(pen) {
@@ -321,52 +292,18 @@ export class DeskMap {
 
   drawEnd(pen, node, kind) {
     const { x, y } = this.point(this.at.get(node));
-    this.drawStop(pen, x, y, kind, kind === "pick" ? "A" : "B");
+    drawStop(pen, x, y, kind, kind === "pick" ? "A" : "B");
   }
 
   drawVehicle(pen, vehicle) {
     const { x, y } = this.point(this.shown.get(vehicle.vehicle).place);
     const chosen = this.chosenVehicle() === vehicle, many = this.vehicles.size > MANY;
     const size = chosen ? 13 : many ? 6 : 10;
-    if (chosen) this.circle(pen, x, y, size + 5, "rgba(230, 159, 0, 0.9)", null);
-    this.circle(pen, x, y, size, "#fff", DARK);
+    if (chosen) drawCircle(pen, x, y, size + 5, "rgba(230, 159, 0, 0.9)", null);
+    drawCircle(pen, x, y, size, "#fff", DARK);
     const part = Math.min(1, vehicle.persons / vehicle.max_capacity);
-    if (part > 0) this.level(pen, x, y, size - 1, part);
-    if (!many || chosen) this.text(pen, String(vehicle.vehicle), x, y - size - 8, 12, INK, true);
-  }
-
-  circle(pen, x, y, size, fill, line) {
-    pen.beginPath();
-    pen.arc(x, y, size, 0, 2 * Math.PI);
-    pen.fillStyle = fill;
-    pen.fill();
-    if (!line) return;
-    pen.lineWidth = 2;
-    pen.strokeStyle = line;
-    pen.stroke();
-  }
-
-  // Fills a circle from below up to a part of its height.
-  level(pen, x, y, size, part) {
-    const angle = Math.acos(2 * part - 1);
-    pen.beginPath();
-    pen.arc(x, y, size, -Math.PI / 2 + angle, 1.5 * Math.PI - angle);
-    pen.closePath();
-    pen.fillStyle = BLUE;
-    pen.fill();
-  }
-
-  text(pen, text, x, y, size, color, halo = false) {
-    pen.font = `bold ${size}px system-ui, "DejaVu Sans", sans-serif`;
-    pen.textAlign = "center";
-    pen.textBaseline = "middle";
-    if (halo) {
-      pen.lineWidth = 3.5;
-      pen.strokeStyle = "rgba(255, 255, 255, 0.9)";
-      pen.strokeText(text, x, y);
-    }
-    pen.fillStyle = color;
-    pen.fillText(text, x, y);
+    if (part > 0) drawLevel(pen, x, y, size - 1, part);
+    if (!many || chosen) drawText(pen, String(vehicle.vehicle), x, y - size - 8, 12, INK, true);
   }
 
   chosenIs(kind, number) {
@@ -392,14 +329,4 @@ function walk(spot, part) {
     left -= step;
     spot.place = spot.path.shift();
   }
-}
-
-// Whether a rider still waits for the vehicle.
-export function isAhead(ride) {
-  return ride.state === "waiting" || ride.state === "promised";
-}
-
-// Whether a ride isn't over.
-export function isOpen(ride) {
-  return isAhead(ride) || ride.state === "aboard";
 }

@@ -17,7 +17,8 @@ PAGE = pathlib.Path(__file__).resolve().parent.parent / "desk"
 LEAFLET = pathlib.Path("/usr/share/javascript/leaflet")
 FILES = {
     "": (PAGE, "index.html"), "calls": (PAGE, "calls.html"),
-    **{name: (PAGE, name) for name in ("desk.css", "desk.js", "map.js", "lists.js", "ways.js", "calls.js", "icon.svg")},
+    **{name: (PAGE, name) for name in ("desk.css", "desk.js", "map.js", "shapes.js", "lists.js", "words.js", "ways.js",
+                                       "calls.js", "icon.svg")},
     "leaflet.js": (LEAFLET, "leaflet.js"), "leaflet.css": (LEAFLET, "leaflet.css"),
 }
 QUIET_SECONDS = 3
