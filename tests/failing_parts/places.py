@@ -1,7 +1,6 @@
 """Places that can't be read or written, and files of notices that must not be written."""
 
 import os
-import shutil
 import subprocess
 
 from failing_parts.shared import DROPPED, FILES, LOAD, POOLED, WORDS, Left, run_in, start, table
@@ -94,7 +93,9 @@ def forbidden(key, prepare_folder, line):
     """A file that whoever runs the program may not read or write."""
 
     def run(program, folder):
-        mine = shutil.copy(program, folder / "program")
+        # Another program makes the copy: a thread that forks while it is open for writing would keep it busy.
+        mine = folder / "program"
+        subprocess.run(["cp", program, mine], check=True)
         folder.chmod(0o755)
         words = [word for word in WORDS if not word.startswith(f"{key}=")] + [f"{key}=closed/file"]
         (folder / "closed").mkdir()
