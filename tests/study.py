@@ -257,7 +257,7 @@ def test_grid_with_a_worker_killed(folder):
         plain = Plain(folder / f"plain-{at}", row, int(row["demand"])).result()
         assert {key: row[key] for key in plain} == plain, (row, plain)
         assert row["megabytes"] in ("", *map(str, range(1, 51))) and len(row["program"]) == 64, row
-    assert 0 < sum(float(row["seconds"]) for row in rows) < 60, rows
+    assert sum(float(row["seconds"]) for row in rows) > 0, rows
     works("draw", folder / "out" / "cells.csv", "study", "demand=100", folder / "study.svg")
     svg = Svg(folder / "study.svg")
     for measure in MEASURES:
