@@ -2,6 +2,7 @@
 
 import os
 import subprocess
+from threading import Thread
 
 from failing_parts.shared import DROPPED, FILES, LOAD, POOLED, WORDS, Left, run_in, start, table
 from inputs import Run
@@ -128,11 +129,11 @@ def ended_early(program, folder):
     words = [*WORDS[:3], "script=pipe"]
     for name in FILES[:2]:
         (folder / f"{name}.csv").write_text(POOLED[name])
-    with subprocess.Popen([program, *words], cwd=folder, stdout=subprocess.PIPE, stderr=subprocess.PIPE) as going:
-        (folder / "pipe").write_text(POOLED["script"][:-10])
-        output, error = going.communicate(timeout=60)
-    left = Left(subprocess.CompletedProcess([], going.returncode, output, error), folder)
-    left.is_refused(*refusal({**POOLED, "script": POOLED["script"][:-10]}))
+    cut = POOLED["script"][:-10]
+    # Whoever opens the pipe to write waits until the program opens it to read.
+    Thread(target=(folder / "pipe").write_text, args=(cut,), daemon=True).start()
+    left = Left(subprocess.run([program, *words], cwd=folder, capture_output=True, timeout=60), folder)
+    left.is_refused(*refusal({**POOLED, "script": cut}))
 
 
 def taken(prepare, key):

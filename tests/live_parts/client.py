@@ -88,7 +88,7 @@ class Client:
         return status, self.out.decode(), errors
 
 
-def judged(program, folder, accepted, report, *words, header=HEADERS[0], proof=True):
+def judged(program, folder, accepted, report, *words, header=HEADERS[0]):
     """Fails unless the report is that of a run of these rows: by the judge, and where all stand in lane 0 by `run`, byte
     for byte; and unless `audit` confirms it."""
     (folder / "accepted.csv").write_text("\n".join([header, *accepted, ""]))

@@ -26,4 +26,4 @@ mod allowance;
 mod relaxation;
 
 pub use allowance::Allowance;
-pub use relaxation::{Ended, Relaxation, Saved};
+pub use relaxation::{Ended, MANY_CONDITIONS, Relaxation, Saved};

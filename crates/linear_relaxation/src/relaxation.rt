@@ -20,6 +20,7 @@ use crate::allowance::Allowance;
 use crate::relaxation::basis::Basis;
 use crate::relaxation::pool::Pool;
 use crate::relaxation::sparse::Sparse;
+pub use basis::MANY_CONDITIONS;
 pub use dual::Ended;
 use row_tables::fixed_point::{at, copy, item, reset, set_at, write_over};
 use row_tables::{Made, RowTable};

@@ -4,7 +4,7 @@
 //! with the row taken and with the row forbidden, over the rows at hand, and the greatest product of the two rises
 //! wins.
 use crate::decided::Decided;
-use linear_relaxation::{Ended, Saved};
+use linear_relaxation::{Ended, MANY_CONDITIONS, Saved};
 use row_tables::fixed_point::{ONE, item};
 use row_tables::{Decision, Made, RowTable, Share};
 use std::alloc::Global;
@@ -12,10 +12,8 @@ use std::alloc::Global;
 /// What each rider of a row counts toward being tried.
 const A_RIDER: i64 = ONE / 100 * 3;
 
-/// Up to so many vehicles and riders a trial is cheap, and with more than so many it is dear.
+/// Up to so many vehicles and riders a trial is cheap. It is dear with more than `MANY_CONDITIONS`.
 pub const FEW_CONDITIONS: usize = 350;
-
-const MANY_CONDITIONS: usize = 800;
 
 /// The work space of a choice.
 #[derive(Drop)]

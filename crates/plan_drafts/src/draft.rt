@@ -72,7 +72,7 @@ const LARGER_PART: i64 = 2;
 
 /// How many numbers a draft goes through at most. Of those who go through some side by side the one counts who goes
 /// through most, and of scouts as often as one of four workers has a scout.
-const MOST_WORK: u64 = 3_200_000_000;
+const MOST_WORK: u64 = 3_800_000_000;
 
 /// How many numbers a row counts as that is judged at a node. At most as many nodes count as most budgets have.
 const A_ROW: u64 = 2;

@@ -14,6 +14,9 @@ use std::alloc::Global;
 /// After so many exchanges the factors are made anew.
 const MOST_EXCHANGES: usize = 64;
 
+/// With more conditions than this factors are dear to make.
+pub const MANY_CONDITIONS: usize = 800;
+
 /// A level is wrong that lies this far from where it may be.
 const LEAST_WRONG: i64 = ONE / 100_000;
 
@@ -97,10 +100,6 @@ impl Basis {
 
     pub fn has(&self, column: usize) -> bool {
         item(&self.is_in, column, false)
-    }
-
-    fn level(&self, place: usize) -> i64 {
-        at(&self.levels, place)
     }
 
     /// Goes to other columns, which were a basis before.
@@ -192,7 +191,7 @@ impl Basis {
         let mut divisor = 0;
         for place in self.entering.places() {
             let value = self.entering.at(place);
-            let level = self.level(place).max(0);
+            let level = at(&self.levels, place).max(0);
             if value > LEAST_PIVOT && !is_quotient_above(level, value, least) {
                 let ratio = quotient(level, value);
                 if best.is_none() || ratio < least || (ratio == least && value > divisor) {
@@ -224,7 +223,7 @@ impl Basis {
         let mut best = None;
         let mut most = LEAST_WRONG;
         for place in 0..self.levels.len() {
-            let level = self.level(place);
+            let level = at(&self.levels, place);
             let is_wrong = level < 0 || item(is_forbidden, self.column(place), false);
             if level.saturating_abs() > most && is_wrong {
                 most = level.saturating_abs();
@@ -235,7 +234,7 @@ impl Basis {
     }
 
     /// Puts the column that was found into this place. False where the factors should be made anew, which is dear where
-    /// they have many numbers.
+    /// they have many numbers or there are many conditions.
     pub fn exchange(&mut self, place: usize, column: usize, level: i64) -> Made<bool> {
         self.take_levels(level);
         set_at(&mut self.levels, place, level);
@@ -245,7 +244,9 @@ impl Basis {
         set_at(&mut self.is_in, column, true);
         self.factors.enter(place, &self.entering)?;
         let (count, size) = self.made.unwrap_or((0, 0));
-        let most = self.columns.len().saturating_mul(8).saturating_add(2000);
+        let conditions = self.columns.len();
+        let each = if conditions > MANY_CONDITIONS { 32 } else { 8 };
+        let most = conditions.saturating_mul(each).saturating_add(2000);
         let most = most.max(size.saturating_sub(48_000));
         Ok(
             self.factors.len().saturating_sub(count) < MOST_EXCHANGES

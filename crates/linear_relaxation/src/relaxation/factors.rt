@@ -251,10 +251,8 @@ impl Factors {
             }
             if rest != 0 {
                 marks |= mark_of(place);
-                costs.set(place, quotient(rest, divisor));
-            } else {
-                costs.set(place, 0);
             }
+            costs.set(place, quotient(rest, divisor));
         }
         marks
     }

@@ -76,9 +76,12 @@ impl Sparse {
     #[inline]
     pub fn take_products(&mut self, places: &[u32], numbers: &[i64], factor: i64) {
         for (place, number) in places.iter().zip(numbers) {
+            let place = *place as usize;
             let product = times(factor, *number);
-            add_at(&mut self.numbers, *place as usize, product.wrapping_neg());
-            self.mark(*place as usize);
+            if self.at(place) == 0 {
+                self.mark(place);
+            }
+            add_at(&mut self.numbers, place, product.wrapping_neg());
         }
     }
 
