@@ -82,7 +82,7 @@ Exit status: 0 done; 2 words; 3 network; 4 fleet; 5 script; 6 input too long; 7 
 that of no run of the script.
 ";
 
-const VERSION: &str = "ridepool 1.2.7\n";
+const VERSION: &str = "ridepool 1.2.8\n";
 
 fn main(rt: HostRuntime) -> ExitCode {
     let _places = [
