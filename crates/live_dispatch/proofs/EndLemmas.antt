@@ -5,7 +5,7 @@ use Rattle.live_dispatch.proofs.StandLemmas.{begins-here, begins-last}
 use Rattle.live_dispatch.proofs.StepLemmas.{batch-begins, batch-stands, lines-behind, row-begins}
 use Rattle.live_dispatch.proofs.WriteLemmas.{whole-some}
 use Rattle.dispatch_report.specs.declared.fault.ReportFault.TheVariants as report
-use Rattle.live_batch.specs.declared.read_on.Halt.TheVariants as stop
+use Rattle.live_dispatch.specs.declared.read_on.Halt.TheVariants as stop
 use Rattle.live_dispatch.specs.declared.fault.LiveFault.TheVariants as live
 
 faults-kept : (end : Halt) (row : Line) (before now : ℕ) → end ≡ stop.Held row → FaultsFrom end before now → before ≤ now

@@ -1,9 +1,13 @@
+pub mod BatchLemmas
+pub mod Common
+pub mod CutLemmas
+pub mod DeskLemmas
+pub mod EndLemmas
+pub mod ReadLemmas
 pub mod RowLemmas
 pub mod RunLemmas
-pub mod WriteLemmas
-pub mod BatchLemmas
 pub mod StandLemmas
 pub mod StepLemmas
-pub mod EndLemmas
 pub mod TurnLemmas
-pub mod Common
+pub mod WriteLemmas
+pub mod lemmas

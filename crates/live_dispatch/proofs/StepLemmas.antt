@@ -1,7 +1,7 @@
 -- What stands after a row, and after an open batch.
 use Rattle.std.proofs.Common.{rules, ◌≡◌, ◌≢◌, ℕ, ◌<◌, ◌≤◌, Bool, true, false, cond, eqb, List, [], ◌∷◌, ◌++◌, length, map, take, Option, None, Some, refl, sym, ap, subst, ◌∙◌, append_assoc, append-nil, arith, option_map}
 use Rattle.live_dispatch.proofs.Common.{Appends, Appends-trans, Batch, of_lane, IsLaneRunFrom, IsLaneRun, IsLaneBeginning, ClosesAreGood, IsReady, ends-closed, stands-plain, lines_text, entries_lines, entry_text, ReportFault, BeginWithRows, ClosesBatch, TakesRun, commands_of_pass, desk_after, runs-begin, runs-more, takes-start, Halt, IsPassedOn, Outputs, desk_of, desk_root, entries_text, notices_in, text_of, LaneCommand, TakesRows, BookView, next_position, state_after, RepliesAreSteps, step, Command, Close, Entry, Reply, State, Settings, notices_from, HaveHeard, Notice, all-heard-nothing, Roads, IsBehind, Line, sealed_by, step-seals, BeginsRows, in_lane, last_of, start_text, AppendsSome, HasRunOn, HasTaken, HaveCome, Moment, Stands, entry_for, outputs_of, row_text, entries-append, next-append, next-low, one-text}
-use Rattle.live_desk.specs.declared.desk.DeskRoot.{DeskRoot}
+use Rattle.live_dispatch.specs.declared.desk.DeskRoot.{DeskRoot}
 use Rattle.live_dispatch.proofs.BatchLemmas.{batch-begun, batch-closes, batch-ended, batch-lanes, batch-others, batch-unclosed, close-run, none-left, row-lanes, rows-of, some_close, stands-good, stands-silent, told, zero-commands}
 use Rattle.live_dispatch.proofs.StandLemmas.{Gives, begins-broken, begins-one, begins-whole, stands-after}
 use Rattle.live_dispatch.proofs.WriteLemmas.{some-part, some-whole}

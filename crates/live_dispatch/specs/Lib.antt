@@ -1,2 +1,4 @@
+pub mod Desk
 pub mod Live
+pub mod Phase
 pub mod work

@@ -8,7 +8,7 @@ use Rattle.dispatch_engine.specs.Lane.{ClosesAreGood, IsLaneBeginning, of_lane}
 use Rattle.dispatch_engine.specs.Run.{IsRun, position_after_run, state_after_run}
 use Rattle.dispatch_report.specs.Round.{end_text, round_text}
 use Rattle.pool_io.specs.Views.{Change, SinkView}
-use Rattle.live_batch.specs.Phase.{AreRows, BeginWithRows}
+use Rattle.live_dispatch.specs.Phase.{AreRows, BeginWithRows}
 use Rattle.request_book.specs.Book.{BookView}
 use Rattle.request_book.specs.Replay.{RepliesAreSteps}
 use Rattle.request_book.specs.declared.journal.Entry.{Entry}

@@ -1,3 +1,4 @@
 -- What only the bodies of this crate need.
 pub mod Rows
 pub mod Standing
+pub mod Telling

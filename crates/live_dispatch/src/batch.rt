@@ -2,18 +2,19 @@
 ghost use Rattle.std.specs.Prelude.{◌≡◌, ℕ, All, Contains, IfOk, MatchResult};
 ghost use Rattle.batch_snapshot.specs.Batch.{Batch};
 ghost use Rattle.batch_snapshot.specs.Points.{named_nodes};
-ghost use Rattle.live_batch.specs.Phase.{FaultsFrom, IsHeldBack};
-ghost use Rattle.live_desk.specs.Desk.{outputs_seen};
+ghost use Rattle.live_dispatch.specs.Phase.{FaultsFrom, IsHeldBack};
+ghost use Rattle.live_dispatch.specs.Desk.{outputs_seen};
 ghost use Rattle.script_rows.specs.declared.line.Line.{Line};
 ghost use Rattle.live_dispatch.specs.work.Rows.{last_of};
 ghost use Rattle.live_dispatch.specs.work.Standing.{Awaits, HasCut, HasEnded, HasRunOn, HaveCome, Moment, Opens, Stands, moment};
 
 use crate::fault::{LiveFault, fault_of_text};
 use crate::live_run::{Dispatched, LiveRun, end, stop};
+use crate::read_on::Halt;
+use crate::run::{OpenBatch, Opened, Unopened, run_open};
 use batch_snapshot::Snapshot;
 use dispatch_engine::Setup;
 use dispatch_report::ReportFault;
-use live_batch::{Halt, OpenBatch, Opened, Unopened, run_open};
 use live_rows::RowSource;
 use pool_base::OutOfMemory;
 use pool_io::Sink;

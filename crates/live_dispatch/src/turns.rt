@@ -4,7 +4,7 @@ ghost use Rattle.std.specs.Result.{IsErrOf};
 ghost use Rattle.pool_io.specs.Faults.{Rose};
 ghost use Rattle.dispatch_engine.specs.Run.{IsReady};
 ghost use Rattle.pool_io.specs.Views.{Change, sink_seen};
-ghost use Rattle.live_desk.specs.Desk.{outputs_seen};
+ghost use Rattle.live_dispatch.specs.Desk.{outputs_seen};
 ghost use Rattle.live_rows.specs.Rows.{ComesBehind};
 ghost use Rattle.rider_notices.specs.Seen.{notifiers_seen};
 ghost use Rattle.rider_notices.specs.Told.{NotifierView};

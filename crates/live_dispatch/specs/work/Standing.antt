@@ -8,9 +8,9 @@ use Rattle.dispatch_report.specs.Round.{entry_text}
 use Rattle.pool_io.specs.Views.{Change, SinkView}
 use Rattle.dispatch_report.specs.declared.fault.ReportFault.{ReportFault}
 use Rattle.dispatch_report.specs.declared.fault.ReportFault.TheVariants as report
-use Rattle.live_batch.specs.Phase.{HasRunOpen, desk_after}
-use Rattle.live_batch.specs.declared.read_on.Halt.{Halt}
-use Rattle.live_desk.specs.Desk.{desk_of, Outputs}
+use Rattle.live_dispatch.specs.Phase.{HasRunOpen, desk_after}
+use Rattle.live_dispatch.specs.declared.read_on.Halt.{Halt}
+use Rattle.live_dispatch.specs.Desk.{desk_of, Outputs}
 use Rattle.live_rows.specs.Rows.{GivesRow, TakesRows}
 use Rattle.live_rows.specs.declared.lines.LineFault.{LineFault}
 use Rattle.live_rows.specs.declared.lines.LineFault.TheVariants as line

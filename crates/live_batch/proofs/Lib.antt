@@ -1,3 +1,0 @@
-pub mod lemmas
-pub mod ReadLemmas
-pub mod CutLemmas

@@ -1,5 +1,0 @@
-use Rattle.live_desk.specs.Desk.{outputs_seen}
-use Rattle.live_batch.proofs.run.run_open.Given as goal
-
-abbrev pub ghosts-run_in : goal.ghosts-run_in
-ghosts-run_in g a = record { opened = outputs_seen g.K.Sink.written g.K.Sink.faults g.N.Notifier.told g.N.Notifier.faults g.N.Notifier.steady a.batch.sink a.batch.notifiers.items }

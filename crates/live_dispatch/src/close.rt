@@ -1,0 +1,60 @@
+ghost use Rattle.std.specs.Prelude.{◌≡◌, [], All, Contains};
+ghost use Rattle.batch_snapshot.specs.Points.{named_nodes};
+ghost use Rattle.seat_lock.specs.Values.{IsPassOf};
+ghost use Rattle.live_dispatch.specs.Phase.{ClosesBatch, commands_in};
+
+use crate::desk::{Desk, LaneCommand, Opening};
+use batch_snapshot::Snapshot;
+use batch_solver::solve_batch;
+use dispatch_engine::Setup;
+use pool_io::Sink;
+use request_book::Command;
+use rider_notices::Notifier;
+use row_tables::Drafter;
+use seat_lock::{Pass, SeatLock};
+use std::alloc::Global;
+use std::sync::Wait;
+use std::thread::Threads;
+use travel_times::Ways;
+use worker_gate::Gate;
+
+/// Solves the batch and closes it, and says whether it did.
+pub(crate) fn close_batch<K: Sink, N: Notifier, J: Opening, W: Ways, D: Drafter, G: Gate>(
+    rt: &(impl Threads + Wait + Sync),
+    alloc: Global,
+    lock: &SeatLock<Desk<K, N, J>>,
+    mut pass: Pass<Desk<K, N, J>>,
+    snapshot: &Snapshot,
+    setup: &Setup<'_, W, D, G>,
+) -> (Pass<Desk<K, N, J>>, bool)
+    requires own { IsPassOf lock.now pass }
+    requires lane { (pass.lane ≡ 0) × (pass.calls ≡ []) }
+    requires nodes { All (λ node. Contains setup.now.network.now.nodes node) (named_nodes snapshot.now) }
+    ensures own { IsPassOf lock.now result.0 }
+    ensures lane { result.0.lane ≡ 0 }
+    ensures closed { ClosesBatch setup.now.settings.now setup.now.network.now snapshot.entry.now result.1 (commands_in result.0) }
+{
+    let Setup {
+        network,
+        ways,
+        drafter,
+        settings,
+        gate,
+    } = setup;
+    let Ok(outcome) = solve_batch(
+        rt, alloc, snapshot, network, *ways, *drafter, settings, *gate,
+    ) else {
+        return (pass, false);
+    };
+    let close = LaneCommand {
+        lane: 0,
+        command: Command::Close {
+            batch: snapshot.batch,
+            outcome,
+        },
+    };
+    match lock.with_turn(rt, alloc, &mut pass, close) {
+        Ok(_) => (pass, true),
+        Err(_) => (pass, false),
+    }
+}

@@ -1,0 +1,232 @@
+ghost use Rattle.std.specs.Prelude.{◌≡◌, ◌<◌, ◌≤◌, ◌^◌, [], ◌∷◌, ◌++◌, List, Result, length, None, Some, IfOk, OnErr, OnOk};
+ghost use Rattle.dispatch_report.specs.declared.fault.ReportFault.{ReportFault};
+ghost use Rattle.request_book.specs.declared.journal.Entry.{Entry};
+ghost use Rattle.request_book.specs.declared.reply.Reply.TheVariants.{Closed};
+ghost use Rattle.rider_notices.specs.Notices.{entry_notices};
+ghost use Rattle.rider_notices.specs.Seen.{notifiers_seen};
+ghost use Rattle.shared_book.specs.Locked.{snapshot_before};
+ghost use Rattle.dispatch_report.specs.Round.{entry_text};
+ghost use Rattle.live_dispatch.specs.Desk.{IsDesk, DeskView, HasEntered, IsSameDesk, desk_of, outputs_seen};
+ghost use Rattle.live_dispatch.specs.work.Telling.{TellsClose, WroteLast, is_closed};
+
+use batch_snapshot::Snapshot as Sealed;
+use dispatch_report::{ReportFault, write_step};
+use pool_base::{NodeId, OutOfMemory, Sequence};
+use pool_io::Sink;
+use request_book::{Book, Command, Entry, Reply, State};
+use rider_notices::{Notice, Notifier, notices_of_close, tell_all};
+use shared_book::{LockedReply, sealed_by_command};
+use std::alloc::Global;
+use std::marker::{Brand, Model, PhantomData};
+
+/// A command with its lane.
+#[derive(Drop)]
+pub struct LaneCommand {
+    pub lane: u8,
+    pub command: Command,
+}
+
+/// What no call changes of a desk. Contracts alone speak of it.
+pub struct DeskRoot {
+    pub nodes: Sequence<NodeId>,
+    pub wait: u32,
+    pub first: u64,
+    pub base: State,
+    pub proof: bool,
+}
+
+/// What the sink and the notifiers of a desk show when the desk is made. Each desk picks it.
+pub trait Opening {
+    ghost use Rattle.live_dispatch.specs.Desk.{Outputs};
+
+    ghost opened: { Outputs };
+}
+
+impl Opening for Brand {
+    ghost use Rattle.std.specs.Prelude.{[], None};
+
+    ghost opened = { record { sink = record { written = None; faults = 0 }; notifiers = [] } };
+}
+
+/// A book beside a sink and notifiers. After a fault of the sink it takes no more commands.
+#[derive(Drop)]
+pub struct Desk<K: Sink, N: Notifier, J: Opening> {
+    book: Book,
+    sink: K,
+    notifiers: Vec<N>,
+    line: Vec<u8>,
+    proof: bool,
+    fault: Option<ReportFault>,
+    of: PhantomData<J>,
+}
+
+impl<K: Sink, N: Notifier, J: Opening> Model for Desk<K, N, J> {
+    ghost use Rattle.live_dispatch.specs.Desk.{DeskView, IsDesk, outputs_seen};
+
+    ghost Value = { DeskView };
+
+    ghost view = { λ d. record {
+      book = d.book;
+      proof = d.proof;
+      opened = J.opened;
+      now = outputs_seen K.written K.faults N.told N.faults N.steady d.sink d.notifiers.items;
+      fault = d.fault;
+    } };
+
+    ghost invariant = { λ d. IsDesk (record {
+      book = d.book;
+      proof = d.proof;
+      opened = J.opened;
+      now = outputs_seen K.written K.faults N.told N.faults N.steady d.sink d.notifiers.items;
+      fault = d.fault;
+    }) };
+}
+
+impl<K: Sink, N: Notifier, J: Opening> Desk<K, N, J> {
+    /// A desk with nothing written.
+    pub fn of(alloc: Global, book: Book, sink: K, notifiers: Vec<N>, proof: bool) -> Desk<K, N, J>
+        requires empty { book.entries ≡ [] }
+        requires first { book.first < 2 ^ 64 }
+        requires opened { J.opened ≡ outputs_seen K.written K.faults N.told N.faults N.steady sink notifiers.items }
+        ensures desk { result ≡ desk_of book proof (outputs_seen K.written K.faults N.told N.faults N.steady sink notifiers.items) }
+        ensures kept { IsDesk result }
+    {
+        let _entries = book.entries();
+        Desk {
+            book,
+            sink,
+            notifiers,
+            line: Vec::new(alloc),
+            proof,
+            fault: None,
+            of: PhantomData,
+        }
+    }
+
+    /// Lets the book answer a command of a lane, writes its text, and behind the block of a close tells its notices. After
+    /// a fault of the sink, at this call or an earlier one, it takes no more commands.
+    pub fn enter(
+        &mut self,
+        alloc: Global,
+        lane: u8,
+        command: Command,
+    ) -> Result<LockedReply, OutOfMemory>
+        ensures entered { IfOk result (λ reply. HasEntered self.old lane command reply self.new) }
+        ensures refused { OnErr result (IsSameDesk self.old self.new) }
+        ensures kept { IsDesk self.new }
+        ensures short { OnOk result (length self.new.book.entries < 2 ^ 63) }
+    {
+        if self.fault.is_some() {
+            drop(command);
+            return Err(OutOfMemory);
+        }
+        let position = self.book.next_position();
+        match shown_by(alloc, &self.book, &command) {
+            Ok((snapshot, notices)) => match self.book.apply(lane, command) {
+                Ok(reply) => {
+                    self.fault = write_last(
+                        &mut self.sink,
+                        &mut self.line,
+                        &mut self.notifiers,
+                        position,
+                        self.book.entries(),
+                        self.proof,
+                        &notices,
+                    );
+                    Ok(LockedReply { reply, snapshot })
+                }
+                Err(fault) => {
+                    drop(snapshot);
+                    Err(fault)
+                }
+            },
+            Err(fault) => {
+                drop(command);
+                Err(fault)
+            }
+        }
+    }
+
+    /// The book, the sink, the notifiers, and the fault that stopped the desk.
+    pub fn into_parts(self) -> (Book, K, Vec<N>, Option<ReportFault>)
+        ensures parts { self ≡ record { book = result.0; proof = self.proof; opened = J.opened; now = outputs_seen K.written K.faults N.told N.faults N.steady result.1 result.2.items; fault = result.3 } }
+        ensures kept { IsDesk self }
+    {
+        let Desk {
+            book,
+            sink,
+            notifiers,
+            line,
+            proof: _,
+            fault,
+            of: _,
+        } = self;
+        drop(line);
+        (book, sink, notifiers, fault)
+    }
+}
+
+// The batch that a command would seal, if it is a seal, and the notices that it would have, if it is a close.
+fn shown_by(
+    alloc: Global,
+    book: &Book,
+    command: &Command,
+) -> Result<(Option<Sealed>, Vec<Notice>), OutOfMemory>
+    ensures sealed { IfOk result (λ shown. shown.0 ≡ snapshot_before book.now.wait book.now.state command.now) }
+    ensures notices { IfOk result (λ shown. shown.1.items ≡ entry_notices book.now.state command.now Closed) }
+{
+    match sealed_by_command(book, command) {
+        Ok(snapshot) => match notices_of_close(alloc, book, command) {
+            Ok(notices) => Ok((snapshot, notices)),
+            Err(fault) => {
+                drop(snapshot);
+                Err(fault)
+            }
+        },
+        Err(fault) => Err(fault),
+    }
+}
+
+// Tells the notices of a close that was answered so.
+fn tell_close<N: Notifier>(notifiers: &mut Vec<N>, reply: &Reply, notices: &[Notice])
+    ensures { TellsClose notices.now reply.now (notifiers_seen N.told N.faults N.steady notifiers.old.items) (notifiers_seen N.told N.faults N.steady notifiers.new.items) }
+{
+    if is_closed(reply) {
+        tell_all(notifiers, notices);
+    }
+}
+
+fn is_closed(reply: &Reply) -> bool
+    ensures { result ≡ is_closed reply.now }
+{
+    matches!(reply, Reply::Closed)
+}
+
+// Writes the text of the last entry, and then tells these notices if it is a close. It answers the fault that kept the
+// text from being written whole.
+fn write_last<K: Sink, N: Notifier>(
+    sink: &mut K,
+    line: &mut Vec<u8>,
+    notifiers: &mut Vec<N>,
+    position: u64,
+    entries: &[Entry],
+    proof: bool,
+    notices: &[Notice],
+) -> Option<ReportFault>
+    requires { 0 < length entries.now }
+    ensures short { length entries.now < 2 ^ 63 }
+    ensures wrote { (before : List Entry) (last : Entry) → entries.now ≡ before ++ last ∷ []
+        → WroteLast result (entry_text proof position last) notices.now last.reply
+        (outputs_seen K.written K.faults N.told N.faults N.steady sink.old notifiers.old.items)
+        (outputs_seen K.written K.faults N.told N.faults N.steady sink.new notifiers.new.items) }
+    ensures never_falls { K.faults sink.old ≤ K.faults sink.new }
+{
+    let last = &entries[entries.len() - 1];
+    match write_step(sink, line, position, last, proof) {
+        Ok(()) => {
+            tell_close(notifiers, &last.reply, notices);
+            None
+        }
+        Err(fault) => Some(fault),
+    }
+}

@@ -1,0 +1,169 @@
+//! A batch that is open, from a book and a sink to a book and a sink.
+ghost use Rattle.std.specs.Prelude.{◌≡◌, ◌<◌, ◌^◌, [], All, Contains, IfOk, IfErr};
+ghost use Rattle.batch_snapshot.specs.Points.{named_nodes};
+ghost use Rattle.live_dispatch.specs.Desk.{desk_of, outputs_seen};
+ghost use Rattle.rider_notices.specs.Seen.{notifiers_seen};
+ghost use Rattle.live_dispatch.specs.Phase.{FaultsFrom, HasRunOpen, IsHeldBack, desk_after};
+
+use crate::desk::{Desk, Opening};
+use crate::open::{Reading, finish, two_of, work_both};
+use crate::read_on::Halt;
+use batch_snapshot::Snapshot;
+use dispatch_engine::Setup;
+use dispatch_report::ReportFault;
+use live_rows::RowSource;
+use pool_io::Sink;
+use request_book::Book;
+use rider_notices::Notifier;
+use row_tables::Drafter;
+use seat_lock::SeatLock;
+use std::alloc::Global;
+use std::marker::Brand;
+use std::sync::Wait;
+use std::thread::Threads;
+use travel_times::Ways;
+use worker_gate::Gate;
+
+/// What a batch that is open is run on: the book, the sink of the report, the notifiers, and the rows to come.
+#[derive(Drop)]
+pub struct OpenBatch<K, N: Drop, L> {
+    pub book: Book,
+    pub sink: K,
+    pub notifiers: Vec<N>,
+    pub lines: L,
+}
+
+/// What came of a batch that was open.
+#[derive(Drop)]
+pub struct Opened<K, N: Drop, L> {
+    pub book: Book,
+    pub sink: K,
+    pub notifiers: Vec<N>,
+    /// The rows to come.
+    pub lines: L,
+    /// Whether the batch is closed.
+    pub closed: bool,
+    pub stop: Halt,
+    pub fault: Option<ReportFault>,
+}
+
+/// There was no memory to begin with a batch; nothing was read or written, and nobody was told anything.
+#[derive(Drop)]
+pub struct Unopened<K, N: Drop, L> {
+    pub sink: K,
+    pub notifiers: Vec<N>,
+    pub lines: L,
+}
+
+/// Solves and closes the batch that is open while rows of other lanes are run. The thread that closes it tells its notices,
+/// right behind its block. For want of memory at the start the sink, the notifiers and the rows come back.
+pub fn run_open<
+    K: Sink + Send + Drop,
+    N: Notifier + Send,
+    L: RowSource + Send + Drop,
+    W: Ways,
+    D: Drafter,
+    G: Gate,
+>(
+    rt: &(impl Threads + Wait + Sync),
+    alloc: Global,
+    batch: OpenBatch<K, N, L>,
+    round: u32,
+    snapshot: &Snapshot,
+    setup: &Setup<'_, W, D, G>,
+) -> Result<Opened<K, N, L>, Unopened<K, N, L>>
+    requires empty { batch.book.entries ≡ [] }
+    requires small { batch.book.first < 2 ^ 64 }
+    requires last { L.last batch.lines ≡ round }
+    requires nodes { All (λ node. Contains setup.now.network.now.nodes node) (named_nodes snapshot.now) }
+    ensures run { let opened = outputs_seen K.written K.faults N.told N.faults N.steady batch.sink batch.notifiers.items in
+        IfOk result (λ o. HasRunOpen setup.now.settings.now setup.now.network.now snapshot.entry.now round (L.to_come batch.lines) (L.to_come o.lines)
+        (desk_of batch.book setup.now.settings.now.proof opened)
+        (desk_after batch.book setup.now.settings.now.proof opened o.book (outputs_seen K.written K.faults N.told N.faults N.steady o.sink o.notifiers.items) o.fault) o.closed o.stop) }
+    ensures held { IfOk result (λ o. IsHeldBack round (L.last o.lines) o.stop) }
+    ensures faults { IfOk result (λ o. FaultsFrom o.stop (L.faults batch.lines) (L.faults o.lines)) }
+    ensures kept { IfErr result (λ u. (K.written u.sink ≡ K.written batch.sink) × (K.faults u.sink ≡ K.faults batch.sink) × (u.lines ≡ batch.lines)
+        × (notifiers_seen N.told N.faults N.steady u.notifiers.items ≡ notifiers_seen N.told N.faults N.steady batch.notifiers.items)) }
+{
+    run_in::<K, N, Brand, L, W, D, G>(rt, alloc, batch, round, snapshot, setup)
+}
+
+fn run_in<
+    K: Sink + Send + Drop,
+    N: Notifier + Send,
+    J: Opening + Send + Sync,
+    L: RowSource + Send + Drop,
+    W: Ways,
+    D: Drafter,
+    G: Gate,
+>(
+    rt: &(impl Threads + Wait + Sync),
+    alloc: Global,
+    batch: OpenBatch<K, N, L>,
+    round: u32,
+    snapshot: &Snapshot,
+    setup: &Setup<'_, W, D, G>,
+) -> Result<Opened<K, N, L>, Unopened<K, N, L>>
+    requires opened { J.opened ≡ outputs_seen K.written K.faults N.told N.faults N.steady batch.sink batch.notifiers.items }
+    requires empty { batch.book.entries ≡ [] }
+    requires small { batch.book.first < 2 ^ 64 }
+    requires last { L.last batch.lines ≡ round }
+    requires nodes { All (λ node. Contains setup.now.network.now.nodes node) (named_nodes snapshot.now) }
+    ensures run { let opened = outputs_seen K.written K.faults N.told N.faults N.steady batch.sink batch.notifiers.items in
+        IfOk result (λ o. HasRunOpen setup.now.settings.now setup.now.network.now snapshot.entry.now round (L.to_come batch.lines) (L.to_come o.lines)
+        (desk_of batch.book setup.now.settings.now.proof opened)
+        (desk_after batch.book setup.now.settings.now.proof opened o.book (outputs_seen K.written K.faults N.told N.faults N.steady o.sink o.notifiers.items) o.fault) o.closed o.stop) }
+    ensures held { IfOk result (λ o. IsHeldBack round (L.last o.lines) o.stop) }
+    ensures faults { IfOk result (λ o. FaultsFrom o.stop (L.faults batch.lines) (L.faults o.lines)) }
+    ensures kept { IfErr result (λ u. (K.written u.sink ≡ K.written batch.sink) × (K.faults u.sink ≡ K.faults batch.sink) × (u.lines ≡ batch.lines)
+        × (notifiers_seen N.told N.faults N.steady u.notifiers.items ≡ notifiers_seen N.told N.faults N.steady batch.notifiers.items)) }
+{
+    let OpenBatch {
+        book,
+        sink,
+        notifiers,
+        lines,
+    } = batch;
+    let desk: Desk<K, N, J> = Desk::of(alloc, book, sink, notifiers, setup.settings.proof);
+    let Ok(back) = Vec::with_capacity(alloc, 2) else {
+        return Err(give_back(desk, lines));
+    };
+    match SeatLock::start(alloc, desk, 2) {
+        Ok((lock, passes)) => {
+            let (first, second) = two_of(&lock, passes);
+            let both = (first, (second, lines));
+            let ((first, closed), Reading { pass, lines, stop }) = work_both(
+                rt, alloc, &lock, both, round, snapshot, setup,
+            );
+            let desk = finish(lock, back, first, pass);
+            let (book, sink, notifiers, fault) = desk.into_parts();
+            Ok(Opened {
+                book,
+                sink,
+                notifiers,
+                lines,
+                closed,
+                stop,
+                fault,
+            })
+        }
+        Err(refused) => Err(give_back(refused.value, lines)),
+    }
+}
+
+/// Gives up a desk with which there was no memory to begin.
+fn give_back<K: Sink + Drop, N: Notifier, J: Opening, L>(
+    desk: Desk<K, N, J>,
+    lines: L,
+) -> Unopened<K, N, L>
+    ensures lines { result.lines ≡ lines }
+    ensures outputs { outputs_seen K.written K.faults N.told N.faults N.steady result.sink result.notifiers.items ≡ desk.now }
+{
+    let (book, sink, notifiers, _) = desk.into_parts();
+    drop(book);
+    Unopened {
+        sink,
+        notifiers,
+        lines,
+    }
+}
