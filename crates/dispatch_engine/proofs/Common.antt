@@ -33,7 +33,7 @@ pub use Rattle.road_network.specs.Roads.{Roads}
 pub use Rattle.script_rows.specs.Round.{IsRound, MayStand, NumberedLanes, lane_at}
 pub use Rattle.seat_lock.specs.Values.{AreAllPasses, IsNew, IsPassOf, LockValue, calls_of, entry}
 pub use Rattle.seat_lock.specs.declared.logged.LoggedCall.{LoggedCall}
-unfoldable pub use Rattle.shared_book.specs.Locked.{calls_from}
-pub use Rattle.shared_book.specs.Locked.{call_of, entry_of, sealed_by, snapshot_after}
-pub use Rattle.shared_book.specs.Shared.{BookPass, HasCalled, HasCalledSome, IsFinished, IsSamePass, with_snapshot}
-pub use Rattle.shared_book.specs.declared.locked.LockedReply.{LockedReply}
+unfoldable pub use Rattle.dispatch_engine.specs.Locked.{calls_from}
+pub use Rattle.dispatch_engine.specs.Locked.{call_of, entry_of, sealed_by, snapshot_after}
+pub use Rattle.dispatch_engine.specs.Shared.{BookPass, HasCalled, HasCalledSome, IsFinished, IsSamePass, with_snapshot}
+pub use Rattle.dispatch_engine.specs.declared.locked.LockedReply.{LockedReply}

@@ -1,6 +1,7 @@
-pub mod lemmas
-pub mod PassLemmas
+pub mod Common
 pub mod CrewLemmas
+pub mod FinishLemmas
+pub mod PassLemmas
 pub mod RoundLemmas
 pub mod SameLemmas
-pub mod Common
+pub mod lemmas

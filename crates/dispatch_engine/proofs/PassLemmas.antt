@@ -4,8 +4,8 @@ use Rattle.dispatch_engine.proofs.Common.{map-append, All-nil, All-cons, All-app
 use Rattle.std.proofs.lemmas.Simd.{map-map}
 use Rattle.request_book.specs.declared.outcome.Answer.TheVariants.{Overflow}
 use Rattle.request_book.specs.declared.outcome.Outcome.{Outcome}
-use Rattle.shared_book.specs.declared.shared.Receipt.{Receipt}
-use Rattle.shared_book.specs.Locked.{Fits}
+use Rattle.dispatch_engine.specs.declared.shared.Receipt.{Receipt}
+use Rattle.dispatch_engine.specs.Locked.{Fits}
 use Rattle.dispatch_engine.proofs.lemmas.RunLemmas.{begun-next, run-append}
 
 -- there are runs of any commands

@@ -1,4 +1,5 @@
 pub mod LaneLemmas
-pub mod StandLemmas
-pub mod RunLemmas
+pub mod LockedLemmas
 pub mod ProgressLemmas
+pub mod RunLemmas
+pub mod StandLemmas

@@ -1,6 +1,8 @@
 pub mod Lane
+pub mod Locked
+pub mod Progress
 pub mod Run
 pub mod Same
-pub mod Progress
+pub mod Shared
 pub mod lemmas
 pub mod work

@@ -6,7 +6,7 @@ use Rattle.request_book.specs.declared.command.Command.{Command}
 use Rattle.request_book.specs.declared.journal.Entry.{Entry}
 use Rattle.request_book.specs.declared.reply.Reply.{Reply}
 use Rattle.script_rows.specs.Round.{NumberedLanes, lane_at}
-use Rattle.shared_book.specs.Locked.{sealed_by}
+use Rattle.dispatch_engine.specs.Locked.{sealed_by}
 
 -- at the beginning no command was taken, and no batch waits for its close
 abbrev pub at_start : LaneStand

@@ -4,10 +4,10 @@ ghost use Rattle.dispatch_engine.specs.work.Crew.{AreInOrder, HasWorked, IsToWor
 
 use crate::lane::run_lane;
 use crate::setup::Setup;
+use crate::shared::{Pass, SharedBook};
 use pool_base::OutOfMemory;
 use row_tables::Drafter;
 use script_rows::Round;
-use shared_book::{Pass, SharedBook};
 use std::alloc::Global;
 use std::sync::Wait;
 use std::thread;

@@ -2,16 +2,16 @@
 ghost use Rattle.std.specs.Prelude.{◌≡◌, ◌∷◌, [], All, OnErr, OnOk};
 ghost use Rattle.script_rows.specs.Round.{MayStand};
 ghost use Rattle.seat_lock.specs.Values.{IsPassOf};
-ghost use Rattle.shared_book.specs.Shared.{IsSamePass};
+ghost use Rattle.dispatch_engine.specs.Shared.{IsSamePass};
 ghost use Rattle.dispatch_engine.specs.Lane.{HasRun, IsLaneBeginning, IsLaneRun};
 ghost use Rattle.dispatch_engine.specs.work.Crew.{HasTaken};
 
 use crate::setup::Setup;
+use crate::shared::{Pass, SealReceipt, SharedBook};
 use batch_solver::solve_batch;
 use pool_base::{OutOfMemory, Second};
 use request_book::Command;
 use row_tables::Drafter;
-use shared_book::{Pass, SealReceipt, SharedBook};
 use std::alloc::Global;
 use std::sync::Wait;
 use std::thread::Threads;

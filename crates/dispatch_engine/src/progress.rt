@@ -4,7 +4,7 @@ ghost use Rattle.dispatch_engine.specs.Progress.{AreDone, HaveCome, IsNext, IsRe
 ghost use Rattle.request_book.specs.declared.command.Command.{Command as OneCommand};
 ghost use Rattle.request_book.specs.declared.journal.Entry.{Entry as OneEntry};
 ghost use Rattle.script_rows.specs.Round.{NumberedLanes, lane_at};
-ghost use Rattle.shared_book.specs.Locked.{sealed_by};
+ghost use Rattle.dispatch_engine.specs.Locked.{sealed_by};
 
 use crate::stand::LaneStand;
 use pool_base::OutOfMemory;

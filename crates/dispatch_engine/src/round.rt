@@ -7,11 +7,11 @@ ghost use Rattle.dispatch_engine.specs.Run.{IsReady, IsRoundRun, IsSameRun, jour
 
 use crate::crew::{are_done, crew_of, passes_of, work_all};
 use crate::setup::Setup;
+use crate::shared::{Pass, SharedBook};
 use pool_base::OutOfMemory;
 use request_book::{Book, Command};
 use row_tables::Drafter;
 use script_rows::Round;
-use shared_book::{Pass, SharedBook};
 use std::alloc::Global;
 use std::sync::Wait;
 use std::thread::Threads;

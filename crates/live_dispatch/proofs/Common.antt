@@ -55,6 +55,6 @@ pub use Rattle.script_rows.specs.Round.{MayStand, NumberedLanes, lane_at}
 pub use Rattle.script_rows.specs.Script.{round_of}
 pub use Rattle.script_rows.specs.declared.line.Line.{Line}
 pub use Rattle.script_rows.specs.lemmas.Named.{rounds_of}
-pub use Rattle.shared_book.proofs.lemmas.LockedLemmas.{applied-fits, step-seals}
-unfoldable pub use Rattle.shared_book.specs.Locked.{calls_from}
-pub use Rattle.shared_book.specs.Locked.{sealed_by}
+pub use Rattle.dispatch_engine.proofs.lemmas.LockedLemmas.{applied-fits, step-seals}
+unfoldable pub use Rattle.dispatch_engine.specs.Locked.{calls_from}
+pub use Rattle.dispatch_engine.specs.Locked.{sealed_by}

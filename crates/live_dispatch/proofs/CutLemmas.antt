@@ -11,8 +11,8 @@ use Rattle.rider_limits.specs.declared.settings.Settings.{Settings}
 use Rattle.road_network.specs.Roads.{Roads}
 use Rattle.script_rows.specs.declared.line.Line.{Line}
 use Rattle.seat_lock.specs.Values.{calls_of, GainsCalls, PassValue}
-use Rattle.shared_book.specs.Locked.{calls_from}
-use Rattle.shared_book.specs.declared.locked.LockedReply.{LockedReply}
+use Rattle.dispatch_engine.specs.Locked.{calls_from}
+use Rattle.dispatch_engine.specs.declared.locked.LockedReply.{LockedReply}
 use Rattle.live_dispatch.specs.Desk.{desk_call, desk_log, desk_root, DeskView, IsDesk}
 use Rattle.live_dispatch.specs.declared.desk.LaneCommand.{LaneCommand}
 use Rattle.live_dispatch.specs.Phase.{commands_in, commands_of_pass, ClosesBatch, HasRunOpen, RanRows, TakesRun}

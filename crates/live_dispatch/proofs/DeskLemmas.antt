@@ -5,8 +5,8 @@ use Rattle.std.specs.Io.KnownBytes.{Appends}
 use Rattle.std.proofs.lemmas.Bool.{false≢true}
 use Rattle.std.specs.Prelude.{is_some, false, cond, OnOk}
 use Rattle.std.proofs.lemmas.List.{length-map}
-use Rattle.shared_book.specs.Locked.{log_of, snapshot_before}
-use Rattle.shared_book.proofs.lemmas.LockedLemmas.{calls-length, applied-call, applied-fits}
+use Rattle.dispatch_engine.specs.Locked.{log_of, snapshot_before}
+use Rattle.dispatch_engine.proofs.lemmas.LockedLemmas.{calls-length, applied-call, applied-fits}
 use Rattle.live_dispatch.specs.Desk.{desk_call, desk_log, HasEntered, entries_text, text_of, notices_in, DeskView, IsDesk, IsPassedOn, Outputs}
 use Rattle.pool_io.specs.Faults.{Rose}
 use Rattle.pool_io.specs.Sink.{AppendsPart}

@@ -10,7 +10,7 @@ use Rattle.std.proofs.lemmas.Bool.{false≢true}
 use Rattle.std.proofs.lemmas.List.{map-append}
 use Rattle.std.proofs.lemmas.List.Elements.{All-push}
 use Rattle.live_dispatch.specs.declared.desk.LaneCommand.{LaneCommand}
-use Rattle.shared_book.specs.declared.locked.LockedReply.{LockedReply}
+use Rattle.dispatch_engine.specs.declared.locked.LockedReply.{LockedReply}
 use Rattle.seat_lock.specs.Values.{PassValue}
 use Rattle.seat_lock.specs.declared.logged.LoggedCall.{LoggedCall}
 use Rattle.script_rows.specs.declared.line.Line.{Line}

@@ -1,7 +1,7 @@
 -- A book whose entries are written as they are made.
 use Rattle.seat_lock.specs.declared.logged.LoggedCall.{LoggedCall}
-use Rattle.shared_book.specs.Locked.{log_of, Fits}
-use Rattle.shared_book.specs.declared.locked.LockedReply.{LockedReply}
+use Rattle.dispatch_engine.specs.Locked.{log_of, Fits}
+use Rattle.dispatch_engine.specs.declared.locked.LockedReply.{LockedReply}
 use Rattle.live_dispatch.specs.declared.desk.LaneCommand.{LaneCommand}
 use Rattle.live_dispatch.specs.declared.desk.DeskRoot.{DeskRoot}
 use Rattle.std.specs.Prelude.{◌≡◌, ℕ, ◌<◌, ◌≤◌, ◌^◌, ◌==◌, Bool, List, [], ◌∷◌, ◌++◌, map, length, take, Option, None, Some, if◌then◌else◌}

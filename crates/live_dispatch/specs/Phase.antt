@@ -12,7 +12,7 @@ use Rattle.road_network.specs.Roads.{Roads}
 use Rattle.seat_lock.specs.Values.{PassValue}
 use Rattle.dispatch_report.specs.declared.fault.ReportFault.{ReportFault}
 use Rattle.request_book.specs.Book.{BookView}
-use Rattle.shared_book.specs.declared.locked.LockedReply.{LockedReply}
+use Rattle.dispatch_engine.specs.declared.locked.LockedReply.{LockedReply}
 use Rattle.live_dispatch.specs.declared.desk.LaneCommand.{LaneCommand}
 use Rattle.script_rows.specs.Line.{IsBehind}
 use Rattle.script_rows.specs.declared.line.Line.{Line}

@@ -4,20 +4,20 @@ ghost use Rattle.request_book.specs.declared.journal.Entry.{Entry};
 ghost use Rattle.request_book.specs.declared.reply.Reply.TheVariants.{Closed};
 ghost use Rattle.rider_notices.specs.Notices.{entry_notices};
 ghost use Rattle.rider_notices.specs.Seen.{notifiers_seen};
-ghost use Rattle.shared_book.specs.Locked.{snapshot_before};
+ghost use Rattle.dispatch_engine.specs.Locked.{snapshot_before};
 ghost use Rattle.dispatch_report.specs.Round.{entry_text};
 ghost use Rattle.live_dispatch.specs.Desk.{IsDesk, DeskView, HasEntered, IsSameDesk, desk_of, outputs_seen};
 ghost use Rattle.live_dispatch.specs.work.Telling.{TellsClose, WroteLast, is_closed};
 
-use batch_snapshot::Snapshot as Sealed;
+use dispatch_engine::{LockedReply, sealed_by_command};
 use dispatch_report::{ReportFault, write_step};
 use pool_base::{NodeId, OutOfMemory, Sequence};
 use pool_io::Sink;
 use request_book::{Book, Command, Entry, Reply, State};
 use rider_notices::{Notice, Notifier, notices_of_close, tell_all};
-use shared_book::{LockedReply, sealed_by_command};
 use std::alloc::Global;
 use std::marker::{Brand, Model, PhantomData};
+use batch_snapshot::Snapshot as Sealed;
 
 /// A command with its lane.
 #[derive(Drop)]

@@ -9,12 +9,12 @@ ghost use Rattle.live_dispatch.specs.work.Rows.{start_text};
 ghost use Rattle.live_dispatch.specs.work.Standing.{HasTaken, WritesSome, entry_for, row_text};
 
 use batch_snapshot::Snapshot;
+use dispatch_engine::sealed_by_command;
 use dispatch_report::{ReportFault, write_round_start, write_step};
 use pool_base::OutOfMemory;
 use pool_io::Sink;
 use request_book::{Book, Command, Entry};
 use script_rows::Line;
-use shared_book::sealed_by_command;
 
 /// Runs a row and writes its line, behind the line of its round where the last row was of another. It gives the batch
 /// that the row sealed. `line` is room for a line.

@@ -67,4 +67,4 @@ pub use Rattle.request_book.specs.lemmas.Table.{answer, batch_unless, seal_refus
 pub use Rattle.rider_limits.specs.declared.settings.Settings.{Settings}
 pub use Rattle.road_network.specs.Roads.{Roads}
 pub use Rattle.script_rows.specs.Round.{IsRound, MayStand, NumberedLanes, lane_at}
-pub use Rattle.shared_book.specs.Locked.{sealed_by, snapshot_before}
+pub use Rattle.dispatch_engine.specs.Locked.{sealed_by, snapshot_before}

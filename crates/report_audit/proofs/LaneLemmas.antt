@@ -5,7 +5,7 @@ use Rattle.std.proofs.lemmas.List.{get_or-set_same, get_or-set_other}
 use Rattle.std.proofs.lemmas.List.Elements.{filter-append}
 use Rattle.dispatch_engine.proofs.lemmas.StandLemmas.{stands-plain}
 use Rattle.request_book.specs.declared.outcome.Answer.TheVariants.{Overflow}
-use Rattle.shared_book.proofs.lemmas.LockedLemmas.{step-sealed}
+use Rattle.dispatch_engine.proofs.lemmas.LockedLemmas.{step-sealed}
 use Rattle.report_audit.proofs.JournalLemmas.{sealed-after}
 
 -- the entries of a lane

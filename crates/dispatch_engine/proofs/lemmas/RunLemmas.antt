@@ -6,7 +6,7 @@ use Rattle.std.proofs.lemmas.Bool.{eqb-true}
 use Rattle.std.proofs.lemmas.Map.Views.{Contains-from_any}
 use Rattle.batch_snapshot.specs.Points.{named_nodes}
 use Rattle.request_book.specs.Consistent.{IsNode}
-use Rattle.shared_book.specs.Locked.{Fits}
+use Rattle.dispatch_engine.specs.Locked.{Fits}
 
 -- items up to the next one
 pub take_next : {X : Type 0} (xs : List X) (i : ℕ) (x : X) → i < length xs → x ≡ get_or xs i x → take i xs ++ x ∷ [] ≡ take (i + 1) xs

@@ -6,9 +6,9 @@ use Rattle.rider_limits.specs.declared.settings.Settings.{Settings}
 use Rattle.road_network.specs.Roads.{Roads}
 use Rattle.script_rows.specs.Round.{IsRound, NumberedLanes, lane_at}
 use Rattle.seat_lock.specs.Values.{IsPassOf, LockValue}
-use Rattle.shared_book.specs.Locked.{entry_of}
-use Rattle.shared_book.specs.Shared.{BookPass, HasCalledSome}
-use Rattle.shared_book.specs.declared.shared.Receipt.{Receipt}
+use Rattle.dispatch_engine.specs.Locked.{entry_of}
+use Rattle.dispatch_engine.specs.Shared.{BookPass, HasCalledSome}
+use Rattle.dispatch_engine.specs.declared.shared.Receipt.{Receipt}
 use Rattle.dispatch_engine.specs.declared.crew.LaneWork.{LaneWork}
 use Rattle.dispatch_engine.specs.Lane.{IsLaneRun, LaneClosesAreGood}
 use Rattle.dispatch_engine.specs.work.Lanes.{calls_of_pass}

@@ -7,9 +7,9 @@ use Rattle.request_book.specs.declared.state.State.{State}
 use Rattle.rider_limits.specs.declared.settings.Settings.{Settings}
 use Rattle.road_network.specs.Roads.{Roads}
 use Rattle.seat_lock.specs.declared.logged.LoggedCall.{LoggedCall}
-use Rattle.shared_book.specs.declared.locked.LockedReply.{LockedReply}
-use Rattle.shared_book.specs.Locked.{entry_of}
-use Rattle.shared_book.specs.Shared.{BookPass}
+use Rattle.dispatch_engine.specs.declared.locked.LockedReply.{LockedReply}
+use Rattle.dispatch_engine.specs.Locked.{entry_of}
+use Rattle.dispatch_engine.specs.Shared.{BookPass}
 use Rattle.dispatch_engine.specs.Lane.{of_lane, IsLaneRun, LaneClosesAreGood, ClosesAreGood}
 use Rattle.dispatch_engine.specs.lemmas.Lanes.{IsPlain}
 

@@ -27,7 +27,7 @@ use Rattle.road_network.specs.Roads.{Roads}
 use Rattle.script_rows.specs.Line.{IsBehind}
 use Rattle.script_rows.specs.declared.line.Line.{Line}
 use Rattle.script_rows.specs.lemmas.Named.{rounds_of}
-use Rattle.shared_book.specs.Locked.{Fits, snapshot_before}
+use Rattle.dispatch_engine.specs.Locked.{Fits, snapshot_before}
 use Rattle.live_dispatch.specs.Live.{BeginsRows, journals_notices, journals_text, RunsRows}
 use Rattle.live_dispatch.specs.declared.fault.LiveFault.{LiveFault}
 use Rattle.live_dispatch.specs.declared.fault.LiveFault.TheVariants as live

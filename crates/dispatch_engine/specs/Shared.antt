@@ -7,9 +7,9 @@ use Rattle.request_book.specs.declared.command.Command.{Command}
 use Rattle.request_book.specs.declared.journal.Entry.{Entry}
 use Rattle.request_book.specs.declared.reply.Reply.{Reply}
 use Rattle.seat_lock.specs.Values.{PassValue, calls_of, entry}
-use Rattle.shared_book.specs.declared.locked.LockedReply.{LockedReply}
-use Rattle.shared_book.specs.declared.shared.Receipt.{Receipt}
-use Rattle.shared_book.specs.Locked.{calls_from, Fits}
+use Rattle.dispatch_engine.specs.declared.locked.LockedReply.{LockedReply}
+use Rattle.dispatch_engine.specs.declared.shared.Receipt.{Receipt}
+use Rattle.dispatch_engine.specs.Locked.{calls_from, Fits}
 
 -- what contracts see of a pass to a shared book
 abbrev pub BookPass : Type 0

@@ -12,8 +12,8 @@ use Rattle.request_book.specs.declared.reply.Reply.{Reply}
 use Rattle.request_book.specs.declared.reply.Reply.TheVariants.{Sealed}
 use Rattle.request_book.specs.declared.state.State.{State}
 use Rattle.seat_lock.specs.declared.logged.LoggedCall.{LoggedCall}
-use Rattle.shared_book.specs.declared.locked.BookRoot.{BookRoot}
-use Rattle.shared_book.specs.declared.locked.LockedReply.{LockedReply}
+use Rattle.dispatch_engine.specs.declared.locked.BookRoot.{BookRoot}
+use Rattle.dispatch_engine.specs.declared.locked.LockedReply.{LockedReply}
 
 -- the number of the batch that a reply says is sealed
 abbrev pub sealed_by : Reply → Option ℕ

@@ -14,7 +14,7 @@ use Rattle.request_book.specs.declared.journal.Entry.{Entry}
 use Rattle.request_book.specs.declared.reply.Reply.{Reply}
 use Rattle.request_book.specs.declared.state.State.{State}
 use Rattle.seat_lock.specs.declared.logged.LoggedCall.{LoggedCall}
-use Rattle.shared_book.specs.Locked.{sealed_by, snapshot_after, call_of, calls_from, log_of, Fits, snapshot_before}
+use Rattle.dispatch_engine.specs.Locked.{sealed_by, snapshot_after, call_of, calls_from, log_of, Fits, snapshot_before}
 
 module _ (nodes : List ℕ) (wait : ℕ) where
   pub calls-append : (s : State) (es later : List Entry) → calls_from nodes wait s (es ++ later) ≡ calls_from nodes wait s es ++ calls_from nodes wait (state_after nodes wait s es) later

@@ -1,9 +1,9 @@
 use Rattle.std.proofs.Common.{◌≡◌, List, sym, subst}
 use Rattle.request_book.specs.Book.{BookView}
 use Rattle.seat_lock.specs.Values.{LockValue}
-use Rattle.shared_book.specs.Shared.{BookPass, IsFinished}
-use Rattle.shared_book.proofs.FinishLemmas.{finished}
-use Rattle.shared_book.proofs.shared.SharedBook.finish.Goals as goal
+use Rattle.dispatch_engine.specs.Shared.{BookPass, IsFinished}
+use Rattle.dispatch_engine.proofs.FinishLemmas.{finished}
+use Rattle.dispatch_engine.proofs.shared.SharedBook.finish.Goals as goal
 
 pub returns-in-Ok-clause-calls : goal.returns-in-Ok-clause-calls
 returns-in-Ok-clause-calls c =

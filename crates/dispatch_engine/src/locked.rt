@@ -2,7 +2,7 @@
 ghost use Rattle.std.specs.Prelude.{◌≡◌, ◌^◌, ◌<◌, IfOk, IsOk, IsTrue, length};
 ghost use Rattle.request_book.specs.Book.{IsBook};
 ghost use Rattle.request_book.specs.Book.{is_light};
-ghost use Rattle.shared_book.specs.Locked.{snapshot_before};
+ghost use Rattle.dispatch_engine.specs.Locked.{snapshot_before};
 
 use batch_snapshot::Snapshot;
 use pool_base::{NodeId, OutOfMemory, Sequence};
@@ -44,7 +44,7 @@ pub struct BookRoot {
 
 impl Logged for LockedBook {
     ghost use Rattle.request_book.specs.Book.{is_light};
-    ghost use Rattle.shared_book.specs.Locked.{log_of, root_of, Fits};
+    ghost use Rattle.dispatch_engine.specs.Locked.{log_of, root_of, Fits};
 
     type Call = Command;
 

@@ -11,11 +11,11 @@ use Rattle.request_book.specs.declared.journal.Entry.{Entry}
 use Rattle.request_book.specs.declared.state.State.{State}
 use Rattle.seat_lock.specs.Values.{GainsCalls, calls_of}
 use Rattle.seat_lock.specs.declared.logged.LoggedCall.{LoggedCall}
-use Rattle.shared_book.specs.declared.locked.BookRoot.{BookRoot}
-use Rattle.shared_book.specs.declared.locked.LockedReply.{LockedReply}
-use Rattle.shared_book.specs.Locked.{calls_from, entry_of, log_of, root_of}
-use Rattle.shared_book.specs.Shared.{BookPass, IsFinished}
-use Rattle.shared_book.proofs.lemmas.LockedLemmas.{calls-append, calls-length}
+use Rattle.dispatch_engine.specs.declared.locked.BookRoot.{BookRoot}
+use Rattle.dispatch_engine.specs.declared.locked.LockedReply.{LockedReply}
+use Rattle.dispatch_engine.specs.Locked.{calls_from, entry_of, log_of, root_of}
+use Rattle.dispatch_engine.specs.Shared.{BookPass, IsFinished}
+use Rattle.dispatch_engine.proofs.lemmas.LockedLemmas.{calls-append, calls-length}
 
 module _ (nodes : List ℕ) (wait : ℕ) where
   -- the calls of entries give the entries back

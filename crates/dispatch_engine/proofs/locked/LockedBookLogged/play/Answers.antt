@@ -1,8 +1,8 @@
 use Rattle.std.proofs.Common.{◌≡◌, subst, ap, arith}
 use Rattle.request_book.specs.Book.{BookView, IsApplied, IsBook}
-use Rattle.shared_book.specs.Locked.{snapshot_before}
-use Rattle.shared_book.proofs.lemmas.LockedLemmas.{calls-length, applied-call, applied-fits}
-use Rattle.shared_book.proofs.locked.LockedBookLogged.play.Goals as goal
+use Rattle.dispatch_engine.specs.Locked.{snapshot_before}
+use Rattle.dispatch_engine.proofs.lemmas.LockedLemmas.{calls-length, applied-call, applied-fits}
+use Rattle.dispatch_engine.proofs.locked.LockedBookLogged.play.Goals as goal
 
 pub returns-clause-entry : goal.returns-clause-entry
 returns-clause-entry c =

@@ -3,7 +3,7 @@ ghost use Rattle.std.specs.Prelude.{◌≡◌, ◌≤◌, All, IfOk, IfErr, IsOk
 ghost use Rattle.request_book.specs.Book.{IsBook, is_light};
 ghost use Rattle.request_book.specs.declared.command.Command.TheVariants.{Seal};
 ghost use Rattle.seat_lock.specs.Values.{AreAllPasses, IsNew, IsPassOf};
-ghost use Rattle.shared_book.specs.Shared.{with_snapshot, HasCalled, HasCalledSome, IsFinished, IsSamePass};
+ghost use Rattle.dispatch_engine.specs.Shared.{with_snapshot, HasCalled, HasCalledSome, IsFinished, IsSamePass};
 
 use crate::locked::{LockedBook, LockedReply};
 use batch_snapshot::Snapshot;
