@@ -19,7 +19,7 @@ CHAPTERS = (
     ("Steps", "What a command changes of the book, and what it answers.",
      "pool_base/specs/InOrder", "request_book", "script_rows/src/version", "script_rows/specs/Round"),
     ("Runs", "What lanes make of a round, and rounds of a script.",
-     "seat_lock", "worker_gate", "shared_book", "dispatch_engine"),
+     "seat_lock", "worker_gate", "dispatch_engine"),
     ("Files, words and texts", "How files and words are read, how a report is written, and what is wrong with either.",
      "pool_base", "pool_base/src/which", "pool_base/src/memory", "pool_io", "road_network", "fleet_state", "script_rows", "rider_limits", "dispatch_report",
      "route_drive/src/day", "report_audit/src/fault", "block_audit/src/refusal"),
@@ -32,7 +32,7 @@ CHAPTERS = (
     ("The made workload", "What is made of a seed, and what a call of `load` answers: `AnswersLoad`.", "load_maker", "made_inputs", "ridepool/specs/Load"),
     ("The call", "What the program answers, by its command. The headline's clause is `Answers`.", "ridepool"),
     ("The live session", "What is read, answered and written while requests come in, and what a call of `live` answers: `AnswersLive`.",
-     "live_rows", "live_desk", "live_batch", "live_dispatch", "ridepool/specs/Live"),
+     "live_rows", "live_dispatch", "ridepool/specs/Live"),
 )
 
 
