@@ -3,7 +3,7 @@
 //! The batch is settled and its graphs are grown anew; trips, plan, bound, tree and moves are then judged as
 //! they are told, and no plan is searched for. A batch poses one problem, so the verdict is exact both ways.
 //!
-//! A caller, shortened from `block_audit`, which judges what a report tells of a batch:
+//! A caller, shortened from `report_audit`, which judges what a report tells of a batch:
 //!
 //! ```
 //! let outcome = outcome_of(alloc, told, snapshot.vehicles.as_slice())?;

@@ -3,7 +3,7 @@ use Rattle.std.proofs.Common.{◌≡◌, ◌≢◌, ℕ, ◌<◌, ◌≤◌, ◌
 use Rattle.report_audit.proofs.Common.{Batch, BlockRefusal, IsCloseOf, IsGoodClose, last_sealed, journal_of, entry_line, lines_text, entry_block, IsNextLine, NextLine, one_kind, LaneStand, stand_at, stand_after, HaveCome, IsNext, IsNextFrom, come_more, BookView, IsApplied, IsNoClose, step, Command, Close, Entry, Journal, Outcome, Reply, Closed, State, replies-push, Settings, Roads, NumberedLanes, MayStand, lane_at, IsFirstLine, IsWrongBlock, Extent, BeginsRound, MayFollow, position_behind, state_behind, with_entry, HasFittingBlock, IsCommand, IsReply, IsOtherLine, TakesClose, BlockFails, EntryRead, IsWithin, Waits, TakesCommand, close_line}
 use Rattle.std.proofs.lemmas.List.{length-set}
 use Rattle.std.proofs.lemmas.Option.{slice_get_within, get_or_from_slice_get}
-use Rattle.block_audit.specs.declared.refusal.BlockRefusal.TheVariants as refusal
+use Rattle.report_audit.specs.declared.refusal.BlockRefusal.TheVariants as refusal
 use Rattle.report_lines.specs.declared.next.NextLine.TheVariants.{Entry as EntryOf}
 use Rattle.report_audit.proofs.JournalLemmas.{closes-push, told-push, sealed-after, close-is}
 use Rattle.report_audit.proofs.LaneLemmas.{come_begins, no_close_of, no_outcome, none_beyond, waits_command, waits_close, waits_for}

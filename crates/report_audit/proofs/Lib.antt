@@ -1,15 +1,22 @@
-pub mod ReplyLemmas
-pub mod TextLemmas
+pub mod CauseLemmas
+pub mod ClosingLemmas
+pub mod Common
+pub mod EntryLemmas
+pub mod FaultLemmas
+mod HeadFaults
 pub mod JournalLemmas
 pub mod LaneLemmas
+pub mod LawLemmas
 pub mod NextLemmas
-pub mod FaultLemmas
-pub mod ClosingLemmas
-pub mod EntryLemmas
-pub mod RoundLemmas
-pub mod WholeLemmas
-mod HeadFaults
-pub mod CauseLemmas
+pub mod NumberedLemmas
 pub mod OneEnd
 pub mod OneFault
-pub mod Common
+pub mod OutcomeLemmas
+pub mod ReplyLemmas
+pub mod RoundLemmas
+pub mod ShapeLemmas
+pub mod TellingLemmas
+pub mod TextLemmas
+pub mod ToldLemmas
+pub mod WholeLemmas
+pub mod lemmas

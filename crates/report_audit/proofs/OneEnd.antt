@@ -1,11 +1,11 @@
 -- Two ends of the same text are equal.
 use Rattle.std.proofs.Common.{◌≡◌, ◌≢◌, ◌⊎◌, ◌==◌, ℕ, ◌<◌, ◌≤◌, ◌^◌, ⊎_elim, Bool, true, false, cond, List, [], ◌∷◌, ◌++◌, codes, Option, None, Some, inl, inr, refl, sym, ap, ◌∙◌, subst, append-nil, append_assoc, arith, rules}
-use Rattle.report_audit.proofs.Common.{Batch, BeginsWithGood, batch_of, by-table, close, plain-quiet, sealed_state, seal_refusal, seal_step, table_step, Seal, Sealed, good_not_refused, ClosesAreGood, IsCloseOf, IsGoodClose, IsLaneRun, IsLaneRunFrom, of_lane, entry_line, lines_text, entry_block, numbered, one_more, Extent, AreAtEnd, BeginsRound, IsInForm, MayComeNext, MayFollow, position_behind, state_behind, AreTold, HasFittingBlock, entries_text, is_one_line, cut_once, numbered_one_line, one_kind, IsEntry, IsFirstLine, next_position, RepliesAreSteps, state_after, step, Command, Close, Entry, Journal, Outcome, Reply, Closed, State, Settings, Roads, NumberedLanes, lane_at, sealed_by}
+use Rattle.report_audit.proofs.Common.{Batch, BeginsWithGood, batch_of, by-table, close, plain-quiet, sealed_state, seal_refusal, seal_step, table_step, Seal, Sealed, ClosesAreGood, IsCloseOf, IsGoodClose, IsLaneRun, IsLaneRunFrom, of_lane, entry_line, lines_text, entry_block, numbered, one_more, Extent, AreAtEnd, BeginsRound, IsInForm, MayComeNext, MayFollow, position_behind, state_behind, AreTold, HasFittingBlock, entries_text, is_one_line, cut_once, numbered_one_line, one_kind, IsEntry, IsFirstLine, next_position, RepliesAreSteps, state_after, step, Command, Close, Entry, Journal, Outcome, Reply, Closed, State, Settings, Roads, NumberedLanes, lane_at, sealed_by}
 use Rattle.std.specs.List.{All}
 use Rattle.std.proofs.lemmas.Bool.Decides.{nat_tests}
 use Rattle.std.proofs.lemmas.List.Elements.{All-head, All-tail}
 use Rattle.batch_snapshot.specs.Kept.{IsKept}
-use Rattle.block_audit.proofs.lemmas.AuditLemmas.{good_is_judged}
+use Rattle.report_audit.proofs.lemmas.AuditLemmas.{good_is_judged, good_not_refused}
 use Rattle.dispatch_report.specs.Block.{lines_of}
 use Rattle.report_lines.specs.Block.{IsBlock}
 use Rattle.report_lines.proofs.lemmas.LineLemmas.{first_once}
@@ -18,7 +18,7 @@ use Rattle.report_audit.proofs.CauseLemmas.{Cause, Over, Wrong, Block, Ends, Sta
 use Rattle.report_audit.proofs.JournalLemmas.{not_closed}
 use Rattle.report_audit.proofs.LaneLemmas.{own-lane}
 use Rattle.report_audit.proofs.TextLemmas.{entries-more, entries-none, entry_one, lines-none, next-low, next-more, next-none}
-use Rattle.block_audit.specs.declared.refusal.BlockRefusal.TheVariants as refusal
+use Rattle.report_audit.specs.declared.refusal.BlockRefusal.TheVariants as refusal
 
 -- the batch that stands sealed is one of a consistent book's
 pub record IsSound (s : State) : Type 0 where

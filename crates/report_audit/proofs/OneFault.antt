@@ -19,7 +19,7 @@ use Rattle.report_audit.proofs.OneEnd.{EndsHere, IsRestBehind, IsRestOf, IsSound
 use Rattle.report_audit.proofs.TextLemmas.{end-is, round-is}
 use Rattle.report_audit.specs.Place.{HasRounds}
 use Rattle.report_audit.specs.declared.fault.AuditFault.TheVariants as fault
-use Rattle.block_audit.specs.declared.refusal.BlockRefusal.TheVariants as block
+use Rattle.report_audit.specs.declared.refusal.BlockRefusal.TheVariants as block
 use Rattle.report_lines.specs.declared.head_fault.HeadFault.TheVariants as head
 
 module _ (settings : Settings) (roads : Roads) (cause : Cause) (rest : List ℕ) where

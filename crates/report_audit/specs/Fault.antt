@@ -2,9 +2,9 @@
 use Rattle.std.specs.Prelude.{◌≡◌, ◌≢◌, ℕ, ◌+◌, ◌-◌, ◌^◌, ◌==◌, min, true, List, [], ◌++◌, length, count_by, Some}
 use Rattle.batch_snapshot.specs.Batch.{Batch}
 use Rattle.batch_snapshot.specs.declared.vehicle.Vehicle.{Vehicle}
-use Rattle.block_audit.specs.Block.{Refuses}
-use Rattle.block_audit.specs.declared.refusal.BlockRefusal.{BlockRefusal}
-use Rattle.block_audit.specs.declared.refusal.BlockRefusal.TheVariants as block
+use Rattle.report_audit.specs.Block.{Refuses}
+use Rattle.report_audit.specs.declared.refusal.BlockRefusal.{BlockRefusal}
+use Rattle.report_audit.specs.declared.refusal.BlockRefusal.TheVariants as block
 use Rattle.dispatch_report.specs.Entry.{entry_line}
 use Rattle.report_lines.specs.HeadFault.{HeadFails}
 use Rattle.report_lines.specs.Line.{IsFirstLine}

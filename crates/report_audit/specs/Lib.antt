@@ -1,5 +1,9 @@
-pub mod Types
-pub mod Report
-pub mod Place
+pub mod Block
 pub mod Fault
+pub mod Fits
+pub mod Judged
+pub mod Place
+pub mod Report
+pub mod Told
+pub mod Types
 pub mod work

@@ -1,7 +1,7 @@
 -- Which entries a report can tell.
 use Rattle.std.specs.Prelude.{ℕ, List, [], ◌∷◌}
 use Rattle.std.specs.List.{AllByRecursion}
-use Rattle.block_audit.specs.Fits.{FitsTypes}
+use Rattle.report_audit.specs.Fits.{FitsTypes}
 use Rattle.report_lines.specs.Next.{IsEntry}
 use Rattle.pool_io.specs.Faults.{one_more}
 use Rattle.request_book.specs.declared.command.Command.{Command}

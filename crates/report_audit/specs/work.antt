@@ -1,3 +1,6 @@
 -- What only the bodies of this crate need.
+pub mod Block
+pub mod Judged
 pub mod Place
 pub mod Standing
+pub mod Told

@@ -3,10 +3,11 @@ ghost use Rattle.std.specs.Prelude.{◌≡◌, ◌≢◌, ◌<◌, ◌^◌, ◌�
 ghost use Rattle.request_book.specs.Book.{next_position};
 ghost use Rattle.report_audit.specs.work.Standing.{BlockFails, IsBookOf, TakesClose, close_line};
 
+use crate::block::audit_block;
 use crate::line::{Between, is_entry_line};
+use crate::refusal::BlockRefusal;
 use crate::setup::AuditSetup;
 use batch_snapshot::Snapshot;
-use block_audit::{BlockRefusal, audit_block};
 use pool_base::{OutOfMemory, Sequence};
 use request_book::{Answer, Book, Command, Entry, Outcome, Reply};
 use std::alloc::Global;

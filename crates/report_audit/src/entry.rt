@@ -1,6 +1,6 @@
 //! An entry of a report.
 ghost use Rattle.std.specs.Prelude.{◌≡◌, ◌≢◌, ◌<◌, ℕ, List, IfOk, MatchOption, MatchResult, None};
-ghost use Rattle.block_audit.specs.declared.refusal.BlockRefusal.TheVariants.{OutOfMemory as NoMemory};
+ghost use Rattle.report_audit.specs.declared.refusal.BlockRefusal.TheVariants.{OutOfMemory as NoMemory};
 ghost use Rattle.dispatch_engine.specs.Lane.{last_sealed};
 ghost use Rattle.dispatch_engine.specs.Progress.{stand_at};
 ghost use Rattle.dispatch_engine.specs.Run.{journal_of};
@@ -19,9 +19,9 @@ ghost use Rattle.script_rows.specs.Round.{IsRound};
 use crate::close::audit_close;
 use crate::fault::{AuditFault, block_fault};
 use crate::line::{Between, is_entry_line, line_at, line_between, wrong_line};
+use crate::refusal::BlockRefusal;
 use crate::setup::AuditSetup;
 use batch_snapshot::Snapshot;
-use block_audit::BlockRefusal;
 use dispatch_engine::{Progress, sealed_by_command};
 use pool_base::OutOfMemory;
 use report_lines::NextLine;

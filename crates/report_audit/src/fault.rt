@@ -1,13 +1,13 @@
 ghost use Rattle.std.specs.Prelude.{◌≡◌, ◌≢◌, ℕ, List};
 ghost use Rattle.batch_snapshot.specs.declared.vehicle.Vehicle.{Vehicle};
-ghost use Rattle.block_audit.specs.declared.refusal.BlockRefusal.TheVariants.{OutOfMemory as NoBlockMemory};
+ghost use Rattle.report_audit.specs.declared.refusal.BlockRefusal.TheVariants.{OutOfMemory as NoBlockMemory};
 ghost use Rattle.report_audit.specs.Fault.{FailsAt, HasFault, IsWrongBatch};
 ghost use Rattle.report_audit.specs.declared.fault.AuditFault.TheVariants.{OutOfMemory as NoMemory};
 ghost use Rattle.report_audit.specs.work.Standing.{fault_of_head};
 ghost use Rattle.road_network.specs.Roads.{Roads};
 ghost use Rattle.script_rows.specs.Round.{NumberedLanes};
 
-use block_audit::BlockRefusal;
+use crate::refusal::BlockRefusal;
 use pool_base::OutOfMemory;
 use report_lines::HeadFault;
 

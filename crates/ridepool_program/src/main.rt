@@ -82,6 +82,10 @@ Exit status: 0 done; 2 words; 3 network; 4 fleet; 5 script; 6 input too long; 7 
 that of no run of the script.
 ";
 
+const COMMANDS: [&str; 5] = ["run", "live", "drive", "load", "audit"];
+
+const HELP_WORDS: [&str; 2] = ["--help", "-h"];
+
 const VERSION: &str = "ridepool 1.2.8\n";
 
 fn main(rt: HostRuntime) -> ExitCode {
@@ -129,18 +133,24 @@ fn words_of(rt: &HostRuntime) -> Result<Vec<String>, OutOfMemory> {
 
 /// The page that the words ask for, if they ask for one.
 fn page_of(words: &[String]) -> Option<&'static str> {
-    let first = words.first()?;
-    match first.as_str() {
-        "--help" | "-h" => Some(HELP),
-        "--version" => Some(VERSION),
-        "run" | "live" | "drive" | "load" | "audit" => {
-            let second = words.get(1)?;
-            match second.as_str() {
-                "--help" | "-h" => Some(HELP),
-                _ => None,
+    let first = words.first()?.as_str();
+    if first == "--version" {
+        return Some(VERSION);
+    }
+    let asked = match words.get(1) {
+        Some(second) => {
+            if COMMANDS.contains(&first) {
+                second.as_str()
+            } else {
+                first
             }
         }
-        _ => None,
+        None => first,
+    };
+    if HELP_WORDS.contains(&asked) {
+        Some(HELP)
+    } else {
+        None
     }
 }
 

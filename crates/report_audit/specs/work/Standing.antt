@@ -4,9 +4,9 @@ use Rattle.std.specs.List.{All}
 use Rattle.batch_snapshot.specs.Batch.{Batch}
 use Rattle.batch_snapshot.specs.Kept.{IsFleet}
 use Rattle.batch_snapshot.specs.declared.vehicle.Vehicle.{Vehicle}
-use Rattle.block_audit.specs.Block.{BeginsWithGood, Refuses}
-use Rattle.block_audit.specs.declared.refusal.BlockRefusal.{BlockRefusal}
-use Rattle.block_audit.specs.declared.refusal.BlockRefusal.TheVariants as refusal
+use Rattle.report_audit.specs.Block.{BeginsWithGood, Refuses}
+use Rattle.report_audit.specs.declared.refusal.BlockRefusal.{BlockRefusal}
+use Rattle.report_audit.specs.declared.refusal.BlockRefusal.TheVariants as refusal
 use Rattle.dispatch_engine.specs.Progress.{AreDone, HaveCome, IsNext, stand_at}
 use Rattle.dispatch_engine.specs.Run.{journal_of, state_after_run}
 use Rattle.dispatch_engine.specs.declared.stand.LaneStand.{LaneStand}

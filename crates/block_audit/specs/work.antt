@@ -1,4 +1,0 @@
--- What only the bodies of this crate need.
-pub mod Block
-pub mod Judged
-pub mod Told

@@ -1,0 +1,10 @@
+use Rattle.report_lines.specs.declared.block.BlockFault.{BlockFault}
+use Rattle.report_lines.specs.declared.block.BlockFault.TheVariants as fault
+use Rattle.report_audit.specs.declared.refusal.BlockRefusal.{BlockRefusal}
+use Rattle.report_audit.specs.declared.refusal.BlockRefusal.TheVariants.{OutOfMemory, Cut, Form}
+
+-- what is said of a text that begins with no block in form
+abbrev pub refusal_for : BlockFault → BlockRefusal
+refusal_for fault.OutOfMemory = OutOfMemory
+refusal_for (fault.Cut n) = Cut n
+refusal_for (fault.Form n) = Form n

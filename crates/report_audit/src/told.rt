@@ -1,0 +1,103 @@
+//! What the lines of a block tell.
+ghost use Rattle.std.specs.Prelude.{◌≡◌, IfOk, fold};
+ghost use Rattle.report_audit.specs.Told.{nothing_told, told_by, with_line};
+ghost use Rattle.report_audit.specs.work.Told.{told_in};
+
+use pool_base::{OutOfMemory, RiderId, Sequence, VehicleId};
+use report_lines::{BlockLine, LateText, RowText, TripText};
+use request_book::MoveLine;
+use std::alloc::Global;
+
+/// The numbers and the lists of a block, these as long as they are printed; a tree by its lines.
+#[derive(Drop)]
+pub(crate) struct BlockTold {
+    pub(crate) batch: u64,
+    pub(crate) expired: Vec<RiderId>,
+    pub(crate) overflow: bool,
+    pub(crate) lapsed: Vec<RiderId>,
+    pub(crate) late: Vec<LateText>,
+    pub(crate) rv: Vec<(VehicleId, RiderId)>,
+    pub(crate) rr: Vec<(RiderId, RiderId)>,
+    pub(crate) rows: Vec<RowText>,
+    pub(crate) chosen: Vec<TripText>,
+    pub(crate) left: Vec<RiderId>,
+    pub(crate) moves: Vec<MoveLine>,
+    pub(crate) cost: u64,
+    pub(crate) bound: i128,
+    pub(crate) nodes: u64,
+    pub(crate) tree: Vec<BlockLine>,
+}
+
+impl BlockTold {
+    fn nothing(alloc: Global) -> Self
+        ensures { told_in result ≡ nothing_told }
+    {
+        BlockTold {
+            batch: 0,
+            expired: Vec::new(alloc),
+            overflow: false,
+            lapsed: Vec::new(alloc),
+            late: Vec::new(alloc),
+            rv: Vec::new(alloc),
+            rr: Vec::new(alloc),
+            rows: Vec::new(alloc),
+            chosen: Vec::new(alloc),
+            left: Vec::new(alloc),
+            moves: Vec::new(alloc),
+            cost: 0,
+            bound: 0,
+            nodes: 0,
+            tree: Vec::new(alloc),
+        }
+    }
+
+    /// Takes what one more line tells.
+    fn take(&mut self, line: BlockLine) -> Result<(), OutOfMemory>
+        ensures { IfOk result (λ _. told_in self.new ≡ with_line (told_in self.old) line) }
+    {
+        match line {
+            BlockLine::Batch(batch) => self.batch = batch,
+            BlockLine::Expired(rider) => self.expired.push(rider)?,
+            BlockLine::Overflow => self.overflow = true,
+            BlockLine::Lapsed(rider) => self.lapsed.push(rider)?,
+            BlockLine::Late(late) => self.late.push(late)?,
+            BlockLine::Alone(pair) => self.rv.push(pair)?,
+            BlockLine::Shared(pair) => self.rr.push(pair)?,
+            BlockLine::Row(row) => self.rows.push(row)?,
+            BlockLine::Trip(trip) => self.chosen.push(trip)?,
+            BlockLine::Out(rider) => self.left.push(rider)?,
+            BlockLine::Move(line) => self.moves.push(line)?,
+            BlockLine::Cost(cost) => self.cost = cost,
+            BlockLine::Bound(bound) => self.bound = bound,
+            BlockLine::Nodes(nodes) => self.nodes = nodes,
+            BlockLine::Branch(branch) => self.tree.push(BlockLine::Branch(branch))?,
+            BlockLine::Leaf(leaf) => self.tree.push(BlockLine::Leaf(leaf))?,
+            BlockLine::Dead => self.tree.push(BlockLine::Dead)?,
+            BlockLine::End => {}
+        }
+        Ok(())
+    }
+}
+
+/// What these lines tell.
+pub(crate) fn told_by(alloc: Global, lines: Sequence<BlockLine>) -> Result<BlockTold, OutOfMemory>
+    ensures { IfOk result (λ told. told_in told ≡ told_by lines) }
+{
+    let mut told = BlockTold::nothing(alloc);
+    match take_all(&mut told, lines.into_vec()) {
+        Ok(()) => Ok(told),
+        Err(fault) => {
+            drop(told);
+            Err(fault)
+        }
+    }
+}
+
+fn take_all(told: &mut BlockTold, lines: Vec<BlockLine>) -> Result<(), OutOfMemory>
+    ensures { IfOk result (λ _. told_in told.new ≡ fold with_line (told_in told.old) lines.items) }
+{
+    for line in lines {
+        told.take(line)?;
+    }
+    Ok(())
+}
