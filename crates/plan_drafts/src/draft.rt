@@ -104,21 +104,9 @@ impl Drafter for RelaxationDrafter {
         let rows = (table.row_count() as u64).saturating_mul(A_ROW);
         allowance.spend(rows.saturating_mul(budget.min(MERGE_NODES) as u64));
         let mut drafting = Drafting::new(alloc, table, held, workers, allowance)?;
-        drafting.make_plans()?;
-        let first = drafting.tree.draft.bound;
-        drafting.grow(rt, budget.min(PROBE))?;
-        let closed = drafting.tree.draft.bound.saturating_sub(first);
-        if closed.saturating_mul(3) >= drafting.tree.gap(first) {
-            drafting.grow(rt, budget)?;
-        }
-        if drafting.tree.is_open() {
-            drafting.make_more_plans(rt)?;
-            if !drafting.is_near() {
-                drafting.grow(rt, budget)?;
-            }
-        }
-        let Drafting { tree, .. } = drafting;
-        Ok(tree.draft)
+        let draft = drafting.make(rt, budget);
+        drop(drafting);
+        draft
     }
 }
 
@@ -144,30 +132,58 @@ impl<'a> Drafting<'a> {
     ) -> Made<Self> {
         let share = allowance.share(FIRST_SHARE);
         let mut relaxation = Relaxation::new(alloc, table, held, share)?;
-        solve(alloc, table, &mut relaxation)?;
-        let mut tree = DraftTree::new(alloc, table, &mut relaxation, allowance)?;
-        tree.allowance.settle(share, relaxation.allowance());
-        Ok(Drafting {
-            alloc,
-            workers,
-            regrets: Regrets::new(alloc, table, tree.multipliers(0))?,
-            decided: Decided::new(alloc, relaxation),
-            tree,
-        })
+        match begin(alloc, table, &mut relaxation, allowance) {
+            Ok((tree, regrets)) => Ok(Drafting {
+                alloc,
+                workers,
+                regrets,
+                decided: Decided::new(alloc, relaxation),
+                tree,
+            }),
+            Err(fault) => {
+                drop(relaxation);
+                Err(fault)
+            }
+        }
+    }
+
+    /// Makes the draft, with a tree of so many nodes at most, and hands it out.
+    fn make<R: Threads + Sync>(&mut self, rt: &R, budget: usize) -> Made<Draft> {
+        self.make_plans()?;
+        let first = self.tree.draft.bound;
+        self.grow(rt, budget.min(PROBE))?;
+        let closed = self.tree.draft.bound.saturating_sub(first);
+        if closed.saturating_mul(3) >= self.tree.gap(first) {
+            self.grow(rt, budget)?;
+        }
+        if self.tree.is_open() {
+            self.make_more_plans(rt)?;
+            if !self.is_near() {
+                self.grow(rt, budget)?;
+            }
+        }
+        Ok(self.tree.hand_over(self.alloc))
     }
 
     /// Makes a plan from the solution and one by a dive.
     fn make_plans(&mut self) -> Made<()> {
+        let mut plans = Plans::new(self.alloc, &self.regrets, 0)?;
+        let made = self.make_by(&mut plans);
+        drop(plans);
+        made
+    }
+
+    /// Makes these plans, one after the other.
+    fn make_by(&mut self, plans: &mut Plans) -> Made<()> {
         let table = self.regrets.table;
         let mut shares: Vec<Share> = Vec::new(self.alloc);
         self.decided.relaxation.find_shares(table, &mut shares)?;
-        let mut plans = Plans::new(self.alloc, &self.regrets, 0)?;
         plans.round(&self.regrets, &shares)?;
-        self.better(&mut plans)?;
+        self.better(plans)?;
         if self.tree.is_open() && !self.decided.relaxation.is_tired() {
             if let Some(plan) = self.dive()? {
                 plans.adopt(&self.regrets, &plan)?;
-                self.better(&mut plans)?;
+                self.better(plans)?;
             }
         }
         Ok(())
@@ -220,18 +236,23 @@ impl<'a> Drafting<'a> {
     /// Has scouts look for plans, and merges these. Scouts anneal where the gap is so wide that a rider more might be
     /// served.
     fn make_more_plans<R: Threads + Sync>(&mut self, rt: &R) -> Made<()> {
-        let mut count = if self.is_near() { FEW_SCOUTS } else { SCOUTS };
-        let mut times = 1;
-        let mut beside = None;
-        if self.tree.gap(self.tree.draft.bound) >= self.regrets.table.penalty() / 4 {
-            count = MANY_SCOUTS;
-            times = MOST_TIMES;
-            beside = Some(Beside::new(self.alloc, self.regrets.table)?);
+        if self.tree.gap(self.tree.draft.bound) < self.regrets.table.penalty() / 4 {
+            let count = if self.is_near() { FEW_SCOUTS } else { SCOUTS };
+            return self.scout(rt, None, 0..count);
         }
-        for time in 0..times {
+        let beside = Beside::new(self.alloc, self.regrets.table)?;
+        let made = self.scout_often(rt, &beside);
+        drop(beside);
+        made
+    }
+
+    /// Has many scouts look for plans, of whom most anneal, as long as a better plan is found each time.
+    fn scout_often<R: Threads + Sync>(&mut self, rt: &R, beside: &Beside) -> Made<()> {
+        for time in 0..MOST_TIMES {
             let cost = self.tree.draft.cost;
-            let first = count.saturating_mul(time);
-            self.scout(rt, beside.as_ref(), first..first.saturating_add(count))?;
+            let first = MANY_SCOUTS.saturating_mul(time);
+            let numbers = first..first.saturating_add(MANY_SCOUTS);
+            self.scout(rt, Some(beside), numbers)?;
             if self.tree.draft.cost >= cost {
                 break;
             }
@@ -273,16 +294,36 @@ impl<'a> Drafting<'a> {
     /// Takes the best plan of the rows that the best one and those of scouts choose, as a small draft finds it.
     fn merge<R: Threads + Sync>(&mut self, rt: &R, scouts: &[Scout]) -> Made<()> {
         let merge = Merge::new(self.alloc, &self.regrets, &self.tree.draft.plan, scouts)?;
+        let taken = self.draft_part(rt, &merge);
+        drop(merge);
+        taken
+    }
+
+    /// Takes the best plan of these rows.
+    fn draft_part<R: Threads + Sync>(&mut self, rt: &R, merge: &Merge) -> Made<()> {
         let plan = renumbered(self.alloc, &self.tree.draft.plan, &merge.parts)?;
         let share = self.tree.allowance.share(MERGE_SHARE);
-        let mut drafting = Drafting::new(self.alloc, &merge.part, &plan, self.workers, share)?;
-        let cost = self.tree.draft.cost;
-        drafting.tree.offer(self.alloc, &plan, cost)?;
-        drafting.make_plans()?;
-        drafting.grow(rt, MERGE_NODES)?;
-        self.tree.allowance.settle(share, drafting.tree.allowance);
-        let draft = &drafting.tree.draft;
-        let plan = renumbered(self.alloc, &draft.plan, &merge.wholes)?;
+        let mut part = Drafting::new(self.alloc, &merge.part, &plan, self.workers, share)?;
+        let taken = self.take_best(rt, &mut part, &plan, &merge.wholes);
+        drop(part);
+        taken
+    }
+
+    /// Takes the best plan that a draft of some rows finds, which begins with this plan.
+    fn take_best<R: Threads + Sync>(
+        &mut self,
+        rt: &R,
+        part: &mut Drafting,
+        plan: &[Option<u32>],
+        wholes: &[Option<u32>],
+    ) -> Made<()> {
+        let share = self.tree.allowance.share(MERGE_SHARE);
+        part.tree.offer(self.alloc, plan, self.tree.draft.cost)?;
+        part.make_plans()?;
+        part.grow(rt, MERGE_NODES)?;
+        self.tree.allowance.settle(share, part.tree.allowance);
+        let draft = &part.tree.draft;
+        let plan = renumbered(self.alloc, &draft.plan, wholes)?;
         self.tree.offer(self.alloc, &plan, draft.cost)
     }
 }
@@ -309,6 +350,26 @@ fn send_scouts<R: Threads + Sync>(
         },
     );
     Ok(scouts)
+}
+
+/// Solves the relaxation. A tree that begins there, and the regrets under its multipliers.
+fn begin<'a>(
+    alloc: Global,
+    table: &'a RowTable,
+    relaxation: &mut Relaxation,
+    allowance: Allowance,
+) -> Made<(DraftTree, Regrets<'a>)> {
+    solve(alloc, table, relaxation)?;
+    let mut tree = DraftTree::new(alloc, table, relaxation, allowance)?;
+    let share = allowance.share(FIRST_SHARE);
+    tree.allowance.settle(share, relaxation.allowance());
+    match Regrets::new(alloc, table, tree.multipliers(0)) {
+        Ok(regrets) => Ok((tree, regrets)),
+        Err(fault) => {
+            drop(tree);
+            Err(fault)
+        }
+    }
 }
 
 /// Solves the relaxation, at first with little to pay for a rider who is left out. If it tires before it is solved, an

@@ -2,7 +2,7 @@
 use crate::Plan;
 use crate::regrets::Regrets;
 use crate::scout::Scout;
-use row_tables::fixed_point::{item, set_at};
+use row_tables::fixed_point::{item, reset, set_at};
 use row_tables::lists::short;
 use row_tables::{Made, RowTable};
 use std::alloc::Global;
@@ -25,11 +25,7 @@ impl Merge {
         scouts: &[Scout],
     ) -> Made<Self> {
         let table = regrets.table;
-        let mut is_chosen = vec![in alloc; false; table.row_count()]?;
-        mark(plan, &mut is_chosen);
-        for scout in scouts {
-            mark(scout.plans.rows(), &mut is_chosen);
-        }
+        let is_chosen = chosen(alloc, table.row_count(), plan, scouts)?;
         let mut must = Vec::new(alloc);
         for rider in 0..table.rider_count() {
             must.push(table.must(rider))?;
@@ -37,13 +33,23 @@ impl Merge {
         let mut merge = Merge {
             part: RowTable::new(alloc, table.penalty(), must),
             wholes: Vec::new(alloc),
-            parts: vec![in alloc; None; table.row_count()]?,
+            parts: Vec::new(alloc),
         };
-        for vehicle in 0..table.vehicle_count() {
-            merge.put_vehicle(regrets, vehicle, &is_chosen)?;
+        match merge.fill(regrets, &is_chosen) {
+            Ok(()) => Ok(merge),
+            Err(fault) => {
+                drop(merge);
+                Err(fault)
+            }
         }
-        merge.part.index()?;
-        Ok(merge)
+    }
+
+    fn fill(&mut self, regrets: &Regrets, is_chosen: &[bool]) -> Made<()> {
+        reset(&mut self.parts, regrets.table.row_count(), None)?;
+        for vehicle in 0..regrets.table.vehicle_count() {
+            self.put_vehicle(regrets, vehicle, is_chosen)?;
+        }
+        self.part.index()
     }
 
     fn put_vehicle(&mut self, regrets: &Regrets, vehicle: usize, is_chosen: &[bool]) -> Made<()> {
@@ -58,6 +64,16 @@ impl Merge {
         }
         self.part.end_vehicle()
     }
+}
+
+/// For each of so many rows whether this plan or one of the scouts' chooses it.
+fn chosen(alloc: Global, rows: usize, plan: &[Option<u32>], scouts: &[Scout]) -> Made<Vec<bool>> {
+    let mut is_chosen = vec![in alloc; false; rows]?;
+    mark(plan, &mut is_chosen);
+    for scout in scouts {
+        mark(scout.plans.rows(), &mut is_chosen);
+    }
+    Ok(is_chosen)
 }
 
 /// A plan with these numbers in place of its rows.

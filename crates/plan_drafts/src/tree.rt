@@ -54,21 +54,26 @@ impl DraftTree {
         relaxation: &mut Relaxation,
         allowance: Allowance,
     ) -> Made<Self> {
+        let multipliers = relaxation.multipliers(alloc, table.rider_count())?;
+        let standing = standing_of(alloc, table, relaxation)?;
         let mut tree = DraftTree {
-            draft: Draft {
-                plan: Vec::new(alloc),
-                cost: UNLAWFUL,
-                bound: seconds_of(relaxation.value()),
-                nodes: Vec::new(alloc),
-            },
+            draft: no_draft(alloc, seconds_of(relaxation.value())),
             standings: Vec::new(alloc),
             open: BinaryHeap::new(alloc),
             allowance,
         };
-        let multipliers = relaxation.multipliers(alloc, table.rider_count())?;
-        let standing = standing_of(alloc, table, relaxation)?;
-        tree.put(None, multipliers, standing)?;
-        Ok(tree)
+        match tree.put(None, multipliers, standing) {
+            Ok(()) => Ok(tree),
+            Err(fault) => {
+                drop(tree);
+                Err(fault)
+            }
+        }
+    }
+
+    /// Hands the draft out, and has none any more.
+    pub fn hand_over(&mut self, alloc: Global) -> Draft {
+        replace(&mut self.draft, no_draft(alloc, 0))
     }
 
     /// Puts in a node, which is open.
@@ -245,6 +250,16 @@ impl DraftTree {
         if let Some(standing) = self.standings.get_mut(number) {
             standing.shares = Vec::new(alloc);
         }
+    }
+}
+
+/// A draft without plan or nodes.
+fn no_draft(alloc: Global, bound: i64) -> Draft {
+    Draft {
+        plan: Vec::new(alloc),
+        cost: UNLAWFUL,
+        bound,
+        nodes: Vec::new(alloc),
     }
 }
 
