@@ -1,5 +1,4 @@
 //! A draft: the relaxation of all rows, plans made from it, and a tree where they leave a gap.
-use crate::Plan;
 use crate::beside::Beside;
 use crate::branching::FEW_CONDITIONS;
 use crate::decided::Decided;
@@ -8,11 +7,13 @@ use crate::merge::{Merge, renumbered};
 use crate::plans::Plans;
 use crate::regrets::Regrets;
 use crate::scout::{Scout, Start};
-use crate::tree::DraftTree;
+use crate::tree::{DraftTree, no_draft};
+use crate::{Plan, whole};
 use linear_relaxation::{Allowance, Relaxation};
 use pool_base::OutOfMemory;
 use row_tables::{Draft, Drafter, Made, RowTable, Share, ascend, first_multipliers};
 use std::alloc::Global;
+use std::mem::replace;
 use std::ops::Range;
 use std::thread;
 use std::thread::Threads;
@@ -119,6 +120,7 @@ struct Drafting<'a> {
     regrets: Regrets<'a>,
     decided: Decided,
     tree: DraftTree,
+    plans: Plans,
 }
 
 impl<'a> Drafting<'a> {
@@ -131,20 +133,28 @@ impl<'a> Drafting<'a> {
         allowance: Allowance,
     ) -> Made<Self> {
         let share = allowance.share(FIRST_SHARE);
-        let mut relaxation = Relaxation::new(alloc, table, held, share)?;
-        match begin(alloc, table, &mut relaxation, allowance) {
-            Ok((tree, regrets)) => Ok(Drafting {
-                alloc,
-                workers,
-                regrets,
-                decided: Decided::new(alloc, relaxation),
-                tree,
-            }),
-            Err(fault) => {
-                drop(relaxation);
-                Err(fault)
-            }
-        }
+        let plans = Plans::new(alloc, table, 0)?;
+        let relaxation = Relaxation::new(alloc, table, held, share)?;
+        let mut drafting = Drafting {
+            alloc,
+            workers,
+            regrets: Regrets::new(alloc, table),
+            decided: Decided::new(alloc, relaxation),
+            tree: DraftTree::new(alloc, allowance),
+            plans,
+        };
+        let done = drafting.begin(share);
+        whole(drafting, done)
+    }
+
+    /// Solves the relaxation with this share, begins the tree there, and finds the regrets.
+    fn begin(&mut self, share: Allowance) -> Made<()> {
+        let table = self.regrets.table;
+        let relaxation = &mut self.decided.relaxation;
+        solve(self.alloc, table, relaxation)?;
+        self.tree.begin(self.alloc, table, relaxation)?;
+        self.tree.allowance.settle(share, relaxation.allowance());
+        self.regrets.fill(self.alloc, self.tree.multipliers(0))
     }
 
     /// Makes the draft, with a tree of so many nodes at most, and hands it out.
@@ -162,28 +172,20 @@ impl<'a> Drafting<'a> {
                 self.grow(rt, budget)?;
             }
         }
-        Ok(self.tree.hand_over(self.alloc))
+        Ok(replace(&mut self.tree.draft, no_draft(self.alloc)))
     }
 
     /// Makes a plan from the solution and one by a dive.
     fn make_plans(&mut self) -> Made<()> {
-        let mut plans = Plans::new(self.alloc, &self.regrets, 0)?;
-        let made = self.make_by(&mut plans);
-        drop(plans);
-        made
-    }
-
-    /// Makes these plans, one after the other.
-    fn make_by(&mut self, plans: &mut Plans) -> Made<()> {
         let table = self.regrets.table;
         let mut shares: Vec<Share> = Vec::new(self.alloc);
         self.decided.relaxation.find_shares(table, &mut shares)?;
-        plans.round(&self.regrets, &shares)?;
-        self.better(plans)?;
+        self.plans.round(&self.regrets, &shares)?;
+        self.better()?;
         if self.tree.is_open() && !self.decided.relaxation.is_tired() {
             if let Some(plan) = self.dive()? {
-                plans.adopt(&self.regrets, &plan)?;
-                self.better(plans)?;
+                self.plans.adopt(&self.regrets, &plan)?;
+                self.better()?;
             }
         }
         Ok(())
@@ -202,12 +204,14 @@ impl<'a> Drafting<'a> {
         Ok(plan)
     }
 
-    /// Betters a plan by neighbourhoods, and takes it where it is the best so far.
-    fn better(&mut self, plans: &mut Plans) -> Made<()> {
+    /// Betters the plan at hand by neighbourhoods, and takes it where it is the best so far.
+    fn better(&mut self) -> Made<()> {
         let bound = self.tree.draft.bound;
         let allowance = &mut self.tree.allowance;
-        plans.better(&self.regrets, bound, IDLE, STEPS, allowance)?;
-        self.tree.offer(self.alloc, plans.rows(), plans.cost)
+        self.plans
+            .better(&self.regrets, bound, IDLE, STEPS, allowance)?;
+        let cost = self.plans.cost;
+        self.tree.offer(self.alloc, self.plans.rows(), cost)
     }
 
     /// Grows the tree to so many nodes, at first without the rows whose reduced cost exceeds a part of the gap.
@@ -294,36 +298,25 @@ impl<'a> Drafting<'a> {
     /// Takes the best plan of the rows that the best one and those of scouts choose, as a small draft finds it.
     fn merge<R: Threads + Sync>(&mut self, rt: &R, scouts: &[Scout]) -> Made<()> {
         let merge = Merge::new(self.alloc, &self.regrets, &self.tree.draft.plan, scouts)?;
-        let taken = self.draft_part(rt, &merge);
+        let share = self.tree.allowance.share(MERGE_SHARE);
+        let plan = merge.plan.as_slice();
+        let mut part = Drafting::new(self.alloc, &merge.part, plan, self.workers, share)?;
+        let taken = self.take(rt, &mut part, &merge);
+        drop(part);
         drop(merge);
         taken
     }
 
-    /// Takes the best plan of these rows.
-    fn draft_part<R: Threads + Sync>(&mut self, rt: &R, merge: &Merge) -> Made<()> {
-        let plan = renumbered(self.alloc, &self.tree.draft.plan, &merge.parts)?;
+    /// Takes the best plan of a merge, if it is better, as a draft of its rows finds it.
+    fn take<R: Threads + Sync>(&mut self, rt: &R, part: &mut Drafting, merge: &Merge) -> Made<()> {
         let share = self.tree.allowance.share(MERGE_SHARE);
-        let mut part = Drafting::new(self.alloc, &merge.part, &plan, self.workers, share)?;
-        let taken = self.take_best(rt, &mut part, &plan, &merge.wholes);
-        drop(part);
-        taken
-    }
-
-    /// Takes the best plan that a draft of some rows finds, which begins with this plan.
-    fn take_best<R: Threads + Sync>(
-        &mut self,
-        rt: &R,
-        part: &mut Drafting,
-        plan: &[Option<u32>],
-        wholes: &[Option<u32>],
-    ) -> Made<()> {
-        let share = self.tree.allowance.share(MERGE_SHARE);
-        part.tree.offer(self.alloc, plan, self.tree.draft.cost)?;
+        let cost = self.tree.draft.cost;
+        part.tree.offer(self.alloc, &merge.plan, cost)?;
         part.make_plans()?;
         part.grow(rt, MERGE_NODES)?;
         self.tree.allowance.settle(share, part.tree.allowance);
         let draft = &part.tree.draft;
-        let plan = renumbered(self.alloc, &draft.plan, wholes)?;
+        let plan = renumbered(self.alloc, &draft.plan, &merge.wholes)?;
         self.tree.offer(self.alloc, &plan, draft.cost)
     }
 }
@@ -350,26 +343,6 @@ fn send_scouts<R: Threads + Sync>(
         },
     );
     Ok(scouts)
-}
-
-/// Solves the relaxation. A tree that begins there, and the regrets under its multipliers.
-fn begin<'a>(
-    alloc: Global,
-    table: &'a RowTable,
-    relaxation: &mut Relaxation,
-    allowance: Allowance,
-) -> Made<(DraftTree, Regrets<'a>)> {
-    solve(alloc, table, relaxation)?;
-    let mut tree = DraftTree::new(alloc, table, relaxation, allowance)?;
-    let share = allowance.share(FIRST_SHARE);
-    tree.allowance.settle(share, relaxation.allowance());
-    match Regrets::new(alloc, table, tree.multipliers(0)) {
-        Ok(regrets) => Ok((tree, regrets)),
-        Err(fault) => {
-            drop(tree);
-            Err(fault)
-        }
-    }
 }
 
 /// Solves the relaxation, at first with little to pay for a rider who is left out. If it tires before it is solved, an

@@ -1,7 +1,7 @@
 //! The rows that some plans choose, as a table of their own.
-use crate::Plan;
 use crate::regrets::Regrets;
 use crate::scout::Scout;
+use crate::{Plan, whole};
 use row_tables::fixed_point::{item, reset, set_at};
 use row_tables::lists::short;
 use row_tables::{Made, RowTable};
@@ -13,42 +13,46 @@ pub struct Merge {
     pub part: RowTable,
     /// For each row of the part its number in the whole table, and for each row of that its number in the part.
     pub wholes: Vec<Option<u32>>,
-    pub parts: Vec<Option<u32>>,
+    parts: Vec<Option<u32>>,
+    /// The plan that was the best before, of rows of the part.
+    pub plan: Plan,
 }
 
 impl Merge {
-    /// The rows that these scouts' plans or this one choose, and those without regret.
+    /// The rows that these scouts' plans or this one, the best so far, choose, and those without regret.
     pub fn new(
         alloc: Global,
         regrets: &Regrets,
         plan: &[Option<u32>],
         scouts: &[Scout],
     ) -> Made<Self> {
-        let table = regrets.table;
-        let is_chosen = chosen(alloc, table.row_count(), plan, scouts)?;
         let mut must = Vec::new(alloc);
-        for rider in 0..table.rider_count() {
-            must.push(table.must(rider))?;
+        for rider in 0..regrets.table.rider_count() {
+            must.push(regrets.table.must(rider))?;
         }
         let mut merge = Merge {
-            part: RowTable::new(alloc, table.penalty(), must),
+            part: RowTable::new(alloc, regrets.table.penalty(), must),
             wholes: Vec::new(alloc),
             parts: Vec::new(alloc),
+            plan: Vec::new(alloc),
         };
-        match merge.fill(regrets, &is_chosen) {
-            Ok(()) => Ok(merge),
-            Err(fault) => {
-                drop(merge);
-                Err(fault)
-            }
-        }
+        let done = merge.fill(alloc, regrets, plan, scouts);
+        whole(merge, done)
     }
 
-    fn fill(&mut self, regrets: &Regrets, is_chosen: &[bool]) -> Made<()> {
+    fn fill(
+        &mut self,
+        alloc: Global,
+        regrets: &Regrets,
+        plan: &[Option<u32>],
+        scouts: &[Scout],
+    ) -> Made<()> {
+        let is_chosen = chosen(alloc, regrets.table.row_count(), plan, scouts)?;
         reset(&mut self.parts, regrets.table.row_count(), None)?;
         for vehicle in 0..regrets.table.vehicle_count() {
-            self.put_vehicle(regrets, vehicle, is_chosen)?;
+            self.put_vehicle(regrets, vehicle, &is_chosen)?;
         }
+        self.plan = renumbered(alloc, plan, &self.parts)?;
         self.part.index()
     }
 

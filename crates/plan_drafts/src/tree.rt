@@ -47,33 +47,27 @@ pub struct DraftTree {
 }
 
 impl DraftTree {
-    /// A tree of one node, where the relaxation stands, without a plan.
-    pub fn new(
-        alloc: Global,
-        table: &RowTable,
-        relaxation: &mut Relaxation,
-        allowance: Allowance,
-    ) -> Made<Self> {
-        let multipliers = relaxation.multipliers(alloc, table.rider_count())?;
-        let standing = standing_of(alloc, table, relaxation)?;
-        let mut tree = DraftTree {
-            draft: no_draft(alloc, seconds_of(relaxation.value())),
+    /// A tree without nodes and plan.
+    pub fn new(alloc: Global, allowance: Allowance) -> Self {
+        DraftTree {
+            draft: no_draft(alloc),
             standings: Vec::new(alloc),
             open: BinaryHeap::new(alloc),
             allowance,
-        };
-        match tree.put(None, multipliers, standing) {
-            Ok(()) => Ok(tree),
-            Err(fault) => {
-                drop(tree);
-                Err(fault)
-            }
         }
     }
 
-    /// Hands the draft out, and has none any more.
-    pub fn hand_over(&mut self, alloc: Global) -> Draft {
-        replace(&mut self.draft, no_draft(alloc, 0))
+    /// Begins with one node, where the relaxation stands.
+    pub fn begin(
+        &mut self,
+        alloc: Global,
+        table: &RowTable,
+        relaxation: &mut Relaxation,
+    ) -> Made<()> {
+        self.draft.bound = seconds_of(relaxation.value());
+        let multipliers = relaxation.multipliers(alloc, table.rider_count())?;
+        let standing = standing_of(alloc, table, relaxation)?;
+        self.put(None, multipliers, standing)
     }
 
     /// Puts in a node, which is open.
@@ -254,11 +248,11 @@ impl DraftTree {
 }
 
 /// A draft without plan or nodes.
-fn no_draft(alloc: Global, bound: i64) -> Draft {
+pub fn no_draft(alloc: Global) -> Draft {
     Draft {
         plan: Vec::new(alloc),
         cost: UNLAWFUL,
-        bound,
+        bound: 0,
         nodes: Vec::new(alloc),
     }
 }
