@@ -106,9 +106,20 @@ impl Relaxation {
         start: &[Option<u32>],
         allowance: Allowance,
     ) -> Made<Self> {
+        Relaxation::over(alloc, table, start, &[], allowance)
+    }
+
+    /// The same with these columns in the pool.
+    fn over(
+        alloc: Global,
+        table: &RowTable,
+        start: &[Option<u32>],
+        columns: &[u32],
+        allowance: Allowance,
+    ) -> Made<Self> {
         let mut relaxation = Relaxation {
             basis: Basis::new(alloc),
-            pool: Pool::new(alloc, table.column_count())?,
+            pool: Pool::new(alloc),
             is_forbidden: Vec::new(alloc),
             is_held: false,
             costs: Vec::new(alloc),
@@ -126,13 +137,23 @@ impl Relaxation {
             tried: Vec::new(alloc),
             offers: Vec::new(alloc),
         };
-        relaxation.basis.begin(table, start)?;
-        relaxation.make_space(table)?;
-        relaxation.set_true_costs(table);
-        for rider in 0..table.rider_count() {
-            relaxation.add(table, table.row_count().saturating_add(rider))?;
+        match relaxation.begin(table, start, columns) {
+            Ok(()) => Ok(relaxation),
+            Err(fault) => {
+                drop(relaxation);
+                Err(fault)
+            }
         }
-        Ok(relaxation)
+    }
+
+    fn begin(&mut self, table: &RowTable, start: &[Option<u32>], columns: &[u32]) -> Made<()> {
+        self.basis.begin(table, start)?;
+        self.make_space(table)?;
+        self.set_true_costs(table);
+        for rider in 0..table.rider_count() {
+            self.add(table, table.row_count().saturating_add(rider))?;
+        }
+        self.add_all(table, columns)
     }
 
     /// Another one over the same pool, which starts at this plan, as the first one does.
@@ -143,15 +164,12 @@ impl Relaxation {
         start: &[Option<u32>],
         allowance: Allowance,
     ) -> Made<Self> {
-        let mut relaxation = Relaxation::new(alloc, table, start, allowance)?;
-        for column in &self.pool.columns {
-            relaxation.add(table, *column as usize)?;
-        }
-        Ok(relaxation)
+        Relaxation::over(alloc, table, start, &self.pool.columns, allowance)
     }
 
     fn make_space(&mut self, table: &RowTable) -> Made<()> {
         let conditions = table.condition_count();
+        self.pool.make_space(table.column_count())?;
         reset(&mut self.is_forbidden, table.row_count(), false)?;
         reset(&mut self.costs, table.column_count(), 0)?;
         for row in 0..table.row_count() {
@@ -250,6 +268,13 @@ impl Relaxation {
         self.pool.add(table, column, cost)
     }
 
+    fn add_all(&mut self, table: &RowTable, columns: &[u32]) -> Made<()> {
+        for column in columns {
+            self.add(table, *column as usize)?;
+        }
+        Ok(())
+    }
+
     /// Takes the rows out of the pool that aren't in the basis and whose reduced cost lies so much above their
     /// vehicle's least one, in 1/1024 second.
     pub fn shrink_pool(&mut self, table: &RowTable, multipliers: &[i64], most: i64) -> Made<()> {
@@ -337,9 +362,7 @@ impl Relaxation {
 
     /// Goes to a basis that was one before.
     pub fn go_to(&mut self, table: &RowTable, columns: &[u32]) -> Made<()> {
-        for column in columns {
-            self.add(table, *column as usize)?;
-        }
+        self.add_all(table, columns)?;
         self.list_places()?;
         self.basis.go_to(columns)
     }
