@@ -106,17 +106,6 @@ impl Relaxation {
         start: &[Option<u32>],
         allowance: Allowance,
     ) -> Made<Self> {
-        Relaxation::over(alloc, table, start, &[], allowance)
-    }
-
-    /// The same with these columns in the pool.
-    fn over(
-        alloc: Global,
-        table: &RowTable,
-        start: &[Option<u32>],
-        columns: &[u32],
-        allowance: Allowance,
-    ) -> Made<Self> {
         let mut relaxation = Relaxation {
             basis: Basis::new(alloc),
             pool: Pool::new(alloc),
@@ -137,23 +126,19 @@ impl Relaxation {
             tried: Vec::new(alloc),
             offers: Vec::new(alloc),
         };
-        match relaxation.begin(table, start, columns) {
-            Ok(()) => Ok(relaxation),
-            Err(fault) => {
-                drop(relaxation);
-                Err(fault)
-            }
-        }
+        let done = relaxation.begin(table, start);
+        whole(relaxation, done)
     }
 
-    fn begin(&mut self, table: &RowTable, start: &[Option<u32>], columns: &[u32]) -> Made<()> {
+    /// Begins at this plan, with the columns of all riders in the pool.
+    fn begin(&mut self, table: &RowTable, start: &[Option<u32>]) -> Made<()> {
         self.basis.begin(table, start)?;
         self.make_space(table)?;
         self.set_true_costs(table);
         for rider in 0..table.rider_count() {
             self.add(table, table.row_count().saturating_add(rider))?;
         }
-        self.add_all(table, columns)
+        Ok(())
     }
 
     /// Another one over the same pool, which starts at this plan, as the first one does.
@@ -164,7 +149,9 @@ impl Relaxation {
         start: &[Option<u32>],
         allowance: Allowance,
     ) -> Made<Self> {
-        Relaxation::over(alloc, table, start, &self.pool.columns, allowance)
+        let mut relaxation = Relaxation::new(alloc, table, start, allowance)?;
+        let done = relaxation.add_all(table, &self.pool.columns);
+        whole(relaxation, done)
     }
 
     fn make_space(&mut self, table: &RowTable) -> Made<()> {
@@ -199,11 +186,8 @@ impl Relaxation {
 
     fn set_cost_left(&mut self, table: &RowTable, rider: usize, seconds: i64) {
         let cost = in_prices(seconds, self.scale);
-        set_at(
-            &mut self.costs,
-            table.row_count().saturating_add(rider),
-            cost,
-        );
+        let column = table.row_count().saturating_add(rider);
+        set_at(&mut self.costs, column, cost);
         self.pool.set_cost(rider, cost);
     }
 
@@ -389,6 +373,12 @@ impl Relaxation {
         let shift = 22 - self.scale.min(21);
         price.wrapping_add(1 << (shift - 1)) >> shift
     }
+}
+
+/// A value that was begun empty, if it could be filled.
+fn whole<T: Drop>(value: T, done: Made<()>) -> Made<T> {
+    done?;
+    Ok(value)
 }
 
 /// How many bits of costs are given up so that they, and what is forbidden, have room before the point.

@@ -7,7 +7,7 @@ use crate::merge::{Merge, renumbered};
 use crate::plans::Plans;
 use crate::regrets::Regrets;
 use crate::scout::{Scout, Start};
-use crate::tree::{DraftTree, no_draft};
+use crate::tree::DraftTree;
 use crate::{Plan, whole};
 use linear_relaxation::{Allowance, Relaxation};
 use pool_base::OutOfMemory;
@@ -172,7 +172,8 @@ impl<'a> Drafting<'a> {
                 self.grow(rt, budget)?;
             }
         }
-        Ok(replace(&mut self.tree.draft, no_draft(self.alloc)))
+        let none = DraftTree::new(self.alloc, self.tree.allowance);
+        Ok(replace(&mut self.tree, none).draft)
     }
 
     /// Makes a plan from the solution and one by a dive.
@@ -199,8 +200,8 @@ impl<'a> Drafting<'a> {
         let basis = self.tree.root_basis();
         let plan = dive(self.alloc, self.regrets.table, decided, basis, 0)?;
         self.decided.go_back(0);
-        let relaxation = &mut self.decided.relaxation;
-        self.tree.allowance.settle(share, relaxation.allowance());
+        let left = self.decided.relaxation.allowance();
+        self.tree.allowance.settle(share, left);
         Ok(plan)
     }
 
@@ -255,8 +256,7 @@ impl<'a> Drafting<'a> {
         for time in 0..MOST_TIMES {
             let cost = self.tree.draft.cost;
             let first = MANY_SCOUTS.saturating_mul(time);
-            let numbers = first..first.saturating_add(MANY_SCOUTS);
-            self.scout(rt, Some(beside), numbers)?;
+            self.scout(rt, Some(beside), first..first.saturating_add(MANY_SCOUTS))?;
             if self.tree.draft.cost >= cost {
                 break;
             }
@@ -299,8 +299,7 @@ impl<'a> Drafting<'a> {
     fn merge<R: Threads + Sync>(&mut self, rt: &R, scouts: &[Scout]) -> Made<()> {
         let merge = Merge::new(self.alloc, &self.regrets, &self.tree.draft.plan, scouts)?;
         let share = self.tree.allowance.share(MERGE_SHARE);
-        let plan = merge.plan.as_slice();
-        let mut part = Drafting::new(self.alloc, &merge.part, plan, self.workers, share)?;
+        let mut part = Drafting::new(self.alloc, &merge.part, &merge.plan, self.workers, share)?;
         let taken = self.take(rt, &mut part, &merge);
         drop(part);
         drop(merge);
@@ -310,8 +309,8 @@ impl<'a> Drafting<'a> {
     /// Takes the best plan of a merge, if it is better, as a draft of its rows finds it.
     fn take<R: Threads + Sync>(&mut self, rt: &R, part: &mut Drafting, merge: &Merge) -> Made<()> {
         let share = self.tree.allowance.share(MERGE_SHARE);
-        let cost = self.tree.draft.cost;
-        part.tree.offer(self.alloc, &merge.plan, cost)?;
+        part.tree
+            .offer(self.alloc, &merge.plan, self.tree.draft.cost)?;
         part.make_plans()?;
         part.grow(rt, MERGE_NODES)?;
         self.tree.allowance.settle(share, part.tree.allowance);
@@ -334,14 +333,8 @@ fn send_scouts<R: Threads + Sync>(
         scouts.push(Scout::new(alloc, start, number)?)?;
     }
     let workers = usize::from(workers).max(1);
-    thread::for_each_mut(
-        rt,
-        &mut scouts,
-        workers,
-        &|_: usize, scout: &mut Scout| {
-            scout.look(alloc, start);
-        },
-    );
+    let look = |_: usize, scout: &mut Scout| scout.look(alloc, start);
+    thread::for_each_mut(rt, &mut scouts, workers, &look);
     Ok(scouts)
 }
 

@@ -47,9 +47,14 @@ impl Merge {
         plan: &[Option<u32>],
         scouts: &[Scout],
     ) -> Made<()> {
-        let is_chosen = chosen(alloc, regrets.table.row_count(), plan, scouts)?;
-        reset(&mut self.parts, regrets.table.row_count(), None)?;
-        for vehicle in 0..regrets.table.vehicle_count() {
+        let table = regrets.table;
+        let mut is_chosen = vec![in alloc; false; table.row_count()]?;
+        mark(plan, &mut is_chosen);
+        for scout in scouts {
+            mark(scout.plans.rows(), &mut is_chosen);
+        }
+        reset(&mut self.parts, table.row_count(), None)?;
+        for vehicle in 0..table.vehicle_count() {
             self.put_vehicle(regrets, vehicle, &is_chosen)?;
         }
         self.plan = renumbered(alloc, plan, &self.parts)?;
@@ -68,16 +73,6 @@ impl Merge {
         }
         self.part.end_vehicle()
     }
-}
-
-/// For each of so many rows whether this plan or one of the scouts' chooses it.
-fn chosen(alloc: Global, rows: usize, plan: &[Option<u32>], scouts: &[Scout]) -> Made<Vec<bool>> {
-    let mut is_chosen = vec![in alloc; false; rows]?;
-    mark(plan, &mut is_chosen);
-    for scout in scouts {
-        mark(scout.plans.rows(), &mut is_chosen);
-    }
-    Ok(is_chosen)
 }
 
 /// A plan with these numbers in place of its rows.
