@@ -108,7 +108,7 @@ impl Relaxation {
     ) -> Made<Self> {
         let mut relaxation = Relaxation {
             basis: Basis::new(alloc),
-            pool: Pool::new(alloc, table.column_count())?,
+            pool: Pool::new(alloc),
             is_forbidden: Vec::new(alloc),
             is_held: false,
             costs: Vec::new(alloc),
@@ -126,13 +126,19 @@ impl Relaxation {
             tried: Vec::new(alloc),
             offers: Vec::new(alloc),
         };
-        relaxation.basis.begin(table, start)?;
-        relaxation.make_space(table)?;
-        relaxation.set_true_costs(table);
+        let done = relaxation.begin(table, start);
+        whole(relaxation, done)
+    }
+
+    /// Begins at this plan, with the columns of all riders in the pool.
+    fn begin(&mut self, table: &RowTable, start: &[Option<u32>]) -> Made<()> {
+        self.basis.begin(table, start)?;
+        self.make_space(table)?;
+        self.set_true_costs(table);
         for rider in 0..table.rider_count() {
-            relaxation.add(table, table.row_count().saturating_add(rider))?;
+            self.add(table, table.row_count().saturating_add(rider))?;
         }
-        Ok(relaxation)
+        Ok(())
     }
 
     /// Another one over the same pool, which starts at this plan, as the first one does.
@@ -144,14 +150,13 @@ impl Relaxation {
         allowance: Allowance,
     ) -> Made<Self> {
         let mut relaxation = Relaxation::new(alloc, table, start, allowance)?;
-        for column in &self.pool.columns {
-            relaxation.add(table, *column as usize)?;
-        }
-        Ok(relaxation)
+        let done = relaxation.add_all(table, &self.pool.columns);
+        whole(relaxation, done)
     }
 
     fn make_space(&mut self, table: &RowTable) -> Made<()> {
         let conditions = table.condition_count();
+        self.pool.make_space(table.column_count())?;
         reset(&mut self.is_forbidden, table.row_count(), false)?;
         reset(&mut self.costs, table.column_count(), 0)?;
         for row in 0..table.row_count() {
@@ -181,11 +186,8 @@ impl Relaxation {
 
     fn set_cost_left(&mut self, table: &RowTable, rider: usize, seconds: i64) {
         let cost = in_prices(seconds, self.scale);
-        set_at(
-            &mut self.costs,
-            table.row_count().saturating_add(rider),
-            cost,
-        );
+        let column = table.row_count().saturating_add(rider);
+        set_at(&mut self.costs, column, cost);
         self.pool.set_cost(rider, cost);
     }
 
@@ -248,6 +250,13 @@ impl Relaxation {
     fn add(&mut self, table: &RowTable, column: usize) -> Made<()> {
         let cost = at(&self.costs, column);
         self.pool.add(table, column, cost)
+    }
+
+    fn add_all(&mut self, table: &RowTable, columns: &[u32]) -> Made<()> {
+        for column in columns {
+            self.add(table, *column as usize)?;
+        }
+        Ok(())
     }
 
     /// Takes the rows out of the pool that aren't in the basis and whose reduced cost lies so much above their
@@ -337,9 +346,7 @@ impl Relaxation {
 
     /// Goes to a basis that was one before.
     pub fn go_to(&mut self, table: &RowTable, columns: &[u32]) -> Made<()> {
-        for column in columns {
-            self.add(table, *column as usize)?;
-        }
+        self.add_all(table, columns)?;
         self.list_places()?;
         self.basis.go_to(columns)
     }
@@ -366,6 +373,12 @@ impl Relaxation {
         let shift = 22 - self.scale.min(21);
         price.wrapping_add(1 << (shift - 1)) >> shift
     }
+}
+
+/// A value that was begun empty, if it could be filled.
+fn whole<T: Drop>(value: T, done: Made<()>) -> Made<T> {
+    done?;
+    Ok(value)
 }
 
 /// How many bits of costs are given up so that they, and what is forbidden, have room before the point.

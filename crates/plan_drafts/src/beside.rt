@@ -1,5 +1,6 @@
 //! Which rows of a vehicle have one rider less than a row, or one more.
 
+use crate::whole;
 use row_tables::fixed_point::{item, part};
 use row_tables::lists::Lists;
 use row_tables::{Made, RowTable};
@@ -25,13 +26,13 @@ impl Beside {
             added: Vec::new(alloc),
             rows: Vec::new(alloc),
         };
-        beside.wider.transpose(&beside.without, table.row_count())?;
-        beside.list_added(table)?;
-        Ok(beside)
+        let done = beside.list_added(table);
+        whole(beside, done)
     }
 
-    /// Lists who is added: the wider rows of a row stand by rising riders, as the rows of a vehicle do.
+    /// Lists the wider rows, and who is added: those of a row stand by rising riders, as the rows of a vehicle do.
     fn list_added(&mut self, table: &RowTable) -> Made<()> {
+        self.wider.transpose(&self.without, table.row_count())?;
         for row in 0..table.row_count() {
             let mut marks = 0;
             for wider in self.wider.list(row) {

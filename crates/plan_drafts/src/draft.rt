@@ -1,5 +1,4 @@
 //! A draft: the relaxation of all rows, plans made from it, and a tree where they leave a gap.
-use crate::Plan;
 use crate::beside::Beside;
 use crate::branching::FEW_CONDITIONS;
 use crate::decided::Decided;
@@ -9,10 +8,12 @@ use crate::plans::Plans;
 use crate::regrets::Regrets;
 use crate::scout::{Scout, Start};
 use crate::tree::DraftTree;
+use crate::{Plan, whole};
 use linear_relaxation::{Allowance, Relaxation};
 use pool_base::OutOfMemory;
 use row_tables::{Draft, Drafter, Made, RowTable, Share, ascend, first_multipliers};
 use std::alloc::Global;
+use std::mem::replace;
 use std::ops::Range;
 use std::thread;
 use std::thread::Threads;
@@ -104,21 +105,9 @@ impl Drafter for RelaxationDrafter {
         let rows = (table.row_count() as u64).saturating_mul(A_ROW);
         allowance.spend(rows.saturating_mul(budget.min(MERGE_NODES) as u64));
         let mut drafting = Drafting::new(alloc, table, held, workers, allowance)?;
-        drafting.make_plans()?;
-        let first = drafting.tree.draft.bound;
-        drafting.grow(rt, budget.min(PROBE))?;
-        let closed = drafting.tree.draft.bound.saturating_sub(first);
-        if closed.saturating_mul(3) >= drafting.tree.gap(first) {
-            drafting.grow(rt, budget)?;
-        }
-        if drafting.tree.is_open() {
-            drafting.make_more_plans(rt)?;
-            if !drafting.is_near() {
-                drafting.grow(rt, budget)?;
-            }
-        }
-        let Drafting { tree, .. } = drafting;
-        Ok(tree.draft)
+        let draft = drafting.make(rt, budget);
+        drop(drafting);
+        draft
     }
 }
 
@@ -131,6 +120,7 @@ struct Drafting<'a> {
     regrets: Regrets<'a>,
     decided: Decided,
     tree: DraftTree,
+    plans: Plans,
 }
 
 impl<'a> Drafting<'a> {
@@ -143,17 +133,47 @@ impl<'a> Drafting<'a> {
         allowance: Allowance,
     ) -> Made<Self> {
         let share = allowance.share(FIRST_SHARE);
-        let mut relaxation = Relaxation::new(alloc, table, held, share)?;
-        solve(alloc, table, &mut relaxation)?;
-        let mut tree = DraftTree::new(alloc, table, &mut relaxation, allowance)?;
-        tree.allowance.settle(share, relaxation.allowance());
-        Ok(Drafting {
+        let plans = Plans::new(alloc, table, 0)?;
+        let relaxation = Relaxation::new(alloc, table, held, share)?;
+        let mut drafting = Drafting {
             alloc,
             workers,
-            regrets: Regrets::new(alloc, table, tree.multipliers(0))?,
+            regrets: Regrets::new(alloc, table),
             decided: Decided::new(alloc, relaxation),
-            tree,
-        })
+            tree: DraftTree::new(alloc, allowance),
+            plans,
+        };
+        let done = drafting.begin(share);
+        whole(drafting, done)
+    }
+
+    /// Solves the relaxation with this share, begins the tree there, and finds the regrets.
+    fn begin(&mut self, share: Allowance) -> Made<()> {
+        let table = self.regrets.table;
+        let relaxation = &mut self.decided.relaxation;
+        solve(self.alloc, table, relaxation)?;
+        self.tree.begin(self.alloc, table, relaxation)?;
+        self.tree.allowance.settle(share, relaxation.allowance());
+        self.regrets.fill(self.alloc, self.tree.multipliers(0))
+    }
+
+    /// Makes the draft, with a tree of so many nodes at most, and hands it out.
+    fn make<R: Threads + Sync>(&mut self, rt: &R, budget: usize) -> Made<Draft> {
+        self.make_plans()?;
+        let first = self.tree.draft.bound;
+        self.grow(rt, budget.min(PROBE))?;
+        let closed = self.tree.draft.bound.saturating_sub(first);
+        if closed.saturating_mul(3) >= self.tree.gap(first) {
+            self.grow(rt, budget)?;
+        }
+        if self.tree.is_open() {
+            self.make_more_plans(rt)?;
+            if !self.is_near() {
+                self.grow(rt, budget)?;
+            }
+        }
+        let none = DraftTree::new(self.alloc, self.tree.allowance);
+        Ok(replace(&mut self.tree, none).draft)
     }
 
     /// Makes a plan from the solution and one by a dive.
@@ -161,13 +181,12 @@ impl<'a> Drafting<'a> {
         let table = self.regrets.table;
         let mut shares: Vec<Share> = Vec::new(self.alloc);
         self.decided.relaxation.find_shares(table, &mut shares)?;
-        let mut plans = Plans::new(self.alloc, &self.regrets, 0)?;
-        plans.round(&self.regrets, &shares)?;
-        self.better(&mut plans)?;
+        self.plans.round(&self.regrets, &shares)?;
+        self.better()?;
         if self.tree.is_open() && !self.decided.relaxation.is_tired() {
             if let Some(plan) = self.dive()? {
-                plans.adopt(&self.regrets, &plan)?;
-                self.better(&mut plans)?;
+                self.plans.adopt(&self.regrets, &plan)?;
+                self.better()?;
             }
         }
         Ok(())
@@ -181,17 +200,19 @@ impl<'a> Drafting<'a> {
         let basis = self.tree.root_basis();
         let plan = dive(self.alloc, self.regrets.table, decided, basis, 0)?;
         self.decided.go_back(0);
-        let relaxation = &mut self.decided.relaxation;
-        self.tree.allowance.settle(share, relaxation.allowance());
+        let left = self.decided.relaxation.allowance();
+        self.tree.allowance.settle(share, left);
         Ok(plan)
     }
 
-    /// Betters a plan by neighbourhoods, and takes it where it is the best so far.
-    fn better(&mut self, plans: &mut Plans) -> Made<()> {
+    /// Betters the plan at hand by neighbourhoods, and takes it where it is the best so far.
+    fn better(&mut self) -> Made<()> {
         let bound = self.tree.draft.bound;
         let allowance = &mut self.tree.allowance;
-        plans.better(&self.regrets, bound, IDLE, STEPS, allowance)?;
-        self.tree.offer(self.alloc, plans.rows(), plans.cost)
+        self.plans
+            .better(&self.regrets, bound, IDLE, STEPS, allowance)?;
+        let cost = self.plans.cost;
+        self.tree.offer(self.alloc, self.plans.rows(), cost)
     }
 
     /// Grows the tree to so many nodes, at first without the rows whose reduced cost exceeds a part of the gap.
@@ -220,18 +241,22 @@ impl<'a> Drafting<'a> {
     /// Has scouts look for plans, and merges these. Scouts anneal where the gap is so wide that a rider more might be
     /// served.
     fn make_more_plans<R: Threads + Sync>(&mut self, rt: &R) -> Made<()> {
-        let mut count = if self.is_near() { FEW_SCOUTS } else { SCOUTS };
-        let mut times = 1;
-        let mut beside = None;
-        if self.tree.gap(self.tree.draft.bound) >= self.regrets.table.penalty() / 4 {
-            count = MANY_SCOUTS;
-            times = MOST_TIMES;
-            beside = Some(Beside::new(self.alloc, self.regrets.table)?);
+        if self.tree.gap(self.tree.draft.bound) < self.regrets.table.penalty() / 4 {
+            let count = if self.is_near() { FEW_SCOUTS } else { SCOUTS };
+            return self.scout(rt, None, 0..count);
         }
-        for time in 0..times {
+        let beside = Beside::new(self.alloc, self.regrets.table)?;
+        let made = self.scout_often(rt, &beside);
+        drop(beside);
+        made
+    }
+
+    /// Has many scouts look for plans, of whom most anneal, as long as a better plan is found each time.
+    fn scout_often<R: Threads + Sync>(&mut self, rt: &R, beside: &Beside) -> Made<()> {
+        for time in 0..MOST_TIMES {
             let cost = self.tree.draft.cost;
-            let first = count.saturating_mul(time);
-            self.scout(rt, beside.as_ref(), first..first.saturating_add(count))?;
+            let first = MANY_SCOUTS.saturating_mul(time);
+            self.scout(rt, Some(beside), first..first.saturating_add(MANY_SCOUTS))?;
             if self.tree.draft.cost >= cost {
                 break;
             }
@@ -273,15 +298,23 @@ impl<'a> Drafting<'a> {
     /// Takes the best plan of the rows that the best one and those of scouts choose, as a small draft finds it.
     fn merge<R: Threads + Sync>(&mut self, rt: &R, scouts: &[Scout]) -> Made<()> {
         let merge = Merge::new(self.alloc, &self.regrets, &self.tree.draft.plan, scouts)?;
-        let plan = renumbered(self.alloc, &self.tree.draft.plan, &merge.parts)?;
         let share = self.tree.allowance.share(MERGE_SHARE);
-        let mut drafting = Drafting::new(self.alloc, &merge.part, &plan, self.workers, share)?;
-        let cost = self.tree.draft.cost;
-        drafting.tree.offer(self.alloc, &plan, cost)?;
-        drafting.make_plans()?;
-        drafting.grow(rt, MERGE_NODES)?;
-        self.tree.allowance.settle(share, drafting.tree.allowance);
-        let draft = &drafting.tree.draft;
+        let mut part = Drafting::new(self.alloc, &merge.part, &merge.plan, self.workers, share)?;
+        let taken = self.take(rt, &mut part, &merge);
+        drop(part);
+        drop(merge);
+        taken
+    }
+
+    /// Takes the best plan of a merge, if it is better, as a draft of its rows finds it.
+    fn take<R: Threads + Sync>(&mut self, rt: &R, part: &mut Drafting, merge: &Merge) -> Made<()> {
+        let share = self.tree.allowance.share(MERGE_SHARE);
+        part.tree
+            .offer(self.alloc, &merge.plan, self.tree.draft.cost)?;
+        part.make_plans()?;
+        part.grow(rt, MERGE_NODES)?;
+        self.tree.allowance.settle(share, part.tree.allowance);
+        let draft = &part.tree.draft;
         let plan = renumbered(self.alloc, &draft.plan, &merge.wholes)?;
         self.tree.offer(self.alloc, &plan, draft.cost)
     }
@@ -300,14 +333,8 @@ fn send_scouts<R: Threads + Sync>(
         scouts.push(Scout::new(alloc, start, number)?)?;
     }
     let workers = usize::from(workers).max(1);
-    thread::for_each_mut(
-        rt,
-        &mut scouts,
-        workers,
-        &|_: usize, scout: &mut Scout| {
-            scout.look(alloc, start);
-        },
-    );
+    let look = |_: usize, scout: &mut Scout| scout.look(alloc, start);
+    thread::for_each_mut(rt, &mut scouts, workers, &look);
     Ok(scouts)
 }
 

@@ -1,8 +1,8 @@
 //! The rows that some plans choose, as a table of their own.
-use crate::Plan;
 use crate::regrets::Regrets;
 use crate::scout::Scout;
-use row_tables::fixed_point::{item, set_at};
+use crate::{Plan, whole};
+use row_tables::fixed_point::{item, reset, set_at};
 use row_tables::lists::short;
 use row_tables::{Made, RowTable};
 use std::alloc::Global;
@@ -13,37 +13,52 @@ pub struct Merge {
     pub part: RowTable,
     /// For each row of the part its number in the whole table, and for each row of that its number in the part.
     pub wholes: Vec<Option<u32>>,
-    pub parts: Vec<Option<u32>>,
+    parts: Vec<Option<u32>>,
+    /// The plan that was the best before, of rows of the part.
+    pub plan: Plan,
 }
 
 impl Merge {
-    /// The rows that these scouts' plans or this one choose, and those without regret.
+    /// The rows that these scouts' plans or this one, the best so far, choose, and those without regret.
     pub fn new(
         alloc: Global,
         regrets: &Regrets,
         plan: &[Option<u32>],
         scouts: &[Scout],
     ) -> Made<Self> {
+        let mut must = Vec::new(alloc);
+        for rider in 0..regrets.table.rider_count() {
+            must.push(regrets.table.must(rider))?;
+        }
+        let mut merge = Merge {
+            part: RowTable::new(alloc, regrets.table.penalty(), must),
+            wholes: Vec::new(alloc),
+            parts: Vec::new(alloc),
+            plan: Vec::new(alloc),
+        };
+        let done = merge.fill(alloc, regrets, plan, scouts);
+        whole(merge, done)
+    }
+
+    fn fill(
+        &mut self,
+        alloc: Global,
+        regrets: &Regrets,
+        plan: &[Option<u32>],
+        scouts: &[Scout],
+    ) -> Made<()> {
         let table = regrets.table;
         let mut is_chosen = vec![in alloc; false; table.row_count()]?;
         mark(plan, &mut is_chosen);
         for scout in scouts {
             mark(scout.plans.rows(), &mut is_chosen);
         }
-        let mut must = Vec::new(alloc);
-        for rider in 0..table.rider_count() {
-            must.push(table.must(rider))?;
-        }
-        let mut merge = Merge {
-            part: RowTable::new(alloc, table.penalty(), must),
-            wholes: Vec::new(alloc),
-            parts: vec![in alloc; None; table.row_count()]?,
-        };
+        reset(&mut self.parts, table.row_count(), None)?;
         for vehicle in 0..table.vehicle_count() {
-            merge.put_vehicle(regrets, vehicle, &is_chosen)?;
+            self.put_vehicle(regrets, vehicle, &is_chosen)?;
         }
-        merge.part.index()?;
-        Ok(merge)
+        self.plan = renumbered(alloc, plan, &self.parts)?;
+        self.part.index()
     }
 
     fn put_vehicle(&mut self, regrets: &Regrets, vehicle: usize, is_chosen: &[bool]) -> Made<()> {

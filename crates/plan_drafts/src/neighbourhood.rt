@@ -8,7 +8,7 @@ use crate::present::Present;
 use crate::regrets::Regrets;
 use row_tables::fixed_point::{item, set_at};
 use row_tables::lists::short;
-use row_tables::{Draws, Made};
+use row_tables::{Draws, Made, RowTable};
 use std::alloc::Global;
 
 /// A walk, and the work space for the next one.
@@ -23,14 +23,14 @@ pub struct Neighbourhood {
 }
 
 impl Neighbourhood {
-    /// Walks over these rows. What is drawn follows from the seed.
-    pub fn new(alloc: Global, regrets: &Regrets, seed: u64) -> Made<Self> {
+    /// Walks over the rows of this table. What is drawn follows from the seed.
+    pub fn new(alloc: Global, table: &RowTable, seed: u64) -> Made<Self> {
         Ok(Neighbourhood {
             vehicles: Vec::new(alloc),
-            is_in: vec![in alloc; false; regrets.table.vehicle_count()]?,
+            is_in: vec![in alloc; false; table.vehicle_count()]?,
             frontier: Vec::new(alloc),
             draws: Draws::new(seed),
-            choices: Choices::new(alloc, regrets.table.rider_count())?,
+            choices: Choices::new(alloc, table.rider_count())?,
         })
     }
 

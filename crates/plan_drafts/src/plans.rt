@@ -8,7 +8,7 @@ use crate::neighbourhood::Neighbourhood;
 use crate::present::Present;
 use crate::regrets::Regrets;
 use linear_relaxation::Allowance;
-use row_tables::{Made, Share};
+use row_tables::{Made, RowTable, Share};
 use std::alloc::Global;
 use std::cmp::Reverse;
 
@@ -27,11 +27,11 @@ pub struct Plans {
 
 impl Plans {
     /// A plan without rows. What is drawn follows from the number.
-    pub fn new(alloc: Global, regrets: &Regrets, number: u64) -> Made<Plans> {
+    pub fn new(alloc: Global, table: &RowTable, number: u64) -> Made<Plans> {
         Ok(Plans {
             alloc,
-            present: Present::new(alloc, regrets.table)?,
-            neighbourhood: Neighbourhood::new(alloc, regrets, number.wrapping_add(4242))?,
+            present: Present::new(alloc, table)?,
+            neighbourhood: Neighbourhood::new(alloc, table, number.wrapping_add(4242))?,
             cost: UNLAWFUL,
         })
     }

@@ -30,21 +30,24 @@ pub struct Regrets<'a> {
 }
 
 impl<'a> Regrets<'a> {
-    /// The regrets under these multipliers, in 1/1024 second.
-    pub fn new(alloc: Global, table: &'a RowTable, multipliers: &[i64]) -> Made<Self> {
-        let mut regrets = Regrets {
+    /// No regrets.
+    pub fn new(alloc: Global, table: &'a RowTable) -> Self {
+        Regrets {
             table,
             above: Vec::new(alloc),
             left: Vec::new(alloc),
             rows: Lists::new(alloc),
             with: Lists::new(alloc),
-        };
-        let prices = regrets.price_riders(alloc, multipliers)?;
-        for vehicle in 0..table.vehicle_count() {
-            regrets.reduce(&prices, table.rows_of(vehicle))?;
         }
-        regrets.list(alloc)?;
-        Ok(regrets)
+    }
+
+    /// Finds the regrets under these multipliers, in 1/1024 second.
+    pub fn fill(&mut self, alloc: Global, multipliers: &[i64]) -> Made<()> {
+        let prices = self.price_riders(alloc, multipliers)?;
+        for vehicle in 0..self.table.vehicle_count() {
+            self.reduce(&prices, self.table.rows_of(vehicle))?;
+        }
+        self.list(alloc)
     }
 
     /// What each rider is worth: her multiplier, and at most what it costs to leave her out.

@@ -49,8 +49,7 @@ impl Scout {
     pub fn new(alloc: Global, start: Start, number: u64) -> Made<Self> {
         let table = start.regrets.table;
         let plan = start.tree.draft.plan.as_slice();
-        let mut plans = Plans::new(alloc, start.regrets, number)?;
-        plans.adopt(start.regrets, plan)?;
+        let plans = Plans::new(alloc, table, number)?;
         let relaxation = start.relaxation.beside(alloc, table, plan, start.share)?;
         Ok(Scout {
             number,
@@ -68,11 +67,12 @@ impl Scout {
 
     /// Goes on from the best plan by annealing, or to another by a dive, and betters it.
     fn find(&mut self, alloc: Global, start: Start) -> Made<()> {
+        let best = start.tree.draft.plan.as_slice();
+        self.plans.adopt(start.regrets, best)?;
         let plan = match start.beside {
             Some(beside) if self.number % TURNS > 0 => {
-                let plan = start.tree.draft.plan.as_slice();
                 let left = &mut self.left;
-                Some(anneal(alloc, start.regrets, beside, plan, self.number, left)?)
+                Some(anneal(alloc, start.regrets, beside, best, self.number, left)?)
             }
             _ => {
                 let basis = start.tree.root_basis();

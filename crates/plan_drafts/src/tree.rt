@@ -1,7 +1,7 @@
 //! A tree of decisions, best bound first, without proofs: what comes out is a plan, and for each node a row
 //! to branch on and multipliers, which are judged where they are used.
 use crate::costs::{UNLAWFUL, plan_cost};
-use crate::parter::{End, MOST_AT_ONCE, Parter};
+use crate::parter::{MOST_AT_ONCE, Parter};
 use linear_relaxation::{Allowance, Relaxation};
 use pool_base::OutOfMemory;
 use row_tables::lists::short;
@@ -47,28 +47,32 @@ pub struct DraftTree {
 }
 
 impl DraftTree {
-    /// A tree of one node, where the relaxation stands, without a plan.
-    pub fn new(
-        alloc: Global,
-        table: &RowTable,
-        relaxation: &mut Relaxation,
-        allowance: Allowance,
-    ) -> Made<Self> {
-        let mut tree = DraftTree {
+    /// A tree without nodes and plan.
+    pub fn new(alloc: Global, allowance: Allowance) -> Self {
+        DraftTree {
             draft: Draft {
                 plan: Vec::new(alloc),
                 cost: UNLAWFUL,
-                bound: seconds_of(relaxation.value()),
+                bound: 0,
                 nodes: Vec::new(alloc),
             },
             standings: Vec::new(alloc),
             open: BinaryHeap::new(alloc),
             allowance,
-        };
+        }
+    }
+
+    /// Begins with one node, where the relaxation stands.
+    pub fn begin(
+        &mut self,
+        alloc: Global,
+        table: &RowTable,
+        relaxation: &mut Relaxation,
+    ) -> Made<()> {
+        self.draft.bound = seconds_of(relaxation.value());
         let multipliers = relaxation.multipliers(alloc, table.rider_count())?;
         let standing = standing_of(alloc, table, relaxation)?;
-        tree.put(None, multipliers, standing)?;
-        Ok(tree)
+        self.put(None, multipliers, standing)
     }
 
     /// Puts in a node, which is open.
@@ -180,14 +184,8 @@ impl DraftTree {
         team: &mut [Parter],
     ) {
         let workers = usize::from(workers).max(1);
-        thread::for_each_mut(
-            rt,
-            team,
-            workers,
-            &|_: usize, parter: &mut Parter| {
-                parter.part(table, self);
-            },
-        );
+        let part = |_: usize, parter: &mut Parter| parter.part(table, self);
+        thread::for_each_mut(rt, team, workers, &part);
     }
 
     /// Takes in what one made of its node: the next two nodes are its ends.
@@ -199,14 +197,8 @@ impl DraftTree {
             self.note_branch(alloc, number, row);
         }
         for end in replace(&mut parter.ends, Vec::new(alloc)) {
-            let End {
-                decision,
-                multipliers,
-                standing,
-                plan,
-            } = end;
-            self.put(Some(decision), multipliers, standing)?;
-            if let Some(plan) = plan {
+            self.put(Some(end.decision), end.multipliers, end.standing)?;
+            if let Some(plan) = end.plan {
                 let cost = plan_cost(alloc, table, &plan)?;
                 self.offer(alloc, &plan, cost)?;
             }

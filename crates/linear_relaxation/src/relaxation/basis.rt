@@ -145,12 +145,9 @@ impl Basis {
     }
 
     fn try_factor(&mut self, table: &RowTable) -> Made<bool> {
-        self.ordering.factor(
-            table,
-            &mut self.columns,
-            &mut self.factors,
-            &mut self.entering,
-        )
+        let (columns, factors) = (&mut self.columns, &mut self.factors);
+        self.ordering
+            .factor(table, columns, factors, &mut self.entering)
     }
 
     /// Computes how much of each column is taken where each condition has one.
@@ -248,10 +245,8 @@ impl Basis {
         let each = if conditions > MANY_CONDITIONS { 32 } else { 8 };
         let most = conditions.saturating_mul(each).saturating_add(2000);
         let most = most.max(size.saturating_sub(48_000));
-        Ok(
-            self.factors.len().saturating_sub(count) < MOST_EXCHANGES
-                && self.factors.size().saturating_sub(size) <= most,
-        )
+        let more = self.factors.len().saturating_sub(count);
+        Ok(more < MOST_EXCHANGES && self.factors.size().saturating_sub(size) <= most)
     }
 
     /// Takes so much of the column that was found from the levels.
@@ -266,8 +261,8 @@ impl Basis {
 
     /// Whether columns were exchanged since the factors were made.
     pub fn is_exchanged(&self) -> bool {
-        self.made
-            .map_or(false, |(count, _)| self.factors.len() > count)
+        let (count, _) = self.made.unwrap_or((usize::MAX, 0));
+        self.factors.len() > count
     }
 }
 

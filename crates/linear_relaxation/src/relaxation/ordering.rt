@@ -156,18 +156,9 @@ impl Ordering {
         self.conditions.count_all()?;
         self.single.clear();
         self.order.clear();
-        peel(
-            &mut self.columns,
-            &mut self.conditions,
-            &mut self.queue,
-            &mut self.order,
-        )?;
-        peel(
-            &mut self.conditions,
-            &mut self.columns,
-            &mut self.queue,
-            &mut self.single,
-        )?;
+        let (columns, conditions) = (&mut self.columns, &mut self.conditions);
+        peel(columns, conditions, &mut self.queue, &mut self.order)?;
+        peel(conditions, columns, &mut self.queue, &mut self.single)?;
         self.order_rest()
     }
 

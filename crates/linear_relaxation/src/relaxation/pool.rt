@@ -1,5 +1,5 @@
 //! The columns over which a solution is sought.
-use row_tables::fixed_point::{at, item, set_at};
+use row_tables::fixed_point::{at, item, reset, set_at};
 use row_tables::lists::{Lists, short};
 use row_tables::{Made, RowTable};
 use std::alloc::Global;
@@ -24,18 +24,23 @@ pub struct Pool {
 }
 
 impl Pool {
-    /// No column of a table with so many.
-    pub fn new(alloc: Global, columns: usize) -> Made<Self> {
-        Ok(Pool {
+    /// No column.
+    pub fn new(alloc: Global) -> Self {
+        Pool {
             columns: Vec::new(alloc),
-            is_in: vec![in alloc; false; columns]?,
+            is_in: Vec::new(alloc),
             costs: Vec::new(alloc),
             conditions: Lists::new(alloc),
             open: Lists::new(alloc),
             places: Lists::new(alloc),
             is_listed: false,
             cursor: 0,
-        })
+        }
+    }
+
+    /// Makes room for a table's columns, of which there are so many.
+    pub fn make_space(&mut self, columns: usize) -> Made<()> {
+        reset(&mut self.is_in, columns, false)
     }
 
     pub fn has(&self, column: usize) -> bool {

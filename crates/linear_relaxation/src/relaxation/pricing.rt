@@ -15,11 +15,8 @@ impl Relaxation {
     pub fn find_multipliers(&mut self, table: &RowTable) {
         for rider in 0..self.tried.len() {
             let multiplier = self.in_multipliers(at(&self.prices, rider));
-            set_at(
-                &mut self.tried,
-                rider,
-                multiplier.min(table.most_multiplier(rider)),
-            );
+            let multiplier = multiplier.min(table.most_multiplier(rider));
+            set_at(&mut self.tried, rider, multiplier);
         }
     }
 
