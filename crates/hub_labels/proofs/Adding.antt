@@ -1,6 +1,6 @@
 -- The searches of one node, put together.
 use Rattle.std.proofs.Common.{rules, ◌≡◌, ◌≢◌, ℕ, ◌<◌, ◌≤◌, ◌⊎◌, List, [], length, get_or, slice_index, All, Contains, sym, ap, ◌∙◌, subst, inl, inr, arith}
-use Rattle.hub_labels.proofs.Cited.{get_or_default, never, longest, Arc, Hop, IsArcAmong, Hub, AreNodeHops, IsLabelBelow, AreLabelsBelow, IsRankedHub, IsPruned, IsSpread, HasSpread, GainsHub, HandsOver, AddsHub}
+use Rattle.hub_labels.proofs.Cited.{get_or_default, never, longest, Arc, Hop, IsArcAmong, Hub, AreNodeHops, IsLabelBelow, AreLabelsBelow, IsRankedHub, IsPruned, IsSpread, HasSpread, GainsHub, HandsOver, IsAmongHubs, AddsHub}
 use Rattle.hub_labels.proofs.Times.{times_of, start_within}
 use Rattle.hub_labels.proofs.Turned.{own_label}
 use Rattle.hub_labels.proofs.Added.{hubs_added}
@@ -18,6 +18,10 @@ spread_of_label n rank IsHub bound label via each below spread = record {
       omega (arith, below.rising k j e lt h, ap (slice_index rank) (ap (λ (x : Hub). x.node) (get_or_default label k e hub inside) ∙ sym same)) in
       sym (ap (slice_index via) (ap (λ (x : Hub). x.node) is)) ∙ spread.complete k hub inside inside apart ∙ ap (λ (x : Hub). x.seconds) is;
 }
+
+-- what is spread stands at hubs alone
+pub spread_among : (label : List Hub) (via : List ℕ) → HasSpread label (length label) via → (node : ℕ) → node < length via → IsAmongHubs label 0 via node
+spread_among label via spread node h = elim (spread.sound node h) [ inl far ↦ inl far | inr (k, lt, inside, is) ↦ inr (k, omega arith, inside, ap (λ (x : Hub). x.node) is) ]
 
 -- every node that was found was handed over
 pub handed : (n start : ℕ) (via taken seconds : List ℕ) (labels : List (List Hub)) (after : List ℕ) (labels' : List (List Hub)) → length seconds ≡ n → ((node : ℕ) → node < n → (slice_index seconds node ≡ never) ⊎ (slice_index seconds node ≤ longest))

@@ -2,7 +2,7 @@
 pub use Rattle.std.proofs.Math.Nat.{mul-le-mul_right}
 pub use Rattle.std.proofs.lemmas.Bool.{cases_eq, cases_lt, le-ltb, lt-ltb, ne_eqb}
 pub use Rattle.std.proofs.lemmas.Bool.Decides.{nat_tests}
-pub use Rattle.std.proofs.lemmas.List.{ext_get_or, get_or-map, get_or-replicate, get_or-set_other, get_or-set_same, get_or_append_left, get_or_default, get_or_push, get_or_read, length-map, length-replicate, length-set, length_push, same_lists, take_at}
+pub use Rattle.std.proofs.lemmas.List.{ext_get_or, get_or-map, get_or-replicate, get_or-set_other, get_or-set_same, get_or_append_left, get_or_default, get_or_push, get_or_read, length-map, length-replicate, length-set, length_push, map_more, replicate_more, same_lists, take_at}
 pub use Rattle.std.proofs.lemmas.List.Elements.{All-contains, All-from_get_or, All-head, All-map, All-nil, All-push, All-tail, All-weaker, Contains-append_left, Contains-get_or, Contains-push, Contains-push_cases}
 pub use Rattle.std.proofs.lemmas.List.Sums.{count_by-le-length, length-filter, sum_by-cons}
 pub use Rattle.hub_labels.specs.Fault.{IsFirstWrong, IsForwardAt}
@@ -11,8 +11,9 @@ pub use Rattle.hub_labels.specs.Labels.{AreLabelsOf, NodeLabels, label_at}
 pub use Rattle.hub_labels.specs.Rank.{IsOfLowerRank, degree}
 pub use Rattle.hub_labels.specs.declared.hub.Hub.{Hub}
 pub use Rattle.hub_labels.specs.work.Adding.{AddsHub, AreHopsBothWays, IsClean}
+pub use Rattle.hub_labels.specs.work.Building.{AreLabelled, AreMadeFrom, AreRanksOf}
 pub use Rattle.hub_labels.specs.work.Cells.{AreCells}
-pub use Rattle.hub_labels.specs.work.Common.{IsLeastInCommon, IsRising}
+pub use Rattle.hub_labels.specs.work.Common.{IsLeastInCommon, IsRising, RiseByRank}
 pub use Rattle.hub_labels.specs.work.Difference.{IsFirstDifference}
 pub use Rattle.hub_labels.specs.work.Drafts.{GainsHub, HandsOver, HasSpread, IsAmongHubs, IsSpread}
 pub use Rattle.hub_labels.specs.work.Hops.{AreHopsOf, AreNodeHops, AreTurnedBefore, TurnsHops, arc_from, directed, turned}

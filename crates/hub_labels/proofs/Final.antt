@@ -1,8 +1,9 @@
 -- When every node had its searches, the labels are those of the network.
-use Rattle.std.proofs.Common.{◌≡◌, ℕ, ◌<◌, ◌≤◌, List, [], length, get_or, slice_index, map, All, subst, arith}
-use Rattle.hub_labels.proofs.Cited.{get_or_default, Arc, IsLeastTime, Roads, IsNetwork, IsArcAmong, goal_within, Hub, IsForwardHub, IsBackwardHub, IsLabel, AreLabelsOf, turned, IsRanking, IsRankedHub, IsLabelBelow, AreLabelsBelow, IsRising}
+use Rattle.std.proofs.Common.{◌≡◌, ℕ, ◌<◌, ◌≤◌, true, List, [], length, get_or, slice_index, map, All, sym, ◌∙◌, subst, arith}
+use Rattle.hub_labels.proofs.Cited.{get_or_default, Arc, IsLeastTime, Roads, IsNetwork, IsArcAmong, goal_within, Hub, IsForwardHub, IsBackwardHub, IsLabel, AreLabelsOf, turned, IsNodeOrder, IsRanking, AreRanksOf, AreLabelled, IsRankedHub, IsLabelBelow, AreLabelsBelow, IsRising, RiseByRank}
 use Rattle.hub_labels.proofs.Times.{times_of, start_within, time_is}
-use Rattle.hub_labels.proofs.Turned.{turn_there, turn_back, IsLeastTime-turned}
+use Rattle.hub_labels.proofs.Building.{rank_below}
+use Rattle.hub_labels.proofs.Turned.{among_directed, turn_there, turn_back, IsLeastTime-turned}
 
 -- a list of hubs by numbers that rank them is one by rank
 is_label : (arcs : List Arc) (n : ℕ) (rank : List ℕ) (bound : ℕ) (IsHub IsRanked : ℕ → ℕ → Type 0) (label : List Hub) → IsRanking arcs n rank → ((v : ℕ) → v < n → slice_index rank v < bound)
@@ -83,3 +84,18 @@ labels_rise arcs n rank bound labels among few each below b d inside =
           (omega (arith, hv, each), omega (arith, is.0, is.1));
       rising = lab.rising;
     })
+
+-- when all nodes are labelled
+pub labels_made : (roads : Roads) (order rank : List ℕ) (forward backward : List (List Hub)) → IsNetwork roads → IsNodeOrder roads.arcs (length roads.nodes) order → AreRanksOf roads.arcs (length roads.nodes) order rank → AreLabelled roads.arcs rank (length roads.nodes) (length order) forward backward → AreLabelsOf roads (record { forward = forward; backward = backward })
+labels_made roads order rank forward backward network of ranks all = labels_of_network roads rank (length order) forward backward network ranks.ranking (rank_below roads.arcs (length roads.nodes) order rank of ranks.placed) all.reached all.reaching
+
+pub labels_rise_by_rank : (roads : Roads) (order rank : List ℕ) (forward backward : List (List Hub)) → IsNetwork roads → AreRanksOf roads.arcs (length roads.nodes) order rank → AreLabelled roads.arcs rank (length roads.nodes) (length order) forward backward → RiseByRank rank forward backward
+labels_rise_by_rank roads order rank forward backward network ranks all =
+    let n : ℕ = length roads.nodes in
+    let each = ranks.ranking.each in
+    record {
+      backward_each = all.reaching.each ∙ sym all.reached.each;
+      apart = rw each ranks.ranking.apart;
+      forward_rising = labels_rise (map turned roads.arcs) n rank (length order) forward (among_directed true roads.arcs n network.arcs) network.few_nodes each all.reached;
+      backward_rising = labels_rise roads.arcs n rank (length order) backward network.arcs network.few_nodes each all.reaching;
+    }

@@ -1,6 +1,8 @@
 pub mod Times
 pub mod Cover
 pub mod Found
+pub mod Handing
+pub mod Lists
 pub mod Turned
 pub mod Added
 pub mod Keys

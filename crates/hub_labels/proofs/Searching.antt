@@ -1,6 +1,6 @@
 -- Steps of a pruned search.
-use Rattle.std.proofs.Common.{rules, ◌≡◌, ℕ, ◌+◌, ◌<◌, ◌≤◌, ◌⊎◌, Bool, true, List, [], ◌∷◌, ◌++◌, length, get_or, slice_index, All, Contains, refl, sym, ◌∙◌, subst, inl, inr, arith}
-use Rattle.hub_labels.proofs.Cited.{cases_eq, All-contains, Contains-append_left, Contains-push, never, Arc, Hop, IsWalk, IsArcAmong, hop_of, waits, IsNextTaken, IsHopRelaxed, RelaxesHops, HasWalkOf, IsWalk-push, walk_seconds-push, Hub, arc_from, AreHopsOf, IsToldAt, IsPruning}
+use Rattle.std.proofs.Common.{rules, ◌≡◌, ℕ, ◌<◌, ◌≤◌, ◌⊎◌, Bool, true, false, List, [], ◌∷◌, ◌++◌, length, get_or, set, slice_index, All, Contains, refl, sym, ◌∙◌, subst, inl, inr, arith}
+use Rattle.hub_labels.proofs.Cited.{cases_eq, get_or-set_other, get_or-set_same, length-set, All-contains, Contains-append_left, Contains-push, never, Arc, Hop, IsWalk, IsArcAmong, hop_of, waits, IsNextTaken, IsHopRelaxed, RelaxesHops, HasWalkOf, IsWalk-push, walk_seconds-push, Hub, arc_from, AreHopsOf, IsToldAt, IsPruned, IsPruning}
 
 -- hops of a network's arcs lead to its nodes, in at most the longest arc's seconds
 pub hops_within : (arcs : List Arc) (n node : ℕ) (hops : List Hop) → All (IsArcAmong n) arcs → AreHopsOf arcs node hops → All (λ (hop : Hop). (hop.to < n) × (hop.seconds ≤ 10000)) hops
@@ -59,3 +59,14 @@ module _ {arcs : List Arc} {n start node : ℕ} {labels : List (List Hub)} {via 
           | inr changed ↦ absurd (let on = changed.0 in cc)
         ];
       }
+
+-- before the first node is taken
+pub prune_start : (arcs : List Arc) (n start : ℕ) (labels : List (List Hub)) (via s : List ℕ) (w : List Bool) (taken : List ℕ) → (length s ≡ n) × All (λ x. x ≡ never) s → (length w ≡ n) × ((node : ℕ) → waits w node ≡ false) → start < n → IsPruning arcs n start labels via (set s start 0) (set w start true) taken
+prune_start arcs n start labels via s w taken seconds waiting within = search (rules, length-set, get_or-set_same, get_or-set_other)
+
+-- when no node waits
+pub prune_end : {arcs : List Arc} {n start : ℕ} {labels : List (List Hub)} {via s : List ℕ} {w : List Bool} {taken : List ℕ} → IsPruning arcs n start labels via s w taken → ((node : ℕ) → waits w node ≡ false) → IsPruned arcs n start labels via s
+prune_end inv none = record { each = inv.seconds_length; start_zero = inv.start_zero; sound = inv.sound; relaxed = λ node h finite. inv.relaxed node h (none node) finite }
+
+pub all_noted : {arcs : List Arc} {n start : ℕ} {labels : List (List Hub)} {via s : List ℕ} {w : List Bool} {taken : List ℕ} → IsPruning arcs n start labels via s w taken → ((node : ℕ) → waits w node ≡ false) → (node : ℕ) → node < length s → slice_index s node < never → Contains taken node
+all_noted inv none node h finite = elim (inv.noted node (omega (arith, h, inv.seconds_length)) finite) [ inl waited ↦ absurd (let not = none node in cc) | inr has ↦ has ]

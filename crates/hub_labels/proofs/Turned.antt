@@ -1,6 +1,6 @@
 -- Arcs the other way round: walks lead back, in the same time.
 use Rattle.std.proofs.lemmas.Bool.Decides.{nat_tests}
-use Rattle.std.proofs.Common.{◌≡◌, ℕ, ◌+◌, ◌<◌, ◌≤◌, Bool, true, false, List, [], ◌∷◌, ◌++◌, length, get_or, slice_index, map, All, Contains, refl, sym, ap, ◌∙◌, subst, arith}
+use Rattle.std.proofs.Common.{◌≡◌, ℕ, ◌<◌, ◌≤◌, Bool, true, false, List, [], ◌∷◌, ◌++◌, length, get_or, slice_index, map, All, Contains, refl, sym, ap, ◌∙◌, subst, arith}
 use Rattle.hub_labels.proofs.Cited.{length-map, get_or-map, All-map, sum_by-cons, Arc, IsWalk, walk_seconds, IsLeastTime, IsArcAmong, IsWalk-push, walk_seconds-push, Hub, turned, directed, IsRankedHub, AreLabelsBelow}
 use Rattle.hub_labels.proofs.Times.{AreTimes, start_within, time_is, least_is}
 use Rattle.hub_labels.proofs.Found.{IsOwnLabel}

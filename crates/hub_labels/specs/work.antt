@@ -5,5 +5,6 @@ pub mod Drafts
 pub mod Common
 pub mod Order
 pub mod Adding
+pub mod Building
 pub mod Difference
 pub mod Cells

@@ -1,10 +1,14 @@
-ghost use Rattle.std.specs.Prelude.{◌≡◌, ◌==◌, ℕ, ◌<◌, [], IfOk, MatchOption, length, replicate};
+ghost use Rattle.std.specs.Prelude.{◌≡◌, ◌==◌, ℕ, ◌<◌, ◌≤◌, List, [], IfOk, MatchOption, OnOk, length, replicate, slice_index};
 ghost use Rattle.road_network.specs.Roads.{Roads};
 ghost use Rattle.road_network.specs.Walk.{HasNoWalk, IsLeastTime, IsTimeBetween};
+ghost use Rattle.road_network.specs.declared.arc.Arc.{Arc};
 ghost use Rattle.hub_labels.specs.Labels.{AreLabelsOf, label_at};
+ghost use Rattle.hub_labels.specs.work.Adding.{IsClean};
+ghost use Rattle.hub_labels.specs.work.Building.{AreLabelled, AreMadeFrom, AreRanksOf};
+ghost use Rattle.hub_labels.specs.work.Order.{IsNodeOrder};
 
 use crate::common::least_in_common;
-use crate::hops::{hops_ahead, hops_back};
+use crate::hops::{NodeHops, hops_ahead, hops_back};
 use crate::hub::ShortHub;
 use crate::label::ShortLabel;
 use crate::rank::{nodes_by_rank, ranks_of};
@@ -55,19 +59,9 @@ impl Labels {
         let nodes = network.node_count();
         let order = nodes_by_rank(alloc, network)?;
         let rank = ranks_of(alloc, nodes, &order)?;
-        let ahead = hops_ahead(alloc, network)?;
-        let back = hops_back(alloc, network)?;
         let mut forward = no_labels(alloc, nodes)?;
         let mut backward = no_labels(alloc, nodes)?;
-        let mut space = Space::new(alloc, nodes)?;
-        let mut labelled = 0usize;
-        for node in order.as_slice() {
-            let start = *node as usize;
-            add_hub(&mut space, &ahead, &forward, &mut backward, start)?;
-            add_hub(&mut space, &back, &backward, &mut forward, start)?;
-            labelled = labelled.saturating_add(1);
-            tell(gate, labelled, &forward, &backward);
-        }
+        label_all(alloc, network, &order, gate, &mut forward, &mut backward)?;
         Ok(Labels {
             rank,
             forward,
@@ -145,6 +139,56 @@ impl Labels {
             Some(seconds)
         }
     }
+}
+
+/// Makes the labels of all nodes, where none has any.
+fn label_all<G: Gate>(
+    alloc: Global,
+    network: &Network,
+    order: &[u32],
+    gate: &G,
+    forward: &mut [ShortLabel],
+    backward: &mut [ShortLabel],
+) -> Result<(), OutOfMemory>
+    requires order { IsNodeOrder network.now.arcs (length network.now.nodes) order.now }
+    requires ranks { (rank : _) × AreRanksOf network.now.arcs (length network.now.nodes) order.now rank }
+    requires forward { forward.old ≡ replicate (length network.now.nodes) [] }
+    requires backward { backward.old ≡ replicate (length network.now.nodes) [] }
+    ensures { OnOk result ((rank : List ℕ) → AreRanksOf network.now.arcs (length network.now.nodes) order.now rank → AreLabelled network.now.arcs rank (length network.now.nodes) (length order.now) forward.new backward.new) }
+{
+    let ahead = hops_ahead(alloc, network)?;
+    let back = hops_back(alloc, network)?;
+    let mut space = Space::new(alloc, network.node_count())?;
+    label_by_rank(&mut space, &ahead, &back, order, gate, forward, backward)
+}
+
+/// The same, by the arcs in both directions: one search forward and one backward from each node.
+fn label_by_rank<G: Gate>(
+    space: &mut Space,
+    ahead: &[NodeHops],
+    back: &[NodeHops],
+    order: &[u32],
+    gate: &G,
+    forward: &mut [ShortLabel],
+    backward: &mut [ShortLabel],
+) -> Result<(), OutOfMemory>
+    requires clean { IsClean (length ahead.now) space.old.seconds.items space.old.waiting.items space.old.taken.items space.old.via.items }
+    requires made { (arcs : _) × (rank : _) × AreMadeFrom arcs rank order.now ahead.now back.now }
+    requires few { length ahead.now ≤ 100000 }
+    requires within { (r : ℕ) → r < length order.now → slice_index order.now r < length ahead.now }
+    requires forward { forward.old ≡ replicate (length ahead.now) [] }
+    requires backward { backward.old ≡ replicate (length ahead.now) [] }
+    ensures { OnOk result ((arcs : List Arc) (rank : List ℕ) → AreMadeFrom arcs rank order.now ahead.now back.now → AreLabelled arcs rank (length ahead.now) (length order.now) forward.new backward.new) }
+{
+    let mut labelled = 0usize;
+    for node in order {
+        let start = *node as usize;
+        add_hub(space, ahead, forward, backward, start)?;
+        add_hub(space, back, backward, forward, start)?;
+        labelled = labelled.saturating_add(1);
+        tell(gate, labelled, forward, backward);
+    }
+    Ok(())
 }
 
 /// Tells the gate how many nodes are labelled, at each 64th and at the last.

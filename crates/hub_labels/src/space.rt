@@ -60,7 +60,8 @@ pub(crate) fn add_hub(
     ensures clean { OnOk result (IsClean (length hops.entry.now) space.new.seconds.items space.new.waiting.items space.new.taken.items space.new.via.items) }
     ensures added { OnOk result (AddsHub (length hops.entry.now) hops.entry.now own.entry.now start labels.old labels.new) }
 {
-    spread(own[start].as_slice(), &mut space.via);
+    let hubs = own[start].as_slice();
+    spread(hubs, &mut space.via);
     let known = Known {
         hops,
         labels,
@@ -75,7 +76,7 @@ pub(crate) fn add_hub(
         &mut space.ring,
     )?;
     hand_over(start, &space.taken, &space.via, &mut space.seconds, labels)?;
-    clear(own[start].as_slice(), &mut space.via);
+    clear(hubs, &mut space.via);
     space.taken.clear();
     Ok(())
 }

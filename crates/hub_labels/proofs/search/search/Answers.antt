@@ -1,6 +1,6 @@
-use Rattle.std.proofs.Common.{◌≡◌, ℕ, ◌<◌, [], List, length, get_or, slice_index, sym, subst, ◌∙◌, arith}
-use Rattle.hub_labels.proofs.Cited.{get_or_read, All-push, IsNextTaken, RelaxesHops, Hub, IsTold, none_waits_near}
-use Rattle.hub_labels.proofs.Searching.{hops_within, prune_step, relax_step}
+use Rattle.std.proofs.Common.{◌≡◌, ℕ, ◌<◌, true, [], List, length, get_or, slice_index, sym, subst, ◌∙◌, arith}
+use Rattle.hub_labels.proofs.Cited.{get_or_read, length-set, All-push, IsNextTaken, RelaxesHops, Hub, IsTold, none_waits_near}
+use Rattle.hub_labels.proofs.Searching.{all_noted, hops_within, prune_end, prune_start, prune_step, relax_step}
 use Rattle.hub_labels.proofs.search.search.Goals as goal
 
 pub loop-node-preserved-then-is_told : goal.loop-node-preserved-then-is_told
@@ -47,3 +47,18 @@ returns-clause-none c =
     let inv = c.loop-node.invariant in
     let pruning = inv.pruning c.requires.hops.0 c.requires.hops.1 c.requires.hops.2 in
     rw c.in_default.ensures.unchanged (none_waits_near c.loop-node.seconds c.loop-node.waiting pruning.reached (rw c.in_default.ensures.unchanged at c.in_default.ensures.none))
+
+pub loop-node-init : goal.loop-node-init
+loop-node-init c =
+    record {
+      seconds = length-set c.args.seconds.now c.args.start 0 ∙ c.requires.seconds.0;
+      waiting = length-set c.args.waiting.now c.args.start true ∙ c.requires.waiting.0;
+      pruning = λ arcs among are. prune_start arcs (length c.args.known.now.hops.now) c.args.start c.args.known.now.labels.now c.args.known.now.via.now c.args.seconds.now c.args.waiting.now c.args.taken.now.items c.requires.seconds c.requires.waiting c.requires.start;
+      taken = λ old. old;
+    }
+
+pub returns-clause-found : goal.returns-clause-found
+returns-clause-found c = λ arcs among are. prune_end (c.loop-node.invariant.pruning arcs among are) (rw (← c.in_default.ensures.unchanged) (returns-clause-none c))
+
+pub returns-clause-noted : goal.returns-clause-noted
+returns-clause-noted c = all_noted (c.loop-node.invariant.pruning c.requires.hops.0 c.requires.hops.1 c.requires.hops.2) (rw (← c.in_default.ensures.unchanged) (returns-clause-none c))

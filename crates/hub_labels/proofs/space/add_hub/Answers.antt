@@ -1,11 +1,24 @@
 use Rattle.std.proofs.Common.{◌≡◌, ℕ, ◌<◌, ◌++◌, [], List, All, length, get_or, take, drop, ◌∙◌, ap, arith}
-use Rattle.hub_labels.proofs.Cited.{get_or_read, All-nil, All-from_get_or, never, Arc, IsArcAmong, AreNodeHops, IsPruned, HasSpread, HandsOver, take_at}
-use Rattle.hub_labels.proofs.Adding.{adds_hub, handed, found_range}
+use Rattle.hub_labels.proofs.Cited.{get_or_read, All-nil, All-from_get_or, never, Arc, IsArcAmong, AreNodeHops, IsPruned, HasSpread, HandsOver}
+use Rattle.hub_labels.proofs.Adding.{adds_hub, handed, found_range, spread_among}
+use Rattle.hub_labels.proofs.Building.{held}
 use Rattle.hub_labels.proofs.space.add_hub.Goals as goal
 
--- a vector whose elements were written through a slice
-held : {X : Type 0} (size : ℕ) (new old : List X) → length new ≡ size → take size (new ++ drop (length new) old) ≡ new
-held size new old each = take_at new (drop (length new) old) size each
+pub spread-requires-clause-none : goal.spread-requires-clause-none
+spread-requires-clause-none c = rw c.deref_mut.ensures.value c.requires.clean.via_none
+
+pub hand_over-requires-clause-within : goal.hand_over-requires-clause-within
+hand_over-requires-clause-within c =
+    let s = c.args.space.now in
+    let seconds_each : length c.search.new.seconds ≡ c.args.space.now.seconds.len = omega (arith, c.search.auto.seconds, ap length c.deref_mut-2.ensures.value, s.seconds.ok.0) in
+    let n_is : length c.search.new.seconds ≡ length c.args.hops.now = omega (arith, seconds_each, s.seconds.ok.0, c.requires.clean.seconds_each) in
+    rw (c.deref-2.ensures.value, c.deref_mut-4.ensures.value, held s.seconds.len c.search.new.seconds s.seconds.items seconds_each) (c.in_ok-search.ensures.taken (rw n_is c.requires.clean.taken_within))
+
+pub clear-requires-clause-among : goal.clear-requires-clause-among
+clear-requires-clause-among c =
+    let s = c.args.space.now in
+    let via_each : length c.spread.new.via ≡ c.args.space.now.via.len = omega (arith, c.spread.auto.via, ap length c.deref_mut.ensures.value, s.via.ok.0) in
+    rw (c.deref_mut-5.ensures.value, held s.via.len c.spread.new.via s.via.items via_each) (spread_among c.as_slice-hubs.result.now c.spread.new.via c.spread.ensures)
 
 pub returns-clause-clean : goal.returns-clause-clean
 returns-clause-clean c =
@@ -42,7 +55,7 @@ returns-clause-added c =
     let s = c.args.space.now in
     let n = length c.args.hops.now in
     let clean = c.requires.clean in
-    let label : c.as_slice.result.now ≡ get_or c.args.own.now c.args.start [] = c.as_slice.ensures ∙ get_or_read c.args.own.now c.args.start c.index-own-start.result (omega (arith, c.requires.own.0, c.requires.start)) c.index-own-start.is [] in
+    let label : c.as_slice-hubs.result.now ≡ get_or c.args.own.now c.args.start [] = c.as_slice-hubs.ensures ∙ get_or_read c.args.own.now c.args.start c.index-own-start.result (omega (arith, c.requires.own.0, c.requires.start)) c.index-own-start.is [] in
     let via_each : length c.spread.new.via ≡ c.args.space.now.via.len = omega (arith, c.spread.auto.via, ap length c.deref_mut.ensures.value, s.via.ok.0) in
     let via_n : length c.spread.new.via ≡ length c.args.hops.now = omega (arith, c.spread.auto.via, ap length c.deref_mut.ensures.value, clean.via_each) in
     let via : c.deref.result.now ≡ c.spread.new.via = c.deref.ensures.value ∙ held s.via.len c.spread.new.via s.via.items via_each in
