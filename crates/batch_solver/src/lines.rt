@@ -2,6 +2,7 @@ ghost use Rattle.std.specs.Prelude.{◌≡◌, ◌<◌, ◌≤◌, ℕ, All, IfO
 ghost use Rattle.stop_orders.specs.Settled.{vehicle_at};
 ghost use Rattle.batch_solver.specs.Told.{rider_id, row_line};
 
+use crate::told::id_of;
 use arrayvec::ArrayVec;
 use pair_graph::RvEdge;
 use plan_rules::TripRow;
@@ -34,7 +35,7 @@ pub fn rider_ids(
 {
     let mut ids = Vec::with_capacity(alloc, riders.len())?;
     for &rider in riders {
-        ids.push(settled.riders.as_slice()[rider].id)?;
+        ids.push(id_of(settled, rider))?;
     }
     Ok(ids)
 }
@@ -52,8 +53,7 @@ pub fn rv_lines(
     let mut lines = Vec::with_capacity(alloc, edges.len())?;
     for edge in edges {
         let vehicle = settled.vehicles.as_slice()[edge.vehicle].id;
-        let rider = settled.riders.as_slice()[edge.rider].id;
-        lines.push((vehicle, rider))?;
+        lines.push((vehicle, id_of(settled, edge.rider)))?;
     }
     Ok(lines)
 }
@@ -70,9 +70,7 @@ pub fn rr_lines(
 {
     let mut lines = Vec::with_capacity(alloc, pairs.len())?;
     for &(first, second) in pairs {
-        let one = settled.riders.as_slice()[first].id;
-        let other = settled.riders.as_slice()[second].id;
-        lines.push((one, other))?;
+        lines.push((id_of(settled, first), id_of(settled, second)))?;
     }
     Ok(lines)
 }
@@ -117,7 +115,7 @@ fn ids_of(settled: &Settled, riders: &[usize]) -> ArrayVec<RiderId, 6>
 {
     let mut ids = ArrayVec::new();
     for rider in riders {
-        ids.push(settled.riders.as_slice()[*rider].id);
+        ids.push(id_of(settled, *rider));
     }
     ids
 }

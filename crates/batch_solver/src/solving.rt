@@ -4,7 +4,7 @@ ghost use Rattle.plan_rules.specs.Plan.{IsLawful};
 ghost use Rattle.pool_base.specs.Times.{travel_time};
 ghost use Rattle.batch_solver.specs.Instance.{AreExact, HasSoundLimits, posed_by};
 ghost use Rattle.batch_solver.specs.Outcome.{AnswersWith, HasGraphsWith, IsGoodOutcome, IsGoodPlan};
-ghost use Rattle.batch_solver.specs.work.Lists.{AreLists};
+ghost use Rattle.batch_solver.specs.work.Lists.{AreGraphLists, AreLists, HasSameBound};
 
 use crate::instance::{Graphs, Instance};
 use crate::late::late_lines;
@@ -50,14 +50,29 @@ pub fn solve_batch<W: Ways, D: Drafter, G: Gate>(
     let points = snapshot.points(alloc)?;
     let times = ways.table(rt, alloc, points.nodes())?;
     let settled = settle(alloc, snapshot, settings, &points, &times)?;
-    let expired = Vec::from_slice(alloc, snapshot.expired.as_slice())?;
     let instance = Instance {
         settings,
         points: &points,
         times: &times,
         settled: &settled,
     };
-    let answer = answer_of(rt, alloc, &instance, drafter, gate)?;
+    outcome_of(rt, alloc, snapshot, &instance, drafter, gate)
+}
+
+/// Who expired before the batch, with the answer to it.
+fn outcome_of<D: Drafter, G: Gate>(
+    rt: &(impl Threads + Sync),
+    alloc: Global,
+    snapshot: &Snapshot,
+    instance: &Instance<'_>,
+    drafter: &D,
+    gate: &G,
+) -> Result<Outcome, OutOfMemory>
+    requires { HasSoundLimits instance.now }
+    ensures { IfOk result (λ outcome. (outcome.expired ≡ snapshot.entry.now.expired) × AnswersWith instance.now.settings.now instance.now.points.now (travel_time instance.now.times.now) instance.now.settled.now (IsGoodPlan instance.now.settings.now) outcome.answer) }
+{
+    let expired = Vec::from_slice(alloc, snapshot.expired.as_slice())?;
+    let answer = answer_of(rt, alloc, instance, drafter, gate)?;
     Ok(Outcome {
         expired: Sequence::of(expired),
         answer,
@@ -146,10 +161,20 @@ fn list_all(
 ) -> Result<(), OutOfMemory>
     requires exact { AreExact graphs.now }
     requires lawful { IsLawful graphs.now.graph.now chosen.now }
-    ensures lists { OnOk result (AreLists (posed_by graphs.now) chosen.now planned.new) }
-    ensures cost { planned.new.cost ≡ planned.old.cost }
-    ensures bound { planned.new.bound ≡ planned.old.bound }
-    ensures tree { planned.new.tree ≡ planned.old.tree }
+    ensures { OnOk result (AreLists (posed_by graphs.now) chosen.now planned.new × HasSameBound planned.old planned.new) }
+{
+    list_graphs(planned, alloc, graphs)?;
+    list_choice(planned, alloc, graphs, chosen)
+}
+
+/// Fills the lists that don't rest on the rows chosen.
+fn list_graphs(
+    planned: &mut Planned,
+    alloc: Global,
+    graphs: &Graphs<'_, '_>,
+) -> Result<(), OutOfMemory>
+    requires { AreExact graphs.now }
+    ensures { OnOk result (AreGraphLists (posed_by graphs.now) planned.new × HasSameBound planned.old planned.new) }
 {
     let settled = graphs.instance.settled;
     let graph = graphs.graph;
@@ -158,8 +183,24 @@ fn list_all(
     put(&mut planned.rv, rv_lines(alloc, settled, graphs.rv)?);
     put(&mut planned.rr, rr_lines(alloc, settled, graphs.rr.all())?);
     put(&mut planned.rows, row_lines(alloc, settled, graph.rows())?);
+    Ok(())
+}
+
+/// Fills the lists that rest on the rows chosen.
+fn list_choice(
+    planned: &mut Planned,
+    alloc: Global,
+    graphs: &Graphs<'_, '_>,
+    chosen: &[Option<u32>],
+) -> Result<(), OutOfMemory>
+    requires exact { AreExact graphs.now }
+    requires lawful { IsLawful graphs.now.graph.now chosen.now }
+    requires lists { AreGraphLists (posed_by graphs.now) planned.now }
+    ensures { OnOk result (AreLists (posed_by graphs.now) chosen.now planned.new × HasSameBound planned.old planned.new) }
+{
+    let settled = graphs.instance.settled;
     put(&mut planned.chosen, chosen_trips(alloc, graphs, chosen)?);
-    let left = left_riders(alloc, graph, chosen)?;
+    let left = left_riders(alloc, graphs.graph, chosen)?;
     put(&mut planned.left, rider_ids(alloc, settled, &left)?);
     let moves = move_lines(alloc, graphs, chosen, &left)?;
     put(&mut planned.moves, moves);

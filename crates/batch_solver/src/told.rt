@@ -3,7 +3,8 @@ ghost use Rattle.std.specs.List.{zip};
 ghost use Rattle.pool_base.specs.Times.{point_count, travel_time};
 ghost use Rattle.stop_orders.specs.Order.{IsKnown};
 ghost use Rattle.stop_orders.specs.Settled.{trip_task, vehicle_at};
-ghost use Rattle.stop_orders.specs.Task.{IsTask, IsOrderOf, seconds_of};
+ghost use Rattle.stop_orders.specs.Task.{IsTask, IsOrderOf, seconds_of, visit_at};
+ghost use Rattle.stop_orders.specs.Visit.{place_of};
 ghost use Rattle.batch_solver.specs.Told.{rider_id, told_stop};
 
 use crate::instance::Instance;
@@ -36,48 +37,48 @@ pub fn tell_stops<const N: usize>(
     for stop in stops {
         let to = visit_of(task, *stop).place();
         let second = free + instance.times.seconds(place, to) as u64;
-        told.push(tell_stop(instance, vehicle, trip, task, *stop, second));
+        told.push(tell_stop(instance, vehicle, trip, *stop, to, second));
         place = to;
         free = second + task.dwell as u64;
     }
     told
 }
 
-/// Tells whom a stop picks up or drops, and at which node.
+/// Tells whom a stop picks up or drops, at the node of this place.
 fn tell_stop(
     instance: &Instance<'_>,
     vehicle: usize,
     trip: &[usize],
-    task: &Task,
     stop: Stop,
+    place: usize,
     second: u64,
 ) -> PlannedStop
     requires vehicle { vehicle < length instance.now.settled.now.vehicles }
     requires riders { All (λ r. r < length instance.now.settled.now.riders) trip.now }
-    requires task { task.now ≡ trip_task instance.now.settled.now vehicle trip.now }
-    requires valid { IsTask (length instance.now.points.now) task.now }
-    requires known { IsKnown (length task.now.riders.items) (length task.now.aboard.items) stop }
+    requires known { IsKnown (length trip.now) (length (vehicle_at instance.now.settled.now vehicle).aboard.items) stop }
+    requires within { place < point_count instance.now.times.now }
+    requires place { place ≡ place_of (visit_at (trip_task instance.now.settled.now vehicle trip.now) stop) }
     ensures { result ≡ told_stop instance.now.points.now instance.now.settled.now vehicle trip.now (stop, second) }
 {
-    let nodes = instance.points.nodes();
-    let riders = instance.settled.riders.as_slice();
+    let settled = instance.settled;
+    let node = instance.points.nodes()[place];
     match stop {
         Stop::Pick(i) => PlannedStop {
             pick: true,
-            rider: riders[trip[i as usize]].id,
-            node: nodes[task.riders[i as usize].origin],
+            rider: id_of(settled, trip[i as usize]),
+            node,
             second,
         },
         Stop::Drop(i) => PlannedStop {
             pick: false,
-            rider: riders[trip[i as usize]].id,
-            node: nodes[task.riders[i as usize].destination],
+            rider: id_of(settled, trip[i as usize]),
+            node,
             second,
         },
         Stop::Alight(j) => PlannedStop {
             pick: false,
-            rider: passenger_id(instance.settled, vehicle, j as usize),
-            node: nodes[task.aboard[j as usize].destination],
+            rider: passenger_id(settled, vehicle, j as usize),
+            node,
             second,
         },
     }
@@ -90,4 +91,12 @@ fn passenger_id(settled: &Settled, vehicle: usize, passenger: usize) -> RiderId
 {
     let ids = settled.vehicles.as_slice()[vehicle].aboard_ids.as_slice();
     ids.get(passenger).copied().unwrap_or_default()
+}
+
+/// The id of a rider, given by its number.
+pub(crate) fn id_of(settled: &Settled, rider: usize) -> RiderId
+    requires { rider < length settled.now.riders }
+    ensures { result ≡ rider_id settled.entry.now rider }
+{
+    settled.riders.as_slice()[rider].id
 }
