@@ -83,5 +83,7 @@ fn is_close_line(
         command: Command::Close { batch, outcome },
         reply: Reply::Closed,
     };
-    is_entry_line(alloc, line, position, &closing)
+    let told = is_entry_line(alloc, line, position, &closing);
+    drop(closing);
+    told
 }

@@ -1,11 +1,11 @@
 //! An entry of a report.
-ghost use Rattle.std.specs.Prelude.{◌≡◌, ◌≢◌, ◌<◌, ℕ, List, IfOk, MatchOption, MatchResult, None};
+ghost use Rattle.std.specs.Prelude.{◌≡◌, ◌≢◌, ◌↔◌, ◌<◌, ℕ, List, IfOk, IsTrue, MatchOption, MatchResult, None, OnOk};
 ghost use Rattle.report_audit.specs.declared.refusal.BlockRefusal.TheVariants.{OutOfMemory as NoMemory};
 ghost use Rattle.dispatch_engine.specs.Lane.{last_sealed};
 ghost use Rattle.dispatch_engine.specs.Progress.{stand_at};
 ghost use Rattle.dispatch_engine.specs.Run.{journal_of};
 ghost use Rattle.dispatch_report.specs.Entry.{entry_line};
-ghost use Rattle.dispatch_report.specs.Fits.{IsCommand, IsReply};
+ghost use Rattle.dispatch_report.specs.Fits.{IsCommand, IsReply, TellsEnd};
 ghost use Rattle.report_audit.specs.Fault.{IsWrongBlock};
 ghost use Rattle.report_audit.specs.Place.{Extent, MayFollow};
 ghost use Rattle.report_audit.specs.work.Standing.{EntryRead, IsFaultAt, IsOtherLine, IsWithin, TakesCommand};
@@ -93,7 +93,9 @@ fn take_entry<'a, G: Gate>(
             let Some(snapshot) = sealed.take() else {
                 unreachable!()
             };
-            match audit_close(rt, book, &snapshot, lane, between, setup) {
+            let closed = audit_close(rt, book, &snapshot, lane, between, setup);
+            drop(snapshot);
+            match closed {
                 Ok(Some(rest)) => {
                     lanes.take(round, place, Reply::Closed);
                     Ok(Some(rest))
@@ -146,16 +148,35 @@ fn answered(
 {
     let position = book.next_position();
     let reply = book.apply(lane, command.copied())?;
-    let entry = Entry {
-        lane,
-        command: command.copied(),
-        reply,
-    };
-    if is_entry_line(alloc, line, position, &entry)? {
-        Ok(Some(entry.reply))
+    if is_line_of(alloc, line, position, lane, command, &reply)? {
+        Ok(Some(reply))
     } else {
         Ok(None)
     }
+}
+
+/// Whether the line is that of an entry at its position with this command and reply.
+fn is_line_of(
+    alloc: Global,
+    line: &[u8],
+    position: u64,
+    lane: u8,
+    command: &Command,
+    reply: &Reply,
+) -> Result<bool, OutOfMemory>
+    requires { IsNoClose command.now }
+    ensures line { IfOk result (λ yes. IsTrue yes ↔ (line.now ≡ entry_line position (record { lane = lane; command = command.now; reply = reply.now }))) }
+    ensures command { OnOk result (IsCommand command.now) }
+    ensures reply { OnOk result (TellsEnd reply.now → IsReply reply.now) }
+{
+    let entry = Entry {
+        lane,
+        command: command.copied(),
+        reply: *reply,
+    };
+    let told = is_entry_line(alloc, line, position, &entry);
+    drop(entry);
+    told
 }
 
 /// Puts up the batch of a command, if it has one.

@@ -79,7 +79,9 @@ fn audit_behind<G: Gate>(
 {
     let mut book = opened_book(setup.alloc, setup.network, fleet, setup.settings.wait)?;
     let _entries = book.entries();
-    audit_rounds(rt, &mut book, text, fleet, script, setup)
+    let audited = audit_rounds(rt, &mut book, text, fleet, script, setup);
+    drop(book);
+    audited
 }
 
 /// The same by the book that these vehicles open.

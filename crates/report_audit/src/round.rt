@@ -41,6 +41,7 @@ pub(crate) fn audit_round<'a, G: Gate>(
     };
     let journal = book.take_round()?;
     let batches = closed(journal.entries.as_slice());
+    drop(journal);
     Ok(RoundRead { rest, batches })
 }
 

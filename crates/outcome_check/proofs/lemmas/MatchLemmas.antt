@@ -40,7 +40,7 @@ module _ (points : ℕ) (tau : ℕ → ℕ → ℕ) (settled : Settled) (idle le
 
   -- what moves that tell a matching have at the next place
   module _ (k : ℕ) (step : MoveLine) (low : k < length moves) (is : step ≡ get_or moves k step) (all : List (ℕ × ℕ)) (tells : Tells (length moves) all) where
-    told_here : IsWithin (length idle) (length left) (get_or all k (0, 0)) × (step ≡ move_line tau settled idle left (get_or all k (0, 0)))
+    pub told_here : IsWithin (length idle) (length left) (get_or all k (0, 0)) × (step ≡ move_line tau settled idle left (get_or all k (0, 0)))
     told_here = (within_at (length moves) all tells k low, is ∙ get_or_default moves k step no_move low ∙ tells.told k low)
 
     pub is_reached : step.seconds < never

@@ -1,8 +1,9 @@
-use Rattle.std.proofs.Common.{◌≡◌, ℕ, List, All, Contains, map, sym, ap, ◌∙◌, subst}
-use Rattle.outcome_check.proofs.Common.{IfOk-weaker, Batch, IsKept, point_count, travel_time, Roads, index_in, AreTravelTimes}
+use Rattle.std.proofs.Common.{◌≡◌, ℕ, ◌<◌, List, All, Contains, map, sym, ap, ◌∙◌, subst, arith}
+use Rattle.outcome_check.proofs.Common.{IfOk-weaker, both_ways, Batch, IsVerdictOf, Meets, Fails, IsKept, point_count, travel_time, Roads, index_in, AreTravelTimes}
 use Rattle.batch_solver.proofs.lemmas.PointLemmas.{points_known}
 use Rattle.outcome_check.proofs.lemmas.IdLemmas.{own_ids}
 use Rattle.outcome_check.proofs.lemmas.PosedLemmas.{meets_of, verdict_good}
+use Rattle.batch_solver.specs.declared.point.Point.TheVariants as point
 use Rattle.outcome_check.proofs.judging.judge.Goals as goal
 
 pub table-requires-clause-known : goal.table-requires-clause-known
@@ -11,6 +12,14 @@ table-requires-clause-known g c =
     subst (λ (roads : Roads). All (λ node. Contains roads.nodes node) c.nodes.result.now) (sym c.requires.ways)
     (subst (λ (points : List ℕ). All (λ node. Contains nodes node) points) (sym c.nodes.ensures.nodes)
     (points_known c.args.snapshot.now nodes c.in_ok-points.points c.in_ok-points.ensures.points c.requires.nodes))
+
+pub returns-then-not-are_same_riders : goal.returns-then-not-are_same_riders
+returns-then-not-are_same_riders g c =
+    let settings = c.args.settings.now in let roads = c.args.network.now in let batch = c.args.snapshot.now in let outcome = c.args.outcome.now in
+    let others : outcome.expired ≡ batch.expired → ⊥ = λ same. both_ways _ c.if-not-are_same_riders.true
+    (c.are_same_riders.ensures.1 (c.as_slice.ensures ∙ same ∙ sym (c.as_slice-2.ensures ∙ ap (λ (b : Batch). b.expired) c.snapshot.view_is))) in
+    let fails : IsVerdictOf (Meets settings roads batch outcome) (Fails point.Answer) = (λ q h. absurd (omega arith), λ meets. others meets.expired) in
+    record { points = fails; good = verdict_good settings roads batch outcome (Fails point.Answer) fails }
 
 pub judge_answer-requires-clause-ids : goal.judge_answer-requires-clause-ids
 judge_answer-requires-clause-ids g c =

@@ -1,5 +1,5 @@
 use Rattle.outcome_check.proofs.Common.{both_ways, IsBestNear, AreMoves, idle_vehicles, TellsPlan, posed_by, Holds, left_riders}
-use Rattle.outcome_check.proofs.lemmas.ChosenLemmas.{with_plan, at_plan, up_to_tree}
+use Rattle.outcome_check.proofs.lemmas.ChosenLemmas.{with_plan, at_plan, up_to_plan, up_to_bound, up_to_tree}
 use Rattle.outcome_check.proofs.lemmas.VerdictLemmas.{hold_more, hold_all}
 use Rattle.batch_solver.specs.declared.point.Point.TheVariants as point
 use Rattle.outcome_check.proofs.judging.judge_chosen.Goals as goal
@@ -10,6 +10,19 @@ returns-then-not-branch c =
       c.requires.before,
       λ holds. both_ways _ c.if-not-branch.true (c.in_ok-tells_plan.ensures.1 (at_plan settings p planned plan c.requires.gives (λ chosen. TellsPlan settled graph chosen planned) holds)),
     )
+
+pub returns-then-not-branch-2 : goal.returns-then-not-branch-2
+returns-then-not-branch-2 c = (
+  up_to_plan c.args.graphs.now.instance.now.settings.now (posed_by c.args.graphs.now) c.args.planned.now c.args.plan.now c.requires.gives c.requires.before (c.in_ok-tells_plan.ensures.0 c.if-not-branch.false),
+  λ holds. both_ways _ c.if-not-branch-2.true (c.in_ok-shows_bound.ensures.1 holds),
+)
+
+pub returns-then-not-branch-3 : goal.returns-then-not-branch-3
+returns-then-not-branch-3 c = (
+  up_to_bound c.args.graphs.now.instance.now.settings.now (posed_by c.args.graphs.now) c.args.planned.now c.args.plan.now c.requires.gives c.requires.before (c.in_ok-tells_plan.ensures.0 c.if-not-branch.false)
+      (c.in_ok-shows_bound.ensures.0 c.if-not-branch-2.false),
+  λ holds. both_ways _ c.if-not-branch-3.true (c.in_ok-is_well_shown.ensures.1 holds),
+)
 
 pub returns-then-not-branch-4 : goal.returns-then-not-branch-4
 returns-then-not-branch-4 c =

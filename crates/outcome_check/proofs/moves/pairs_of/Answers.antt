@@ -1,8 +1,13 @@
 use Rattle.std.proofs.Common.{arith}
 use Rattle.outcome_check.proofs.Common.{both_ways, point_count, travel_time}
-use Rattle.outcome_check.proofs.lemmas.MatchLemmas.{follows_on, is_reached, tells_next}
+use Rattle.outcome_check.proofs.lemmas.MatchLemmas.{follows_on, is_reached, tells_next, told_here}
 use Rattle.outcome_check.proofs.moves.pairs_of.Goals.{then-step-ge-NEVER-via-then-step-ge-NEVER, then-step-ge-NEVER-via-else-step-ge-NEVER+then-not-may_follow}
 use Rattle.outcome_check.proofs.moves.pairs_of.Goals as goal
+
+pub returns-in_default : goal.returns-in_default
+returns-in_default c = λ all tells.
+    let here = told_here (point_count c.args.times.now) (travel_time c.args.times.now) c.args.settled.now c.args.idle.now c.args.left.now c.args.moves.now c.requires.places c.loop-step.step-index c.step-item.result c.loop-step-test.true c.step-item.is all tells in
+    c.in_default.ensures _ here.0 here.1
 
 pub returns-then-step-ge-NEVER : goal.returns-then-step-ge-NEVER
 returns-then-step-ge-NEVER c = λ all tells. elim c.then-step-ge-NEVER.branch as (λ _. ⊥) [
