@@ -1,6 +1,6 @@
 -- Rows that are read one by one.
 use Rattle.std.proofs.Common.{◌≡◌, ℕ, List, [], ◌∷◌, ◌++◌, map, Option, sym, ap, ◌∙◌}
-use Rattle.std.specs.Prelude.{Bool, Result, Ok, Err, IfOk, false}
+use Rattle.std.specs.Prelude.{Bool, Result, Ok, Err, IfOk, OnErr, false, true}
 use Rattle.dispatch_report.specs.declared.fault.ReportFault.{ReportFault}
 use Rattle.request_book.specs.Book.{BookView}
 use Rattle.live_dispatch.specs.Desk.{DeskView, Outputs}
@@ -44,6 +44,11 @@ ran-so round cs Are Be so ran = record { run = ran.run; going = ran.going; calle
 pub called_ok : {A E : Type 0} {P : A → Type 0} (r : Result A E) → is_err r ≡ false → IfOk r P → (x : A) × P x
 called_ok (Ok x) fine h = (x, h)
 called_ok (Err e) fine h = absurd (false≢true (sym fine))
+
+-- what holds where a result is an error
+pub refused_err : {A E P : Type 0} (r : Result A E) → is_err r ≡ true → OnErr r P → P
+refused_err (Ok x) stopped h = absurd (false≢true stopped)
+refused_err (Err e) stopped h = h
 
 -- a desk whose parts are known
 pub desk-is : (d : DeskView) (start book : BookView) (proof : Bool) (opened from now : Outputs) (fault : Option ReportFault)

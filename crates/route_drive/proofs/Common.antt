@@ -2,7 +2,7 @@
 pub use Rattle.std.proofs.Math.Seq.{get_or-append_seam}
 pub use Rattle.std.proofs.lemmas.Bool.Decides.{nat_tests}
 pub use Rattle.std.proofs.lemmas.Bool.{MatchBool-at_false, MatchBool-at_true, and_from, and_parts, cases_Bool, cases_eq, cases_lt, cond-false, cond-true, cond_both, eq-eqb, eqb-true, false≢true, le-leb, le-ltb, leb-true, lt-leb, lt-ltb, ltb-false, ne_eqb, not_from_false, not_from_true, true≢false}
-pub use Rattle.std.proofs.lemmas.List.{append-nil, drop_more, flat_map_more, get_or-append-add, get_or-map, get_or-replicate, get_or-set_other, get_or-set_same, get_or_append_left, get_or_default, get_or_past, get_or_read, length-map, length-replicate, length-set, length-take, map-append, map_push, reverse-append, take_all, take_at, take_more}
+pub use Rattle.std.proofs.lemmas.List.{append-nil, drop_more, flat_map_more, get_or-append-add, get_or-map, get_or-replicate, get_or-set_other, get_or-set_same, get_or_append_left, get_or_default, get_or_past, get_or_read, length-map, length-replicate, length-set, length-take, map-append, map_more, map_push, reverse-append, take_all, take_at, take_more}
 pub use Rattle.std.proofs.lemmas.List.Elements.{All-append, All-cons, All-contains, All-from_get_or, All-from_recursion, All-head, All-nil, All-push, All-tail, Contains-get_or, filter-append, filter_more, filter_passes, recursion_from_All}
 pub use Rattle.std.proofs.lemmas.List.Filters.{length-filter_both}
 pub use Rattle.std.proofs.lemmas.List.Folds.{Any-from_list_any, flat_map-map, sum_by-replicate}

@@ -1,9 +1,9 @@
-use Rattle.std.proofs.Common.{ℕ, sym, subst, ◌∙◌, refl, arith}
+use Rattle.std.proofs.Common.{ℕ, sym, subst, ◌∷◌, [], ◌∙◌, refl, arith}
 use Rattle.seat_lock.specs.Values.{entry}
 use Rattle.script_rows.specs.Line.{IsBehind}
 use Rattle.live_dispatch.specs.Phase.{GoesOn}
-use Rattle.live_dispatch.proofs.ReadLemmas.{ran-so, run-more, called_ok}
-use Rattle.live_dispatch.proofs.lemmas.TakenLemmas.{takes-all, takes-start}
+use Rattle.live_dispatch.proofs.ReadLemmas.{ran-so, run-more, called_ok, refused_err}
+use Rattle.live_dispatch.proofs.lemmas.TakenLemmas.{takes-all, takes-more, takes-start}
 use Rattle.live_dispatch.proofs.read_on.read_on.Goals as goal
 
 pub returns-in-Ok-None-clause-read : goal.returns-in-Ok-None-clause-read
@@ -12,6 +12,24 @@ returns-in-Ok-None-clause-read g c =
 
 pub returns-in-Err-ReadFault-clause-read : goal.returns-in-Err-ReadFault-clause-read
 returns-in-Err-ReadFault-clause-read g c = ran-so c.args.round _ _ _ (takes-start (g.L.RowSource.to_come c.args.lines.now) (g.L.RowSource.to_come c.rows.lines)) c.rows.invariant.2
+
+pub returns-in-Err-OutOfMemory-clause-read : goal.returns-in-Err-OutOfMemory-clause-read
+returns-in-Err-OutOfMemory-clause-read g c = ran-so c.args.round _ _ _ (takes-start (g.L.RowSource.to_come c.args.lines.now) (g.L.RowSource.to_come c.rows.lines)) c.rows.invariant.2
+
+pub returns-then-is_err-clause-read : goal.returns-then-is_err-clause-read
+returns-then-is_err-clause-read g c =
+    let kept = refused_err c.with_turn.result (sym c.is_err.ensures.value ∙ c.if-is_err.true) c.with_turn.ensures.refused in
+    rw kept.0 (ran-so c.args.round _ _ _ (takes-start (g.L.RowSource.to_come c.args.lines.now) (g.L.RowSource.to_come c.rows.lines)) c.rows.invariant.2)
+
+pub returns-then-line-eq0-clause-read : goal.returns-then-line-eq0-clause-read
+returns-then-line-eq0-clause-read g c =
+    let old = g.L.RowSource.to_come c.args.lines.now in
+    let now = g.L.RowSource.to_come c.rows.lines in
+    let row = rw c.in-Ok-Some.field-0-is at c.in-Ok-Some.ensures.row in
+    ran-so c.args.round _ _ _ (λ run taken. takes-more old now (g.L.RowSource.to_come c.next.new.self) run (c.in-Ok-Some.line ∷ []) taken row) c.rows.invariant.2
+
+pub returns-clause-read : goal.returns-clause-read
+returns-clause-read g c = ran-so c.args.round _ _ _ (takes-start (g.L.RowSource.to_come c.args.lines.now) (g.L.RowSource.to_come c.rows.lines)) c.rows.invariant.2
 
 pub rows-preserved : goal.rows-preserved
 rows-preserved g c =

@@ -7,6 +7,9 @@ use Rattle.ridepool.proofs.writing.write_by.Goals as goal
 pub returns-in_default-clause-report : goal.returns-in_default-clause-report
 returns-in_default-clause-report g c = nothing_written _ (g.K.Sink.written c.args.out.now) _ (g.K.Sink.faults c.args.out.now)
 
+pub opened_book-requires : goal.opened_book-requires
+opened_book-requires g c = c.requires.named
+
 pub drive_day-driven-requires-clause-new : goal.drive_day-driven-requires-clause-new
 drive_day-driven-requires-clause-new g c κs within =
     new_book (record { settings = c.args.setup.now.settings.now; roads = c.args.setup.now.network.now; vehicles = c.args.fleet.now; rounds = c.args.script.now }) c.in-Ok.book c.vehicles-vehicles.ensures.kept c.in-Ok.ensures
@@ -70,3 +73,12 @@ returns-in-Err-write_first-clause-report g c =
     report_from i P Q (run_serves i c.in-Ok.book c.args.script.now c.in_default-mode.not-Drive c.in-Ok.ensures refl) before after _ _ low high (Err c.status_of.result)
     (unbegun i.settings i.roads P Q (head_of i) before after _ low high c.in-Err-write_first.fault c.status_of.result c.status_of.ensures c.in-Err-write_first.ensures.bytes
     (λ is. c.in-Err-write_first.ensures.fault (ap Err is)))
+
+pub returns-in-Ok-driven-clause-never_falls : goal.returns-in-Ok-driven-clause-never_falls
+returns-in-Ok-driven-clause-never_falls g c = c.write_day-written.ensures.never_falls
+
+pub returns-in-Ok-write_first-clause-never_falls : goal.returns-in-Ok-write_first-clause-never_falls
+returns-in-Ok-write_first-clause-never_falls g c = omega (arith, c.write_first.ensures.never_falls, c.write_each.ensures.never_falls)
+
+pub returns-in-Err-write_first-clause-never_falls : goal.returns-in-Err-write_first-clause-never_falls
+returns-in-Err-write_first-clause-never_falls g c = c.write_first.ensures.never_falls
