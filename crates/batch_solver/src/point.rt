@@ -1,5 +1,5 @@
 /// What an outcome is judged by, in this order.
-#[derive(Clone, Copy, PartialEq, Eq)]
+#[derive(Clone, Copy)]
 pub enum Point {
     /// The riders whose wait ended, and whether there are more rows than allowed.
     Answer,

@@ -4,7 +4,7 @@ ghost use Rattle.plan_rules.specs.declared.fault.GraphFault.TheVariants.{OutOfMe
 use std::alloc::AllocError;
 
 /// Why rows and held rows are no trip graph. Rows and vehicles count from 0.
-#[derive(Clone, Copy, Debug, PartialEq, Eq)]
+#[derive(Clone, Copy)]
 pub enum GraphFault {
     /// The first row whose vehicle, riders or cost are out of range, or whose riders don't rise.
     Range { row: u64 },

@@ -7,7 +7,7 @@ use crate::memory::OutOfMemory;
 use itoa::Buffer;
 
 /// Why a text is no number.
-#[derive(Clone, Copy, Debug, PartialEq, Eq)]
+#[derive(Clone, Copy)]
 pub enum NumberFault {
     /// There is no character.
     Empty,

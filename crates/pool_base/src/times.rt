@@ -15,7 +15,7 @@ pub struct Times {
 }
 
 /// Why cells are no table of shortest times.
-#[derive(Clone, Copy, Debug, PartialEq, Eq)]
+#[derive(Clone, Copy)]
 pub enum TimesFault {
     /// There isn't one cell for each pair of places.
     Size,

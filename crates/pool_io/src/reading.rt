@@ -8,7 +8,7 @@ use crate::source::{Failed, Source};
 use std::alloc::Global;
 
 /// Why a source was not read whole.
-#[derive(Clone, Copy, Debug)]
+#[derive(Clone, Copy)]
 pub enum ReadAll {
     /// A read of the source failed.
     ReadFault,

@@ -7,7 +7,7 @@ use csv::ByteRecord;
 use std::marker::Model;
 
 /// The rows of a file under its header. All fields lie in one buffer, with the place where each ends.
-#[derive(Debug, Drop)]
+#[derive(Drop)]
 pub struct Rows {
     columns: usize,
     count: usize,

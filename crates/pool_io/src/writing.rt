@@ -7,7 +7,7 @@ ghost use Rattle.pool_io.specs.Sink.{AppendsPart};
 use crate::sink::{Sink, SinkFault};
 
 /// Why not all bytes were written.
-#[derive(Clone, Copy, Debug)]
+#[derive(Clone, Copy)]
 pub enum WriteAll {
     /// A write of the sink failed.
     WriteFault,

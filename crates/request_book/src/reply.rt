@@ -2,7 +2,7 @@ use crate::rider::Status;
 use pool_base::{Second, VehicleId};
 
 /// What the book answers.
-#[derive(Clone, Copy, Debug, PartialEq, Eq)]
+#[derive(Clone, Copy)]
 pub enum Reply {
     Accepted,
     Cancelled,
@@ -15,7 +15,7 @@ pub enum Reply {
 }
 
 /// Why a command is refused. A refused command changes nothing.
-#[derive(Clone, Copy, Debug, PartialEq, Eq)]
+#[derive(Clone, Copy)]
 pub enum BookRefusal {
     /// A rider of this id is in the book, of any status.
     DuplicateRider,

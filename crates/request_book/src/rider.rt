@@ -2,7 +2,7 @@ use batch_snapshot::Promise;
 use pool_base::{NodeId, Party, RiderId, Second, VehicleId};
 
 /// Where a rider's request stands.
-#[derive(Clone, Copy, Debug, PartialEq, Eq)]
+#[derive(Clone, Copy)]
 pub enum Status {
     Waiting,
     Promised(Promise),

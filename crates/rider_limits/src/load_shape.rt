@@ -2,7 +2,7 @@ ghost use Rattle.rider_limits.specs.Range.{IsShapeInRange};
 
 /// How large a made workload is, and the seed that it is drawn from. Its type keeps each number within
 /// its range.
-#[derive(Clone, Copy, Debug, PartialEq, Eq)]
+#[derive(Clone, Copy)]
 pub struct LoadShape {
     /// 0 to 1,000,000,000.
     pub seed: u64,

@@ -3,7 +3,7 @@ ghost use Rattle.rider_limits.specs.Range.{AreInRange};
 use crate::load_shape::LoadShape;
 
 /// What the program does.
-#[derive(Clone, Copy, Debug, PartialEq, Eq)]
+#[derive(Clone, Copy)]
 pub enum Mode {
     /// It reads a network, a fleet and a script, and reports each batch.
     Run,
@@ -17,7 +17,7 @@ pub enum Mode {
 }
 
 /// How a batch comes by its travel times.
-#[derive(Clone, Copy, Debug, PartialEq, Eq)]
+#[derive(Clone, Copy)]
 pub enum TimesWay {
     /// By one search for each of its points.
     Rows,
@@ -26,7 +26,7 @@ pub enum TimesWay {
 }
 
 /// The settings of a run. The type keeps each number within its range.
-#[derive(Clone, Copy, Debug, PartialEq, Eq)]
+#[derive(Clone, Copy)]
 pub struct Settings {
     pub mode: Mode,
     /// The longest time from a request to its pickup, in seconds, 0 to 7,200.

@@ -1,7 +1,7 @@
 use pool_base::Which;
 
 /// Why words are refused. Words count from 1.
-#[derive(Clone, Copy, Debug, PartialEq, Eq)]
+#[derive(Clone, Copy)]
 pub enum WordFault {
     /// There is no word, or the first is no command.
     NoCommand,

@@ -65,7 +65,7 @@ fn plan_of(entry: &Entry) -> Option<&Planned>
     ensures some { IfSome result (λ planned. option_and_then (λ closed. planned_in closed.1.answer) (closed_outcome entry.now.command entry.now.reply) ≡ Some planned.now) }
     ensures none { IfNone result (option_and_then (λ closed. planned_in closed.1.answer) (closed_outcome entry.now.command entry.now.reply) ≡ None) }
 {
-    if entry.reply != Reply::Closed {
+    if !matches!(entry.reply, Reply::Closed) {
         return None;
     }
     match &entry.command {

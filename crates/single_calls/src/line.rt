@@ -79,10 +79,7 @@ fn submits(book: &mut Book, rider: u64, origin: u64, destination: u64) -> bool {
         time: Second::default(),
         party: Party::ONE,
     };
-    match book.apply(0, command) {
-        Ok(reply) => reply == Reply::Accepted,
-        Err(_) => false,
-    }
+    matches!(book.apply(0, command), Ok(Reply::Accepted))
 }
 
 fn node(name: u64) -> NodeId {

@@ -43,7 +43,7 @@ fn vehicle(dwell: u16, seats: u8) -> Task {
 #[test]
 fn out_of_reach(rt: HostRuntime) -> Result<(), Fail> {
     let cells = vec![in rt.alloc(); 0, 60, Times::NEVER, 0]?;
-    let times = Times::checked(2, cells)?;
+    let times = Times::checked(2, cells).ok().ok_or("a table")?;
     let mut task = vehicle(0, 4);
     let _rider = task.riders.try_push(leg(1, 0, 0));
     let stops = [Stop::Pick(0), Stop::Drop(0)];
@@ -99,7 +99,7 @@ fn square(alloc: Global) -> Result<Times, Fail> {
             cells.push(steps_between(a, b))?;
         }
     }
-    Ok(Times::checked(23, cells)?)
+    Ok(Times::checked(23, cells).ok().ok_or("a table")?)
 }
 
 /// Six riders, ten passengers, and every ideal second out of reach. The delay is from a program of its own
@@ -116,7 +116,10 @@ fn widest_task(rt: HostRuntime) -> Result<(), Fail> {
     for j in 0..10usize {
         let _aboard = task.aboard.try_push(leg(0, 13 + j, 50 * j as u64));
     }
-    let route = least(&rt, rt.alloc(), &task, &times)?.ok_or("an order")?;
+    let route = least(&rt, rt.alloc(), &task, &times)
+        .ok()
+        .flatten()
+        .ok_or("an order")?;
     assert_eq!(rt; route.delay, 54_000);
     Ok(())
 }

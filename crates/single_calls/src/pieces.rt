@@ -58,7 +58,9 @@ fn two_pieces_meet(rt: HostRuntime) -> Result<(), Fail> {
         entered: AtomicU64::new(0),
         ran_out: AtomicU64::new(0),
     };
-    let outs = run_pieces(&rt, rt.alloc(), 2, 2, &Squares, &gate)?;
+    let outs = run_pieces(&rt, rt.alloc(), 2, 2, &Squares, &gate)
+        .ok()
+        .ok_or("memory")?;
     assert_eq!(rt; outs.as_slice(), [0, 1].as_slice());
     assert_eq!(rt; gate.ran_out.load(Ordering::SeqCst), 0);
     Ok(())

@@ -47,7 +47,11 @@ fn graph_of(
 /// The graph of the pairs, in which each vehicle holds nobody.
 fn three_pairs(alloc: Global) -> Result<TripGraph, Fail> {
     let held = vec![in alloc; Some(0), Some(2), Some(4)]?;
-    Ok(graph_of(alloc, pair_rows(alloc)?, held)?)
+    Ok(
+        graph_of(alloc, pair_rows(alloc)?, held)
+            .ok()
+            .ok_or("a graph")?,
+    )
 }
 
 /// What a search with this budget says: its bound, its cost, how many nodes it has, and what the checker

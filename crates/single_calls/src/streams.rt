@@ -29,7 +29,7 @@ fn is_read(alloc: Global, text: &[u8]) -> bool {
 fn is_written(alloc: Global) -> bool {
     let terminal: Option<&mut Vec<u8>> = None;
     let mut watched = WatchedSink::over(alloc, PlainSink::new(alloc), terminal);
-    watched.write(b"more bytes") == Ok(10)
+    matches!(watched.write(b"more bytes"), Ok(10))
         && watched.into_inner().written() == b"more bytes".as_slice()
 }
 
@@ -57,6 +57,6 @@ fn a_call_of_a_notifier_fails(rt: HostRuntime) -> Result<(), Fail> {
     let mut notifier = notifier(rt.alloc())?;
     assert!(rt; notifier.tell(&notice).is_ok());
     assert!(rt; notifier.tell(&notice).is_err());
-    assert!(rt; notifier.told() == [notice].as_slice());
+    assert!(rt; matches!(notifier.told(), [Notice::Unserved { batch: 1, .. }]));
     Ok(())
 }

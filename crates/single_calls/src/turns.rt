@@ -48,7 +48,7 @@ fn play_lanes<R: Threads + Wait + Sync>(
 fn sixteen_lanes(rt: HostRuntime) -> Result<(), Fail> {
     let alloc = rt.alloc();
     let all = usize::from(LANES) * 1000;
-    let counter = Counter::new(alloc, 7919, all)?;
+    let counter = Counter::new(alloc, 7919, all).ok().ok_or("memory")?;
     let Ok((lock, mut passes)) = SeatLock::start(alloc, counter, LANES) else {
         panic!(rt; "no memory to start")
     };

@@ -5,7 +5,7 @@ use row_tables::fixed_point::{add_at, at, quotient, reset, times};
 use row_tables::{Made, RowTable};
 
 /// How pivots ended.
-#[derive(Clone, Copy, PartialEq, Eq)]
+#[derive(Clone, Copy)]
 pub enum Ended {
     /// No level is wrong any more: the solution over the pool is the best.
     Solved,
