@@ -233,6 +233,7 @@ def as_rust(text):
     text = re.sub(r"#!?\[tactic\([^)]*\)\]|#\[error[^\]]*\]|#\[from\]", "", text)
     text = re.sub(r"#\[cfg\(test\)\]\s*mod \w+;", "", text)
     text = re.sub(r"#\[derive\(([^)]*)\)\]", derived, text)
+    text = text.replace("<T: Drop>", "<T>")
     text = re.sub(r"use (std::alloc|std::collections|std::marker|std::thread|pool_base)(::[^;]*)?;", "", text)
     text = re.sub(r"vec!\[in (?:self\.)?alloc; ([^;\]]*); ((?:[^\[\]]|\[[^\]]*\])*?)\]", r"filled(\1, \2)", text)
     lines = text.split("\n")

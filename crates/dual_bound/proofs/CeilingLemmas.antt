@@ -1,6 +1,6 @@
 -- What lowers a ceiling of the first-fit multipliers keeps it one.
 use Rattle.std.proofs.lemmas.Bool.Decides.{nat_tests}
-use Rattle.std.proofs.Common.{rules, ◌≡◌, ℕ, zero, suc, ◌*◌, ◌<◌, ◌≤◌, true, List, [], ◌∷◌, length, get_or, set, ℤ, pos, ◌+ℤ◌, ◌-ℤ◌, ◌*ℤ◌, ◌≤ℤ◌, All, ap, ◌∙◌, subst, arith}
+use Rattle.std.proofs.Common.{rules, ◌≡◌, ℕ, zero, suc, ◌*◌, ◌<◌, true, List, [], ◌∷◌, length, get_or, set, ℤ, pos, ◌+ℤ◌, ◌-ℤ◌, ◌*ℤ◌, ◌≤ℤ◌, All, ap, ◌∙◌, subst, arith}
 use Rattle.dual_bound.proofs.Common.{ints, get_or_past, int_sum_below, Graph, riders_at, row_vehicle, cost_at, IsGoodGraph, Usable, multiplier_at, multiplier_sum, least_cost, first_fit, first_fit_value, int_sum_same, int_sum_le, IsModest, HasLeastCosts, AreCeilings}
 use Rattle.std.proofs.lemmas.List.{get_or_default, length-set}
 use Rattle.dual_bound.proofs.lemmas.FirstFitLemmas.{set_all}

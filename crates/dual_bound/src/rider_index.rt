@@ -138,7 +138,10 @@ fn is_listed_at(starts: &[u32], listed: &[u32], rider: usize, row: usize, place:
     }
     let start = starts[rider] as usize;
     let end = starts[rider + 1] as usize;
-    start <= place && place < end && listed[place] as usize == row
+    if place < start || end <= place {
+        return false;
+    }
+    listed[place] as usize == row
 }
 
 /// The rider's cursor, which moves on.

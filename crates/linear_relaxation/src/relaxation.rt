@@ -156,7 +156,7 @@ impl Relaxation {
 
     fn make_space(&mut self, table: &RowTable) -> Made<()> {
         let conditions = table.condition_count();
-        self.pool.make_space(table.column_count())?;
+        reset(&mut self.pool.is_in, table.column_count(), false)?;
         reset(&mut self.is_forbidden, table.row_count(), false)?;
         reset(&mut self.costs, table.column_count(), 0)?;
         for row in 0..table.row_count() {

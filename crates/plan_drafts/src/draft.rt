@@ -152,7 +152,7 @@ impl<'a> Drafting<'a> {
         let table = self.regrets.table;
         let relaxation = &mut self.decided.relaxation;
         solve(self.alloc, table, relaxation)?;
-        self.tree.begin(self.alloc, table, relaxation)?;
+        self.tree.root(self.alloc, table, relaxation)?;
         self.tree.allowance.settle(share, relaxation.allowance());
         self.regrets.fill(self.alloc, self.tree.multipliers(0))
     }
@@ -207,12 +207,9 @@ impl<'a> Drafting<'a> {
 
     /// Betters the plan at hand by neighbourhoods, and takes it where it is the best so far.
     fn better(&mut self) -> Made<()> {
-        let bound = self.tree.draft.bound;
-        let allowance = &mut self.tree.allowance;
-        self.plans
-            .better(&self.regrets, bound, IDLE, STEPS, allowance)?;
-        let cost = self.plans.cost;
-        self.tree.offer(self.alloc, self.plans.rows(), cost)
+        let (bound, plans) = (self.tree.draft.bound, &mut self.plans);
+        plans.better(&self.regrets, bound, IDLE, STEPS, &mut self.tree.allowance)?;
+        self.tree.offer(self.alloc, plans.rows(), plans.cost)
     }
 
     /// Grows the tree to so many nodes, at first without the rows whose reduced cost exceeds a part of the gap.

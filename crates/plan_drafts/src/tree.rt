@@ -62,8 +62,8 @@ impl DraftTree {
         }
     }
 
-    /// Begins with one node, where the relaxation stands.
-    pub fn begin(
+    /// Puts in the root, where the relaxation stands.
+    pub fn root(
         &mut self,
         alloc: Global,
         table: &RowTable,

@@ -1,5 +1,5 @@
 -- The first-fit pass.
-use Rattle.std.proofs.Common.{rules, ◌≡◌, ℕ, zero, suc, ◌+◌, ◌*◌, ◌<◌, List, [], ◌∷◌, ◌++◌, length, get_or, set, ℤ, pos, ◌-ℤ◌, ◌*ℤ◌, refl, sym, ◌∙◌, arith, add-one, ◌+ℤ◌}
+use Rattle.std.proofs.Common.{rules, ◌≡◌, ℕ, zero, suc, ◌+◌, ◌<◌, List, [], ◌∷◌, ◌++◌, length, get_or, set, ℤ, pos, ◌-ℤ◌, ◌*ℤ◌, refl, sym, ◌∙◌, arith, add-one, ◌+ℤ◌}
 use Rattle.dual_bound.proofs.Common.{ints, get_or_push, get_or_append_left, get_or_past, length_push, Graph, row_at, Usable, multiplier_at, multiplier_sum, least_cost, room_at, first_fit_of, first_fit_below, TripRow, IsModest}
 use Rattle.std.proofs.lemmas.List.{get_or-set_same, get_or-set_other, ext_get_or}
 

@@ -1,5 +1,5 @@
 //! The columns over which a solution is sought.
-use row_tables::fixed_point::{at, item, reset, set_at};
+use row_tables::fixed_point::{at, item, set_at};
 use row_tables::lists::{Lists, short};
 use row_tables::{Made, RowTable};
 use std::alloc::Global;
@@ -8,7 +8,8 @@ use std::alloc::Global;
 #[derive(Drop)]
 pub struct Pool {
     pub columns: Vec<u32>,
-    is_in: Vec<bool>,
+    /// Whether each column of the table is in.
+    pub is_in: Vec<bool>,
     /// For each place what its column costs and its conditions: they lie side by side, unlike those of a table,
     /// of which a pool has few rows.
     costs: Vec<i64>,
@@ -36,11 +37,6 @@ impl Pool {
             is_listed: false,
             cursor: 0,
         }
-    }
-
-    /// Makes room for a table's columns, of which there are so many.
-    pub fn make_space(&mut self, columns: usize) -> Made<()> {
-        reset(&mut self.is_in, columns, false)
     }
 
     pub fn has(&self, column: usize) -> bool {

@@ -8,6 +8,9 @@ use Rattle.dual_bound.proofs.first_fit_pass.first_fit_by.Goals as goal
 written : (ms new rest first : List ℤ) (n : ℕ) → ms ≡ take n (new ++ rest) → length new ≡ n → new ≡ first → ms ≡ first
 written ms new rest first n is long same = is ∙ ap (λ (k : ℕ). take k (new ++ rest)) (sym long) ∙ take-append_seam new rest ∙ same
 
+pub returns-clause-value : goal.returns-clause-value
+returns-clause-value c = written _ _ _ _ _ c.of.ensures (c.fit.ensures.len ∙ c.deref_mut.ensures.len) c.fit.ensures.value
+
 pub returns-clause-never_negative : goal.returns-clause-never_negative
 returns-clause-never_negative c =
     let g = c.args.graph.now in
