@@ -1,5 +1,5 @@
 -- What it costs to give one vehicle another row.
-use Rattle.std.proofs.Common.{◌≡◌, ℕ, zero, suc, ◌+◌, ◌*◌, ◌<◌, ◌≤◌, false, IsTrue, List, length, get_or, set, Option, Some, None, inl, inr, sym, ap, ◌∙◌, subst, arith, rules}
+use Rattle.std.proofs.Common.{◌≡◌, ℕ, zero, suc, ◌+◌, ◌*◌, ◌<◌, ◌≤◌, false, IsTrue, List, length, get_or, set, Option, Some, None, inl, inr, sym, ap, ◌∙◌, subst, arith}
 use Rattle.assignment_search.proofs.Common.{cases_eq, sum_below, Graph, IsGoodGraph, riders_at, cost_at, has_rider, choice_at, is_in, must_be_served, IsLawful, choice_cost, cost_of, left_out, flag, flag-true, flag-false, sum_below_same, times_served_as_count, BettersNothing}
 use Rattle.std.proofs.lemmas.List.{get_or_default, get_or-set_same, get_or-set_other}
 use Rattle.plan_rules.specs.Graph.{no_row}
