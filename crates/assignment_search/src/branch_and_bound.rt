@@ -30,8 +30,7 @@ pub fn search(alloc: Global, graph: &TripGraph, budget: u32) -> Result<Found, Ou
     requires { 1 ≤ budget }
     ensures { IfOk result (IsSearchAnswer graph.now budget) }
 {
-    let guide = &mut Guide::plain(alloc, graph)?;
-    run(alloc, graph, budget, guide)
+    run(alloc, graph, budget, &mut Guide::plain(alloc, graph)?)
 }
 
 /// The same, begun with the draft of this drafter. All that the search takes of a draft it judges. Where the
