@@ -30,7 +30,7 @@ pub fn search(alloc: Global, graph: &TripGraph, budget: u32) -> Result<Found, Ou
     requires { 1 ≤ budget }
     ensures { IfOk result (IsSearchAnswer graph.now budget) }
 {
-    run(alloc, graph, budget, Guide::plain(alloc, graph)?)
+    run(alloc, graph, budget, &mut Guide::plain(alloc, graph)?)
 }
 
 /// The same, begun with the draft of this drafter. All that the search takes of a draft it judges. Where the
@@ -46,19 +46,24 @@ pub fn search_by<R: Threads + Sync, D: Drafter>(
     requires { 1 ≤ budget }
     ensures { IfOk result (IsSearchAnswer graph.now budget) }
 {
-    let guide = Guide::by(rt, alloc, graph, budget as usize, workers, drafter)?;
+    let guide = &mut Guide::by(rt, alloc, graph, budget as usize, workers, drafter)?;
     run(alloc, graph, budget, guide)
 }
 
-fn run(alloc: Global, graph: &TripGraph, budget: u32, guide: Guide) -> Result<Found, OutOfMemory>
+/// The search by this guide.
+fn run(
+    alloc: Global,
+    graph: &TripGraph,
+    budget: u32,
+    guide: &mut Guide,
+) -> Result<Found, OutOfMemory>
     requires { 1 ≤ budget }
     ensures { IfOk result (IsSearchAnswer graph.now budget) }
 {
     let plan = first_plan(alloc, graph)?;
-    let mut guide = guide;
     let lookups = Lookups::new(alloc, graph, guide.table())?;
-    let root = root_leaf(alloc, graph, &lookups, &guide)?;
-    branch(alloc, graph, budget, &lookups, &mut guide, plan, root)
+    let root = root_leaf(alloc, graph, &lookups, guide)?;
+    branch(alloc, graph, budget, &lookups, guide, plan, root)
 }
 
 /// Branches from the root, with this plan to begin with, until the bound meets the cost or the budget is spent.

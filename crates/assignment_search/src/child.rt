@@ -133,14 +133,27 @@ pub fn best_of(
     ensures inherited { IfOk result (λ best. leaf_value parent.now.graph.now (usable_of parent.now.allowed.now) parent.now.multipliers.now ≤ℤ best.value) }
 {
     let best = best_told(alloc, parent, suggested)?;
-    if quick_ceiling(alloc, parent.graph, &lookups.cheapest, parent.allowed)? <= best.value {
-        return Ok(best);
-    }
-    if first_fit_ceiling(alloc, parent.graph, parent.allowed)? <= best.value {
+    if is_past_first_fit(alloc, lookups, parent, best.value)? {
         return Ok(best);
     }
     let fitted = first_fit_by(alloc, parent.graph, &lookups.index, parent.allowed)?;
     Ok(better_of(parent, best, fitted))
+}
+
+/// Whether it is seen at once that the first-fit multipliers are worth no more than this.
+fn is_past_first_fit(
+    alloc: Global,
+    lookups: &Lookups,
+    parent: &Parent<'_>,
+    value: i128,
+) -> Result<bool, OutOfMemory>
+    requires { AreLookupsOf parent.now.graph.now lookups.now }
+    ensures { IfOk result (λ past. past ≡ true → first_fit_value parent.now.graph.now (usable_of parent.now.allowed.now) ≤ℤ value) }
+{
+    if quick_ceiling(alloc, parent.graph, &lookups.cheapest, parent.allowed)? <= value {
+        return Ok(true);
+    }
+    Ok(first_fit_ceiling(alloc, parent.graph, parent.allowed)? <= value)
 }
 
 /// The better of the parent's multipliers and those that are suggested, if there are as many of those as riders.

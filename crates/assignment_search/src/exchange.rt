@@ -180,11 +180,12 @@ fn is_dear(graph: &TripGraph, old: usize, row: usize) -> bool
     requires row { row < length graph.now.rows }
     ensures { IsTrue result → cost_at graph.now old + graph.now.penalty * length (riders_at graph.now row) ≤ cost_at graph.now row + graph.now.penalty * length (riders_at graph.now old) }
 {
-    let rows = graph.rows();
     let penalty = graph.penalty() as u64;
-    let served = penalty * rows[old].riders.len() as u64;
-    let serves = penalty * rows[row].riders.len() as u64;
-    rows[old].cost + serves <= rows[row].cost + served
+    let old = &graph.rows()[old];
+    let new = &graph.rows()[row];
+    let served = penalty * old.riders.len() as u64;
+    let serves = penalty * new.riders.len() as u64;
+    old.cost + serves <= new.cost + served
 }
 
 /// Whether a rider of the old row who must be served isn't in this row.

@@ -1,12 +1,12 @@
 //! A tree that grows, with its open leaves in a heap: the leaf of least value comes first.
-ghost use Rattle.std.specs.Prelude.{◌≡◌, ◌+◌, ◌<◌, ◌≤ℤ◌, ◌<ℤ◌, ℕ, ℤ, suc, pos, [], ◌∷◌, ◌++◌, IfOk, MatchBool, OnOk, length, take, drop, slice_index_or};
+ghost use Rattle.std.specs.Prelude.{◌≡◌, ◌+◌, ◌^◌, ◌<◌, ◌≤ℤ◌, ◌<ℤ◌, ℕ, ℤ, suc, pos, [], ◌∷◌, ◌++◌, IfOk, MatchBool, OnOk, length, take, drop, slice_index_or};
 ghost use Rattle.std.specs.List.{sum_by};
-ghost use Rattle.std.specs.BinaryHeap.{IsHeap, heap_items};
+ghost use Rattle.std.specs.BinaryHeap.{IsHeap, heap_items, heap_len};
 ghost use Rattle.plan_rules.specs.Size.{IsSmallSum};
 ghost use Rattle.plan_rules.specs.Tree.{rounded_up};
 ghost use Rattle.plan_rules.specs.declared.node.Node.TheVariants.{Branch, Leaf};
 ghost use Rattle.assignment_search.specs.work.Growth.{IsLowest, HasLeaf};
-ghost use Rattle.assignment_search.specs.work.OpenLeaves.{AreOpen, IsFirst, leaf_cmp, leaf_sum};
+ghost use Rattle.assignment_search.specs.work.OpenLeaves.{AreOpen, IsFirst, OpensEnds, leaf_cmp, leaf_sum};
 
 use crate::child::{End, Judged};
 use crate::parting::Ends;
@@ -93,14 +93,8 @@ impl Growing {
         ensures values { OnOk result (self.new.values.items ≡ take place self.old.values.items ++ (slice_index_or self.old.values.items place (pos 0) ∷ ends.first.value ∷ ends.second.value ∷ drop (suc place) self.old.values.items)) }
         ensures leaves { OnOk result (AreOpen self.new self.new.nodes.items self.new.values.items) }
     {
-        let Some(Reverse(leaf)) = self.heap.pop() else {
-            unreachable!()
-        };
         let number = self.numbers.len();
-        let first = turns_with(alloc, &leaf.turns, false)?;
-        let second = turns_with(alloc, &leaf.turns, true)?;
-        put(&mut self.heap, &ends.first, first, number)?;
-        put(&mut self.heap, &ends.second, second, number + 1)?;
+        open_ends(&mut self.heap, alloc, &ends, number)?;
         self.numbers.insert(place + 1, number)?;
         self.numbers.insert(place + 2, number + 1)?;
         put_ends(&mut self.nodes, &mut self.values, place, ends)?;
@@ -138,6 +132,27 @@ fn place_of(numbers: &[usize], number: usize) -> usize
         }
     }
     unreachable!()
+}
+
+/// The leaf that comes first goes out of the heap, and its ends come in, the first with this number.
+fn open_ends(
+    heap: &mut BinaryHeap<Reverse<OpenLeaf>>,
+    alloc: Global,
+    ends: &Ends,
+    number: usize,
+) -> Result<(), OutOfMemory>
+    requires some { 0 < heap_len heap.old }
+    requires number { number + 1 < 2 ^ 64 }
+    ensures { OnOk result (OpensEnds number ends.now.first.node ends.now.second.node ends.now.first.value ends.now.second.value (heap_items heap.old) (heap_items heap.new)) }
+{
+    let Some(Reverse(leaf)) = heap.pop() else {
+        unreachable!()
+    };
+    let first = turns_with(alloc, &leaf.turns, false)?;
+    let second = turns_with(alloc, &leaf.turns, true)?;
+    put(heap, &ends.first, first, number)?;
+    put(heap, &ends.second, second, number + 1)?;
+    Ok(())
 }
 
 /// One turn more.

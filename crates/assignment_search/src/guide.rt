@@ -150,7 +150,7 @@ fn plain_draft(alloc: Global, graph: &TripGraph) -> Result<Draft, OutOfMemory> {
     nodes.push(DraftNode {
         decision: None,
         branch: None,
-        multipliers: Vec::from_slice(alloc, multipliers.as_slice())?,
+        multipliers: multipliers.into_vec(),
     })?;
     Ok(Draft {
         plan: Vec::from_slice(alloc, graph.held())?,

@@ -51,11 +51,11 @@ pub fn next(
     if is_met(tree, place, limit) {
         return Ok(Outcome::Met);
     }
-    let path = path_to(alloc, graph, tree, place)?;
-    let allowed = allowed_at(alloc, graph, &path)?;
     if let Some(better) = guide.cheaper_plan(alloc, graph, limit)? {
         return Ok(Outcome::Better(better));
     }
+    let path = path_to(alloc, graph, tree, place)?;
+    let allowed = allowed_at(alloc, graph, &path)?;
     match branch_row(graph, &allowed, guide.row_at(place)) {
         None => {
             let chosen = sole_rows(alloc, graph, &allowed)?;

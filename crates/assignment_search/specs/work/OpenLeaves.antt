@@ -1,6 +1,7 @@
 -- The open leaves of a tree that grows, in a heap.
 use Rattle.std.specs.Prelude.{◌≡◌, ℕ, ◌+◌, ◌<◌, List, [], ◌∷◌, length, slice_index_or, ℤ}
 use Rattle.std.specs.List.{sum_by}
+use Rattle.std.specs.List.Sorted.{IsPermutation}
 use Rattle.std.specs.declared.cmp.Ordering.{Ordering}
 use Rattle.std.specs.Ordering.{ordering_then, int_cmp, nat_cmp, bool_cmp}
 use Rattle.std.specs.Cmp.Lexicographic.{slice_cmp}
@@ -38,3 +39,12 @@ pub record IsFirst (leaves : Growing) (place : ℕ) : Type 0 where
   pub within : place < length leaves.numbers.items
   pub some : 0 < heap_len leaves.heap
   pub number : (leaf : Reverse OpenLeaf) → leaf ≡ slice_index_or (heap_items leaves.heap) 0 leaf → slice_index_or leaves.numbers.items place 0 ≡ leaf.0.number
+
+-- the leaf that came first gives way to the ends of its branch, the first of which has this number
+pub record OpensEnds (number : ℕ) (first second : Node) (a b : ℤ) (old new : List (Reverse OpenLeaf)) : Type 0 where
+  pub leaf : Reverse OpenLeaf
+  pub rest : List (Reverse OpenLeaf)
+  pub top : leaf ≡ slice_index_or old 0 leaf
+  pub permutation : IsPermutation old (leaf ∷ rest)
+  pub order : IsHeap (λ x y. leaf_cmp y.0 x.0) old → IsHeap (λ x y. leaf_cmp y.0 x.0) new
+  pub sum : (f : ℕ → ℤ → ℕ) → sum_by (λ leaf. f leaf.0.number leaf.0.value) new ≡ leaf_sum f ((number + 1) ∷ []) (second ∷ []) (b ∷ []) + (leaf_sum f (number ∷ []) (first ∷ []) (a ∷ []) + sum_by (λ leaf. f leaf.0.number leaf.0.value) rest)

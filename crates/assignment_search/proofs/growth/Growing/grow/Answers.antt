@@ -13,7 +13,8 @@ returns-clause-leaves c =
     let nodes : List Node = old.nodes.items in
     let values : List ℤ = old.values.items in
     let are = c.requires.leaves in
-    let x = c.in-Some.field-0 in
+    let opens = c.in_ok-open_ends.ensures in
+    let x = opens.leaf in
     let p = c.args.place in
     let numbers : List ℕ = old.numbers.items in
     let ends = c.args.ends in
@@ -22,17 +23,17 @@ returns-clause-leaves c =
     let items : c.insert-2.new.self.items ≡ take p numbers ++ (get_or numbers p 0 ∷ length numbers ∷ (length numbers + 1) ∷ drop (suc p) numbers) =
     c.in_ok-insert-2.ensures.items ∙ ap (λ (xs : List ℕ). insert xs (p + 2) (n + 1)) c.in_ok-insert.ensures.items ∙ edit_keep numbers p n (n + 1) 0 c.requires.first.within
     ∙ ap (λ (m : ℕ). take p numbers ++ (get_or numbers p 0 ∷ m ∷ (m + 1) ∷ drop (suc p) numbers)) long in
-    let new : Growing = record { budget = old.budget; nodes = c.put_ends.new.nodes; values = c.put_ends.new.values; numbers = c.insert-2.new.self; heap = c.put-2.new.heap } in
+    let new : Growing = record { budget = old.budget; nodes = c.put_ends.new.nodes; values = c.put_ends.new.values; numbers = c.insert-2.new.self; heap = c.open_ends.new.heap } in
     let grown = c.in_ok-put_ends.ensures in
     subst (λ (ns : List Node). AreOpen new ns c.put_ends.new.values.items) (sym grown.nodes)
     (subst (λ (zs : List ℤ). AreOpen new (take p nodes ++ (Branch ends.vehicle ends.row ∷ ends.first.node ∷ ends.second.node ∷ drop (suc p) nodes)) zs) (sym grown.values)
-    (open_parted old new nodes values p ends.vehicle ends.row ends.first.node ends.second.node ends.first.value ends.second.value x (heap_items c.pop.new.self) are (omega (arith, c.requires.first.within, are.sized))
-    (c.requires.first.number x c.in-Some.ensures.top)
-    (top_inside x (heap_items old.heap) (omega (arith, c.requires.first.some, old.heap.data.ok)) c.in-Some.ensures.top)
-    c.in-Some.ensures.permutation
+    (open_parted old new nodes values p ends.vehicle ends.row ends.first.node ends.second.node ends.first.value ends.second.value x opens.rest are (omega (arith, c.requires.first.within, are.sized))
+    (c.requires.first.number x opens.top)
+    (top_inside x (heap_items old.heap) (omega (arith, c.requires.first.some, old.heap.data.ok)) opens.top)
+    opens.permutation
     items
-    (c.in_ok-put-2.ensures.order (c.in_ok-put.ensures.order (c.in-Some.ensures.heap_order are.ordered).0))
+    (opens.order are.ordered)
     (λ f.
     let one = ap (λ (m : ℕ). leaf_sum f (m ∷ []) (ends.first.node ∷ []) (ends.first.value ∷ [])) long in
     let two = ap (λ (m : ℕ). leaf_sum f ((m + 1) ∷ []) (ends.second.node ∷ []) (ends.second.value ∷ [])) long in
-    omega (arith, c.in_ok-put.ensures.sum f, c.in_ok-put-2.ensures.sum f, one, two))))
+    omega (arith, opens.sum f, one, two))))

@@ -1,5 +1,5 @@
 use Rattle.std.proofs.Common.{◌≡◌, ℕ, ◌+◌, ◌<◌, ◌≤◌, ◌==◌, cond, List, length, slice_index, get_or, set, count_by, sym, ap, inl, inr, arith}
-use Rattle.rebalancing.proofs.Common.{cases_lt, get_or_read, sum_by-set, pair_worth, root_of}
+use Rattle.rebalancing.proofs.Common.{cases_lt, get_or_read, sum_by-set, pair_worth, root_of, IsNearest}
 use Rattle.std.proofs.lemmas.Bool.{ne_eqb}
 use Rattle.rebalancing.proofs.Augmenting.{IsOpen-free}
 use Rattle.rebalancing.proofs.matching.Matching.insert.Goals as goal
@@ -11,6 +11,82 @@ nearest_within n m a r ta cheapest vehicle price slack nearest long most inside 
     let within : vehicle < n = rw (get_or_read r cheapest vehicle inside at_vehicle 0) known in
     let is : price ≡ slice_index a vehicle = get_or_read a vehicle price (rw long within) at_price 0 in
     elim (cases_lt nearest m) as (λ _. nearest < m) [ inl lt ↦ lt | inr ge ↦ absurd (omega (arith, none (omega arith), is, most vehicle within)) ]
+
+-- the price that is read is that of the tree's cheapest vehicle
+price_is : (n : ℕ) (a r : List ℕ) (cheapest vehicle price : ℕ) → length a ≡ n → cheapest < length r → slice_index r cheapest < n → vehicle ≡ get_or r cheapest vehicle → price ≡ get_or a vehicle price → price ≡ slice_index a (slice_index r cheapest)
+price_is n a r cheapest vehicle price long inside known at_vehicle at_price =
+    let is : vehicle ≡ slice_index r cheapest = get_or_read r cheapest vehicle inside at_vehicle 0 in
+    rw (sym is) (get_or_read a vehicle price (rw (is, long) known) at_price 0)
+
+-- prices that fall by no more than the slack leave no rider behind
+none_past : (m : ℕ) (place ta : List ℕ) (nearest lowered slack by : ℕ) → IsNearest m place ta nearest → length ta ≡ m → (nearest < length ta → lowered + slack ≡ slice_index ta nearest) → by ≤ slack → (j : ℕ) → j < m → slice_index place j ≡ 0 → lowered + by ≤ slice_index ta j
+none_past m place ta nearest lowered slack by next long some le j h out = omega (arith, next.least j h out, some (rw long (next.first j h out)), le)
+
+pub shift-requires-clause-priced : goal.shift-requires-clause-priced
+shift-requires-clause-priced c = rw c.search.invariant.tree.grown.tree.root c.search.invariant.priced
+
+pub shift-requires-clause-tree : goal.shift-requires-clause-tree
+shift-requires-clause-tree c = rw c.search.invariant.tree.grown.tree.root c.search.invariant.tree
+
+pub shift-requires-clause-enough : goal.shift-requires-clause-enough
+shift-requires-clause-enough c =
+    let t = c.search.tree in
+    let inv = c.search.invariant in
+    omega (arith, price_is _ _ t.vehicles.items t.cheapest _ _ inv.priced.prices.a_length inv.tree.cheapest.within (inv.tree.grown.tree.vehicle t.cheapest inv.tree.cheapest.within) c.index.ensures c.index-price.ensures)
+
+pub shift-requires-clause-not_past : goal.shift-requires-clause-not_past
+shift-requires-clause-not_past c =
+    let inv = c.search.invariant in
+    none_past _ _ _ c.search.nearest _ c.slack-slack.result _ inv.next inv.tree.reached.tight_length c.slack-slack.ensures.some c.if-price-slack.true
+
+pub release-requires-clause-priced : goal.release-requires-clause-priced
+release-requires-clause-priced c =
+    let root : root_of c.shift.new.tree ≡ root_of c.search.tree = ap root_of c.shift.ensures.lowered_alone in
+    rw root c.shift.ensures.priced
+
+pub release-requires-clause-tree : goal.release-requires-clause-tree
+release-requires-clause-tree c =
+    let root : root_of c.shift.new.tree ≡ root_of c.search.tree = ap root_of c.shift.ensures.lowered_alone in
+    rw root c.shift.ensures.tree
+
+pub release-requires-clause-price : goal.release-requires-clause-price
+release-requires-clause-price c =
+    let t = c.search.tree in
+    let inv = c.search.invariant in
+    let price = price_is _ _ t.vehicles.items t.cheapest _ _ inv.priced.prices.a_length inv.tree.cheapest.within (inv.tree.grown.tree.vehicle t.cheapest inv.tree.cheapest.within) c.index.ensures c.index-price.ensures in
+    rw c.shift.ensures.lowered_alone (omega (arith, price, c.shift.ensures.price))
+
+pub shift-requires-in-search-clause-priced : goal.shift-requires-in-search-clause-priced
+shift-requires-in-search-clause-priced c = rw c.search.invariant.tree.grown.tree.root c.search.invariant.priced
+
+pub shift-requires-in-search-clause-tree : goal.shift-requires-in-search-clause-tree
+shift-requires-in-search-clause-tree c = rw c.search.invariant.tree.grown.tree.root c.search.invariant.tree
+
+pub shift-requires-in-search-clause-enough : goal.shift-requires-in-search-clause-enough
+shift-requires-in-search-clause-enough c =
+    let t = c.search.tree in
+    let inv = c.search.invariant in
+    omega (arith, c.if-price-slack.false, price_is _ _ t.vehicles.items t.cheapest _ _ inv.priced.prices.a_length inv.tree.cheapest.within (inv.tree.grown.tree.vehicle t.cheapest inv.tree.cheapest.within) c.index.ensures c.index-price.ensures)
+
+pub shift-requires-in-search-clause-not_past : goal.shift-requires-in-search-clause-not_past
+shift-requires-in-search-clause-not_past c =
+    let inv = c.search.invariant in
+    none_past _ _ _ c.search.nearest _ c.slack-slack.result _ inv.next inv.tree.reached.tight_length c.slack-slack.ensures.some (omega arith)
+
+pub search-preserved : goal.search-preserved
+search-preserved c =
+    let inv = c.search.invariant in
+    let shift = c.shift-in-search.ensures in
+    let grow = c.in_ok-nearest-2.ensures in
+    let start = inv.tree.grown.tree.root in
+    let root : root_of c.shift-in-search.new.tree ≡ root_of c.search.tree = ap root_of shift.lowered_alone in
+    record {
+      sized = rw shift.prices_alone (record { few_vehicles = inv.sized.few_vehicles; few_riders = inv.sized.few_riders; table = inv.sized.table });
+      priced = rw start at shift.priced;
+      tree = rw (root, start) at grow.tree;
+      next = grow.nearest;
+      same = rw shift.prices_alone (record { vehicles = inv.same.vehicles; riders = inv.same.riders; weights = inv.same.weights });
+    }
 
 pub augment-requires : goal.augment-requires
 augment-requires c =

@@ -1,5 +1,5 @@
-use Rattle.std.proofs.Common.{◌≡◌, ℕ, ◌<◌, ◌≤◌, [], ◌∷◌, length, slice_index, replicate, arith}
-use Rattle.rebalancing.proofs.Common.{with_items_is, get_or_read, get_or-replicate, length-replicate, pair_worth, Relaxes}
+use Rattle.std.proofs.Common.{◌≡◌, ℕ, ◌+◌, ◌<◌, ◌≤◌, ap, [], ◌∷◌, length, slice_index, replicate, arith}
+use Rattle.rebalancing.proofs.Common.{with_items_is, get_or_read, get_or-replicate, length-replicate, pair_worth, weight_in, Relaxes}
 use Rattle.rebalancing.proofs.Growing.{b_most, IsGrown-root, IsReached-root, IsCheapest-root}
 use Rattle.rebalancing.proofs.matching.Matching.plant.Goals as goal
 
@@ -38,3 +38,17 @@ relax-requires-clause-fits c = λ j h.
     let most : slice_index c.args.self.now.vehicle_price.items c.args.vehicle ≤ pair_worth = priced.prices.a_most c.args.vehicle c.requires.within in
     let rider_most : slice_index c.args.self.now.rider_price.items j ≤ pair_worth = b_most priced j hj in
     rw c.deref-2.ensures.value (omega (arith, price, most, rider_most))
+
+pub relax-requires-clause-covers : goal.relax-requires-clause-covers
+relax-requires-clause-covers c = λ j h.
+    let s = c.args.self.now in
+    let priced = c.requires.priced in
+    let hj : j < c.args.self.now.riders = rw c.row.ensures.length at h in
+    let price : c.index.result.now ≡ slice_index s.vehicle_price.items c.args.vehicle = get_or_read s.vehicle_price.items c.args.vehicle c.index.result.now (rw priced.prices.a_length c.requires.within) c.index.ensures 0 in
+    let cover : weight_in c.args.self.now c.args.vehicle j ≤ slice_index c.args.self.now.vehicle_price.items c.args.vehicle + slice_index c.args.self.now.rider_price.items j = priced.prices.covers c.args.vehicle j c.requires.within hj in
+    rw (c.row.ensures.weights j hj, c.deref-2.ensures.value, price) (omega (arith, cover))
+
+pub returns-clause-nearest : goal.returns-clause-nearest
+returns-clause-nearest c =
+    let t = c.clear.new.self in
+    rw (with_items_is t.tight_at c.relax.new.tight_at (omega (arith, ap length c.deref_mut.ensures.value, c.relax.ensures.relaxes.tight_length, t.tight_at.ok.0))) (rw (c.row.ensures.length, c.deref.ensures.value) at c.relax.ensures.nearest)
