@@ -63,8 +63,20 @@ impl Logged for LockedBook {
     ghost fits = { λ root command reply. Fits root.nodes command reply };
 
     fn play(&mut self, alloc: Global, lane: u8, call: Command) -> Result<LockedReply, OutOfMemory> {
-        let snapshot = sealed_by_command(&self.book, &call)?;
-        let reply = self.book.apply(lane, call)?;
+        let snapshot = match sealed_by_command(&self.book, &call) {
+            Ok(snapshot) => snapshot,
+            Err(fault) => {
+                drop(call);
+                return Err(fault);
+            }
+        };
+        let reply = match self.book.apply(lane, call) {
+            Ok(reply) => reply,
+            Err(fault) => {
+                drop(snapshot);
+                return Err(fault);
+            }
+        };
         let _count = count_entries(self.book.entries());
         Ok(LockedReply { reply, snapshot })
     }

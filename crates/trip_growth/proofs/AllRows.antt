@@ -1,6 +1,6 @@
 -- The rows of a level, as what the public contracts say of them.
-use Rattle.std.proofs.Common.{◌≡◌, ℕ, ◌≤◌, List, length, rules}
-use Rattle.trip_growth.proofs.Common.{Settled, CanServe, trips_of, IsRising, AreSomeRows, AreAllRows, AreRowsOfSize, HasMoreThan, IsLevelRow, IsLevel, IsBelow, AreRowsWithin, HasMoreOfLevel, HasMoreWithin, CostsLeast, TripOf}
+use Rattle.std.proofs.Common.{◌≡◌, ℕ, ◌≤◌, List, [], length, subst, arith, rules}
+use Rattle.trip_growth.proofs.Common.{nil_from_length, Settled, trip_task, IsServable, CanServe, trips_of, IsRising, AreSomeRows, AreAllRows, AreRowsOfSize, HasMoreThan, IsLevelRow, IsLevel, IsBelow, AreRowsWithin, HasMoreOfLevel, HasMoreWithin, CostsLeast, TripOf}
 use Rattle.std.specs.List.{All}
 
 module _ (tau : ℕ → ℕ → ℕ) (settled : Settled) (v : ℕ) where
@@ -13,6 +13,13 @@ module _ (tau : ℕ → ℕ → ℕ) (settled : Settled) (v : ℕ) where
 
   pub level_of_rows : (size : ℕ) (rows : List TripOf) → AreRowsOfSize tau settled v size rows → IsLevel (CanServe 6 tau settled v) (CostsLeast tau settled v) size rows
   level_of_rows size rows all = search rules
+
+  -- there is no row without riders where no order serves the passengers
+  pub no_rows : (IsServable tau (trip_task settled v []) → ⊥) → AreRowsOfSize tau settled v 0 []
+  no_rows none = record {
+    some = record { right = λ k d h. absurd (omega arith); sized = λ k d h. absurd (omega arith); rising = λ i j h k. absurd (omega arith) };
+    whole = λ trip is s. absurd (none (subst (λ (t : List ℕ). IsServable tau (trip_task settled v t)) (nil_from_length trip is) s.servable));
+  }
 
   -- the rows below, as growth uses them
   pub below_of_rows : (size : ℕ) (rows : List TripOf) → AreRowsOfSize tau settled v size rows → IsBelow (CanServe 6 tau settled v) size rows

@@ -1,5 +1,5 @@
 use Rattle.std.proofs.Common.{suc-mul, ◌≡◌, ℕ, ◌+◌, ◌<◌, ◌≤◌, suc, zero, ◌*◌, List, [], ◌∷◌, ◌++◌, length, get_or, take, refl, sym, ap, ◌∙◌, subst, arith, rules}
-use Rattle.trip_growth.proofs.Common.{cases_lt, length-map, map_push, length_push, get_or_default, get_or_past, get_or_append_left, get_or_push, All-push, All-nil, Task, Settled, trip_task, IsTrip, task_with, IsLower, trips_of, IsLevelRow, IsLevel, IsLevelUpTo, IsTripRule, IsBelow, HasMoreOfLevel, TripOf}
+use Rattle.trip_growth.proofs.Common.{cases_lt, length-map, map_push, length_push, get_or_default, get_or_past, get_or_append_left, get_or_push, All-push, All-cons, All-nil, Task, Settled, trip_task, IsTrip, task_with, IsLower, trips_of, IsLevelRow, IsLevel, IsLevelUpTo, IsTripRule, IsBelow, HasMoreOfLevel, TripOf}
 use Rattle.std.specs.List.{All, remove}
 use Rattle.std.proofs.lemmas.List.{length-take-le}
 use Rattle.stop_orders.specs.declared.settled_rider.SettledRider.{SettledRider}
@@ -175,6 +175,17 @@ read_at rows i row s h e = e ∙ sym (trip_at rows i row h)
 
 pub same_front : (m : ℕ) (s d t u : List ℕ) → s ≡ t → d ≡ u → take m s ≡ take m d → take m u ≡ take m t
 same_front m s d t u es ed e = ap (λ (v : List ℕ). take m v) (sym ed) ∙ sym e ∙ ap (λ (v : List ℕ). take m v) es
+
+-- no rider is a trip, and so is one
+pub no_riders : (n : ℕ) → IsTrip n []
+no_riders n = record { rising = λ k h. absurd (omega arith); within = λ k d h. absurd (omega arith) }
+
+pub one_alone : (n rider : ℕ) → rider < n → IsTrip n (rider ∷ [])
+one_alone n rider low = record { rising = λ k h. absurd (omega arith); within = All-cons (λ r. r < n) rider [] low (All-nil (λ r. r < n)) }
+
+-- the last rider of a trip is one of the batch
+pub last_rider : (n : ℕ) (riders : List ℕ) (rider : ℕ) → IsTrip n (riders ++ rider ∷ []) → rider < n
+last_rider n riders rider trip = subst (λ (r : ℕ). r < n) (get_or_push riders rider 0 (length riders) refl) (trip.within (length riders) 0 (omega (arith, length_push riders rider)))
 
 -- the task of a row's trip with one more rider is that of the longer trip
 pub longer_task : (settled : Settled) (v : ℕ) (task : Task) (riders : List ℕ) (rider : ℕ) (all : List SettledRider) (d : SettledRider) → task ≡ trip_task settled v riders

@@ -1,5 +1,5 @@
 use Rattle.std.proofs.lemmas.Bool.Decides.{nat_tests}
-use Rattle.std.proofs.Common.{◌≡◌, ℕ, ◌+◌, ◌*◌, ◌≤◌, List, ◌++◌, length, subst, arith}
+use Rattle.std.proofs.Common.{◌≡◌, ℕ, ◌+◌, ◌*◌, ◌≤◌, List, [], ◌++◌, length, subst, arith}
 use Rattle.trip_growth.proofs.Common.{Settled, CanServe, CostsLeast, AreAllRows, AreRowsOfSize, TakesSteps, TripOf}
 use Rattle.std.proofs.lemmas.List.{length-append}
 use Rattle.trip_growth.proofs.AllRows.{some_rows, level_of_rows, rows_within}
@@ -7,6 +7,15 @@ use Rattle.trip_growth.proofs.Joined.{AreSmaller, smaller_joined, smaller_all}
 
 one_for_each : (x y n a b : ℕ) → a ≤ b + (x * n + 1) + y * n → a ≤ b + ((x + y) * (n + 1) + 1)
 one_for_each x y n a b h = omega arith
+
+-- no more than one search
+pub at_most_one : (tau : ℕ → ℕ → ℕ) (settled : Settled) (v most room before after : ℕ) → after ≤ before + 1 → TakesSteps tau settled v most room before after
+at_most_one tau settled v most room before after taken = record {
+  rows = [];
+  some = record { right = λ k d h. absurd (omega arith); sized = λ k d h. absurd (omega arith); rising = λ i j h k. absurd (omega arith) };
+  few = omega arith;
+  taken = omega arith;
+}
 
 module _ (tau : ℕ → ℕ → ℕ) (settled : Settled) (v : ℕ) (size : ℕ) (xs ys : List TripOf)
     (small : AreSmaller (CanServe 6 tau settled v) (CostsLeast tau settled v) size xs) (level : AreRowsOfSize tau settled v size ys) where

@@ -1,7 +1,7 @@
-use Rattle.std.proofs.Common.{[], ◌∷◌, ◌++◌, sym, ◌∙◌, subst, arith}
-use Rattle.trip_growth.proofs.Common.{length_push, point_count, travel_time, IsTask, IsServable, IsLeastDelay, serves, costs, rider_count}
+use Rattle.std.proofs.Common.{ℕ, ◌<◌, [], ◌∷◌, ◌++◌, length, sym, ap, ◌∙◌, subst, arith}
+use Rattle.trip_growth.proofs.Common.{length-map, length_push, Task, point_count, travel_time, IsTask, IsBelow, IsServable, IsLeastDelay, serves, costs, rider_count}
 use Rattle.trip_growth.proofs.Levels.{taken, passed}
-use Rattle.trip_growth.proofs.RowGrowth.{row_of, one_too_many, longer_task}
+use Rattle.trip_growth.proofs.RowGrowth.{last_rider, row_of, one_too_many, longer_task}
 use Rattle.trip_growth.proofs.row_growth.add_trip.Goals as goal
 
 pub returns-then-not-may_share-clause-answer : goal.returns-then-not-may_share-clause-answer
@@ -60,3 +60,25 @@ cost_with-requires-clause-valid g c =
     let same = longer_task growth.settled.now growth.vehicle c.args.task.now c.args.riders.now c.args.rider c.as_slice.result.now c.index-as_slice-rider.result c.requires.task c.as_slice.ensures c.requires.trip in
     subst (IsTask (point_count growth.times.now)) (sym same)
     ((c.requires.can.sound.each growth.vehicle c.requires.can.vehicle).tasks (c.args.riders.now ++ c.args.rider ∷ []) c.requires.trip (omega arith))
+
+pub is_possible-requires-clause-below : goal.is_possible-requires-clause-below
+is_possible-requires-clause-below g c =
+    let sized = ap length (c.as_slice-trip.ensures.value ∙ c.with_rider-longer.ensures) in let longer = length_push c.args.riders.now c.args.rider in
+    subst (λ (n : ℕ). IsBelow (serves c.args.growth.now) n c.args.rows.now) (omega arith) c.requires.below
+
+pub is_possible-requires-clause-some : goal.is_possible-requires-clause-some
+is_possible-requires-clause-some g c =
+    let sized = ap length (c.as_slice-trip.ensures.value ∙ c.with_rider-longer.ensures) in omega (arith, length_push c.args.riders.now c.args.rider)
+
+pub is_possible-requires-clause-size : goal.is_possible-requires-clause-size
+is_possible-requires-clause-size g c =
+    let sized = ap length (c.as_slice-trip.ensures.value ∙ c.with_rider-longer.ensures) in omega (arith, length_push c.args.riders.now c.args.rider)
+
+pub bounds-as_slice-rider : goal.bounds-as_slice-rider
+bounds-as_slice-rider g c = omega (arith, last_rider _ _ _ c.requires.trip, ap length c.as_slice.ensures)
+
+pub bounds-as_slice-rider-else-not-is_possible : goal.bounds-as_slice-rider-else-not-is_possible
+bounds-as_slice-rider-else-not-is_possible g c = omega (arith, last_rider _ _ _ c.requires.trip, ap length c.as_slice.ensures)
+
+pub cost_with-requires-clause-room : goal.cost_with-requires-clause-room
+cost_with-requires-clause-room g c = subst (λ (t : Task). length t.riders.items < 6) (sym c.requires.task) (rw length-map c.requires.size)

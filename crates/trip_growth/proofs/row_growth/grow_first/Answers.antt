@@ -2,7 +2,7 @@ use Rattle.std.proofs.Common.{[], ◌∷◌, ◌<◌, ℕ, length, subst, arith,
 use Rattle.trip_growth.proofs.Common.{serves, costs, rider_count, IsLevelUpTo}
 use Rattle.std.proofs.lemmas.Bool.Decides.{nat_tests}
 use Rattle.trip_growth.proofs.Levels.{first_begun, ended}
-use Rattle.trip_growth.proofs.RowGrowth.{none_first, at_least_once}
+use Rattle.trip_growth.proofs.RowGrowth.{none_first, at_least_once, one_alone}
 use Rattle.trip_growth.proofs.row_growth.grow_first.Goals as goal
 
 pub returns-then-is_empty-clause-answer : goal.returns-then-is_empty-clause-answer
@@ -45,3 +45,6 @@ pub returns-clause-steps : goal.returns-clause-steps
 returns-clause-steps g c =
     let some : 0 < length c.args.rows.now = grind (arith, nat_tests) in
     omega (arith, at_least_once (length c.args.rows.now) (rider_count c.args.growth.now) some, ap length c.as_slice-rider-end.ensures)
+
+pub add_trip-requires-clause-trip : goal.add_trip-requires-clause-trip
+add_trip-requires-clause-trip g c = one_alone (rider_count c.args.growth.now) c.loop-rider.rider (omega (arith, ap length c.as_slice-rider-end.ensures))

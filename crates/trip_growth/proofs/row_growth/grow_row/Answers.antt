@@ -1,5 +1,5 @@
-use Rattle.std.proofs.Common.{◌+◌, ℕ, List, length, take, sym, ap, ◌∙◌, arith, refl}
-use Rattle.trip_growth.proofs.Common.{serves, costs, rider_count}
+use Rattle.std.proofs.Common.{◌+◌, ℕ, List, length, take, sym, ap, subst, ◌∙◌, arith, refl}
+use Rattle.trip_growth.proofs.Common.{IsTrip, serves, costs, rider_count}
 use Rattle.trip_growth.proofs.lemmas.TripSearch.{size_of}
 use Rattle.trip_growth.proofs.RowGrowth.{opened_at, advanced_at, closed_at, siblings_rise, last_within, upto_as_read, upto_as_stored, more_as_stored, below_as_read, trip_as_read, read_at, same_front}
 use Rattle.trip_growth.proofs.row_growth.grow_row.Goals as goal
@@ -144,3 +144,6 @@ pub returns-clause-steps : goal.returns-clause-steps
 returns-clause-steps g c =
     let growth = c.args.growth.now in
     omega (arith, last_within (rider_count growth) (serves growth) (costs growth) c.requires.can.rule c.args.size c.args.rows.now c.requires.below c.loop-at.at c.loop-at.invariant.within)
+
+pub task_of-task-requires-clause-trip : goal.task_of-task-requires-clause-trip
+task_of-task-requires-clause-trip g c = subst (IsTrip (rider_count c.args.growth.now)) (sym c.as_slice-riders.ensures.value) (c.requires.below.served c.args.row _ c.requires.row).riders

@@ -3,7 +3,7 @@ use Rattle.trip_growth.proofs.Common.{travel_time, CanServe, CostsLeast, AreRows
 use Rattle.std.proofs.lemmas.List.{length-append}
 use Rattle.trip_growth.proofs.AllRows.{level_of_rows, level_of_more, more_within}
 use Rattle.trip_growth.proofs.Joined.{smaller_none, smaller_joined, more_joined}
-use Rattle.trip_growth.proofs.StepBound.{steps_so_far, more_steps, rows_of_all}
+use Rattle.trip_growth.proofs.StepBound.{at_most_one, steps_so_far, more_steps, rows_of_all}
 use Rattle.trip_growth.proofs.vehicle_growth.grow.Goals as goal
 
 pub loop-size-init : goal.loop-size-init
@@ -83,3 +83,17 @@ returns-in_err-append-2-clause-steps g c =
     steps_so_far (travel_time c.args.times.now) c.args.settled.now c.args.vehicle c.loop-size.size c.loop-size.smaller.items c.loop-size.below c.loop-size.invariant.smaller c.loop-size.invariant.below
     c.args.trip c.args.room c.args.steps.now c.loop-size.steps (omega arith) (let fits = c.loop-size.invariant.room in omega arith)
     (let so_far = c.loop-size.invariant.cost in omega arith)
+
+pub returns-in_err-below-clause-steps : goal.returns-in_err-below-clause-steps
+returns-in_err-below-clause-steps g c = at_most_one (travel_time c.args.times.now) c.args.settled.now c.args.vehicle c.args.trip c.args.room _ _ c.empty_level.ensures.steps
+
+pub returns-then-rows-room-clause-steps : goal.returns-then-rows-room-clause-steps
+returns-then-rows-room-clause-steps g c = at_most_one (travel_time c.args.times.now) c.args.settled.now c.args.vehicle c.args.trip c.args.room _ _ c.empty_level.ensures.steps
+
+pub returns-then-rows-room-clause-grown : goal.returns-then-rows-room-clause-grown
+returns-then-rows-room-clause-grown g c =
+    let some = c.in_ok-below.ensures.rows.some in record {
+      rows = c.in_ok-below.below;
+      some = record { right = some.right; sized = λ k d h. (let sized = some.sized k d h in omega arith); rising = some.rising };
+      more = omega (arith, ap length c.rows.ensures);
+    }

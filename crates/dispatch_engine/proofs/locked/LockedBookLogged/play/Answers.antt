@@ -7,17 +7,17 @@ use Rattle.dispatch_engine.proofs.locked.LockedBookLogged.play.Goals as goal
 pub returns-clause-entry : goal.returns-clause-entry
 returns-clause-entry c =
     let new : BookView = c.apply.new.self in
-    applied-call c.args.self.now new c.args.lane c.args.call c.in_ok-reply.reply c.in_ok-snapshot.snapshot
+    applied-call c.args.self.now new c.args.lane c.args.call c.in-Ok-apply.reply c.in-Ok.snapshot
     (subst IsBook c.self.view_is c.self.invariant)
-    (subst (λ (b : BookView). IsApplied b c.args.lane c.args.call c.in_ok-reply.reply new) c.self.view_is c.in_ok-reply.ensures.applied)
-    (subst (λ (b : BookView). c.in_ok-snapshot.snapshot ≡ snapshot_before b.wait b.state c.args.call) c.self.view_is c.in_ok-snapshot.ensures.snapshot)
+    (subst (λ (b : BookView). IsApplied b c.args.lane c.args.call c.in-Ok-apply.reply new) c.self.view_is c.in-Ok-apply.ensures.applied)
+    (subst (λ (b : BookView). c.in-Ok.snapshot ≡ snapshot_before b.wait b.state c.args.call) c.self.view_is c.in-Ok.ensures.snapshot)
 
 pub returns-clause-fits : goal.returns-clause-fits
 returns-clause-fits c =
     let new : BookView = c.apply.new.self in
-    applied-fits c.args.self.now new c.args.lane c.args.call c.in_ok-reply.reply c.in_ok-snapshot.snapshot c.entries.ensures.kept
-    (subst (λ (b : BookView). IsApplied b c.args.lane c.args.call c.in_ok-reply.reply new) c.self.view_is c.in_ok-reply.ensures.applied)
-    (subst (λ (b : BookView). c.in_ok-snapshot.snapshot ≡ snapshot_before b.wait b.state c.args.call) c.self.view_is c.in_ok-snapshot.ensures.snapshot)
+    applied-fits c.args.self.now new c.args.lane c.args.call c.in-Ok-apply.reply c.in-Ok.snapshot c.entries.ensures.kept
+    (subst (λ (b : BookView). IsApplied b c.args.lane c.args.call c.in-Ok-apply.reply new) c.self.view_is c.in-Ok-apply.ensures.applied)
+    (subst (λ (b : BookView). c.in-Ok.snapshot ≡ snapshot_before b.wait b.state c.args.call) c.self.view_is c.in-Ok.ensures.snapshot)
 
 pub returns-clause-short : goal.returns-clause-short
 returns-clause-short c =
