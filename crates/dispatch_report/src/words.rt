@@ -44,13 +44,13 @@ pub(crate) fn put_multipliers(line: &mut Vec<u8>, multipliers: &[i64]) -> Result
     ensures { OnOk result (line.new.items ≡ line.old.items ++ flat_map (signed (codes " ")) multipliers.now) }
 {
     for multiplier in multipliers {
-        put_multiplier(line, *multiplier)?;
+        put_multiplier(line, multiplier)?;
     }
     Ok(())
 }
 
-fn put_multiplier(line: &mut Vec<u8>, multiplier: i64) -> Result<(), OutOfMemory>
-    ensures { OnOk result (line.new.items ≡ line.old.items ++ signed (codes " ") multiplier) }
+fn put_multiplier(line: &mut Vec<u8>, multiplier: &i64) -> Result<(), OutOfMemory>
+    ensures { OnOk result (line.new.items ≡ line.old.items ++ signed (codes " ") multiplier.now) }
 {
-    put_signed(line, b" ", &i128::from(multiplier))
+    put_signed(line, b" ", &i128::from(*multiplier))
 }

@@ -62,5 +62,5 @@ pub use Rattle.batch_solver.specs.Told.{left_riders, rider_id, told_stop}
 pub use Rattle.stop_orders.specs.lemmas.Named.{no_vehicle}
 pub use Rattle.pool_base.specs.Times.{point_count, travel_time}
 pub use Rattle.batch_solver.specs.Instance.{posed_by}
-pub use Rattle.plan_rules.proofs.lemmas.GraphLemmas.{row_read}
+pub use Rattle.plan_rules.proofs.lemmas.GraphLemmas.{between_row, row_between, row_read}
 pub use Rattle.batch_solver.specs.lemmas.Named.{told_stops, vehicle_id}

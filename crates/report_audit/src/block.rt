@@ -65,6 +65,7 @@ pub fn audit_block<'a, W: Ways, G: Gate>(
     let count = lines.len() as u64;
     let told = told_by(alloc, lines)?;
     if told.batch != snapshot.batch {
+        drop(told);
         return Err(BlockRefusal::Wrong { point: 0 });
     }
     let untold = untold_place(&told);
@@ -73,6 +74,7 @@ pub fn audit_block<'a, W: Ways, G: Gate>(
         Ok(verdict) => {
             let point = least(untold, place_of(verdict));
             if point < 9 {
+                drop(outcome);
                 return Err(BlockRefusal::Wrong { point });
             }
             Ok(AuditedBlock {

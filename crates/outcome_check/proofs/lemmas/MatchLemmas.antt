@@ -1,6 +1,6 @@
 -- Moves, read as pairs of places, and matchings that grow.
 use Rattle.std.proofs.Common.{◌≡◌, ◌↔◌, ℕ, suc, ◌+◌, ◌-◌, ◌<◌, ◌≤◌, List, [], ◌∷◌, ◌++◌, length, get_or, map, sum_by, fold, All, AllPairs, refl, sym, ap, ◌∙◌, subst, arith, rules}
-use Rattle.outcome_check.proofs.Common.{get_or_default, get_or_push, get_or_append_left, length_push, length-map, get_or-map, All-push, IsBestMatching, pair_seconds, MoveLine, Settled, vehicle_at, AreMoves, move_line, starts_of, origins_of, pairs_within, HaveOwnPlaces, CanPrecede, IsWithin, TellsMoves, no_move}
+use Rattle.outcome_check.proofs.Common.{get_or_default, get_or_push, get_or_append_left, length_push, length-map, get_or-map, All-push, IsBestMatching, pair_seconds, MoveLine, Settled, vehicle_at, AreMoves, move_line, starts_of, origins_of, pairs_within, HaveOwnPlaces, CanPrecede, IsWithin, TellsMoves, no_move, no_rider, rider_at, vehicle_read, SettledRider, SettledVehicle}
 use Rattle.std.proofs.lemmas.List.{ext_get_or}
 use Rattle.std.proofs.lemmas.List.Quantifiers.{all_pairs_push}
 use borrow.Author.Count.{below_more}
@@ -26,6 +26,16 @@ module _ (points : ℕ) (tau : ℕ → ℕ → ℕ) (settled : Settled) (idle le
   -- a move tells of one pair
   same_pair : (p q : ℕ × ℕ) → IsWithin (length idle) (length left) p → IsWithin (length idle) (length left) q → move_line tau settled idle left p ≡ move_line tau settled idle left q → p ≡ q
   same_pair p q a b e = search rules
+
+  -- the seconds of a pair, read from the lists of vehicles and riders
+  pub seconds_read : (vehicles : List SettledVehicle) (riders : List SettledRider) (one : SettledVehicle) (other : SettledRider) → vehicles ≡ settled.vehicles → riders ≡ settled.riders → (pair : ℕ × ℕ)
+      → IsWithin (length idle) (length left) pair → tau (get_or vehicles (get_or idle pair.0 0) one).start (get_or riders (get_or left pair.1 0) other).leg.origin ≡ pair_seconds tau (starts_of settled idle) (origins_of settled left) pair
+  seconds_read vehicles riders one other e f pair within = rw (
+    vehicle_read settled vehicles (get_or idle pair.0 0) one e (own.vehicles pair.0 0 within.0),
+    ap (λ (list : List SettledRider). get_or list (get_or left pair.1 0) other) f ∙ get_or_default settled.riders (get_or left pair.1 0) other no_rider (own.riders pair.1 0 within.1),
+    get_or-map (λ (v : ℕ). (vehicle_at settled v).start) idle pair.0 0 0 within.0,
+    get_or-map (λ (r : ℕ). (rider_at settled r).leg.origin) left pair.1 0 0 within.1,
+  ) refl
 
   within_at : (count : ℕ) (pairs : List (ℕ × ℕ)) → Tells count pairs → (k : ℕ) → k < count → IsWithin (length idle) (length left) (get_or pairs k (0, 0))
   within_at count pairs tells k h = pairs_within tau settled idle left pairs tells.matching k (0, 0) (let n = tells.sized in omega (arith, n, h))

@@ -1,5 +1,5 @@
-use Rattle.std.proofs.Common.{◌≡◌, ℕ, ◌<◌, List, All, Contains, map, sym, ap, ◌∙◌, subst, arith}
-use Rattle.outcome_check.proofs.Common.{IfOk-weaker, both_ways, Batch, IsVerdictOf, Meets, Fails, IsKept, point_count, travel_time, Roads, index_in, AreTravelTimes}
+use Rattle.std.proofs.Common.{◌≡◌, ℕ, List, All, Contains, length, map, sym, ap, ◌∙◌, subst, arith}
+use Rattle.outcome_check.proofs.Common.{IfOk-weaker, both_ways, length-map, Batch, IsVerdictOf, Meets, Fails, IsKept, point_count, travel_time, Roads, index_in, AreTravelTimes}
 use Rattle.batch_solver.proofs.lemmas.PointLemmas.{points_known}
 use Rattle.outcome_check.proofs.lemmas.IdLemmas.{own_ids}
 use Rattle.outcome_check.proofs.lemmas.PosedLemmas.{meets_of, verdict_good}
@@ -13,6 +13,12 @@ table-requires-clause-known g c =
     (subst (λ (points : List ℕ). All (λ node. Contains nodes node) points) (sym c.nodes.ensures.nodes)
     (points_known c.args.snapshot.now nodes c.in_ok-points.points c.in_ok-points.ensures.points c.requires.nodes))
 
+pub settle-requires-clause-points : goal.settle-requires-clause-points
+settle-requires-clause-points g c = c.in_ok-points.ensures.points
+
+pub settle-requires-clause-table : goal.settle-requires-clause-table
+settle-requires-clause-table g c = c.in_ok-times.ensures.points ∙ length-map _ _ ∙ ap (λ (ps : List ℕ). length ps) c.nodes.ensures.nodes
+
 pub returns-then-not-are_same_riders : goal.returns-then-not-are_same_riders
 returns-then-not-are_same_riders g c =
     let settings = c.args.settings.now in let roads = c.args.network.now in let batch = c.args.snapshot.now in let outcome = c.args.outcome.now in
@@ -25,6 +31,12 @@ pub judge_answer-requires-clause-ids : goal.judge_answer-requires-clause-ids
 judge_answer-requires-clause-ids g c =
     λ κs lives. own_ids c.args.settings.now c.in_ok-points.points c.args.settings.now.trip (point_count c.in_ok-times.times) (travel_time c.in_ok-times.times) c.args.snapshot.now c.in_ok-settled.settled
     (subst (λ (b : Batch). IsKept b) c.snapshot.view_is c.snapshot.invariant) c.in_ok-settled.ensures.settled c.in_ok-settled.ensures.sound
+
+pub invariant_of-instance : goal.invariant_of-instance
+invariant_of-instance g c = record { table = c.in_ok-times.ensures.points ∙ length-map _ _ ∙ ap (λ (ps : List ℕ). length ps) c.nodes.ensures.nodes }
+
+pub judge_answer-requires-clause-sound : goal.judge_answer-requires-clause-sound
+judge_answer-requires-clause-sound g c κs within = c.in_ok-settled.ensures.sound
 
 pub returns : goal.returns
 returns g c =

@@ -17,12 +17,24 @@ returns-then-not-branch-2 c = (
   λ holds. both_ways _ c.if-not-branch-2.true (c.in_ok-shows_bound.ensures.1 holds),
 )
 
+pub is_well_shown-requires : goal.is_well_shown-requires
+is_well_shown-requires c = c.in_ok-shows_bound.ensures.0 c.if-not-branch-2.false
+
 pub returns-then-not-branch-3 : goal.returns-then-not-branch-3
 returns-then-not-branch-3 c = (
   up_to_bound c.args.graphs.now.instance.now.settings.now (posed_by c.args.graphs.now) c.args.planned.now c.args.plan.now c.requires.gives c.requires.before (c.in_ok-tells_plan.ensures.0 c.if-not-branch.false)
       (c.in_ok-shows_bound.ensures.0 c.if-not-branch-2.false),
   λ holds. both_ways _ c.if-not-branch-3.true (c.in_ok-is_well_shown.ensures.1 holds),
 )
+
+pub is_best_near-requires : goal.is_best_near-requires
+is_best_near-requires c = (c.in_ok-tells_plan.ensures.0 c.if-not-branch.false).0
+
+pub left_riders-requires : goal.left_riders-requires
+left_riders-requires c = rw c.chosen.ensures c.requires.gives.plan
+
+pub are_moves-requires-clause-plan : goal.are_moves-requires-clause-plan
+are_moves-requires-clause-plan c = rw c.chosen-2.ensures c.requires.gives.plan
 
 pub returns-then-not-branch-4 : goal.returns-then-not-branch-4
 returns-then-not-branch-4 c =
