@@ -1,13 +1,13 @@
 -- One more entry, and what is written with it.
-use Rattle.std.proofs.Common.{◌≡◌, ℕ, ◌<◌, ◌≤◌, ◌^◌, Bool, List, [], ◌∷◌, ◌++◌, length, take, Option, None, Some, Result, Ok, Err, arith, refl, sym, ap, subst, ◌∙◌}
+use Rattle.std.proofs.Common.{◌≡◌, ℕ, ◌<◌, ◌≤◌, ◌^◌, ◌-◌, Bool, List, [], ◌∷◌, ◌++◌, length, get_or, map, take, Option, None, Some, Result, Ok, Err, arith, refl, sym, ap, subst, ◌∙◌}
 use Rattle.std.proofs.KnownBytes.{Appends-nil, Appends-trans}
 use Rattle.std.specs.Io.KnownBytes.{Appends}
 use Rattle.std.proofs.lemmas.Bool.{false≢true}
 use Rattle.std.specs.Prelude.{is_some, false, cond, OnOk}
-use Rattle.std.proofs.lemmas.List.{length-map}
-use Rattle.dispatch_engine.specs.Locked.{log_of, snapshot_before}
-use Rattle.dispatch_engine.proofs.lemmas.LockedLemmas.{calls-length, applied-call, applied-fits}
-use Rattle.live_dispatch.specs.Desk.{desk_call, desk_log, HasEntered, entries_text, text_of, notices_in, DeskView, IsDesk, IsPassedOn, Outputs}
+use Rattle.std.proofs.lemmas.List.{get_or_push, length-map, length_push, map-append}
+use Rattle.shared_book.specs.Locked.{log_of, snapshot_before}
+use Rattle.shared_book.proofs.lemmas.LockedLemmas.{calls-length, applied-call, applied-fits}
+use Rattle.live_desk.specs.Desk.{desk_call, desk_log, pass_of, HasEntered, entries_text, text_of, notices_in, DeskView, IsDesk, IsPassedOn, Outputs}
 use Rattle.pool_io.specs.Faults.{Rose}
 use Rattle.pool_io.specs.Sink.{AppendsPart}
 use Rattle.request_book.specs.Book.{BookView, next_position, IsApplied, IsBook}
@@ -27,8 +27,9 @@ use Rattle.dispatch_report.specs.Round.{entries_lines, entry_text}
 use Rattle.dispatch_report.specs.declared.fault.ReportFault.{ReportFault}
 use Rattle.dispatch_report.specs.declared.fault.ReportFault.TheVariants.{WriteFault}
 use Rattle.batch_snapshot.specs.Batch.{Batch}
-use Rattle.live_dispatch.proofs.lemmas.EntryLemmas.{entries-append, notices-append, one-notices, one-text}
-use Rattle.live_dispatch.specs.work.Telling.{TellsClose, WroteLast, is_closed}
+use Rattle.shared_book.specs.declared.locked.LockedReply.{LockedReply}
+use Rattle.live_desk.proofs.lemmas.EntryLemmas.{entries-append, notices-append, one-notices, one-text}
+use Rattle.live_desk.specs.work.Telling.{TellsClose, WroteLast, is_closed}
 
 -- a command that wasn't answered `closed` has no notices, and no other command than a close has any
 close-notices : (s : State) (c : Command) (r : Reply) → cond (is_closed r) (entry_notices s c Closed) [] ≡ entry_notices s c r
@@ -153,3 +154,14 @@ log-length d = length-map (log_of d.book) desk_call ∙ calls-length d.book.node
 pub log-short : {A E : Type 0} (r : Result A E) (d : DeskView) → OnOk r (length d.book.entries < 2 ^ 63) → OnOk r (length (desk_log d) < 2 ^ 63)
 log-short (Ok x) d h = omega (arith, h, log-length d)
 log-short (Err e) d h = h
+
+-- one call more, of the lane that plays it
+pub log-more : (old new : DeskView) (lane of : ℕ) (command : Command) (reply : LockedReply) → lane ≡ pass_of of → HasEntered old of command reply new
+    → desk_log new ≡ desk_log old ++ (record { lane = lane; call = record { lane = of; command = command }; reply = reply }) ∷ []
+log-more old new lane of command reply is entered =
+    ap (map desk_call) entered.calls ∙ map-append desk_call (log_of old.book) ((record { lane = of; call = command; reply = reply }) ∷ [])
+    ∙ ap (λ (l : ℕ). desk_log old ++ (record { lane = l; call = record { lane = of; command = command }; reply = reply }) ∷ []) (sym is)
+
+-- the last of entries
+pub last-is : (es before : List Entry) (last e : Entry) → es ≡ before ++ last ∷ [] → e ≡ get_or es (length es - 1) e → e ≡ last
+last-is es before last e is at = at ∙ ap (λ (l : List Entry). get_or l (length l - 1) e) is ∙ get_or_push before last e (length (before ++ last ∷ []) - 1) (omega (arith, length_push before last))

@@ -38,6 +38,16 @@ pub some-then : {A : Type 0} (a b c : SinkView) (xs ys : List ℕ) (done : Unit 
 some-then a b c xs ys done (Ok x) first next = search (rules, Appends-trans)
 some-then a b c xs ys done (Err e) first next = search (rules, then-some)
 
+-- a text that a fault broke off, with more behind it
+pub some-broken : {A B : Type 0} (sink : Change SinkView) (xs ys : List ℕ) (fault : ReportFault) → WritesSome {A = A} sink xs (Err fault) → WritesSome {A = B} sink (xs ++ ys) (Err fault)
+some-broken sink xs ys fault w =
+    let some = w.bytes in
+    record {
+      bytes = record { written = some.written; unwritten = some.unwritten ++ ys; parts = sym (append_assoc some.written some.unwritten ys) ∙ ap (λ t. t ++ ys) some.parts; bytes = some.bytes };
+      fault = search rules;
+      never_falls = w.never_falls;
+    }
+
 -- the line of a round that begins
 pub starts-none : (last : Option ℕ) (round : ℕ) → last ≡ None → start_text last round ≡ round_line round
 starts-none last round is = ap (λ l. start_text l round) is

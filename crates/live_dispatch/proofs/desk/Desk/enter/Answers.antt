@@ -2,10 +2,10 @@ use Rattle.std.proofs.Common.{◌≡◌, None, sym, subst, refl, ◌∙◌}
 use Rattle.request_book.specs.Book.{IsApplied, next_position}
 use Rattle.request_book.specs.declared.journal.Entry.{Entry}
 use Rattle.dispatch_report.specs.Round.{entry_text}
-use Rattle.live_dispatch.specs.Desk.{DeskView, HasEntered, Outputs, outputs_seen}
-use Rattle.live_dispatch.specs.work.Telling.{WroteLast}
-use Rattle.live_dispatch.proofs.DeskLemmas.{desk-entered, desk-replied, none_of}
-use Rattle.live_dispatch.proofs.desk.Desk.enter.Goals as goal
+use Rattle.live_desk.specs.Desk.{DeskView, HasEntered, IsDesk, IsSameDesk, Outputs, outputs_seen}
+use Rattle.live_desk.specs.work.Telling.{WroteLast}
+use Rattle.live_desk.proofs.DeskLemmas.{desk-entered, desk-replied, none_of}
+use Rattle.live_desk.proofs.desk.Desk.enter.Goals as goal
 
 pub invariant_of-self : goal.invariant_of-self
 invariant_of-self g c =
@@ -38,3 +38,20 @@ returns-in-Ok-apply-clause-entered g c =
 
 pub returns-in-Ok-apply-clause-kept : goal.returns-in-Ok-apply-clause-kept
 returns-in-Ok-apply-clause-kept g c = invariant_of-self g c
+
+pub returns-then-is_some-clause-kept : goal.returns-then-is_some-clause-kept
+returns-then-is_some-clause-kept g c = subst IsDesk c.self.view_is c.self.invariant
+
+pub returns-clause-kept : goal.returns-clause-kept
+returns-clause-kept g c = subst IsDesk c.self.view_is c.self.invariant
+
+pub returns-in-Ok-clause-refused : goal.returns-in-Ok-clause-refused
+returns-in-Ok-clause-refused g c =
+    let new : DeskView = record {
+      book = c.apply.new.self;
+      proof = c.self.inside.proof;
+      opened = g.J.Opening.opened;
+      now = outputs_seen g.K.Sink.written g.K.Sink.faults g.N.Notifier.told g.N.Notifier.faults g.N.Notifier.steady c.self.inside.sink c.self.inside.notifiers.items;
+      fault = c.self.inside.fault;
+    } in
+    subst (λ (old : DeskView). IsSameDesk old new) c.self.view_is (record { book = c.in-Err-apply.ensures.unchanged; proof = refl; opened = refl; now = refl; fault = refl })
