@@ -5,9 +5,9 @@ use Rattle.std.specs.Io.KnownBytes.{Appends}
 use Rattle.std.proofs.lemmas.Bool.{false≢true}
 use Rattle.std.specs.Prelude.{is_some, false, cond, OnOk}
 use Rattle.std.proofs.lemmas.List.{get_or_push, length-map, length_push, map-append}
-use Rattle.shared_book.specs.Locked.{log_of, snapshot_before}
-use Rattle.shared_book.proofs.lemmas.LockedLemmas.{calls-length, applied-call, applied-fits}
-use Rattle.live_desk.specs.Desk.{desk_call, desk_log, pass_of, HasEntered, entries_text, text_of, notices_in, DeskView, IsDesk, IsPassedOn, Outputs}
+use Rattle.dispatch_engine.specs.Locked.{log_of, snapshot_before}
+use Rattle.dispatch_engine.proofs.lemmas.LockedLemmas.{calls-length, applied-call, applied-fits}
+use Rattle.live_dispatch.specs.Desk.{desk_call, desk_log, pass_of, HasEntered, entries_text, text_of, notices_in, DeskView, IsDesk, IsPassedOn, Outputs}
 use Rattle.pool_io.specs.Faults.{Rose}
 use Rattle.pool_io.specs.Sink.{AppendsPart}
 use Rattle.request_book.specs.Book.{BookView, next_position, IsApplied, IsBook}
@@ -27,9 +27,9 @@ use Rattle.dispatch_report.specs.Round.{entries_lines, entry_text}
 use Rattle.dispatch_report.specs.declared.fault.ReportFault.{ReportFault}
 use Rattle.dispatch_report.specs.declared.fault.ReportFault.TheVariants.{WriteFault}
 use Rattle.batch_snapshot.specs.Batch.{Batch}
-use Rattle.shared_book.specs.declared.locked.LockedReply.{LockedReply}
-use Rattle.live_desk.proofs.lemmas.EntryLemmas.{entries-append, notices-append, one-notices, one-text}
-use Rattle.live_desk.specs.work.Telling.{TellsClose, WroteLast, is_closed}
+use Rattle.dispatch_engine.specs.declared.locked.LockedReply.{LockedReply}
+use Rattle.live_dispatch.proofs.lemmas.EntryLemmas.{entries-append, notices-append, one-notices, one-text}
+use Rattle.live_dispatch.specs.work.Telling.{TellsClose, WroteLast, is_closed}
 
 -- a command that wasn't answered `closed` has no notices, and no other command than a close has any
 close-notices : (s : State) (c : Command) (r : Reply) → cond (is_closed r) (entry_notices s c Closed) [] ≡ entry_notices s c r

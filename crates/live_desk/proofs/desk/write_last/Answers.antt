@@ -1,6 +1,6 @@
 use Rattle.std.proofs.Common.{Err, ap, refl}
-use Rattle.live_desk.proofs.DeskLemmas.{last-is}
-use Rattle.live_desk.proofs.desk.write_last.Goals as goal
+use Rattle.live_dispatch.proofs.DeskLemmas.{last-is}
+use Rattle.live_dispatch.proofs.desk.write_last.Goals as goal
 
 pub returns-in-Ok-clause-wrote : goal.returns-in-Ok-clause-wrote
 returns-in-Ok-clause-wrote g c = λ before last is.

@@ -2,10 +2,10 @@ use Rattle.std.proofs.Common.{◌≡◌, None, sym, subst, refl, ◌∙◌}
 use Rattle.request_book.specs.Book.{IsApplied, next_position}
 use Rattle.request_book.specs.declared.journal.Entry.{Entry}
 use Rattle.dispatch_report.specs.Round.{entry_text}
-use Rattle.live_desk.specs.Desk.{DeskView, HasEntered, IsDesk, IsSameDesk, Outputs, outputs_seen}
-use Rattle.live_desk.specs.work.Telling.{WroteLast}
-use Rattle.live_desk.proofs.DeskLemmas.{desk-entered, desk-replied, none_of}
-use Rattle.live_desk.proofs.desk.Desk.enter.Goals as goal
+use Rattle.live_dispatch.specs.Desk.{DeskView, HasEntered, IsDesk, IsSameDesk, Outputs, outputs_seen}
+use Rattle.live_dispatch.specs.work.Telling.{WroteLast}
+use Rattle.live_dispatch.proofs.DeskLemmas.{desk-entered, desk-replied, none_of}
+use Rattle.live_dispatch.proofs.desk.Desk.enter.Goals as goal
 
 pub invariant_of-self : goal.invariant_of-self
 invariant_of-self g c =

@@ -1,7 +1,7 @@
 use Rattle.std.proofs.Common.{◌∙◌}
 use Rattle.std.proofs.lemmas.Result.{IfOk-weaker}
-use Rattle.live_desk.proofs.DeskLemmas.{log-more, log-short}
-use Rattle.live_desk.proofs.logged.DeskLogged.play.Goals as goal
+use Rattle.live_dispatch.proofs.DeskLemmas.{log-more, log-short}
+use Rattle.live_dispatch.proofs.logged.DeskLogged.play.Goals as goal
 
 pub returns-clause-short : goal.returns-clause-short
 returns-clause-short g c = log-short c.enter.result c.enter.new.self c.enter.ensures.short
