@@ -1,7 +1,7 @@
 use pool_base::VehicleId;
 
 /// What a rider was told: which vehicle comes, and at which second.
-#[derive(Clone, Copy, Debug, PartialEq, Eq)]
+#[derive(Clone, Copy, PartialEq, Eq)]
 pub struct Promise {
     pub vehicle: VehicleId,
     pub pickup: u64,

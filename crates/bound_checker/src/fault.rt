@@ -5,7 +5,7 @@ use pool_base::OutOfMemory as NoMemory;
 use std::alloc::AllocError;
 
 /// Why a tree is refused; nodes count from 0, in preorder.
-#[derive(Clone, Copy, Debug, PartialEq, Eq)]
+#[derive(Clone, Copy)]
 pub enum CheckFault {
     /// The row isn't among the vehicle's allowed rows, or they are fewer than two.
     BadBranch { node: u64 },

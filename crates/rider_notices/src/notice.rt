@@ -1,7 +1,7 @@
 use pool_base::{RiderId, VehicleId};
 
 /// What a rider of a closed batch is told.
-#[derive(Clone, Copy, PartialEq, Eq)]
+#[derive(Clone, Copy)]
 pub enum Notice {
     /// The vehicle comes at the pickup's second, and the rider arrives at the drop-off's.
     Promised {

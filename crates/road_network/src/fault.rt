@@ -1,5 +1,5 @@
 /// Why rows are no road network. Rows and columns count from 1, the header is no row.
-#[derive(Clone, Copy, Debug)]
+#[derive(Clone, Copy)]
 pub enum NetworkFault {
     /// There are more than 400,000 rows.
     TooManyArcs,
