@@ -106,6 +106,17 @@ impl Relaxation {
         start: &[Option<u32>],
         allowance: Allowance,
     ) -> Made<Self> {
+        Relaxation::over(alloc, table, start, &[], allowance)
+    }
+
+    /// The same with these columns in the pool too.
+    fn over(
+        alloc: Global,
+        table: &RowTable,
+        start: &[Option<u32>],
+        columns: &[u32],
+        allowance: Allowance,
+    ) -> Made<Self> {
         let mut relaxation = Relaxation {
             basis: Basis::new(alloc),
             pool: Pool::new(alloc),
@@ -126,19 +137,19 @@ impl Relaxation {
             tried: Vec::new(alloc),
             offers: Vec::new(alloc),
         };
-        let done = relaxation.begin(table, start);
-        whole(relaxation, done)
+        relaxation.begin(table, start, columns)?;
+        Ok(relaxation)
     }
 
-    /// Begins at this plan, with the columns of all riders in the pool.
-    fn begin(&mut self, table: &RowTable, start: &[Option<u32>]) -> Made<()> {
+    /// Begins at this plan, with the columns of all riders and these in the pool.
+    fn begin(&mut self, table: &RowTable, start: &[Option<u32>], columns: &[u32]) -> Made<()> {
         self.basis.begin(table, start)?;
         self.make_space(table)?;
         self.set_true_costs(table);
         for rider in 0..table.rider_count() {
             self.add(table, table.row_count().saturating_add(rider))?;
         }
-        Ok(())
+        self.add_all(table, columns)
     }
 
     /// Another one over the same pool, which starts at this plan, as the first one does.
@@ -149,9 +160,7 @@ impl Relaxation {
         start: &[Option<u32>],
         allowance: Allowance,
     ) -> Made<Self> {
-        let mut relaxation = Relaxation::new(alloc, table, start, allowance)?;
-        let done = relaxation.add_all(table, &self.pool.columns);
-        whole(relaxation, done)
+        Relaxation::over(alloc, table, start, &self.pool.columns, allowance)
     }
 
     fn make_space(&mut self, table: &RowTable) -> Made<()> {
@@ -373,12 +382,6 @@ impl Relaxation {
         let shift = 22 - self.scale.min(21);
         price.wrapping_add(1 << (shift - 1)) >> shift
     }
-}
-
-/// A value that was begun empty, if it could be filled.
-fn whole<T: Drop>(value: T, done: Made<()>) -> Made<T> {
-    done?;
-    Ok(value)
 }
 
 /// How many bits of costs are given up so that they, and what is forbidden, have room before the point.

@@ -87,11 +87,8 @@ impl Pool {
 
     /// The place at the cursor, which moves on, from the last place to the first.
     pub fn next(&mut self) -> usize {
-        let place = if self.cursor < self.columns.len() {
-            self.cursor
-        } else {
-            0
-        };
+        let is_in = self.cursor < self.columns.len();
+        let place = if is_in { self.cursor } else { 0 };
         self.cursor = place.saturating_add(1);
         place
     }
