@@ -3,7 +3,7 @@ ghost use Rattle.std.specs.Prelude.{◌≡◌, ◌<◌};
 use std::marker::Model;
 
 /// A hub of a node's label: another node, or itself, with the seconds to it or from it.
-#[derive(Clone, Copy, Debug, PartialEq, Eq)]
+#[derive(Clone, Copy, PartialEq, Eq)]
 pub struct Hub {
     /// The index of the node.
     pub node: usize,
@@ -11,7 +11,7 @@ pub struct Hub {
 }
 
 /// A hub in 8 bytes, where `Hub` takes 16: labels are made and asked as fast as memory gives their hubs.
-#[derive(Clone, Copy, Debug, PartialEq, Eq)]
+#[derive(Clone, Copy)]
 pub struct ShortHub {
     node: u32,
     seconds: u32,
