@@ -1,5 +1,5 @@
 /// Why lists of hubs are not the labels of a network. Nodes are named by index.
-#[derive(Clone, Copy, Debug, PartialEq, Eq)]
+#[derive(Clone, Copy)]
 pub enum LabelFault {
     /// One of the lists hasn't one label for each node.
     Size,
