@@ -1,7 +1,8 @@
 -- The notices of a journal, one after the other.
-use Rattle.std.proofs.Common.{◌≡◌, ℕ, ◌+◌, ◌<◌, ◌≤◌, List, ◌++◌, length, get_or, drop, Some, None, sym, ap, ◌∙◌, append_assoc}
-use Rattle.std.specs.Prelude.{unwrap_or}
-use Rattle.std.proofs.lemmas.List.{append-nil, drop_all, at_drop_more}
+use Rattle.std.proofs.Common.{◌≡◌, ℕ, ◌+◌, ◌<◌, ◌≤◌, Bool, true, false, cond, List, [], ◌∷◌, ◌++◌, length, get_or, map, take, drop, Some, None, refl, sym, ap, subst, ◌∙◌, append_assoc}
+use Rattle.std.specs.Prelude.{filter, unwrap_or}
+use Rattle.std.proofs.lemmas.List.{append-nil, drop_all, at_drop_more, map-append}
+use Rattle.std.proofs.lemmas.List.Elements.{filter_more}
 use Rattle.request_book.specs.Step.{step}
 use Rattle.request_book.specs.declared.journal.Entry.{Entry}
 use Rattle.request_book.specs.declared.outcome.ChosenTrip.{ChosenTrip}
@@ -52,3 +53,18 @@ told-next nodes wait replayed waited s next reply es i e told more all ns w with
 pub told-end : (nodes : List ℕ) (wait : ℕ) (s : State) (es : List Entry) (i : ℕ) (told all : List Notice) → length es ≤ i → told ++ notices_from nodes wait s (drop i es) ≡ all → told ≡ all
 unfolding notices_from
 told-end nodes wait s es i told all end h = sym (ap (λ xs. told ++ notices_from nodes wait s xs) (drop_all i es end) ∙ append-nil told) ∙ h
+
+-- one item more of what is told of those items that are asked for
+pub noted-next : {X Y : Type 0} (p : X → Bool) (f : X → Y) (xs : List X) (i : ℕ) (x : X) (first told now : List Y) → i < length xs → x ≡ get_or xs i x
+    → told ≡ first ++ map f (filter p (take i xs)) → now ≡ told ++ cond (p x) (f x ∷ []) [] → now ≡ first ++ map f (filter p (take (i + 1) xs))
+noted-next {X} p f xs i x first told now below read so_far more = by
+  where
+    one : (b : Bool) (y : X) → map f (cond b (y ∷ []) []) ≡ cond b (f y ∷ []) []
+    one true y = refl
+    one false y = refl
+
+    longer : filter p (take (i + 1) xs) ≡ filter p (take i xs) ++ cond (p x) (x ∷ []) []
+    longer = subst (λ (y : X). filter p (take (i + 1) xs) ≡ filter p (take i xs) ++ cond (p y) (y ∷ []) []) (sym read) (filter_more p xs i x below)
+
+    by : now ≡ first ++ map f (filter p (take (i + 1) xs))
+    by = more ∙ rw (so_far, longer, map-append f (filter p (take i xs)) (cond (p x) (x ∷ []) []), one (p x) x) (append_assoc first (map f (filter p (take i xs))) (cond (p x) (f x ∷ []) []))

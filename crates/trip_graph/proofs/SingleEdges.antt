@@ -1,6 +1,5 @@
 -- The edges between vehicles and riders are the rows of one rider.
-use Rattle.std.proofs.lemmas.Bool.Decides.{nat_tests}
-use Rattle.std.proofs.Common.{◌≡◌, ℕ, zero, suc, ◌+◌, ◌<◌, ◌≤◌, inl, inr, List, [], ◌∷◌, ◌++◌, length, get_or, map, take, refl, sym, ap, ◌∙◌, subst, arith, add-one, rules}
+use Rattle.std.proofs.Common.{◌≡◌, ℕ, zero, suc, ◌+◌, ◌<◌, ◌≤◌, inl, inr, List, [], ◌∷◌, ◌++◌, length, get_or, map, take, refl, sym, ap, ◌∙◌, subst, arith, add-one}
 use Rattle.trip_graph.proofs.Common.{cases_lt, length-map, get_or-map, get_or_default, map-append, take_more, RvEdge, IsRvGraph, no_edge, Settled, CanServe, IsRvEdge, TripOf, AreRowsOfSize, ComesBefore, trips_of, HasOneRider, edges_upto, single_edge, AreLevelsUpTo}
 use Rattle.std.specs.List.{All}
 use Rattle.std.proofs.lemmas.List.{append-nil, append_assoc, take_all}
@@ -66,10 +65,22 @@ module _ (tau : ℕ → ℕ → ℕ) (settled : Settled) where
     -- a row of these riders would stand before or behind
     row_before : (k j : ℕ) → j < k → k ≤ length rows → rider_at j < from k
     row_before zero j less le = absurd (omega arith)
-    row_before (suc k) j less le = search (rules, cases_lt, rider_at, rises)
+    row_before (suc k) j less le = elim (cases_lt j k) [
+      | inl lt ↦ (let before = rises j k lt (omega arith) in omega arith)
+      | inr ge ↦ (let same : j ≡ k = omega arith in let here = ap rider_at same in omega arith)
+    ]
+
+    above : (k j : ℕ) → k ≤ j → j < length rows → rider_at k ≤ rider_at j
+    above k j ge lt = elim (cases_lt k j) [
+      | inl less ↦ (let before = rises k j less lt in omega arith)
+      | inr le ↦ (let same : k ≡ j = omega arith in let here = ap rider_at same in omega arith)
+    ]
 
     none_between : (k : ℕ) → k < length rows → (r : ℕ) → from k ≤ r → r < rider_at k → IsRvEdge tau settled v r → ⊥
-    none_between k lt r low high e = grind (arith, nat_tests, (is_row r e), (cases_lt k), (row_before k), (rises k))
+    none_between k lt r low high e = let found = is_row r e in let j = found.0 in let is = found.2 in elim (cases_lt j k) [
+      | inl less ↦ (let before = row_before k j less (omega arith) in absurd (omega arith))
+      | inr ge ↦ (let over = above k j ge found.1 in absurd (omega arith))
+    ]
 
     none_behind : (r : ℕ) → from (length rows) ≤ r → IsRvEdge tau settled v r → ⊥
     none_behind r low e =

@@ -39,6 +39,8 @@ pub fn grow_graph<G: Gate>(
     requires { IsSound settings.now.trip (point_count times.now) (travel_time times.now) settled.now }
     ensures { IfOk result (IsAnswer settings.entry.now (travel_time times.entry.now) settled.entry.now) }
 {
+    // What is settled for the settings' trips is so for trips of six.
+    laws::sound_for_larger();
     let rr = rider_rider(alloc, settled, times)?;
     let growth = BatchGrowth {
         settled,

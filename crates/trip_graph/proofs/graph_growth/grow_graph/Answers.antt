@@ -1,5 +1,5 @@
-use Rattle.std.proofs.Common.{◌≡◌, ℕ, ◌+◌, ◌<◌, List, [], length, get_or, sym, ◌∙◌, subst, arith}
-use Rattle.trip_graph.proofs.Common.{get_or_default, travel_time, IsRvGraph, RvEdge, Settled, TripOf, AreLevels, AreLevelsUpTo}
+use Rattle.std.proofs.Common.{◌≡◌, ℕ, ◌+◌, ◌<◌, List, [], length, get_or, sym, ◌∙◌, subst, arith, rules}
+use Rattle.trip_graph.proofs.Common.{get_or_default, point_count, travel_time, IsRvGraph, RvEdge, Settled, TripOf, AreLevels, AreLevelsUpTo}
 use Rattle.trip_graph.proofs.SingleEdges.{have_one, rv_of_singles}
 use Rattle.trip_graph.proofs.graph_growth.grow_graph.Goals as goal
 
@@ -9,6 +9,15 @@ singles_of : (tau : ℕ → ℕ → ℕ) (settled : Settled) (sizes : ℕ) (leve
 singles_of tau settled sizes levels own singles some all read same =
     let lt : 1 < length levels = (let c = all.count in omega arith) in
     subst (λ (l : List (List TripOf)). AreLevelsUpTo tau settled 1 (length settled.vehicles) l) (get_or_default levels 1 [] own lt ∙ sym read ∙ sym same) (all.each 1 some)
+
+pub rider_rider-requires : goal.rider_rider-requires
+rider_rider-requires g c = c.sound_for_larger.ensures c.args.settings.now.trip 6 (point_count c.args.times.now) (travel_time c.args.times.now) c.args.settled.now c.args.settings.now.in_range.trip_range.1 c.requires
+
+pub all_levels-requires-clause-can : goal.all_levels-requires-clause-can
+all_levels-requires-clause-can g c κs within = record {
+  sound = c.sound_for_larger.ensures c.args.settings.now.trip 6 (point_count c.args.times.now) (travel_time c.args.times.now) c.args.settled.now c.args.settings.now.in_range.trip_range.1 c.requires;
+  pairs = search rules;
+}
 
 pub edges_of-requires : goal.edges_of-requires
 edges_of-requires g c =
