@@ -1,7 +1,7 @@
 use batch_solver::Point;
 
 /// What was found of an outcome.
-#[derive(Clone, Copy, PartialEq, Eq)]
+#[derive(Clone, Copy)]
 pub enum Verdict {
     Good,
     /// The first point that fails.

@@ -21,7 +21,7 @@ pub struct Audited {
 }
 
 /// Why a text isn't the report of a run. Lines count from 1.
-#[derive(Clone, Copy, PartialEq, Eq)]
+#[derive(Clone, Copy)]
 pub enum AuditFault {
     /// The text ends, before or within this line, where a whole line must follow; or it ends with a part of a line behind
     /// the last one.

@@ -1,5 +1,5 @@
 /// Why a text begins with no head of a report of the run's inputs. Lines count from 1.
-#[derive(Clone, Copy, Debug, PartialEq, Eq)]
+#[derive(Clone, Copy)]
 pub enum HeadFault {
     /// The text ends before or within this line.
     Cut { line: u64 },

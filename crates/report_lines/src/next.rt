@@ -6,7 +6,7 @@ ghost use Rattle.report_lines.specs.work.Entries.{IsToldByAny, IsToldBy, fields_
 use crate::words::{ID_MOST, is_words, number_first, numbered_first, read_numbered};
 
 /// What a line between blocks is.
-#[derive(Clone, Copy, Debug, PartialEq, Eq)]
+#[derive(Clone, Copy, PartialEq, Eq)]
 pub enum NextLine {
     /// A round begins.
     Round { number: u32 },
