@@ -127,9 +127,16 @@ fn audit_command(
         return Ok(None);
     };
     let sealed = sealed_by_command(book, command)?;
-    match answered(alloc, book, lane, command, line)? {
-        Some(reply) => Ok(Some((reply, sealed))),
-        None => Ok(None),
+    match answered(alloc, book, lane, command, line) {
+        Ok(Some(reply)) => Ok(Some((reply, sealed))),
+        Ok(None) => {
+            drop(sealed);
+            Ok(None)
+        }
+        Err(fault) => {
+            drop(sealed);
+            Err(fault)
+        }
     }
 }
 

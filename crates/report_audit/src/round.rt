@@ -69,9 +69,15 @@ fn audit_entries<'a, G: Gate>(
     'entries: while !lanes.are_done(round) {
         match audit_entry(rt, book, &mut lanes, &mut sealed, round, rest, setup) {
             Ok(behind) => rest = behind,
-            Err(fault) => return Err(fault),
+            Err(fault) => {
+                drop(sealed);
+                drop(lanes);
+                return Err(fault);
+            }
         }
     }
+    drop(sealed);
+    drop(lanes);
     Ok(rest)
 }
 

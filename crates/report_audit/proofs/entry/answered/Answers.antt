@@ -1,5 +1,5 @@
 use Rattle.std.proofs.Common.{ℕ, refl, ap, subst, ◌∙◌}
-use Rattle.report_audit.proofs.Common.{IsApplied, next_position, Command, entry_line}
+use Rattle.report_audit.proofs.Common.{IsApplied, Command, entry_line}
 use Rattle.report_audit.proofs.ReplyLemmas.{applied_tells_end}
 use Rattle.report_audit.proofs.entry.answered.Goals as goal
 

@@ -1,4 +1,4 @@
-use Rattle.std.proofs.Common.{◌≡◌, ◌<◌, sym, subst, ◌∙◌, arith}
+use Rattle.std.proofs.Common.{sym, subst, ◌∙◌, arith}
 use Rattle.report_audit.proofs.Common.{IsNextLine, NextLine}
 use Rattle.report_audit.proofs.EntryLemmas.{StandsAfter, beyond, close_read, command_read, no_entry, other_close, other_command, pending_at, wrong_block}
 use Rattle.report_audit.proofs.entry.take_entry.Goals as goal
