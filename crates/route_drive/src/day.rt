@@ -8,7 +8,7 @@ use request_book::Command;
 use script_rows::{Round, Script};
 
 /// Why a script is no day.
-#[derive(Clone, Copy, PartialEq, Eq)]
+#[derive(Clone, Copy)]
 pub enum DayFault {
     /// The lane has a command other than a submit or a seal.
     Command { round: u32, lane: u8 },
