@@ -1,6 +1,6 @@
 use Rattle.std.proofs.Common.{None, ◌≡◌, ◌+◌, ◌∷◌, ◌++◌, [], take, drop, length, ◌<◌, ◌∙◌, refl, ap, subst, arith}
 use Rattle.dispatch_engine.proofs.Common.{HasRun, IsLaneBeginning, IsLaneRun}
-use Rattle.std.proofs.lemmas.List.{take-append-drop}
+use Rattle.std.proofs.lemmas.List.{take-append-drop, take_all}
 use Rattle.dispatch_engine.proofs.PassLemmas.{runs-none, runs-more, begun-after}
 use Rattle.dispatch_engine.proofs.RoundLemmas.{on-err}
 use Rattle.dispatch_engine.proofs.lemmas.RunLemmas.{run-append, take_next}
@@ -42,3 +42,11 @@ returns-in_err-run_command-clause-begun g c =
     on-err c.from_residual.result _
     (subst (λ cs. HasRun settings roads (IsLaneBeginning cs) c.args.pass.now c.run_command.new.pass) whole
     (begun-after settings roads c.args.pass.now c.loop-command.pass c.run_command.new.pass (take i commands) (command ∷ []) rest c.loop-command.invariant.ran c.in_err-run_command.ensures.begun))
+
+pub returns-clause-pass : goal.returns-clause-pass
+returns-clause-pass g c = (c.loop-command.invariant.own, c.loop-command.invariant.lane)
+
+pub returns-clause-run : goal.returns-clause-run
+returns-clause-run g c =
+    subst (λ cs. HasRun c.args.setup.now.settings.now c.args.setup.now.network.now (IsLaneRun cs) c.args.pass.now c.loop-command.pass) (take_all c.loop-command.command-index c.args.commands.now (omega arith))
+    c.loop-command.invariant.ran
