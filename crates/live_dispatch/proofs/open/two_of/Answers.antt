@@ -1,7 +1,7 @@
 use Rattle.std.proofs.Common.{◌≡◌, ◌∷◌, ◌++◌, [], List, All, length, ap, subst, ◌∙◌, arith}
 use Rattle.std.proofs.lemmas.List.{length_push}
 use Rattle.seat_lock.specs.Values.{AreAllPasses, IsNew}
-use Rattle.live_batch.proofs.open.two_of.Goals as goal
+use Rattle.live_dispatch.proofs.open.two_of.Goals as goal
 
 -- a list of two, taken from its end
 two : {X : Type 0} (all more none : List X) (first second : X) → all ≡ more ++ second ∷ [] → more ≡ none ++ first ∷ [] → length all ≡ 2 → all ≡ first ∷ second ∷ []
