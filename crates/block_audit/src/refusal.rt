@@ -9,7 +9,7 @@ use pool_base::OutOfMemory;
 use report_lines::BlockFault;
 
 /// Why a text begins with no block of a good outcome.
-#[derive(Clone, Copy, Debug, PartialEq, Eq)]
+#[derive(Clone, Copy)]
 pub enum BlockRefusal {
     OutOfMemory,
     /// So many lines of the block stand, and the text ends before or within the next.
