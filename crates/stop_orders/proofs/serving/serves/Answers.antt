@@ -1,10 +1,17 @@
-use Rattle.std.proofs.Common.{◌≡◌, ◌+◌, get_or, drop, subst}
-use Rattle.stop_orders.proofs.Common.{drop_more, point_count, travel_time, Pick, CanVisitFrom, position_after}
+use Rattle.std.proofs.Common.{◌≡◌, ◌+◌, get_or, drop, length, subst}
+use Rattle.stop_orders.proofs.Common.{drop_more, All-from_recursion, point_count, travel_time, Pick, IsKnown, CanVisitFrom, position_after}
+use Rattle.stop_orders.proofs.lemmas.VisitLemmas.{visit_place}
 use Rattle.stop_orders.proofs.lemmas.ScanLemmas.{ServingScan, serving_first, serving_next}
 use Rattle.stop_orders.proofs.serving.serves.Goals as goal
 
 pub loop-stop-init : goal.loop-stop-init
 loop-stop-init c = serving_first _ _ _ _ c.requires.valid (c.is_order.ensures.0 c.if-not-is_order.false) _ c.first_position_of-position.ensures
+
+pub visit_of-visit-requires : goal.visit_of-visit-requires
+visit_of-visit-requires c = All-from_recursion (IsKnown (length c.args.task.now.riders.items) (length c.args.task.now.aboard.items)) c.args.stops.now c.loop-stop.invariant.order.known c.loop-stop.stop-index (Pick 0) c.loop-stop-test.true
+
+pub position_after_visit-requires-clause-to : goal.position_after_visit-requires-clause-to
+position_after_visit-requires-clause-to c = rw c.visit_of-visit.ensures (visit_place _ c.args.task.now c.requires.valid (get_or c.args.stops.now c.loop-stop.stop-index (Pick 0)) (All-from_recursion (IsKnown (length c.args.task.now.riders.items) (length c.args.task.now.aboard.items)) c.args.stops.now c.loop-stop.invariant.order.known c.loop-stop.stop-index (Pick 0) c.loop-stop-test.true))
 
 pub loop-stop-preserved : goal.loop-stop-preserved
 loop-stop-preserved c =

@@ -62,6 +62,14 @@ loop-stop-preserved c =
     let arrives = c.in_ok-second.ensures in
     second_next (point_count c.args.times.now) tau task stops k c.requires.valid (get_or stops i (Pick 0)) (drop (i + 1) stops) (k - (i + 1)) c.loop-stop.place c.loop-stop.free c.place-to.result c.in_ok-second.second scan there arrives.0 arrives.1 arrives.2
 
+pub visit_of-requires : goal.visit_of-requires
+visit_of-requires c =
+    let within = within_both c.args.k c.loop-stop.stop-index c.args.stops.now c.loop-stop-test.true in
+    rw (get_or-take c.args.k c.args.stops.now c.loop-stop.stop-index (Pick 0) within.0) (known_at c.args.task.now c.args.stops.now c.loop-stop.stop-index c.requires.order.known within.1)
+
+pub visit_of-requires-2 : goal.visit_of-requires-2
+visit_of-requires-2 c = known_at c.args.task.now c.args.stops.now c.args.k c.requires.order.known c.requires.within
+
 pub arrival-requires-2-clause-to : goal.arrival-requires-2-clause-to
 arrival-requires-2-clause-to c =
     let here = known_at c.args.task.now c.args.stops.now c.args.k c.requires.order.known c.requires.within in
