@@ -25,8 +25,8 @@ good_plan settings p found planned of cost_is bound_is tree_is lists = by
 
     by : IsGoodPlan settings planned p
     by point.Answer = tt
-    by point.Graphs = (lists.graphs.lapsed, lists.graphs.rv, lists.graphs.rr, lists.graphs.rows)
-    by point.Late = lists.graphs.late
+    by point.Graphs = (lists.lapsed, lists.rv, lists.rr, lists.rows)
+    by point.Late = lists.late
     by point.Trips = record { chosen = found.plan; plan = of.lawful.plan; trips = lists.trips; holds = tt }
     by point.Plan = record { chosen = found.plan; plan = of.lawful.plan; trips = lists.trips; holds = (of.lawful, answer.costs, lists.left) }
     by point.Bound = answer.shown

@@ -4,7 +4,7 @@ ghost use Rattle.plan_rules.specs.Plan.{IsLawful};
 ghost use Rattle.pool_base.specs.Times.{travel_time};
 ghost use Rattle.batch_solver.specs.Instance.{AreExact, HasSoundLimits, posed_by};
 ghost use Rattle.batch_solver.specs.Outcome.{AnswersWith, HasGraphsWith, IsGoodOutcome, IsGoodPlan};
-ghost use Rattle.batch_solver.specs.work.Lists.{AreGraphLists, AreLists, HasSameBound};
+ghost use Rattle.batch_solver.specs.work.Lists.{AreLists};
 
 use crate::instance::{Graphs, Instance};
 use crate::late::late_lines;
@@ -161,20 +161,10 @@ fn list_all(
 ) -> Result<(), OutOfMemory>
     requires exact { AreExact graphs.now }
     requires lawful { IsLawful graphs.now.graph.now chosen.now }
-    ensures { OnOk result (AreLists (posed_by graphs.now) chosen.now planned.new × HasSameBound planned.old planned.new) }
-{
-    list_graphs(planned, alloc, graphs)?;
-    list_choice(planned, alloc, graphs, chosen)
-}
-
-/// Fills the lists that don't rest on the rows chosen.
-fn list_graphs(
-    planned: &mut Planned,
-    alloc: Global,
-    graphs: &Graphs<'_, '_>,
-) -> Result<(), OutOfMemory>
-    requires { AreExact graphs.now }
-    ensures { OnOk result (AreGraphLists (posed_by graphs.now) planned.new × HasSameBound planned.old planned.new) }
+    ensures lists { OnOk result (AreLists (posed_by graphs.now) chosen.now planned.new) }
+    ensures cost { planned.new.cost ≡ planned.old.cost }
+    ensures bound { planned.new.bound ≡ planned.old.bound }
+    ensures tree { planned.new.tree ≡ planned.old.tree }
 {
     let settled = graphs.instance.settled;
     let graph = graphs.graph;
@@ -183,24 +173,8 @@ fn list_graphs(
     put(&mut planned.rv, rv_lines(alloc, settled, graphs.rv)?);
     put(&mut planned.rr, rr_lines(alloc, settled, graphs.rr.all())?);
     put(&mut planned.rows, row_lines(alloc, settled, graph.rows())?);
-    Ok(())
-}
-
-/// Fills the lists that rest on the rows chosen.
-fn list_choice(
-    planned: &mut Planned,
-    alloc: Global,
-    graphs: &Graphs<'_, '_>,
-    chosen: &[Option<u32>],
-) -> Result<(), OutOfMemory>
-    requires exact { AreExact graphs.now }
-    requires lawful { IsLawful graphs.now.graph.now chosen.now }
-    requires lists { AreGraphLists (posed_by graphs.now) planned.now }
-    ensures { OnOk result (AreLists (posed_by graphs.now) chosen.now planned.new × HasSameBound planned.old planned.new) }
-{
-    let settled = graphs.instance.settled;
     put(&mut planned.chosen, chosen_trips(alloc, graphs, chosen)?);
-    let left = left_riders(alloc, graphs.graph, chosen)?;
+    let left = left_riders(alloc, graph, chosen)?;
     put(&mut planned.left, rider_ids(alloc, settled, &left)?);
     let moves = move_lines(alloc, graphs, chosen, &left)?;
     put(&mut planned.moves, moves);

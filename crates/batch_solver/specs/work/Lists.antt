@@ -6,23 +6,13 @@ use Rattle.batch_solver.specs.Told.{rider_id, row_line, left_riders}
 use Rattle.batch_solver.specs.Trips.{AreTrips, AreLate}
 use Rattle.batch_solver.specs.Moves.{AreMoves, idle_vehicles}
 
--- the lists of a plan that don't rest on the rows chosen
-pub record AreGraphLists (p : Posed) (planned : Planned) : Type 0 where
+-- the lists of a plan that chooses these rows of what a batch poses
+pub record AreLists (p : Posed) (chosen : List (Option ℕ)) (planned : Planned) : Type 0 where
   pub lapsed : planned.lapsed ≡ map (λ r. r.id) (filter (λ r. r.lapsed) p.settled.riders)
   pub rv : planned.rv ≡ map (λ edge. ((vehicle_at p.settled edge.vehicle).id, rider_id p.settled edge.rider)) p.edges
   pub rr : planned.rr ≡ map (λ (pair : ℕ × ℕ). (rider_id p.settled pair.0, rider_id p.settled pair.1)) p.pairs
   pub rows : planned.rows ≡ map (row_line p.settled) p.graph.rows
   pub late : AreLate p.points p.tau p.settled planned.late
-
--- the lists of a plan that chooses these rows of what a batch poses
-pub record AreLists (p : Posed) (chosen : List (Option ℕ)) (planned : Planned) : Type 0 where
-  pub graphs : AreGraphLists p planned
   pub trips : AreTrips p.points p.tau p.settled p.graph chosen planned.chosen
   pub left : planned.left ≡ map (rider_id p.settled) (left_riders p.graph chosen)
   pub moves : AreMoves p.tau p.settled (idle_vehicles p.settled p.graph chosen) (left_riders p.graph chosen) planned.moves
-
--- the second plan has the cost, the bound and the tree of the first
-pub record HasSameBound (old new : Planned) : Type 0 where
-  pub cost : new.cost ≡ old.cost
-  pub bound : new.bound ≡ old.bound
-  pub tree : new.tree ≡ old.tree

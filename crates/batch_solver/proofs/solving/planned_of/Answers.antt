@@ -19,6 +19,6 @@ returns-in-Ok g c =
       edges_exact = c.requires.edges_exact;
       pairs_exact = c.requires.pairs_exact;
       holds = good_plan c.args.graphs.now.instance.now.settings.now p found made c.in_ok-found.ensures
-          (c.in-Ok.ensures.1.cost ∙ c.unlisted-planned.ensures.cost) (c.in-Ok.ensures.1.bound ∙ c.unlisted-planned.ensures.bound ∙ back) (c.in-Ok.ensures.1.tree ∙ c.unlisted-planned.ensures.tree)
-          (subst (λ (chosen : List (Option ℕ)). AreLists p chosen made) c.chosen-chosen.ensures c.in-Ok.ensures.0);
+          (c.in-Ok.ensures.cost ∙ c.unlisted-planned.ensures.cost) (c.in-Ok.ensures.bound ∙ c.unlisted-planned.ensures.bound ∙ back) (c.in-Ok.ensures.tree ∙ c.unlisted-planned.ensures.tree)
+          (subst (λ (chosen : List (Option ℕ)). AreLists p chosen made) c.chosen-chosen.ensures c.in-Ok.ensures.lists);
     }
