@@ -1,15 +1,13 @@
-use Rattle.std.proofs.Common.{◌≡◌, ◌+◌, ◌<◌, Err, length, subst, sym, arith, ap, ◌∙◌, ℕ, Bool, false, ◌==◌}
+use Rattle.std.proofs.Common.{◌≡◌, ◌+◌, ◌<◌, Err, length, subst, sym, arith, ap, ◌∙◌, ℕ}
 use Rattle.route_drive.proofs.EnterLemmas.{if_err_map, if_ok_map}
-use Rattle.route_drive.proofs.Common.{DriveFault, OutOfMemory, number_after, IsLateAt, IsStoppedAt, Command, longest, second_of, left_commands, Any, nat_tests}
+use Rattle.route_drive.proofs.Common.{DriveFault, OutOfMemory, number_after, IsLateAt, IsStoppedAt, Command, longest, second_of, left_commands, Any}
+use Rattle.std.proofs.lemmas.Grind.{common_steps}
 use Rattle.route_drive.proofs.DriveLemmas.{end_of, number_after_is, stopped_late}
 use Rattle.route_drive.proofs.day_end.drive_end.Goals as goal
 
-some_of : (n : ℕ) (empty : Bool) → empty ≡ (n == 0) → empty ≡ false → 0 < n
-some_of n empty is filled = grind (arith, nat_tests)
-
 pub returns-in-Ok-clause-run : goal.returns-in-Ok-clause-run
 returns-in-Ok-clause-run g c =
-    let some : 0 < length c.args.rounds.now = some_of (length c.args.rounds.now) c.is_empty.result c.is_empty.ensures c.if-is_empty.false in
+    let some : 0 < length c.args.rounds.now = first_of (omega arith, grind (arith, common_steps)) in
     let number : c.number-number.result + 1 ≡ number_after c.args.rounds.now =
     ap (λ (n : ℕ). n + 1) c.number-number.ensures.value ∙ number_after_is c.args.rounds.now c.index-rounds-rounds.result some c.index-rounds-rounds.is in
     if_ok_map c.run_last.result _ _ c.run_last.ensures.run (λ end on first. end_of c.args.setup.now.settings.now c.args.setup.now.network.now c.args.rounds.now (c.number-number.result + 1)
@@ -22,7 +20,7 @@ returns-in-Ok-clause-late g c =
 
 pub returns-in-Err-clause-late : goal.returns-in-Err-clause-late
 returns-in-Err-clause-late g c = λ first.
-    let some : 0 < length c.args.rounds.now = some_of (length c.args.rounds.now) c.is_empty.result c.is_empty.ensures c.if-is_empty.false in
+    let some : 0 < length c.args.rounds.now = first_of (omega arith, grind (arith, common_steps)) in
     let number : c.number-number.result + 1 ≡ number_after c.args.rounds.now =
     ap (λ (n : ℕ). n + 1) c.number-number.ensures.value ∙ number_after_is c.args.rounds.now c.index-rounds-rounds.result some c.index-rounds-rounds.is in
     stopped_late (number_after c.args.rounds.now) (Any (λ (c : Command). longest < second_of c) (left_commands c.args.drive.book.state.vehicles c.args.drive.courses.items)) (g.K.RoundKeeper.took first c.args.keeper.now) c.in-Err.stopped c.stopped_at.result
