@@ -1,13 +1,12 @@
 -- Passes as they are handed out and taken back.
 use Rattle.std.proofs.lemmas.Bool.Decides.{nat_tests}
-use Rattle.std.proofs.Common.{rules, ◌≡◌, ℕ, zero, suc, ◌+◌, ◌-◌, ◌<◌, List, [], ◌∷◌, ◌++◌, map, length, get_or, All, Option, Some, refl, sym, ap, ◌∙◌, subst, arith}
+use Rattle.std.proofs.Common.{rules, ◌≡◌, ℕ, zero, suc, ◌+◌, ◌-◌, ◌<◌, List, [], ◌∷◌, ◌++◌, map, length, get_or, All, Option, Some, ap, ◌∙◌, subst, arith}
 use Rattle.std.specs.List.{Contains}
 use Rattle.std.proofs.lemmas.List.{get_or_append_left, length-map}
 use Rattle.std.proofs.lemmas.List.Elements.{All-contains, Contains-append_left, Contains-push}
 use Rattle.std.proofs.Math.Seq.{get_or-append_seam}
-use Rattle.seat_lock.proofs.Common.{new_pass, Me, LoggedCall, View, Idle, PassValue, calls_of, calls_in, lane_view, lanes_view, lane_given, lanes_kept, pass_value, IsPass, Claimed, Laned, claim_of}
+use Rattle.seat_lock.proofs.Common.{Me, LoggedCall, View, Idle, PassValue, calls_of, calls_in, lane_view, lanes_view, lane_given, lanes_kept, pass_value, IsPass, Claimed, Laned, claim_of}
 use Rattle.atomic_table.specs.declared.shared.Seat.{Seat}
-use Rattle.seat_lock.specs.Values.{AreAllPasses, IsNew, IsPassOf, LockValue}
 
 module _ {A : Type 0} where
   -- a list built element by element
@@ -50,12 +49,3 @@ pub All-laned : {C R : Type 0} (lanes n : ℕ) (entries : List (LoggedCall C R))
 All-laned lanes n [] is l k d lt = absurd (omega arith)
 All-laned lanes n (e ∷ es) is l zero d lt = subst (λ (z : ℕ). e.lane < z) is l.0
 All-laned lanes n (e ∷ es) is l (suc k) d lt = All-laned lanes n es is l.1 k d (omega arith)
-
--- passes handed out for each lane are all new passes of the lock
-pub all_new : {B C R : Type 0} (lock : LockValue B) (lanes : ℕ) (passes : List (PassValue B C R)) → lock.lanes ≡ lanes → length passes ≡ lanes
-    → ((k : ℕ) (d : PassValue B C R) → k < lanes → get_or passes k d ≡ new_pass lock.table lock.start k) → AreAllPasses lock passes × All IsNew passes
-all_new {B} {C} {R} lock lanes passes is len each =
-    let at : (k : ℕ) (d : PassValue B C R) → k < length passes → get_or passes k d ≡ new_pass lock.table lock.start k = λ k d h. each k d (omega arith) in (
-      record { len = len ∙ sym is; own = λ k d h. subst (IsPassOf lock) (sym (at k d h)) (refl, refl); lanes = λ k d h. ap (λ (p : PassValue B C R). p.lane) (at k d h) },
-      λ k d h. subst IsNew (sym (at k d h)) (refl, refl),
-    )

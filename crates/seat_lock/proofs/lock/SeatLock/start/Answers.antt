@@ -1,7 +1,6 @@
 use Rattle.std.proofs.Common.{[], ◌∷◌, ◌++◌, Some, sym, ap, ◌∙◌, subst}
 use Rattle.seat_lock.proofs.Common.{opening, first_view, Kept}
 use Rattle.seat_lock.proofs.Keeps.{begins}
-use Rattle.seat_lock.proofs.Handing.{all_new}
 use Rattle.seat_lock.proofs.lock.SeatLock.start.Goals as goal
 
 pub new-requires : goal.new-requires
@@ -11,9 +10,3 @@ new-requires g c =
     let is = c.push_reserved.ensures.items ∙ ap (λ l. l ++ Some c.args.value ∷ []) c.in-Ok-with_capacity.ensures.items ∙ ap (λ v. Some v ∷ []) (sym c.of.ensures) in
     subst (λ xs. Kept g.B.Logged.root g.B.Logged.log g.B.Logged.spare start lanes (opening (0 ∷ 0 ∷ 0 ∷ []) xs (first_view start lanes))) (sym is)
     (begins g.B.Logged.root g.B.Logged.log g.B.Logged.spare start lanes c.requires.0 c.requires.1)
-
-pub returns-in-Ok-new-clause-passes : goal.returns-in-Ok-new-clause-passes
-returns-in-Ok-new-clause-passes g c =
-    let shared = c.in-Ok-new.queue.shared in
-    all_new (record { table = shared.table_id; start = shared.key.opening.value; lanes = shared.key.lanes }) c.args.lanes c.hand_out.new.passes.items
-    (ap (λ key. key.lanes) c.in-Ok-new.ensures.ok.5) c.hand_out.ensures.len c.hand_out.ensures.each
