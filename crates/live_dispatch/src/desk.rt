@@ -9,6 +9,7 @@ ghost use Rattle.dispatch_report.specs.Round.{entry_text};
 ghost use Rattle.live_dispatch.specs.Desk.{IsDesk, DeskView, HasEntered, IsSameDesk, desk_of, outputs_seen};
 ghost use Rattle.live_dispatch.specs.work.Telling.{TellsClose, WroteLast, is_closed};
 
+use batch_snapshot::Snapshot as Sealed;
 use dispatch_engine::{LockedReply, sealed_by_command};
 use dispatch_report::{ReportFault, write_step};
 use pool_base::{NodeId, OutOfMemory, Sequence};
@@ -17,7 +18,6 @@ use request_book::{Book, Command, Entry, Reply, State};
 use rider_notices::{Notice, Notifier, notices_of_close, tell_all};
 use std::alloc::Global;
 use std::marker::{Brand, Model, PhantomData};
-use batch_snapshot::Snapshot as Sealed;
 
 /// A command with its lane.
 #[derive(Drop)]
