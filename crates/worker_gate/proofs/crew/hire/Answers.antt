@@ -9,9 +9,9 @@ split_seat-hand-requires g c = let p = ap (λ m. m.0.parts) c.loop.invariant.par
 
 pub loop-preserved : goal.loop-preserved
 loop-preserved g c = let e = c.push_reserved.ensures in record {
-      own = search rules;
-      parts = search rules;
-      len = omega (arith, e.len, c.loop.invariant.len);
-      room = e.capacity ∙ c.loop.invariant.room;
-      ready = subst (All (IsReady c.args.claims.now.shared.table_id)) (sym e.items) (All-push (IsReady c.args.claims.now.shared.table_id) _ _ c.loop.invariant.ready (record { own = search rules; fresh = search rules; none_done = c.new.ensures.items; begun = refl }));
-    }
+  own = search rules;
+  parts = search rules;
+  len = omega (arith, e.len, c.loop.invariant.len);
+  room = e.capacity ∙ c.loop.invariant.room;
+  ready = subst (All (IsReady c.args.claims.now.shared.table_id)) (sym e.items) (All-push (IsReady c.args.claims.now.shared.table_id) _ _ c.loop.invariant.ready (record { own = search rules; fresh = search rules; none_done = c.new.ensures.items; begun = refl }));
+}
