@@ -9,7 +9,7 @@
 //! ```
 //! fn out_of_reach(rt: HostRuntime) -> Result<(), Fail> {
 //!     let cells = vec![in rt.alloc(); 0, 60, Times::NEVER, 0]?;
-//!     let times = Times::checked(2, cells)?;
+//!     let times = Times::checked(2, cells).ok().ok_or("a table")?;
 //!     let mut task = vehicle(0, 4);
 //!     let _rider = task.riders.try_push(leg(1, 0, 0));
 //!     let stops = [Stop::Pick(0), Stop::Drop(0)];
