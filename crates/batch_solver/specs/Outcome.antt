@@ -2,9 +2,9 @@
 use Rattle.std.specs.Prelude.{◌≡◌, ℕ, List, map}
 use Rattle.batch_snapshot.specs.Batch.{Batch}
 use Rattle.batch_snapshot.specs.Points.{ArePoints}
-use Rattle.pair_graph.specs.RrGraph.{IsRrGraph}
-use Rattle.pair_graph.specs.RvGraph.{IsRvGraph}
-use Rattle.pair_graph.specs.declared.rv_edge.RvEdge.{RvEdge}
+use Rattle.trip_graph.specs.RrGraph.{IsRrGraph}
+use Rattle.trip_graph.specs.RvGraph.{IsRvGraph}
+use Rattle.trip_graph.specs.declared.rv_edge.RvEdge.{RvEdge}
 use Rattle.plan_rules.specs.Graph.{Graph}
 use Rattle.pool_base.specs.Times.{travel_time}
 use Rattle.pool_base.specs.declared.times.Times.{Times}

@@ -2,7 +2,7 @@
 use Rattle.std.specs.Prelude.{◌≡◌, ℕ, not, List, Option, length, map, filter}
 use Rattle.std.specs.List.{AllZip, range_with_len}
 use Rattle.assignment_search.specs.Found.{ShowsBound, IsClose, IsFair, IsBestNear}
-use Rattle.pair_graph.specs.declared.rv_edge.RvEdge.{RvEdge}
+use Rattle.trip_graph.specs.declared.rv_edge.RvEdge.{RvEdge}
 use Rattle.plan_rules.specs.Graph.{Graph}
 use Rattle.plan_rules.specs.Plan.{IsPlan, IsLawful, cost_of}
 use Rattle.request_book.specs.declared.outcome.Planned.{Planned}

@@ -2,11 +2,11 @@ ghost use Rattle.std.specs.Prelude.{◌≡◌, length};
 ghost use Rattle.pool_base.specs.Times.{point_count};
 
 use batch_snapshot::Points;
-use pair_graph::RvEdge;
 use plan_rules::TripGraph;
 use pool_base::Times;
 use rider_limits::Settings;
 use stop_orders::{PairList, Settled};
+use trip_graph::RvEdge;
 
 /// A batch whose limits are settled: the settings, its nodes with the travel times between them, and its vehicles
 /// and riders.

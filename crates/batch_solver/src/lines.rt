@@ -4,12 +4,12 @@ ghost use Rattle.batch_solver.specs.Told.{rider_id, row_line};
 
 use crate::told::id_of;
 use arrayvec::ArrayVec;
-use pair_graph::RvEdge;
 use plan_rules::TripRow;
 use pool_base::{OutOfMemory, RiderId, VehicleId};
 use request_book::RowLine;
 use std::alloc::Global;
 use stop_orders::Settled;
+use trip_graph::RvEdge;
 
 /// The ids of riders whose promise has lapsed, in the batch's order.
 pub fn lapsed_ids(alloc: Global, settled: &Settled) -> Result<Vec<RiderId>, OutOfMemory>

@@ -24,9 +24,9 @@ pub use Rattle.outcome_check.specs.declared.verdict.Verdict.TheVariants.{Fails, 
 pub use Rattle.outcome_check.specs.work.Moves.{CanPrecede, HaveOwnPlaces, IsWithin, TellsMoves, no_move}
 pub use Rattle.outcome_check.specs.work.Orders.{HasNoOrder, HasOwnIds}
 pub use Rattle.outcome_check.specs.work.Trips.{GivesTrips, IsLeast, TellsPlan, TellsRow}
-pub use Rattle.pair_graph.specs.RrGraph.{IsRrGraph}
-pub use Rattle.pair_graph.specs.RvGraph.{IsRvGraph}
-pub use Rattle.pair_graph.specs.declared.rv_edge.RvEdge.{RvEdge}
+pub use Rattle.trip_graph.specs.RrGraph.{IsRrGraph}
+pub use Rattle.trip_graph.specs.RvGraph.{IsRvGraph}
+pub use Rattle.trip_graph.specs.declared.rv_edge.RvEdge.{RvEdge}
 pub use Rattle.plan_rules.specs.Plan.{IsPlan}
 pub use Rattle.promise_check.proofs.lemmas.Promises.{filter_range_below, filter_range_rises, rising_once}
 pub use Rattle.promise_check.specs.Settling.{IsPlaced, IsSettled}

@@ -8,7 +8,6 @@ ghost use Rattle.stop_orders.specs.Sound.{IsSound};
 use crate::line::{LINE, batch_on, network_of, settings};
 use crate::walking::fast;
 use batch_snapshot::{Points, Snapshot};
-use pair_graph::{rider_rider, rider_vehicle};
 use pool_base::{OutOfMemory, Steps, Times};
 use promise_check::settle;
 use road_network::Network;
@@ -17,7 +16,7 @@ use std::marker::Brand;
 use std::sync::ledger::{Blank, Ledger};
 use std::thread::Threads;
 use stop_orders::{PairList, Settled};
-use trip_growth::{Grown, grow};
+use trip_graph::{Grown, grow, rider_rider, rider_vehicle};
 
 /// How many edges and trips a batch has. There are no trips where there is no room for all of them.
 type Counts = (usize, Option<usize>);

@@ -1,13 +1,10 @@
 -- The names that the proofs of this crate cite from elsewhere, passed on from one place. Declares nothing.
-pub use Rattle.std.proofs.lemmas.Bool.{cases_lt}
-pub use Rattle.std.proofs.lemmas.List.{drop_all, flat_map_more, get_or-append_right, get_or-map, get_or_append_left, get_or_default, get_or_past, get_or_push, length-map, length_push, map-append, take_more}
+pub use Rattle.std.proofs.lemmas.Bool.{cases_lt, cases_order}
+pub use Rattle.std.proofs.lemmas.List.{drop_all, flat_map_more, get_or-append_right, get_or-map, get_or_append_left, get_or_default, get_or_past, get_or_push, length-map, length_push, map-append, map_push, nil_from_length, take_more}
 pub use Rattle.std.proofs.lemmas.List.Concat.{flat_map-cons, get_or-flat_map}
-pub use Rattle.std.proofs.lemmas.List.Elements.{All-append, All-nil}
+pub use Rattle.std.proofs.lemmas.List.Elements.{All-append, All-cons, All-nil, All-push, Contains-append_left, Contains-append_right, Contains-push}
 pub use Rattle.std.proofs.lemmas.List.Sums.{sum_by-cons, sum_by-take-le, sum_by_push}
 pub use Rattle.std.specs.List.{list_any}
-pub use Rattle.pair_graph.specs.RvGraph.{IsRvGraph}
-pub use Rattle.pair_graph.specs.lemmas.Edge.{no_edge}
-pub use Rattle.pair_graph.specs.declared.rv_edge.RvEdge.{RvEdge}
 pub use Rattle.plan_rules.specs.Graph.{Graph, choice_at, has_rider, no_row, riders_at, row_cmp, times_served}
 pub use Rattle.plan_rules.specs.GraphFault.{HoldsRightly}
 pub use Rattle.plan_rules.specs.GoodGraph.{IsGoodGraph}
@@ -15,12 +12,16 @@ pub use Rattle.plan_rules.specs.declared.row.TripRow.{TripRow}
 pub use Rattle.pool_base.specs.Times.{point_count, travel_time}
 pub use Rattle.pool_base.specs.TravelTime.{IsTravelTime}
 pub use Rattle.stop_orders.specs.Laws.{DelaysAreSmall, SubTripsAreServable}
-pub use Rattle.stop_orders.specs.Settled.{CanServe, IsRow, IsTrip, trip_task, vehicle_at}
+pub use Rattle.stop_orders.specs.Settled.{CanServe, IsRow, IsRrEdge, IsTrip, greatest, no_rider, pair_task, rider_at, trip_task, vehicle_at}
 pub use Rattle.stop_orders.specs.lemmas.Named.{IsRvEdge, no_vehicle}
 pub use Rattle.stop_orders.specs.Sound.{IsSound, IsSoundVehicle}
-pub use Rattle.stop_orders.specs.Task.{IsServable}
+pub use Rattle.stop_orders.specs.Task.{IsLeastDelay, IsLeg, IsServable, IsTask, Serves, no_leg}
 pub use Rattle.stop_orders.specs.declared.settled.Settled.{Settled}
 pub use Rattle.stop_orders.specs.declared.settled_vehicle.SettledVehicle.{SettledVehicle}
+pub use Rattle.stop_orders.specs.declared.task.Task.{Task}
+pub use Rattle.trip_graph.specs.RvGraph.{IsRvGraph}
+pub use Rattle.trip_graph.specs.lemmas.Edge.{no_edge, pair_of}
+pub use Rattle.trip_graph.specs.declared.rv_edge.RvEdge.{RvEdge}
 pub use Rattle.trip_graph.specs.Answer.{HasMoreRows, IsRowWith, IsTripGraphOf}
 pub use Rattle.trip_graph.specs.lemmas.Rows.{HoldRows}
 pub use Rattle.trip_graph.specs.work.Edges.{HasOneRider, edges_upto, single_edge}
@@ -29,6 +30,10 @@ pub use Rattle.trip_graph.specs.work.Levels.{AreLevels, AreLevelsUpTo, AreRowsUp
 pub use Rattle.trip_graph.specs.work.Rows.{trip_row, vehicle_rows}
 unfoldable pub use Rattle.trip_graph.specs.work.Runs.{AreNext}
 pub use Rattle.trip_graph.specs.work.Runs.{AreEmpty, AreLevelsOf}
-pub use Rattle.trip_growth.specs.Rows.{AreRowsOfSize, AreSomeRows, HasMoreThan, IsLevelOf}
-pub use Rattle.trip_growth.specs.Trip.{ComesBefore, IsLower, trips_of}
-pub use Rattle.trip_growth.specs.declared.trip_of.TripOf.{TripOf}
+pub use Rattle.trip_graph.specs.Rows.{AreAllRows, AreRowsOfSize, AreSomeRows, HasMoreThan, IsLevelOf, TakesSteps}
+pub use Rattle.trip_graph.specs.Trip.{ComesBefore, IsLower, IsRising, trips_of}
+pub use Rattle.trip_graph.specs.declared.trip_of.TripOf.{TripOf}
+pub use Rattle.trip_graph.specs.work.TripGrowth.{CostsLeast, costs, rider_count, serves, task_of_trip, task_with}
+pub use Rattle.trip_graph.specs.work.Level.{AreRowsWithin, HasMoreOfLevel, HasMoreWithin, IsBelow, IsLevel, IsLevelRow, IsLevelUpTo, IsTripRule}
+pub use Rattle.trip_graph.specs.work.RrGraph.{IsRrGraphUpTo, IsTaskOfFirst}
+pub use Rattle.trip_graph.specs.work.RvGraph.{IsRvGraphUpTo}

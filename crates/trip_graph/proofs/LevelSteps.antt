@@ -3,7 +3,7 @@ use Rattle.std.proofs.Common.{◌≡◌, ℕ, suc, ◌+◌, ◌-◌, ◌<◌, �
 use Rattle.trip_graph.proofs.Common.{cases_lt, length-map, get_or_append_left, get_or_push, get_or-map, get_or_default, All-nil, sum_by_push, IsTravelTime, Settled, SubTripsAreServable, CanServe, IsTrip, IsSound, TripOf, ComesBefore, trips_of, AreSomeRows, AreRowsOfSize, HasMoreThan, IsLevelOf, AreLevelsUpTo, HasMoreOfSize, AreLevels, row_total, level_total, AreLevelsOf, HasMoreRows}
 use native.Mathlib.Numerals.{unary_clauses}
 use Rattle.std.proofs.lemmas.List.{length-append}
-use Rattle.trip_growth.specs.declared.level.Level.{Level}
+use Rattle.trip_graph.specs.declared.level.Level.{Level}
 use Rattle.trip_graph.proofs.MoreRows.{more_rows}
 
 none_before : (a b : List ℕ) → length a ≡ 0 → length b ≡ 0 → ComesBefore a b → ⊥

@@ -6,3 +6,11 @@ pub mod Runs
 pub mod GraphFaults
 pub mod SingleEdges
 pub mod Common
+pub mod lemmas
+pub mod GrownLevels
+pub mod RowGrowth
+pub mod Rule
+pub mod Joined
+pub mod StepBound
+pub mod AllRows
+pub mod PairTasks

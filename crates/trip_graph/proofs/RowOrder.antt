@@ -8,8 +8,8 @@ use Rattle.std.specs.Cmp.{nat_cmp_is}
 use Rattle.std.specs.Cmp.Lexicographic.{slice_cmp}
 use Rattle.std.specs.List.{All}
 use Rattle.std.proofs.lemmas.List.{length-append}
-use Rattle.trip_growth.proofs.lemmas.TripOrder.{lower_irrefl, lower_asym}
-use Rattle.trip_growth.proofs.lemmas.TripSearch.{compared}
+use Rattle.trip_graph.proofs.lemmas.TripOrder.{lower_irrefl, lower_asym}
+use Rattle.trip_graph.proofs.lemmas.TripSearch.{compared}
 
 -- each row stands before all later ones
 abbrev pub AreInOrder : List TripRow → Type 0

@@ -3,9 +3,9 @@ use Rattle.std.proofs.Common.{◌≡◌, ℕ, zero, suc, ◌+◌, ◌<◌, ◌�
 use Rattle.trip_graph.proofs.Common.{cases_lt, length-map, get_or-map, get_or_default, map-append, take_more, RvEdge, IsRvGraph, no_edge, Settled, CanServe, IsRvEdge, TripOf, AreRowsOfSize, ComesBefore, trips_of, HasOneRider, edges_upto, single_edge, AreLevelsUpTo}
 use Rattle.std.specs.List.{All}
 use Rattle.std.proofs.lemmas.List.{append-nil, append_assoc, take_all}
-use Rattle.trip_growth.proofs.lemmas.TripSearch.{one_rider}
-use Rattle.pair_graph.specs.lemmas.Edge.{pair_of}
-use Rattle.pair_graph.proofs.lemmas.Listing.{ListsBefore, lists_none, lists_taken, lists_skipped, lists_next, lists_whole}
+use Rattle.trip_graph.proofs.lemmas.TripSearch.{one_rider}
+use Rattle.trip_graph.specs.lemmas.Edge.{pair_of}
+use Rattle.trip_graph.proofs.lemmas.Listing.{ListsBefore, lists_none, lists_taken, lists_skipped, lists_next, lists_whole}
 
 abbrev no_trip : TripOf
 no_trip = record { riders = record { items = [] }; cost = 0 }

@@ -2,8 +2,8 @@ use Rattle.std.specs.Prelude.{◌≡◌, ℕ, suc, ◌<◌, ◌≤◌, List, All
 use Rattle.std.specs.declared.cmp.Ordering.TheVariants.{Less}
 use Rattle.stop_orders.specs.declared.settled.Settled.{Settled}
 use Rattle.stop_orders.specs.Settled.{CanServe, IsRow, vehicle_at}
-use Rattle.pair_graph.specs.RvGraph.{IsRvGraph}
-use Rattle.pair_graph.specs.RrGraph.{IsRrGraph}
+use Rattle.trip_graph.specs.RvGraph.{IsRvGraph}
+use Rattle.trip_graph.specs.RrGraph.{IsRrGraph}
 use Rattle.plan_rules.specs.declared.row.TripRow.{TripRow}
 use Rattle.plan_rules.specs.Graph.{Graph, no_row, choice_at, row_cmp}
 use Rattle.plan_rules.specs.GoodGraph.{IsGoodGraph}

@@ -3,3 +3,8 @@ pub mod Levels
 pub mod Growth
 pub mod Runs
 pub mod Edges
+pub mod Level
+pub mod TripGrowth
+pub mod Listing
+pub mod RvGraph
+pub mod RrGraph

@@ -5,11 +5,11 @@ ghost use Rattle.trip_graph.specs.Answer.{HasMoreRows};
 
 use crate::batch_growth::BatchGrowth;
 use crate::levels::{first_level, next_level};
+use crate::vehicle_trips::VehicleTrips;
 use crate::workers::Workers;
 use pool_base::{OutOfMemory, Sequence};
 use std::alloc::Global;
 use std::thread::Threads;
-use trip_growth::VehicleTrips;
 use worker_gate::Gate;
 
 /// The rows of all vehicles of each size from 0 to `most`; `None` exactly where they are more than `room`.

@@ -1,4 +1,4 @@
-use pair_graph::RvEdge;
+use crate::rv_edge::RvEdge;
 use plan_rules::TripGraph;
 use pool_base::Sequence;
 use stop_orders::PairList;

@@ -1,10 +1,11 @@
 ghost use Rattle.std.specs.Prelude.{◌≡◌, ◌<◌, ◌++◌, [], All, IfOk, OnOk, length, map, slice_index_or};
 ghost use Rattle.trip_graph.specs.work.Edges.{HasOneRider, edges_upto, single_edge};
 
-use pair_graph::RvEdge;
+use crate::rv_edge::RvEdge;
+use crate::trip_of::TripOf;
+use crate::vehicle_trips::VehicleTrips;
 use pool_base::OutOfMemory;
 use std::alloc::Global;
-use trip_growth::{TripOf, VehicleTrips};
 
 /// The edges between vehicles and riders, from the trips of one rider that each vehicle can serve.
 pub(crate) fn edges_of(alloc: Global, singles: &[VehicleTrips]) -> Result<Vec<RvEdge>, OutOfMemory>

@@ -9,16 +9,16 @@ use crate::all_levels::all_levels;
 use crate::answer::GraphAnswer;
 use crate::batch_growth::BatchGrowth;
 use crate::edges::edges_of;
+use crate::rider_rider_graph::rider_rider;
 use crate::rows::{add_vehicle, held_row};
+use crate::vehicle_trips::VehicleTrips;
 use crate::workers::Workers;
-use pair_graph::rider_rider;
 use plan_rules::{GraphFault, TripGraph, TripRow};
 use pool_base::{OutOfMemory, Sequence, Times};
 use rider_limits::Settings;
 use std::alloc::Global;
 use std::thread::Threads;
 use stop_orders::{Settled, laws};
-use trip_growth::VehicleTrips;
 use worker_gate::Gate;
 
 /// The three graphs of a batch: which vehicle can serve which rider, which two riders could share an empty

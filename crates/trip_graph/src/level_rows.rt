@@ -1,4 +1,4 @@
-use trip_growth::VehicleTrips;
+use crate::vehicle_trips::VehicleTrips;
 
 /// The rows of one size, a list for each vehicle, and how many they are together.
 #[derive(Drop)]

@@ -2,10 +2,11 @@ ghost use Rattle.std.specs.Prelude.{◌<◌, ◌≤◌, length};
 ghost use Rattle.trip_graph.specs.work.Growth.{CanGrowLevel, batch_of, tau_of};
 
 use crate::batch_growth::BatchGrowth;
+use crate::level::Level;
 use crate::pieces::level_piece;
+use crate::vehicle_trips::VehicleTrips;
 use pool_base::OutOfMemory;
 use std::alloc::Global;
-use trip_growth::{Level, VehicleTrips};
 use worker_gate::Job;
 
 /// The growth of some vehicles from the rows of `size` riders to those of one rider more: each vehicle is a
@@ -24,7 +25,7 @@ pub struct LevelRun<'a, 'b> {
 
 impl Job for LevelRun<'_, '_> {
     ghost use Rattle.std.specs.Prelude.{◌<◌, ◌≤◌, ◌+◌, ◌-◌, length, slice_index};
-    ghost use Rattle.trip_growth.specs.Rows.{IsLevelOf};
+    ghost use Rattle.trip_graph.specs.Rows.{IsLevelOf};
     ghost use Rattle.trip_graph.specs.work.Growth.{CanGrowLevel, batch_of, tau_of};
 
     type Out = Level;

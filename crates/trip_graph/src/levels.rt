@@ -4,16 +4,17 @@ ghost use Rattle.trip_graph.specs.work.Levels.{AreLevelsUpTo, HasMoreOfSize, row
 ghost use Rattle.trip_graph.specs.work.Runs.{AreEmpty, AreLevelsOf, AreNext, AreWithin};
 
 use crate::batch_growth::BatchGrowth;
+use crate::level::Level;
 use crate::level_rows::LevelRows;
 use crate::level_run::LevelRun;
 use crate::pieces::empty_piece;
 use crate::run::next_run;
+use crate::vehicle_trips::VehicleTrips;
 use crate::workers::Workers;
 use pool_base::OutOfMemory;
 use std::alloc::Global;
 use std::thread::Threads;
 use stop_orders::laws;
-use trip_growth::{Level, VehicleTrips};
 use worker_gate::Gate;
 
 /// The rows of all vehicles without riders.

@@ -1,13 +1,15 @@
 ghost use Rattle.std.specs.Prelude.{◌≡◌, ℕ, ◌-◌, ◌<◌, ◌≤◌, IfOk, Contains, length};
 ghost use Rattle.trip_graph.specs.work.Growth.{CanGrowBatch, batch_of, tau_of};
-ghost use Rattle.trip_growth.specs.Rows.{AreRowsOfSize, IsLevelOf};
+ghost use Rattle.trip_graph.specs.Rows.{AreRowsOfSize, IsLevelOf};
 
 use crate::batch_growth::BatchGrowth;
+use crate::level::Level;
+use crate::level_growth::{empty_level, grow_level};
+use crate::vehicle_trips::VehicleTrips;
 use pool_base::{OutOfMemory, Steps};
 use std::alloc::Global;
 use std::marker::Brand;
 use std::sync::ledger::{Blank, Ledger};
-use trip_growth::{Level, VehicleTrips, empty_level, grow_level};
 
 /// The rows of one vehicle without riders.
 pub(crate) fn empty_piece(

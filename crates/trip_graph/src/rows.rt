@@ -2,11 +2,12 @@ ghost use Rattle.std.specs.Prelude.{◌≡◌, ℕ, ◌+◌, ◌<◌, ◌≤◌,
 ghost use Rattle.plan_rules.specs.Graph.{no_row};
 ghost use Rattle.trip_graph.specs.work.Rows.{trip_row, vehicle_rows};
 
+use crate::trip_of::TripOf;
+use crate::vehicle_trips::VehicleTrips;
 use arrayvec::ArrayVec;
 use plan_rules::TripRow;
 use pool_base::{OutOfMemory, Sequence};
 use stop_orders::SettledVehicle;
-use trip_growth::{TripOf, VehicleTrips};
 
 /// Puts the rows of one vehicle, size by size, behind those of the vehicles before.
 pub(crate) fn add_vehicle(

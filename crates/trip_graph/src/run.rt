@@ -1,8 +1,8 @@
 ghost use Rattle.std.specs.Prelude.{◌<◌, ◌≤◌, length};
 ghost use Rattle.trip_graph.specs.work.Runs.{AreNext};
 
+use crate::vehicle_trips::VehicleTrips;
 use arrayvec::ArrayVec;
-use trip_growth::VehicleTrips;
 
 /// How many vehicles are grown in one run, with the room that stands at its start.
 pub(crate) const RUN: usize = 32;

@@ -5,10 +5,10 @@ use Rattle.stop_orders.specs.declared.settled.Settled.{Settled}
 use Rattle.stop_orders.specs.PairList.{IsBefore}
 use Rattle.stop_orders.specs.Settled.{IsRrEdge}
 use Rattle.stop_orders.specs.lemmas.Named.{IsRvEdge}
-use Rattle.pair_graph.specs.declared.rv_edge.RvEdge.{RvEdge}
-use Rattle.pair_graph.specs.RvGraph.{IsRvGraph}
-use Rattle.pair_graph.specs.lemmas.Edge.{no_edge, pair_of}
-use Rattle.pair_graph.specs.RrGraph.{IsRrGraph}
+use Rattle.trip_graph.specs.declared.rv_edge.RvEdge.{RvEdge}
+use Rattle.trip_graph.specs.RvGraph.{IsRvGraph}
+use Rattle.trip_graph.specs.lemmas.Edge.{no_edge, pair_of}
+use Rattle.trip_graph.specs.RrGraph.{IsRrGraph}
 use Rattle.batch_laws.proofs.lemmas.SortedLemmas.{IsStrict, in_order, same_members}
 
 pairs_strict : IsStrict IsBefore

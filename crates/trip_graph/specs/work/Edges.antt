@@ -1,6 +1,6 @@
 use Rattle.std.specs.Prelude.{◌≡◌, ℕ, zero, suc, List, [], ◌++◌, length, map, slice_index_or}
-use Rattle.pair_graph.specs.declared.rv_edge.RvEdge.{RvEdge}
-use Rattle.trip_growth.specs.declared.trip_of.TripOf.{TripOf}
+use Rattle.trip_graph.specs.declared.rv_edge.RvEdge.{RvEdge}
+use Rattle.trip_graph.specs.declared.trip_of.TripOf.{TripOf}
 
 abbrev pub HasOneRider : TripOf → Type 0
 HasOneRider row = length row.riders.items ≡ 1

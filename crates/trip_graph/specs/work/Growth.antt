@@ -3,7 +3,7 @@ use Rattle.pool_base.specs.Times.{point_count, travel_time}
 use Rattle.stop_orders.specs.declared.settled.Settled.{Settled}
 use Rattle.stop_orders.specs.Settled.{IsRrEdge}
 use Rattle.stop_orders.specs.Sound.{IsSound}
-use Rattle.trip_growth.specs.declared.trip_of.TripOf.{TripOf}
+use Rattle.trip_graph.specs.declared.trip_of.TripOf.{TripOf}
 use Rattle.trip_graph.specs.declared.batch_growth.BatchGrowth.{BatchGrowth}
 use Rattle.trip_graph.specs.work.Levels.{AreLevelsUpTo}
 

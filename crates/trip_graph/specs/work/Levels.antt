@@ -5,8 +5,8 @@ use Rattle.stop_orders.specs.Settled.{IsTrip, IsRow, trip_task}
 use Rattle.stop_orders.specs.Task.{IsServable}
 use Rattle.plan_rules.specs.declared.row.TripRow.{TripRow}
 use Rattle.plan_rules.specs.Graph.{no_row}
-use Rattle.trip_growth.specs.declared.trip_of.TripOf.{TripOf}
-use Rattle.trip_growth.specs.Rows.{AreSomeRows, AreRowsOfSize}
+use Rattle.trip_graph.specs.declared.trip_of.TripOf.{TripOf}
+use Rattle.trip_graph.specs.Rows.{AreSomeRows, AreRowsOfSize}
 use Rattle.trip_graph.specs.Answer.{IsRowWith}
 
 -- how many rows the lists have together

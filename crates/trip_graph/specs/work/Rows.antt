@@ -1,6 +1,6 @@
 use Rattle.std.specs.Prelude.{ℕ, List, map, slice_index_or, []}
 use Rattle.std.specs.List.{flat_map}
-use Rattle.trip_growth.specs.declared.trip_of.TripOf.{TripOf}
+use Rattle.trip_graph.specs.declared.trip_of.TripOf.{TripOf}
 use Rattle.plan_rules.specs.declared.row.TripRow.{TripRow}
 
 -- a vehicle's trip as a row of the graph

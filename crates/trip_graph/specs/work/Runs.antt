@@ -1,9 +1,9 @@
 -- Runs of vehicles that are grown together.
 use Rattle.std.specs.Prelude.{◌≡◌, ℕ, ◌+◌, ◌<◌, ◌≤◌, List, [], ◌∷◌, length, slice_index, slice_index_or}
 use Rattle.stop_orders.specs.declared.settled.Settled.{Settled}
-use Rattle.trip_growth.specs.declared.level.Level.{Level}
-use Rattle.trip_growth.specs.declared.trip_of.TripOf.{TripOf}
-use Rattle.trip_growth.specs.Rows.{IsLevelOf}
+use Rattle.trip_graph.specs.declared.level.Level.{Level}
+use Rattle.trip_graph.specs.declared.trip_of.TripOf.{TripOf}
+use Rattle.trip_graph.specs.Rows.{IsLevelOf}
 
 -- the lists of the vehicles from one up to another are empty
 abbrev pub AreEmpty : List (List TripOf) → ℕ → ℕ → Type 0

@@ -1,6 +1,6 @@
 use Rattle.std.proofs.Common.{ℕ, get_or, ap, refl}
 use Rattle.batch_solver.proofs.Common.{rider_id, vehicle_at, SettledVehicle}
-use Rattle.pair_graph.specs.declared.rv_edge.RvEdge.{RvEdge}
+use Rattle.trip_graph.specs.declared.rv_edge.RvEdge.{RvEdge}
 use Rattle.batch_solver.proofs.ListLemmas.{map_pushed}
 use Rattle.batch_solver.proofs.lemmas.TripLemmas.{vehicle_read}
 use Rattle.batch_solver.proofs.lines.rv_lines.Goals as goal

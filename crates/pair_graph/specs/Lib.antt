@@ -1,4 +1,0 @@
-pub mod RvGraph
-pub mod RrGraph
-pub mod lemmas
-pub mod work

@@ -1,0 +1,3 @@
+pub mod TripOrder
+pub mod TripSearch
+pub mod Listing

@@ -1,0 +1,23 @@
+use Rattle.std.proofs.Common.{◌-◌}
+use Rattle.trip_graph.proofs.Common.{point_count, travel_time}
+use Rattle.trip_graph.proofs.AllRows.{below_of_rows, more_of_level}
+use Rattle.trip_graph.proofs.Rule.{rule_of, edge_of}
+use Rattle.trip_graph.proofs.level_growth.grow_level.Goals as goal
+
+pub grow_size-requires-clause-can : goal.grow_size-requires-clause-can
+grow_size-requires-clause-can g c =
+    let points = point_count c.args.times.now in let tau = travel_time c.args.times.now in let settled = c.args.settled.now in
+    record {
+      sound = c.requires.sound;
+      vehicle = c.requires.vehicle;
+      rule = rule_of c.sub_trips_are_servable.ensures.servable points tau settled c.args.vehicle c.args.times.now.table.times c.requires.sound c.requires.vehicle;
+      edges = λ a b s. c.requires.pairs a b (edge_of c.pairs_are_edges.ensures points tau settled c.args.vehicle c.args.times.now.table.times c.requires.sound c.requires.vehicle a b s);
+    }
+
+pub grow_size-requires-clause-below : goal.grow_size-requires-clause-below
+grow_size-requires-clause-below g c =
+    rw c.rows.ensures (below_of_rows (travel_time c.args.times.now) c.args.settled.now c.args.vehicle (c.args.level - 1) c.args.below.now c.requires.below)
+
+pub returns-clause-level : goal.returns-clause-level
+returns-clause-level g c =
+    more_of_level (travel_time c.args.times.now) c.args.settled.now c.args.vehicle c.args.level c.args.room (rw c.if-all.false at c.in_ok-all.ensures.answer)

@@ -1,2 +1,0 @@
-pub mod TripOrder
-pub mod TripSearch

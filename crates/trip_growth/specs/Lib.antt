@@ -1,3 +1,0 @@
-pub mod Trip
-pub mod Rows
-pub mod work
