@@ -32,7 +32,7 @@ CHAPTERS = (
     ("The made workload", "What is made of a seed, and what a call of `load` answers: `AnswersLoad`.", "load_maker", "made_inputs", "ridepool/specs/Load"),
     ("The call", "What the program answers, by its command. The headline's clause is `Answers`.", "ridepool"),
     ("The live session", "What is read, answered and written while requests come in, and what a call of `live` answers: `AnswersLive`.",
-     "live_rows", "live_dispatch", "ridepool/specs/Live"),
+     "script_rows/specs/Lines", "script_rows/src/judge", "script_rows/specs/Rows", "script_rows/src/start", "script_rows/specs/Start", "script_rows/src/lines", "live_dispatch", "ridepool/specs/Live"),
 )
 
 

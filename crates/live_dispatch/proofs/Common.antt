@@ -30,7 +30,7 @@ pub use Rattle.live_dispatch.specs.Live.{AreWhole, BeginsRows, ButLast, HasAppen
 pub use Rattle.live_dispatch.specs.declared.fault.LiveFault.{LiveFault}
 pub use Rattle.live_dispatch.specs.work.Rows.{EndsIn, EndsWith, in_lane, last_of, round_numbers, start_text}
 pub use Rattle.live_dispatch.specs.work.Standing.{AppendsSome, Awaits, GivesNext, HasCut, HasEnded, HasRunOn, HasTaken, HaveCome, Moment, Opens, Stands, WritesSome, ended_by, entry_for, moment, of_line, of_report, outputs_of, row_text}
-pub use Rattle.live_rows.specs.Rows.{ComesBehind, TakesRows}
+pub use Rattle.script_rows.specs.Rows.{ComesBehind, TakesRows}
 pub use Rattle.pool_io.specs.Faults.{Rose}
 pub use Rattle.pool_io.specs.Sink.{AppendsPart}
 pub use Rattle.request_book.specs.Book.{BookView, IsBook, next_position}

@@ -14,7 +14,7 @@ use Rattle.dispatch_engine.specs.declared.locked.LockedReply.{LockedReply}
 use Rattle.seat_lock.specs.Values.{PassValue}
 use Rattle.seat_lock.specs.declared.logged.LoggedCall.{LoggedCall}
 use Rattle.script_rows.specs.declared.line.Line.{Line}
-use Rattle.live_rows.specs.Rows.{TakesRows}
+use Rattle.script_rows.specs.Rows.{TakesRows}
 use Rattle.live_dispatch.proofs.lemmas.TakenLemmas.{takes-more}
 
 -- rows were run so far

@@ -18,7 +18,7 @@ use Rattle.script_rows.specs.Line.{IsBehind}
 use Rattle.script_rows.specs.declared.line.Line.{Line}
 use Rattle.live_dispatch.specs.declared.read_on.Halt.{Halt}
 use Rattle.live_dispatch.specs.declared.read_on.Halt.TheVariants as stop
-use Rattle.live_rows.specs.Rows.{TakesRows}
+use Rattle.script_rows.specs.Rows.{TakesRows}
 
 -- a row's command with its lane
 abbrev pub row_command : Line → LaneCommand

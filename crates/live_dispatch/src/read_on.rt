@@ -3,10 +3,9 @@ ghost use Rattle.seat_lock.specs.Values.{IsPassOf};
 ghost use Rattle.live_dispatch.specs.Phase.{FaultsFrom, IsHeldBack, RanRows, TakesRun, commands_in};
 
 use crate::desk::{Desk, LaneCommand, Opening};
-use live_rows::{LineFault, RowSource};
 use pool_io::Sink;
 use rider_notices::Notifier;
-use script_rows::Line;
+use script_rows::{Line, LineFault, RowSource};
 use seat_lock::{Pass, SeatLock};
 use std::alloc::Global;
 use std::sync::Wait;

@@ -6,8 +6,8 @@ use Rattle.dispatch_report.specs.Head.{head_text}
 use Rattle.pool_io.specs.Views.{Change, IsUntouched, SinkView, SourceView}
 use Rattle.fleet_state.specs.declared.fault.FleetFault.{FleetFault}
 use Rattle.live_dispatch.specs.Live.{BeginsRows, RunsRows}
-use Rattle.live_rows.specs.Lines.{lines_in}
-use Rattle.live_rows.specs.Start.{live_rows, HasOtherStart}
+use Rattle.script_rows.specs.Lines.{lines_in}
+use Rattle.script_rows.specs.Start.{live_rows, HasOtherStart}
 use Rattle.pool_base.specs.declared.which.Which.TheVariants as file
 use Rattle.pool_io.specs.Faults.{Rose}
 use Rattle.pool_io.specs.Sink.{AppendsPart}

@@ -3,8 +3,8 @@ use Rattle.std.specs.Prelude.{ℕ, List, [], ◌++◌, codes}
 use Rattle.dispatch_report.specs.Words.{numbered}
 use Rattle.fleet_state.specs.declared.fault.FleetFault.{FleetFault}
 use Rattle.fleet_state.specs.declared.fault.FleetFault.TheVariants as fleet
-use Rattle.live_rows.specs.declared.judge.RowRefusal.{RowRefusal}
-use Rattle.live_rows.specs.declared.judge.RowRefusal.TheVariants as refusal
+use Rattle.script_rows.specs.declared.judge.RowRefusal.{RowRefusal}
+use Rattle.script_rows.specs.declared.judge.RowRefusal.TheVariants as refusal
 use Rattle.pool_base.specs.Which.{file_name}
 use Rattle.pool_base.specs.declared.which.Which.{Which}
 use Rattle.pool_io.specs.declared.input.Input.{Input}

@@ -7,7 +7,6 @@
 mod notices;
 
 use crate::notices::{OpeningSink, SharedFile, is_taken};
-use live_rows::{RefusalListener, RowRefusal};
 use pool_base::OutOfMemory;
 use pool_io::{Source, StdSink, StdSource};
 use ridepool::{
@@ -16,6 +15,7 @@ use ridepool::{
 use rider_limits::{read_words, value_of};
 use rider_notices::Notifier;
 use run_progress::{WatchedGate, WatchedSink};
+use script_rows::{RefusalListener, RowRefusal};
 use std::alloc::Global;
 use std::fs::File;
 use std::io::{IsTerminal, Stderr, Write};

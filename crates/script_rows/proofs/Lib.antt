@@ -3,3 +3,5 @@ pub mod RangeLemmas
 pub mod GroupLemmas
 pub mod ScriptLemmas
 pub mod Common
+pub mod PieceLemmas
+pub mod RowLemmas

@@ -4,3 +4,6 @@ pub mod Round
 pub mod Script
 pub mod lemmas
 pub mod work
+pub mod Lines
+pub mod Rows
+pub mod Start

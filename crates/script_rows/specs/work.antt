@@ -1,3 +1,5 @@
 pub mod Row
 pub mod Building
 pub mod Words
+pub mod Pieces
+pub mod Steps

@@ -3,6 +3,10 @@
 //! Rows are judged in their order, and each fault is named with its row and column. A round holds the
 //! rows of one number; each of its lanes holds its rows in order.
 //!
+//! A script that is written while it is read gives its rows one by one. A line ends with a line feed or a
+//! carriage return, and is handed out without waiting for what follows. Each is read as the one row of a
+//! script. An accepted row is handed on; a refused one is told to whoever listens, and skipped.
+//!
 //! A caller:
 //!
 //! ```
@@ -22,21 +26,30 @@
 //! }
 //! ```
 //!
-//! Main clauses: `read_script`: `accepted`, `refused`; `read_row`.
+//! Main clauses: `read_script`: `accepted`, `refused`; `read_row`; `RowSource::next`: `row`, `behind`, `fault`;
+//! `read_start`: `started`, `other`, `fault`; `LineStream::next_line`: `line`.
 #![tactic(auto)]
 
 mod fault;
 mod fields;
+mod judge;
 mod line;
+mod lines;
 mod reading;
 mod round;
+mod rows;
 mod script;
+mod start;
 mod version;
 mod word;
 
 pub use fault::ScriptFault;
+pub use judge::{Judged, RowRefusal};
 pub use line::Line;
+pub use lines::{LineFault, LineStream};
 pub use reading::{read_row, read_script};
 pub use round::Round;
+pub use rows::{LiveRows, RefusalListener, RowSource};
 pub use script::Script;
+pub use start::{StartFault, read_start};
 pub use version::ScriptVersion;

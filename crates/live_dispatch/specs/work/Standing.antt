@@ -11,9 +11,9 @@ use Rattle.dispatch_report.specs.declared.fault.ReportFault.TheVariants as repor
 use Rattle.live_dispatch.specs.Phase.{HasRunOpen, desk_after}
 use Rattle.live_dispatch.specs.declared.read_on.Halt.{Halt}
 use Rattle.live_dispatch.specs.Desk.{desk_of, Outputs}
-use Rattle.live_rows.specs.Rows.{GivesRow, TakesRows}
-use Rattle.live_rows.specs.declared.lines.LineFault.{LineFault}
-use Rattle.live_rows.specs.declared.lines.LineFault.TheVariants as line
+use Rattle.script_rows.specs.Rows.{GivesRow, TakesRows}
+use Rattle.script_rows.specs.declared.lines.LineFault.{LineFault}
+use Rattle.script_rows.specs.declared.lines.LineFault.TheVariants as line
 use Rattle.pool_io.specs.Faults.{Rose}
 use Rattle.request_book.specs.Book.{BookView, IsApplied, next_position}
 use Rattle.request_book.specs.Step.{step}

@@ -1,4 +1,0 @@
-pub mod Lines
-pub mod Rows
-pub mod Start
-pub mod work
