@@ -29,7 +29,7 @@ CHAPTERS = (
     ("The day", "What vehicles do that follow their plans, and what a call of `drive` answers: `AnswersDrive`.", "route_drive", "ridepool/specs/Drive"),
     ("The audit", "How a report is read back, what is wrong with one, and what a call of `audit` answers: `AnswersAudit`.",
      "dispatch_engine/specs/Progress", "dispatch_engine/src/stand", "report_lines", "report_audit", "ridepool/specs/Audit"),
-    ("The made workload", "What is made of a seed, and what a call of `load` answers: `AnswersLoad`.", "load_maker", "made_inputs", "ridepool/specs/Load"),
+    ("The made workload", "What is made of a seed, and what a call of `load` answers: `AnswersLoad`.", "made_inputs", "ridepool/specs/Load"),
     ("The call", "What the program answers, by its command. The headline's clause is `Answers`.", "ridepool"),
     ("The live session", "What is read, answered and written while requests come in, and what a call of `live` answers: `AnswersLive`.",
      "script_rows/specs/Lines", "script_rows/src/judge", "script_rows/specs/Rows", "script_rows/src/start", "script_rows/specs/Start", "script_rows/src/lines", "live_dispatch", "ridepool/specs/Live"),

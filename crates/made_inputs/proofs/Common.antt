@@ -5,18 +5,20 @@ pub use Rattle.std.proofs.lemmas.List.Folds.{list_any-append, list_any_none}
 pub use Rattle.std.proofs.lemmas.Nat.{mod_below}
 pub use Rattle.std.specs.List.{list_any, position_from}
 pub use Rattle.std.specs.Option.{option_or}
+pub use Rattle.std.proofs.lemmas.Result.{on_ok_weaker}
 unfoldable pub use Rattle.csv.specs.Machine.{next_record}
 unfoldable pub use Rattle.csv.specs.Reading.{records_from, strip_bom}
 pub use Rattle.csv.specs.Reading.{default_config, records}
-unfoldable pub use Rattle.load_maker.specs.Part.{draw}
-pub use Rattle.load_maker.specs.Part.{Part, both, each, plain}
-pub use Rattle.load_maker.specs.Row.{csv_line, field_text}
-pub use Rattle.load_maker.specs.lemmas.Parts.{text_under, csv_lines, draws_of, nothing, other_than, seal_row}
-unfoldable pub use Rattle.load_maker.specs.Texts.{arcs_between, batch_rows, drawn_node, report_row, submit_row, texts_of, vehicle_row}
-pub use Rattle.load_maker.specs.Texts.{Texts, node_id}
-pub use Rattle.load_maker.specs.declared.row.Field.{Field}
-unfoldable pub use Rattle.load_maker.specs.lemmas.Parts.{all_reports, arcs_down, arcs_of_row, arcs_right, fleet_part, network_part, reports, script_part, submits}
+unfoldable pub use Rattle.made_inputs.specs.Part.{draw}
+pub use Rattle.made_inputs.specs.Part.{Part, both, each, plain}
+pub use Rattle.made_inputs.specs.Row.{csv_line, field_text}
+pub use Rattle.made_inputs.specs.lemmas.Parts.{csv_lines, draws_of, nothing, other_than, seal_row, text_under}
+unfoldable pub use Rattle.made_inputs.specs.Texts.{arcs_between, batch_rows, drawn_node, report_row, submit_row, texts_of, vehicle_row}
+pub use Rattle.made_inputs.specs.Texts.{Texts, node_id}
+pub use Rattle.made_inputs.specs.declared.row.Field.{Field}
+unfoldable pub use Rattle.made_inputs.specs.lemmas.Parts.{all_reports, arcs_down, arcs_of_row, arcs_right, fleet_part, network_part, reports, script_part, submits}
 pub use Rattle.made_inputs.specs.Accepted.{AreReadable, IsNetworkText, IsScriptText}
+pub use Rattle.made_inputs.specs.work.Written.{Writes}
 pub use Rattle.pool_base.proofs.lemmas.DistinctLemmas.{any-distinct, length-distinct}
 pub use Rattle.pool_base.proofs.lemmas.InOrderLemmas.{all_or_first-all, all_or_first-ok, first_fault-all}
 pub use Rattle.pool_base.specs.Header.{fleet_header, network_header, script_header}

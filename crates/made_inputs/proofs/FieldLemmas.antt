@@ -9,7 +9,7 @@ use Rattle.csv.proofs.RoundTrip.{read-write-many}
 use Rattle.pool_base.specs.Number.{IsDigit, AllDigits, IsNumeralOf}
 use Rattle.pool_base.specs.lemmas.Number.{value_after}
 use Rattle.pool_base.proofs.lemmas.NumeralLemmas.{is_numeral-digits, number_up_to-given}
-use Rattle.load_maker.specs.declared.row.Field.TheVariants.{Number}
+use Rattle.made_inputs.specs.declared.row.Field.TheVariants.{Number}
 use Rattle.csv.specs.declared.parser.State.TheVariants as st
 
 -- numerals are read as std reads them

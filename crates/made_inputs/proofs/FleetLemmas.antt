@@ -16,7 +16,7 @@ use Rattle.made_inputs.proofs.TextLemmas.{fields_of, RowsFit}
 use Rattle.made_inputs.proofs.PartLemmas.{Step, Lead, Lead-fit, IsPart, IsPart-each}
 use Rattle.made_inputs.proofs.NetworkLemmas.{network_rows}
 use Rattle.made_inputs.proofs.NodeLemmas.{node_known}
-use Rattle.load_maker.specs.declared.row.Field.TheVariants as field
+use Rattle.made_inputs.specs.declared.row.Field.TheVariants as field
 
 -- a row of a vehicle of four seats at one of these nodes
 pub record IsVehicle (nodes : List ℕ) (id : ℕ) (row : List Field) : Type 0 where

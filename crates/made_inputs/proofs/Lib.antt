@@ -8,3 +8,5 @@ pub mod ScriptLemmas
 pub mod ShapeLemmas
 pub mod ReadLemmas
 pub mod Common
+pub mod WrittenLemmas
+pub mod RowTextLemmas

@@ -9,7 +9,7 @@ use Rattle.road_network.specs.declared.fault.NetworkFault.TheVariants.{TooManyNo
 use Rattle.made_inputs.proofs.FieldLemmas.{AllFit, number_up_to-decimal}
 use Rattle.made_inputs.proofs.TextLemmas.{fields_of, RowsFit}
 use Rattle.made_inputs.proofs.PartLemmas.{Step, Lead, Lead-fit, IsPart, IsPart-nothing, IsPart-both, IsPart-each, IsPart-cond}
-use Rattle.load_maker.specs.declared.row.Field.TheVariants as field
+use Rattle.made_inputs.specs.declared.row.Field.TheVariants as field
 
 -- a row of an arc: two names of nodes, and its seconds
 pub record IsArc (row : List Field) : Type 0 where

@@ -8,7 +8,7 @@ use Rattle.std.proofs.Math.Nat.{div-lt_iff_lt-mul}
 use Rattle.made_inputs.proofs.FieldLemmas.{number_up_to-decimal}
 use Rattle.made_inputs.proofs.TextLemmas.{fields_of}
 use Rattle.made_inputs.proofs.NetworkLemmas.{network_rows, node_small}
-use Rattle.load_maker.specs.declared.row.Field.TheVariants as field
+use Rattle.made_inputs.specs.declared.row.Field.TheVariants as field
 
 -- whether a row's arc starts at a node
 abbrev pub starts_at : ℕ → List Field → Bool

@@ -16,7 +16,7 @@ use Rattle.made_inputs.proofs.TextLemmas.{fields_of, RowsFit}
 use Rattle.made_inputs.proofs.PartLemmas.{Step, Lead, Lead-fit, IsPart, IsPart-nothing, IsPart-both, IsPart-each, IsPart-cond}
 use Rattle.made_inputs.proofs.FleetLemmas.{drawn_small}
 use Rattle.request_book.specs.declared.command.Command.TheVariants as command
-use Rattle.load_maker.specs.declared.row.Field.TheVariants as field
+use Rattle.made_inputs.specs.declared.row.Field.TheVariants as field
 
 -- the row of a command of this round, which is accepted behind a row of this round or an earlier one
 pub record IsLine (round : ℕ) (row : List Field) : Type 0 where

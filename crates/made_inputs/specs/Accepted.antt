@@ -7,7 +7,7 @@ use Rattle.fleet_state.specs.Fleet.{IsFleetOf}
 use Rattle.script_rows.specs.declared.version.ScriptVersion.TheVariants.{One}
 use Rattle.script_rows.specs.Round.{NumberedLanes}
 use Rattle.script_rows.specs.Script.{script_of}
-use Rattle.load_maker.specs.Texts.{Texts}
+use Rattle.made_inputs.specs.Texts.{Texts}
 use Rattle.pool_base.specs.Header.{script_header, fleet_header, network_header}
 
 -- a text that is read as this network: its rows, and what they give

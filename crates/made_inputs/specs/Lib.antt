@@ -1,2 +1,6 @@
 pub mod Accepted
 pub mod work
+pub mod Row
+pub mod Part
+pub mod Texts
+pub mod lemmas

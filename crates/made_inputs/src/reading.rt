@@ -1,14 +1,14 @@
 ghost use Rattle.std.specs.Prelude.{◌≡◌, length, All, Ok, IfOk};
-ghost use Rattle.load_maker.specs.Texts.{texts_of};
+ghost use Rattle.made_inputs.specs.Texts.{texts_of};
 ghost use Rattle.made_inputs.specs.Accepted.{AreRead, IsNetworkText, IsFleetText, IsScriptText};
 ghost use Rattle.made_inputs.specs.work.Some.{AreSomeRounds, IsSomeFleet, IsSomeNetwork, IsSomeTable};
 ghost use Rattle.pool_io.specs.Table.{table_of};
 ghost use Rattle.pool_io.specs.lemmas.Records.{header_fields};
 ghost use Rattle.request_book.specs.Consistent.{IsNode};
 
+use crate::made::make;
 use batch_snapshot::Fleet;
 use fleet_state::{FleetFault, read_fleet};
-use load_maker::make;
 use pool_base::OutOfMemory;
 use pool_io::{RowFault, Rows, rows};
 use rider_limits::LoadShape;

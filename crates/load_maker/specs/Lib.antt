@@ -1,5 +1,0 @@
-pub mod Row
-pub mod Part
-pub mod Texts
-pub mod lemmas
-pub mod work
