@@ -7,9 +7,8 @@ use crate::instance::Instance;
 use crate::told::tell_stops;
 use pool_base::OutOfMemory;
 use request_book::LateVehicle;
-use small_routing::least_delay_unlimited;
 use std::alloc::Global;
-use stop_orders::task_of;
+use stop_orders::{least_delay_unlimited, task_of};
 
 /// The vehicles whose passengers can't all be dropped in time, each with an order of least delay.
 pub(crate) fn late_lines(

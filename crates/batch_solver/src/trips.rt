@@ -9,11 +9,10 @@ use crate::instance::Graphs;
 use crate::told::tell_stops;
 use pool_base::{OutOfMemory, Steps};
 use request_book::ChosenTrip;
-use small_routing::{Workspace, least_delay_with};
 use std::alloc::Global;
 use std::marker::Brand;
 use std::sync::ledger::{Blank, Ledger};
-use stop_orders::task_of;
+use stop_orders::{Workspace, least_delay_with, task_of};
 
 /// The trip that the plan gives each vehicle that isn't late, with an order of stops of least delay.
 pub(crate) fn chosen_trips(

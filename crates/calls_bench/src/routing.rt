@@ -9,13 +9,12 @@ use crate::fault::Fault;
 use pool_base::{OutOfMemory, Steps, Times, read_number_up_to};
 use rand_xoshiro::SplitMix64;
 use rand_xoshiro::rand_core::SeedableRng;
-use small_routing::{Route, Workspace, least_delay_with};
 use std::alloc::Global;
 use std::env;
 use std::marker::Brand;
 use std::sync::ledger::{Blank, Ledger};
 use std::time::Instant;
-use stop_orders::{Task, is_valid};
+use stop_orders::{Route, Task, Workspace, is_valid, least_delay_with};
 
 const MOST_TASKS: u64 = 100_000;
 

@@ -12,9 +12,8 @@ use crate::orders::told_order;
 use batch_solver::Instance;
 use pool_base::OutOfMemory;
 use request_book::{LateVehicle, PlannedStop};
-use small_routing::least_delay_unlimited;
 use std::alloc::Global;
-use stop_orders::{Task, delay_of, task_of};
+use stop_orders::{Task, delay_of, least_delay_unlimited, task_of};
 
 /// Whether these are the late vehicles, each with an order of its passengers of least delay.
 pub(crate) fn are_late(

@@ -3,11 +3,10 @@ ghost use Rattle.pool_base.specs.Times.{point_count, travel_time};
 ghost use Rattle.stop_orders.specs.Task.{IsTask, IsServable};
 
 use pool_base::{OutOfMemory, Steps, Times};
-use small_routing::least_delay;
 use std::alloc::Global;
 use std::marker::Brand;
 use std::sync::ledger::{Blank, Ledger};
-use stop_orders::Task;
+use stop_orders::{Task, least_delay};
 
 /// Whether some order serves the task.
 pub(crate) fn can_serve(alloc: Global, task: &Task, times: &Times) -> Result<bool, OutOfMemory>

@@ -5,15 +5,14 @@ ghost use Rattle.stop_orders.specs.Task.{IsTask};
 
 use arrayvec::ArrayVec;
 use pool_base::{OutOfMemory, Party, Steps, Times};
-use small_routing::{Workspace, least_delay_with};
 use std::alloc::Global;
 use std::marker::Brand;
 use std::process::Abort;
 use std::sync::ledger::{Blank, Ledger};
 use std::test::Fail;
 use stop_orders::{
-    Leg, Route, Stop, Task, delay_of, is_order, is_valid, least_over_all_orders, serves,
-    stop_second,
+    Leg, Route, Stop, Task, Workspace, delay_of, is_order, is_valid, least_delay_with,
+    least_over_all_orders, serves, stop_second,
 };
 
 /// A person who may be late by any number of seconds that matters.

@@ -2,9 +2,10 @@
 pub use Rattle.std.proofs.lemmas.Bool.{both_ways, cases_Bool, cases_eq, cases_lt, cond-false, cond-true, false≢true, not_from_false, not_from_true}
 pub use Rattle.std.proofs.lemmas.List.{drop-map, drop_more, get_or-map, get_or_default, length-map, map-append, nil_from_length, take-map}
 pub use Rattle.std.proofs.lemmas.List.Edits.{get_or-remove_above, get_or-remove_below, length-remove}
-pub use Rattle.std.proofs.lemmas.List.Elements.{All-append, All-drop, All-from_recursion, All-more, All-take}
+pub use Rattle.std.proofs.lemmas.List.Elements.{All-append, All-cons, All-contains, All-drop, All-from_recursion, All-map, All-more, All-push, All-take, All-weaker, Contains-append_right}
 pub use Rattle.std.proofs.lemmas.Nat.Bits.{bit_at-lt, bit_at-pow_other, bit_at-pow_same, bit_at-zero, bit_at_or, shr_and_one}
 pub use Rattle.std.specs.List.{AllByRecursion}
+pub use Rattle.std.proofs.lemmas.List.Sorted.{All-permutation, Contains-permutation, IsPermutation-insert, IsPermutation-map, length_permutation}
 pub use Rattle.pool_base.specs.Times.{point_count, travel_time}
 pub use Rattle.pool_base.specs.TravelTime.{IsTravelTime, longest, never}
 unfoldable pub use Rattle.stop_orders.specs.Done.{has, with_bit}
@@ -28,3 +29,12 @@ pub use Rattle.stop_orders.specs.lemmas.Rest.{Completes, left_of_passenger, left
 pub use Rattle.stop_orders.specs.work.Plain.{AllTried}
 pub use Rattle.stop_orders.specs.work.Position.{CanVisitFrom, ServesAt, first_position, position_after}
 pub use Rattle.stop_orders.specs.work.Rest.{stop_with}
+pub use Rattle.stop_orders.specs.declared.candidate.Candidate.{Candidate}
+pub use Rattle.stop_orders.specs.declared.label.Label.{Label}
+pub use Rattle.stop_orders.specs.work.Ahead.{CanStill, PassengerCan, RiderCan, late_at_once, least_ahead, passenger_late, rider_late}
+pub use Rattle.stop_orders.specs.work.Cost.{IsCostFound, IsNextOf, IsOnlyStop, IsPersonTried, Priced, route_of}
+pub use Rattle.stop_orders.specs.work.Kept.{IsDominated, IsLabelPlaced, labels_of, no_label}
+pub use Rattle.stop_orders.specs.work.Label.{CanVisit, GoesOn, IsRoutable, IsRoutableLeg, IsSmallLabel, first_label, label_at, next_label, rest_delay, second_at, task_passengers, task_riders}
+pub use Rattle.stop_orders.specs.work.Search.{AddsStop, AreCandidates, IsCandidate, IsExhausted, IsLabelDone, IsTried, LeadsTo, Searched}
+pub use Rattle.stop_orders.specs.work.Unlimited.{without_latest, without_limits}
+pub use Rattle.stop_orders.specs.declared.leg.Leg.{Leg}

@@ -2,3 +2,9 @@ pub mod Rest
 pub mod Plain
 pub mod Position
 pub mod PairList
+pub mod Label
+pub mod Ahead
+pub mod Kept
+pub mod Search
+pub mod Unlimited
+pub mod Cost

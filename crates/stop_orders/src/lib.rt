@@ -4,6 +4,10 @@
 //! of its stops, its delay, the trips that a vehicle can serve, and the edges between riders and vehicles.
 //! The calls decide them exactly, and the laws say that whoever is left out of a serving order leaves one.
 //!
+//! A search through labels finds the least delay over all orders: what it finds serves and has that delay, no
+//! serving order has less, and none is found only where no order serves. A label says what was done, where
+//! the vehicle is, since when, and with how much delay.
+//!
 //! A caller, from the tests of `single_calls`:
 //!
 //! ```
@@ -24,17 +28,25 @@
 //! }
 //! ```
 //!
-//! Main clauses: `serves`; `delay_of`. README.md quotes them.
+//! Main clauses: `serves`; `delay_of`; `least_delay`: `serves`, `delay`, `least`, `none`, `step`.
+//! README.md quotes them.
 #![tactic(auto)]
 
+mod ahead;
+mod candidate;
+mod cost;
 mod done;
+mod kept;
+mod label;
 pub mod laws;
+mod least;
 mod leg;
 mod order;
 mod pair_list;
 mod plain;
 mod position;
 mod route;
+mod search;
 mod serving;
 mod settled;
 mod settled_rider;
@@ -42,10 +54,14 @@ mod settled_vehicle;
 mod stop;
 mod task;
 mod trip;
+mod unlimited;
 mod validity;
 mod visit;
 
+pub use cost::least_cost_with;
 pub use done::Done;
+pub use kept::Workspace;
+pub use least::{least_delay, least_delay_with};
 pub use leg::Leg;
 pub use order::is_order;
 pub use pair_list::PairList;
@@ -59,5 +75,6 @@ pub use settled_vehicle::SettledVehicle;
 pub use stop::Stop;
 pub use task::Task;
 pub use trip::task_of;
+pub use unlimited::least_delay_unlimited;
 pub use validity::is_valid;
 pub use visit::Visit;

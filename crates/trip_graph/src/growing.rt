@@ -1,5 +1,5 @@
 use crate::trip_of::TripOf;
-use small_routing::Workspace;
+use stop_orders::Workspace;
 
 /// What changes while a vehicle's rows of one size are grown.
 #[derive(Drop)]

@@ -12,10 +12,9 @@ use crate::trip_of::TripOf;
 use crate::vehicle_trips::VehicleTrips;
 use arrayvec::ArrayVec;
 use pool_base::{OutOfMemory, Steps, Times};
-use small_routing::{Workspace, least_cost_with};
 use std::alloc::Global;
 use std::sync::ledger::Ledger;
-use stop_orders::{PairList, Settled, laws, task_of};
+use stop_orders::{PairList, Settled, Workspace, laws, least_cost_with, task_of};
 
 /// The vehicle's rows of size 0: the empty trip, or nothing where no order serves the passengers in time.
 ///

@@ -8,11 +8,10 @@ ghost use Rattle.trip_graph.specs.work.RrGraph.{IsRrGraphUpTo, IsTaskOfFirst, Is
 
 use arrayvec::ArrayVec;
 use pool_base::{OutOfMemory, Steps, Times};
-use small_routing::{Workspace, least_cost_with};
 use std::alloc::Global;
 use std::marker::Brand;
 use std::sync::ledger::{Blank, Ledger};
-use stop_orders::{PairList, Settled, Task};
+use stop_orders::{PairList, Settled, Task, Workspace, least_cost_with};
 
 /// The edges between riders: exactly the pairs, the first below the second, that an empty vehicle serves
 /// which is ready at the batch's second at the origin of one of the two, with the most seats of the fleet;

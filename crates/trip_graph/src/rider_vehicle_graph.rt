@@ -7,11 +7,10 @@ ghost use Rattle.trip_graph.specs.work.RvGraph.{IsRvGraphUpTo};
 
 use crate::rv_edge::RvEdge;
 use pool_base::{OutOfMemory, Steps, Times};
-use small_routing::{Workspace, least_cost_with};
 use std::alloc::Global;
 use std::marker::Brand;
 use std::sync::ledger::{Blank, Ledger};
-use stop_orders::{Settled, task_of};
+use stop_orders::{Settled, Workspace, least_cost_with, task_of};
 
 /// The edges between vehicles and riders: exactly those where some order of the vehicle serves the rider
 /// alone, by vehicle, then rider.

@@ -4,9 +4,8 @@ ghost use Rattle.stop_orders.specs.Task.{IsTask, IsServable, IsLeastDelay};
 ghost use Rattle.trip_graph.specs.work.TripGrowth.{task_with};
 
 use pool_base::{OutOfMemory, Steps, Times};
-use small_routing::{Workspace, least_cost_with};
 use std::sync::ledger::Ledger;
-use stop_orders::{Leg, Task};
+use stop_orders::{Leg, Task, Workspace, least_cost_with};
 
 /// The least delay of an order that serves the task with one more rider; `None` where no order serves it. It is one
 /// search, in the room of earlier ones. The task stays as it was, so that no copy of it is made for each rider who is

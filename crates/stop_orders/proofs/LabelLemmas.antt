@@ -1,0 +1,46 @@
+use Rattle.std.proofs.Common.{◌≡◌, ℕ, ◌+◌, ◌<◌, ◌≤◌, List, [], ◌∷◌, ◌++◌, length, ap, arith, rules}
+use Rattle.stop_orders.proofs.Common.{IsTravelTime, Task, Stop, Pick, Drop, Alight, IsKnown, place_of, no_leg, IsTask, visit_at, free_seats, IsNextStop, left_count, Label, IsRoutable, task_riders, task_passengers, first_label, second_at, CanVisit, next_label, IsSmallLabel, LeadsTo}
+use Rattle.stop_orders.proofs.lemmas.DoneLemmas.{left_count-most}
+use Rattle.stop_orders.proofs.lemmas.PlainLemmas.{MakesOrders-next, MakesOrders-none, append_one}
+
+-- a valid task can be searched
+pub routable : (points : ℕ) (task : Task) → IsTask points task → IsRoutable points task
+routable points task valid = search rules
+
+-- who may come next is known
+pub known_next : (riders passengers done : ℕ) (s : Stop) → IsNextStop riders passengers done s → IsKnown riders passengers s
+known_next riders passengers done (Pick i) next = next.0
+known_next riders passengers done _ next = next.0
+
+module _ (points : ℕ) (tau : ℕ → ℕ → ℕ) (t : IsTravelTime points tau) (task : Task) (valid : IsRoutable points task) where
+  place_in : (s : Stop) → IsKnown (task_riders task) (task_passengers task) s → place_of (visit_at task s) < points
+  place_in (Pick i) h = (valid.riders i no_leg h).origin
+  place_in (Drop i) h = (valid.riders i no_leg h).destination
+  place_in (Alight j) h = (valid.passengers j no_leg h).destination
+
+  -- a stop is reached at a small second
+  pub second_most : (label : Label) (s : Stop) (second : ℕ) → label.free ≤ 30000000000 → CanVisit tau task label s → second ≡ second_at tau task label s → second ≤ 40000000000
+  second_most label s second small can is = omega (arith, is, t.range label.place (place_of (visit_at task s)) can.0, small)
+
+  -- the numbers stay small
+  pub small_next : (label : Label) (s : Stop) (left less : ℕ) → IsSmallLabel points left label → less + 1 ≤ left → IsNextStop (task_riders task) (task_passengers task) label.done s → CanVisit tau task label s
+      → IsSmallLabel points less (next_label tau task label s)
+  small_next label s left less small fall next can = search rules
+
+  -- one more stop leads to the next label
+  pub leads_next : (label : Label) (path : List Stop) (s : Stop) → LeadsTo tau task path label → IsNextStop (task_riders task) (task_passengers task) label.done s → CanVisit tau task label s
+      → LeadsTo tau task (path ++ s ∷ []) (next_label tau task label s)
+  leads_next label path s leads next can = search (rules, MakesOrders-next, append_one)
+
+  -- the first label
+  pub small_first : (done room : ℕ) → done ≡ 0 → room ≡ free_seats task → IsSmallLabel points (left_count (task_riders task) (task_passengers task) done) (record { done = done; place = task.start; free = task.ready; room = room; delay = 0 })
+  small_first done room e f = search (rules, left_count-most)
+
+  pub left_first : (done : ℕ) (path : List Stop) → path ≡ [] → length path + left_count (task_riders task) (task_passengers task) done ≤ 22
+  left_first done path e = omega (arith, left_count-most (task_riders task) (task_passengers task) done, ap length e, valid.rider_count, valid.passenger_count)
+
+  leads_from_none : LeadsTo tau task [] (first_label task)
+  leads_from_none = search (rules, MakesOrders-none)
+
+  pub leads_first : (done room : ℕ) (path : List Stop) → done ≡ 0 → room ≡ free_seats task → path ≡ [] → LeadsTo tau task path (record { done = done; place = task.start; free = task.ready; room = room; delay = 0 })
+  leads_first done room path e f p = search (rules, leads_from_none)

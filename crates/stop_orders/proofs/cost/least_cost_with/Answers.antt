@@ -1,0 +1,31 @@
+use Rattle.std.proofs.Common.{subst, sym, refl}
+use Rattle.stop_orders.proofs.Common.{point_count, travel_time, left_count, free_seats, task_riders, task_passengers, IsSmallLabel, labels_of}
+use Rattle.stop_orders.proofs.LabelLemmas.{routable, small_first}
+use Rattle.stop_orders.proofs.CostLemmas.{never_first, priced_least, priced_none}
+use Rattle.stop_orders.proofs.cost.least_cost_with.Goals as goal
+
+pub returns-in_default-clause-none : goal.returns-in_default-clause-none
+returns-in_default-clause-none g c =
+    let points = point_count c.args.times.now in
+    let valid = routable points c.args.task.now c.requires.valid in
+    never_first points (travel_time c.args.times.now) c.args.times.now.table.times c.args.task.now valid c.first_label_of-label.result c.first_label_of-label.ensures c.in_default.ensures.none
+
+pub try_costs-requires-clause-small : goal.try_costs-requires-clause-small
+try_costs-requires-clause-small g c =
+    let points = point_count c.args.times.now in
+    let task = c.args.task.now in
+    let valid = routable points task c.requires.valid in
+    subst (λ l. IsSmallLabel points (left_count (task_riders task) (task_passengers task) l.done) l) (sym c.first_label_of-label.ensures)
+    (small_first points (travel_time c.args.times.now) c.args.times.now.table.times task valid 0 (free_seats task) refl refl)
+
+pub returns-clause-least : goal.returns-clause-least
+returns-clause-least g c =
+    let points = point_count c.args.times.now in
+    let valid = routable points c.args.task.now c.requires.valid in
+    priced_least points (travel_time c.args.times.now) c.args.times.now.table.times c.args.task.now valid c.first_label_of-label.result c.try_costs.new.best (labels_of c.try_costs.new.kept) c.first_label_of-label.ensures c.in_ok-try_costs.ensures
+
+pub returns-clause-none : goal.returns-clause-none
+returns-clause-none g c =
+    let points = point_count c.args.times.now in
+    let valid = routable points c.args.task.now c.requires.valid in
+    priced_none points (travel_time c.args.times.now) c.args.times.now.table.times c.args.task.now valid c.first_label_of-label.result c.try_costs.new.best (labels_of c.try_costs.new.kept) c.first_label_of-label.ensures c.in_ok-try_costs.ensures
