@@ -1,1 +1,5 @@
 pub mod WalkLemmas
+pub mod FaultLemmas
+pub mod ChoiceLemmas
+pub mod NodeLemmas
+pub mod LimitLemmas
