@@ -9,7 +9,7 @@ CHAPTERS = (
      "rider_limits/src/settings", "rider_limits/src/load_shape", "rider_limits/specs/Range", "rider_limits/specs/lemmas/Range",
      "batch_snapshot", "promise_check"),
     ("The trip graph", "Which vehicle can serve which riders, and at what delay.",
-     "plan_rules/src/row", "plan_rules/specs/Sums", "plan_rules/specs/Graph", "plan_rules/specs/Plan", "plan_rules/specs/GoodGraph", "trip_graph", "batch_laws"),
+     "plan_rules/src/row", "plan_rules/specs/Sums", "plan_rules/specs/Graph", "plan_rules/specs/Plan", "plan_rules/specs/GoodGraph", "trip_graph"),
     ("Plans", "Which trip each vehicle takes, whether that is lawful, and what it costs.",
      "plan_rules/specs/Greedy", "row_tables"),
     ("Bounds", "What no plan can cost less than, and the tree that shows it.",

@@ -9,3 +9,8 @@ pub mod VerdictLemmas
 pub mod IdLemmas
 pub mod PosedLemmas
 pub mod ChosenLemmas
+pub mod SortedLemmas
+pub mod TableLemmas
+pub mod SettledLemmas
+pub mod EdgeLemmas
+pub mod GraphLemmas

@@ -1,10 +1,12 @@
 -- A batch poses one problem.
 use Rattle.std.proofs.Common.{◌≡◌, ◌↔◌, ℕ, List, map, refl, subst, rules}
-use Rattle.outcome_check.proofs.Common.{Batch, one_trip_graph, same_rising, AnswersWith, HasGraphsWith, IsGoodOutcome, IsOutcomeWith, IsGoodPlan, Holds, Posed, Point, IsRrGraph, IsRvGraph, RvEdge, Graph, travel_time, IsSettled, Answer, Planned, Settings, Roads, index_in, Settled, AreTravelTimes, IsTripGraphOf, IsVerdictOf, Meets, Verdict, Good, Fails}
+use Rattle.outcome_check.proofs.Common.{Batch, AnswersWith, HasGraphsWith, IsGoodOutcome, IsOutcomeWith, IsGoodPlan, Holds, Posed, Point, IsRrGraph, IsRvGraph, RvEdge, Graph, travel_time, IsSettled, Answer, Planned, Settings, Roads, index_in, Settled, AreTravelTimes, IsTripGraphOf, IsVerdictOf, Meets, Verdict, Good, Fails}
+use Rattle.outcome_check.proofs.lemmas.GraphLemmas.{one_trip_graph}
+use Rattle.outcome_check.proofs.lemmas.SortedLemmas.{same_rising}
 use Rattle.batch_snapshot.specs.Points.{ArePoints}
-use Rattle.batch_laws.proofs.lemmas.EdgeLemmas.{one_rr_graph, one_rv_graph}
-use Rattle.batch_laws.proofs.lemmas.SettledLemmas.{one_settling}
-use Rattle.batch_laws.proofs.lemmas.TableLemmas.{one_table}
+use Rattle.outcome_check.proofs.lemmas.EdgeLemmas.{one_rr_graph, one_rv_graph}
+use Rattle.outcome_check.proofs.lemmas.SettledLemmas.{one_settling}
+use Rattle.outcome_check.proofs.lemmas.TableLemmas.{one_table}
 use Rattle.pool_base.specs.declared.times.Times.{Times}
 use Rattle.request_book.specs.declared.outcome.Outcome.{Outcome}
 use Rattle.outcome_check.proofs.lemmas.VerdictLemmas.{verdict_of_same}

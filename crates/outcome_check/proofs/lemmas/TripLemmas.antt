@@ -1,7 +1,9 @@
 -- Trips give one plan, if any.
 use Rattle.std.proofs.lemmas.Bool.Decides.{nat_tests}
 use Rattle.std.proofs.Common.{◌≡◌, ◌↔◌, ℕ, ◌+◌, ◌<◌, ◌≤◌, not, Bool, true, false, List, [], ◌∷◌, ◌++◌, length, get_or, take, drop, filter, Contains, Option, Some, None, MatchOption, append_assoc, refl, sym, ap, ◌∙◌, subst, arith, rules}
-use Rattle.outcome_check.proofs.Common.{length-map, length_push, get_or_append_left, get_or_push, take_more, AllZip, get_or_default, Graph, IsPlan, IsRowOf, HasNoRow, choice_at, riders_at, no_row, AreTrips, ChosenTrip, PlannedStop, Settings, Settled, Stop, Pick, Drop, Alight, IsKnown, is_of_rider, IsTrip, trip_task, vehicle_at, rider_at, IsOrderOf, seconds_of, IsTripGraphOf, rider_id, told_stop, told_stops, IsTripOf, has_head, has_later, same_rising, graph_in_order, one_place, HasOwnIds, GivesTrips, TellsRow}
+use Rattle.outcome_check.proofs.Common.{length-map, length_push, get_or_append_left, get_or_push, take_more, AllZip, get_or_default, Graph, IsPlan, IsRowOf, HasNoRow, choice_at, riders_at, no_row, AreTrips, ChosenTrip, PlannedStop, Settings, Settled, Stop, Pick, Drop, Alight, IsKnown, is_of_rider, IsTrip, trip_task, vehicle_at, rider_at, IsOrderOf, seconds_of, IsTripGraphOf, rider_id, told_stop, told_stops, IsTripOf, HasOwnIds, GivesTrips, TellsRow}
+use Rattle.outcome_check.proofs.lemmas.SortedLemmas.{has_head, has_later, same_rising}
+use Rattle.outcome_check.proofs.lemmas.GraphLemmas.{graph_in_order, one_place}
 use borrow.Author.Count.{below_more}
 use Rattle.std.proofs.lemmas.List.{append-nil, take_all}
 use Rattle.plan_rules.proofs.lemmas.PlanLemmas.{plan_choice}

@@ -1,5 +1,6 @@
 use Rattle.std.proofs.Common.{List, sym, subst, arith}
-use Rattle.outcome_check.proofs.Common.{IfOk-weaker, graph_or_overflow, RvEdge, IsRvGraph, travel_time, Answer, HasMoreRows, IsAnswer, AnswersWith, HasGraphsWith, Posed, Holds, IsVerdictOf}
+use Rattle.outcome_check.proofs.Common.{IfOk-weaker, RvEdge, IsRvGraph, travel_time, Answer, HasMoreRows, IsAnswer, AnswersWith, HasGraphsWith, Posed, Holds, IsVerdictOf}
+use Rattle.outcome_check.proofs.lemmas.GraphLemmas.{graph_or_overflow}
 use Rattle.trip_graph.specs.declared.answer.GraphAnswer.{GraphAnswer}
 use Rattle.trip_graph.specs.declared.answer.GraphAnswer.TheVariants.{Graph as Grown}
 use Rattle.outcome_check.proofs.lemmas.PosedLemmas.{with_graphs, of_graphs}

@@ -9,7 +9,7 @@ use Rattle.trip_graph.specs.declared.rv_edge.RvEdge.{RvEdge}
 use Rattle.trip_graph.specs.RvGraph.{IsRvGraph}
 use Rattle.trip_graph.specs.lemmas.Edge.{no_edge, pair_of}
 use Rattle.trip_graph.specs.RrGraph.{IsRrGraph}
-use Rattle.batch_laws.proofs.lemmas.SortedLemmas.{IsStrict, in_order, same_members}
+use Rattle.outcome_check.proofs.lemmas.SortedLemmas.{IsStrict, in_order, same_members}
 
 pairs_strict : IsStrict IsBefore
 pairs_strict = record {

@@ -1,5 +1,5 @@
-use Rattle.batch_laws.proofs.lemmas.SortedLemmas.{same_rising}
-use Rattle.batch_laws.proofs.laws.a_snapshot_has_one_list_of_points.Goals as goal
+use Rattle.outcome_check.proofs.lemmas.SortedLemmas.{same_rising}
+use Rattle.outcome_check.proofs.laws.a_snapshot_has_one_list_of_points.Goals as goal
 
 pub returns : goal.returns
 returns c = λ b points others are also. same_rising points others are.rise also.rise

@@ -15,7 +15,7 @@ use Rattle.plan_rules.specs.Graph.{Graph, no_row, choice_at, row_cmp}
 use Rattle.rider_limits.specs.declared.settings.Settings.{Settings}
 use Rattle.trip_graph.specs.Answer.{IsRowWith, IsTripGraphOf, HasMoreRows}
 use Rattle.trip_graph.specs.lemmas.Rows.{HoldRows, AreRowsOf}
-use Rattle.batch_laws.proofs.lemmas.SortedLemmas.{IsStrict, AreInOrder, in_order, same_members, no_longer}
+use Rattle.outcome_check.proofs.lemmas.SortedLemmas.{IsStrict, AreInOrder, in_order, same_members, no_longer}
 
 abbrev pub RowBefore : TripRow → TripRow → Type 0
 RowBefore a b = row_cmp a b ≡ Less

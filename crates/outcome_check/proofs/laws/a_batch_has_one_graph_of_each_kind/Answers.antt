@@ -1,6 +1,6 @@
-use Rattle.batch_laws.proofs.lemmas.EdgeLemmas.{one_rv_graph, one_rr_graph}
-use Rattle.batch_laws.proofs.lemmas.GraphLemmas.{one_trip_graph}
-use Rattle.batch_laws.proofs.laws.a_batch_has_one_graph_of_each_kind.Goals as goal
+use Rattle.outcome_check.proofs.lemmas.EdgeLemmas.{one_rv_graph, one_rr_graph}
+use Rattle.outcome_check.proofs.lemmas.GraphLemmas.{one_trip_graph}
+use Rattle.outcome_check.proofs.laws.a_batch_has_one_graph_of_each_kind.Goals as goal
 
 pub returns-clause-vehicles : goal.returns-clause-vehicles
 returns-clause-vehicles c = λ tau settled edges others is also. one_rv_graph tau settled edges others is also

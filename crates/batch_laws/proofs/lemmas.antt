@@ -1,5 +1,0 @@
-pub mod SortedLemmas
-pub mod TableLemmas
-pub mod SettledLemmas
-pub mod EdgeLemmas
-pub mod GraphLemmas
