@@ -2,7 +2,7 @@
 
 CHAPTERS = (
     ("Ids and walks", "The ids of the files, the network, and the least seconds from node to node.",
-     "pool_base/src", "pool_base/specs/TravelTime", "pool_base/specs/Times", "pool_io/specs/Faults", "road_network/src/arc", "road_network/specs/Roads", "road_network/specs/Walk", "travel_times", "hub_labels"),
+     "pool_base/src", "pool_base/specs/TravelTime", "pool_base/specs/Times", "pool_io/specs/Faults", "road_network/src/arc", "road_network/specs/Roads", "road_network/specs/Walk", "travel_times"),
     ("Orders of stops", "What a vehicle has to serve, the orders of its stops, and which of them serve everybody in time.",
      "stop_orders"),
     ("What a batch asks", "The settings, what a batch sees of riders and vehicles, and the limits that it settles for each.",

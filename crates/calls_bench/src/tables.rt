@@ -1,10 +1,9 @@
 //! How long a table of shortest times takes on a network, by searches or by labels, between nodes spread evenly over it,
 //! and the sum of each table's cells, by which another program's table can be compared.
 ghost use Rattle.std.specs.Prelude.{◌≡◌, ◌<◌, ◌≤◌, IfOk, IfSome};
-ghost use Rattle.hub_labels.specs.Labels.{AreLabelsOf};
+ghost use Rattle.travel_times.specs.Labels.{AreLabelsOf};
 
 use crate::fault::Fault;
-use hub_labels::{LabelWays, Labels};
 use pool_base::{NodeId, OutOfMemory, Times, read_number_up_to};
 use pool_io::{StdSource, read_all, rows};
 use road_network::{Network, read_network};
@@ -13,7 +12,7 @@ use std::env;
 use std::fs::File;
 use std::thread::{Threads, available_parallelism};
 use std::time::Instant;
-use travel_times::{NetworkWays, Ways, are_known};
+use travel_times::{LabelWays, Labels, NetworkWays, Ways, are_known};
 
 /// A file is no longer than this many bytes.
 const LONGEST_FILE: u64 = 67_108_864;

@@ -2,10 +2,10 @@
 ghost use Rattle.std.specs.Prelude.{◌<◌};
 
 use crate::line::{LINE, network_of};
-use hub_labels::{Hub, Label, LabelFault, Labels, ShortHub};
 use pool_base::OutOfMemory;
 use road_network::Network;
 use std::alloc::Global;
+use travel_times::{Hub, Label, LabelFault, Labels, ShortHub};
 
 // These hubs in their long form, and one more behind them where one is given.
 fn label_of(alloc: Global, hubs: &[ShortHub], more: Option<Hub>) -> Result<Label, OutOfMemory> {

@@ -4,3 +4,7 @@ pub mod Near
 pub mod Search
 pub mod lemmas
 pub mod work
+pub mod Rank
+pub mod Label
+pub mod Labels
+pub mod Fault

@@ -3,6 +3,12 @@
 //! `times_between` runs one search with a priority queue for each point, rows in parallel. Its table has, for
 //! each two points, the least seconds over all walks, and says so exactly where there is none.
 //!
+//! Where a network stays the same, hub labels give the times by what two nodes' labels have in common. A label
+//! lists hubs of a node, with the seconds to them or from them. It holds exactly the hubs that the definition
+//! names, so there is one labelling of a network (canonical hub labels: Abraham, Delling, Goldberg and Werneck
+//! 2012). It is made by pruned searches, by rank, one forward and one backward from each node (Akiba, Iwata and
+//! Yoshida 2013).
+//!
 //! A caller, from the tests of `single_calls`:
 //!
 //! ```
@@ -21,19 +27,37 @@
 //! }
 //! ```
 //!
-//! Main clauses: `times_between`. README.md quotes them.
+//! Main clauses: `times_between`; `build`; `seconds`. README.md quotes them.
 #![tactic(auto)]
 
 mod arcs;
+mod checked;
+mod draft;
+mod fault;
+mod hops;
+mod hub;
+mod hub_search;
+mod in_common;
+mod label;
+mod label_ways;
+mod labels;
 mod plain;
+mod rank;
 mod ring;
 mod rows;
 mod search;
 mod short_hop;
+mod space;
 mod table;
+mod via;
 mod ways;
 
 pub use arcs::Arcs;
+pub use fault::LabelFault;
+pub use hub::{Hub, ShortHub};
+pub use label::Label;
+pub use label_ways::LabelWays;
+pub use labels::Labels;
 pub use plain::times_by_repeated_relaxation;
 pub use ring::Ring;
 pub use search::{Search, next_near, relax};

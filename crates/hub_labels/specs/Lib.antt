@@ -1,5 +1,0 @@
-pub mod Rank
-pub mod Label
-pub mod Labels
-pub mod Fault
-pub mod work
