@@ -2,3 +2,4 @@ pub mod lemmas
 pub mod TableLemmas
 pub mod FaultLemmas
 pub mod NumberLemmas
+pub mod NumberingLemmas

@@ -1,5 +1,6 @@
 pub mod Number
 pub mod Numeral
+pub mod Numbering
 pub mod Which
 pub mod TravelTime
 pub mod Times

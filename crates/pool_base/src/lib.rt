@@ -26,6 +26,7 @@
 mod memory;
 mod node_id;
 mod number;
+mod numbering;
 mod numeral;
 mod party;
 mod rider_id;
@@ -40,6 +41,7 @@ mod which;
 pub use memory::OutOfMemory;
 pub use node_id::NodeId;
 pub use number::{NumberFault, number_reads_back, put_bytes, put_number, put_signed, read_number};
+pub use numbering::Numbering;
 pub use numeral::read_number_up_to;
 pub use party::Party;
 pub use rider_id::RiderId;

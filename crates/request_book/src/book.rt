@@ -1,5 +1,4 @@
 ghost use Rattle.std.specs.Prelude.{◌≡◌, ◌==◌, ◌+◌, ◌<◌, ◌≤◌, ◌++◌, ◌∷◌, [], All, false, option_map, IfOk, OnOk, OnErr, IsFalse, IsOk, IsTrue, vec_len, vec_capacity};
-ghost use Rattle.std.specs.List.{list_any};
 ghost use Rattle.request_book.specs.Book.{opening, next_position, would_seal, IsApplied, IsBook, IsSameBook, is_light};
 ghost use Rattle.request_book.specs.Consistent.{IsConsistent, IsNode};
 ghost use Rattle.request_book.specs.State.{find_rider};
@@ -11,8 +10,7 @@ use crate::reply::Reply;
 use crate::rider::{BookRider, Status};
 use crate::state::State;
 use batch_snapshot::{Fleet, Snapshot, Vehicle, copied_vehicles};
-use indexmap::IndexSet;
-use pool_base::{NodeId, OutOfMemory, RiderId, Second, Sequence};
+use pool_base::{NodeId, Numbering, OutOfMemory, RiderId, Second, Sequence};
 use road_network::Network;
 use std::alloc::Global;
 use std::marker::Model;
@@ -26,7 +24,7 @@ use std::mem;
 #[derive(Drop)]
 pub struct Book {
     alloc: Global,
-    nodes: IndexSet<NodeId>,
+    nodes: Numbering,
     wait: u32,
     first: u64,
     base: State,
@@ -44,9 +42,9 @@ impl Model for Book {
 
     ghost Value = { BookView };
 
-    ghost view = { λ b. record { nodes = b.nodes.keys; wait = b.wait; first = b.first; base = b.base; entries = b.entries.items; state = state_of b.register; spare = b.reserved } };
+    ghost view = { λ b. record { nodes = b.nodes.names; wait = b.wait; first = b.first; base = b.base; entries = b.entries.items; state = state_of b.register; spare = b.reserved } };
 
-    ghost invariant = { λ b. IsStored (record { nodes = b.nodes.keys; wait = b.wait; first = b.first; base = b.base; entries = b.entries.items; state = state_of b.register; spare = b.reserved }) (vec_len b.entries) (vec_capacity b.entries) b.register };
+    ghost invariant = { λ b. IsStored (record { nodes = b.nodes.names; wait = b.wait; first = b.first; base = b.base; entries = b.entries.items; state = state_of b.register; spare = b.reserved }) (vec_len b.entries) (vec_capacity b.entries) b.register };
 }
 
 impl Book {
@@ -67,12 +65,12 @@ impl Book {
     /// The book of a fleet over these nodes.
     pub(crate) fn over(
         alloc: Global,
-        nodes: IndexSet<NodeId>,
+        nodes: Numbering,
         fleet: Fleet,
         wait: u32,
     ) -> Result<Book, OutOfMemory>
-        requires { All (λ v. IsNode nodes.keys v.node) fleet }
-        ensures { IfOk result (λ book. book ≡ record { nodes = nodes.keys; wait = wait; first = 0; base = opening fleet; entries = []; state = opening fleet; spare = 0 }) }
+        requires { All (λ v. IsNode nodes.names v.node) fleet }
+        ensures { IfOk result (λ book. book ≡ record { nodes = nodes.names; wait = wait; first = 0; base = opening fleet; entries = []; state = opening fleet; spare = 0 }) }
     {
         let vehicles = fleet.into_vehicles();
         match copied_vehicles(alloc, &vehicles) {
@@ -295,24 +293,14 @@ fn opening(alloc: Global, vehicles: Vec<Vehicle>) -> State
 }
 
 /// The network's nodes, in its order.
-pub(crate) fn listed_nodes(
-    alloc: Global,
-    network: &Network,
-) -> Result<IndexSet<NodeId>, OutOfMemory>
-    ensures { IfOk result (λ nodes. nodes.keys ≡ network.now.nodes) }
+pub(crate) fn listed_nodes(alloc: Global, network: &Network) -> Result<Numbering, OutOfMemory>
+    ensures { IfOk result (λ nodes. nodes.names ≡ network.now.nodes) }
 {
     let count = network.node_count();
-    let mut nodes = IndexSet::with_capacity(alloc, count)?;
+    let mut nodes = Numbering::new(alloc);
+    nodes.reserve(count)?;
     for index in 0..count {
-        list_node(&mut nodes, network.node_at(index))?;
+        nodes.number(network.node_at(index).get())?;
     }
     Ok(nodes)
-}
-
-fn list_node(nodes: &mut IndexSet<NodeId>, node: NodeId) -> Result<(), OutOfMemory>
-    requires { list_any (λ other. other == node) nodes.old.keys ≡ false }
-    ensures { OnOk result (nodes.new.keys ≡ nodes.old.keys ++ node ∷ []) }
-{
-    nodes.insert(node)?;
-    Ok(())
 }

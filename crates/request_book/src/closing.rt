@@ -17,8 +17,7 @@ use crate::register::Register;
 use crate::reply::Reply;
 use crate::rider::{BookRider, Status};
 use batch_snapshot::{Promise, Rider};
-use indexmap::IndexSet;
-use pool_base::{RiderId, VehicleId};
+use pool_base::{Numbering, RiderId, VehicleId};
 
 impl Register {
     /// Closes the sealed batch.
@@ -40,8 +39,8 @@ impl Register {
 }
 
 /// Gives the riders of a batch what an answer gives them.
-fn settle(riders: &mut Vec<BookRider>, ids: &IndexSet<RiderId>, batch: &[Rider], answer: &Answer)
-    requires ids { ids.now.keys ≡ map (λ r. r.id) riders.old.items }
+fn settle(riders: &mut Vec<BookRider>, ids: &Numbering, batch: &[Rider], answer: &Answer)
+    requires ids { ids.now.names ≡ map (λ r. r.id) riders.old.items }
     requires differ { KeysDiffer (λ r. r.id) riders.old.items }
     requires rise { KeysRise (λ r. r.id) batch.now }
     ensures settled { riders.new.items ≡ after_answer batch.now answer.now riders.old.items }
@@ -55,11 +54,11 @@ fn settle(riders: &mut Vec<BookRider>, ids: &IndexSet<RiderId>, batch: &[Rider],
 }
 
 /// Lets the riders of a batch who are still in the pool wait again.
-fn release(riders: &mut Vec<BookRider>, ids: &IndexSet<RiderId>, batch: &[Rider])
-    requires ids { ids.now.keys ≡ map (λ r. r.id) riders.old.items }
+fn release(riders: &mut Vec<BookRider>, ids: &Numbering, batch: &[Rider])
+    requires ids { ids.now.names ≡ map (λ r. r.id) riders.old.items }
     requires differ { KeysDiffer (λ r. r.id) riders.old.items }
     ensures changed { riders.new.items ≡ changed_in_turn (λ r. r.id) waits_again (map (λ r. r.id) batch.now) riders.old.items }
-    ensures ids { ids.now.keys ≡ map (λ r. r.id) riders.new.items }
+    ensures ids { ids.now.names ≡ map (λ r. r.id) riders.new.items }
     ensures differ { KeysDiffer (λ r. r.id) riders.new.items }
     ensures len { vec_len riders.new ≡ vec_len riders.old }
     ensures capacity { vec_capacity riders.new ≡ vec_capacity riders.old }
@@ -69,14 +68,14 @@ fn release(riders: &mut Vec<BookRider>, ids: &IndexSet<RiderId>, batch: &[Rider]
     }
 }
 
-fn let_wait(riders: &mut Vec<BookRider>, ids: &IndexSet<RiderId>, rider: RiderId)
-    requires ids { ids.now.keys ≡ map (λ r. r.id) riders.old.items }
+fn let_wait(riders: &mut Vec<BookRider>, ids: &Numbering, rider: RiderId)
+    requires ids { ids.now.names ≡ map (λ r. r.id) riders.old.items }
     requires differ { KeysDiffer (λ r. r.id) riders.old.items }
     ensures changed { riders.new.items ≡ changed_at (λ r. r.id) rider waits_again riders.old.items }
     ensures len { vec_len riders.new ≡ vec_len riders.old }
     ensures capacity { vec_capacity riders.new ≡ vec_capacity riders.old }
 {
-    if let Some(at) = ids.get_index_of(&rider) {
+    if let Some(at) = ids.number_of(rider.get()) {
         wait_again(&mut riders[at]);
     }
 }
@@ -91,13 +90,8 @@ fn wait_again(rider: &mut BookRider)
 }
 
 /// Promises what the pick stops of the chosen trips say; a rider's first one counts.
-fn promise_all(
-    riders: &mut Vec<BookRider>,
-    ids: &IndexSet<RiderId>,
-    batch: &[Rider],
-    chosen: &[ChosenTrip],
-)
-    requires ids { ids.now.keys ≡ map (λ r. r.id) riders.old.items }
+fn promise_all(riders: &mut Vec<BookRider>, ids: &Numbering, batch: &[Rider], chosen: &[ChosenTrip])
+    requires ids { ids.now.names ≡ map (λ r. r.id) riders.old.items }
     requires differ { KeysDiffer (λ r. r.id) riders.old.items }
     requires rise { KeysRise (λ r. r.id) batch.now }
     ensures promised { riders.new.items ≡ promised_in_turn batch.now (picks chosen.now) riders.old.items }
@@ -111,16 +105,16 @@ fn promise_all(
 
 fn promise_trip(
     riders: &mut Vec<BookRider>,
-    ids: &IndexSet<RiderId>,
+    ids: &Numbering,
     batch: &[Rider],
     vehicle: VehicleId,
     stops: &[PlannedStop],
 )
-    requires ids { ids.now.keys ≡ map (λ r. r.id) riders.old.items }
+    requires ids { ids.now.names ≡ map (λ r. r.id) riders.old.items }
     requires differ { KeysDiffer (λ r. r.id) riders.old.items }
     requires rise { KeysRise (λ r. r.id) batch.now }
     ensures promised { riders.new.items ≡ promised_in_turn batch.now (trip_picks vehicle stops.now) riders.old.items }
-    ensures ids { ids.now.keys ≡ map (λ r. r.id) riders.new.items }
+    ensures ids { ids.now.names ≡ map (λ r. r.id) riders.new.items }
     ensures differ { KeysDiffer (λ r. r.id) riders.new.items }
     ensures len { vec_len riders.new ≡ vec_len riders.old }
     ensures capacity { vec_capacity riders.new ≡ vec_capacity riders.old }
@@ -138,12 +132,12 @@ fn promise_trip(
 
 fn promise_one(
     riders: &mut Vec<BookRider>,
-    ids: &IndexSet<RiderId>,
+    ids: &Numbering,
     batch: &[Rider],
     rider: RiderId,
     promise: Promise,
 )
-    requires ids { ids.now.keys ≡ map (λ r. r.id) riders.old.items }
+    requires ids { ids.now.names ≡ map (λ r. r.id) riders.old.items }
     requires differ { KeysDiffer (λ r. r.id) riders.old.items }
     requires rise { KeysRise (λ r. r.id) batch.now }
     ensures changed { riders.new.items ≡ changed_at (λ r. r.id) rider (takes_promise batch.now (record { rider = rider; promise = promise })) riders.old.items }
@@ -151,7 +145,7 @@ fn promise_one(
     ensures capacity { vec_capacity riders.new ≡ vec_capacity riders.old }
 {
     let listed = in_batch(batch, rider);
-    if let Some(at) = ids.get_index_of(&rider) {
+    if let Some(at) = ids.number_of(rider.get()) {
         take_promise(&mut riders[at], listed, promise);
     }
 }

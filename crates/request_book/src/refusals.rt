@@ -7,8 +7,7 @@ ghost use Rattle.request_book.specs.lemmas.Refusals.{first_of, duplicate_rider, 
 use crate::reply::BookRefusal;
 use crate::rider::{BookRider, Status};
 use batch_snapshot::{Passenger, Snapshot, Vehicle};
-use indexmap::IndexSet;
-use pool_base::{NodeId, Party, Second, VehicleId};
+use pool_base::{NodeId, Numbering, Party, Second, VehicleId};
 
 /// How many riders may wait or have a promise.
 pub(crate) const POOL: usize = 1_000;
@@ -37,10 +36,10 @@ pub(crate) fn duplicate_rider(found: Option<BookRider>) -> Option<BookRefusal>
     }
 }
 
-pub(crate) fn unknown_node(nodes: &IndexSet<NodeId>, node: NodeId) -> Option<BookRefusal>
-    ensures { result ≡ unknown_node nodes.now.keys node }
+pub(crate) fn unknown_node(nodes: &Numbering, node: NodeId) -> Option<BookRefusal>
+    ensures { result ≡ unknown_node nodes.now.names node }
 {
-    if nodes.contains(&node) {
+    if nodes.number_of(node.get()).is_some() {
         None
     } else {
         Some(BookRefusal::UnknownNode)

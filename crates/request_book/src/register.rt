@@ -5,20 +5,19 @@ ghost use Rattle.request_book.specs.State.{find_rider, find_vehicle};
 
 use crate::rider::{BookRider, Status};
 use batch_snapshot::{Snapshot, Vehicle};
-use indexmap::IndexSet;
-use pool_base::{RiderId, Second, VehicleId};
+use pool_base::{Numbering, RiderId, Second, VehicleId};
 
 /// The riders and vehicles of a book, with the numbers by which they are found.
 #[derive(Drop)]
 pub(crate) struct Register {
     pub riders: Vec<BookRider>,
     /// The riders' ids, in the order of the riders.
-    pub ids: IndexSet<RiderId>,
+    pub ids: Numbering,
     /// The ids of the riders who wait or have a promise, by rising id, with room for all that may.
     pub pool: Vec<RiderId>,
     pub vehicles: Vec<Vehicle>,
     /// The vehicles' ids, in the order of the vehicles.
-    pub vehicle_ids: IndexSet<VehicleId>,
+    pub vehicle_ids: Numbering,
     pub last_seal: Option<Second>,
     pub sealed: Option<Snapshot>,
     pub batches: u64,
@@ -32,7 +31,7 @@ impl Register {
         requires { IsIndexed self.now }
         ensures { MatchOption result (find_rider rider self.now.riders.items ≡ None) (λ at. (at < length self.now.riders.items) × ((d : BookRider) → find_rider rider self.now.riders.items ≡ Some (slice_index_or self.now.riders.items at d))) }
     {
-        self.ids.get_index_of(&rider)
+        self.ids.number_of(rider.get())
     }
 
     /// The rider of this id.
@@ -51,7 +50,7 @@ impl Register {
         requires { IsIndexed self.now }
         ensures { MatchOption result (find_vehicle vehicle self.now.vehicles.items ≡ None) (λ at. (at < length self.now.vehicles.items) × ((d : Vehicle) → find_vehicle vehicle self.now.vehicles.items ≡ Some (slice_index_or self.now.vehicles.items at d))) }
     {
-        self.vehicle_ids.get_index_of(&vehicle)
+        self.vehicle_ids.number_of(vehicle.get())
     }
 }
 
@@ -76,17 +75,17 @@ pub(crate) fn add(riders: &mut Vec<BookRider>, new: &BookRider)
 /// Gives a rider another status. Nothing changes where there is no such rider.
 pub(crate) fn change_status(
     riders: &mut Vec<BookRider>,
-    ids: &IndexSet<RiderId>,
+    ids: &Numbering,
     rider: RiderId,
     status: Status,
 )
-    requires ids { ids.now.keys ≡ map (λ r. r.id) riders.old.items }
+    requires ids { ids.now.names ≡ map (λ r. r.id) riders.old.items }
     requires differ { KeysDiffer (λ r. r.id) riders.old.items }
     ensures changed { riders.new.items ≡ changed_at (λ r. r.id) rider (with_status status) riders.old.items }
     ensures len { vec_len riders.new ≡ vec_len riders.old }
     ensures capacity { vec_capacity riders.new ≡ vec_capacity riders.old }
 {
-    if let Some(at) = ids.get_index_of(&rider) {
+    if let Some(at) = ids.number_of(rider.get()) {
         riders[at].status = status;
     }
 }

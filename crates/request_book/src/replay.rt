@@ -10,8 +10,7 @@ use crate::reply::Reply;
 use crate::rider::Status;
 use crate::state::State;
 use batch_snapshot::Snapshot;
-use indexmap::IndexSet;
-use pool_base::{NodeId, OutOfMemory, RiderId};
+use pool_base::{NodeId, Numbering, OutOfMemory, RiderId};
 use road_network::Network;
 use std::alloc::Global;
 use std::marker::Model;
@@ -23,7 +22,7 @@ use std::marker::Model;
 #[derive(Drop)]
 pub struct Replay {
     alloc: Global,
-    nodes: IndexSet<NodeId>,
+    nodes: Numbering,
     wait: u32,
     register: Register,
 }
@@ -35,7 +34,7 @@ impl Model for Replay {
 
     ghost Value = { ReplayView };
 
-    ghost view = { λ r. record { nodes = r.nodes.keys; wait = r.wait; state = state_of r.register } };
+    ghost view = { λ r. record { nodes = r.nodes.names; wait = r.wait; state = state_of r.register } };
 
     ghost invariant = { λ r. IsHeld r.register };
 }

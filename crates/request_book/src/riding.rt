@@ -2,7 +2,6 @@
 
 ghost use Rattle.std.specs.Prelude.{◌≡◌, ◌==◌, ◌+◌, ◌<◌, ◌≤◌, ◌++◌, ◌∷◌, [], ℕ, Some, None, true, false, length, option_and_then, MatchOption, All, slice_index_or, vec_len, vec_capacity};
 ghost use Rattle.std.specs.List.{list_any};
-ghost use Rattle.indexmap.specs.IndexSet.{spare};
 ghost use Rattle.batch_snapshot.specs.Vehicle.{HasSeats};
 ghost use Rattle.request_book.specs.Keyed.{look_up, changed_at, placed, KeysRise, KeysDiffer};
 ghost use Rattle.request_book.specs.lemmas.Keyed.{without};
@@ -22,17 +21,16 @@ use crate::register::{Register, add, change_status};
 use crate::reply::{BookRefusal, Reply};
 use crate::rider::{BookRider, Status};
 use batch_snapshot::{Passenger, Vehicle};
-use indexmap::IndexSet;
-use pool_base::{NodeId, RiderId, Second, VehicleId};
+use pool_base::{NodeId, Numbering, RiderId, Second, VehicleId};
 
 impl Register {
     /// A rider asks for a trip. It takes no memory where there is room for one more.
-    pub(crate) fn submit(&mut self, nodes: &IndexSet<NodeId>, new: &BookRider) -> Reply
+    pub(crate) fn submit(&mut self, nodes: &Numbering, new: &BookRider) -> Reply
         requires indexed { IsIndexed self.old }
         requires consistent { IsConsistent (state_of self.old) }
         requires room { HasRoom 1 self.old }
         requires waits { new.now.status ≡ Status.Waiting }
-        ensures stepped { (state_of self.new, result) ≡ submit_step nodes.now.keys (state_of self.old) new.now }
+        ensures stepped { (state_of self.new, result) ≡ submit_step nodes.now.names (state_of self.old) new.now }
         ensures indexed { IsIndexed self.new }
         ensures room { (n : ℕ) → HasRoom (n + 1) self.old → HasRoom n self.new }
     {
@@ -48,9 +46,9 @@ impl Register {
     }
 
     /// Why a request is refused.
-    fn submit_refusal(&self, nodes: &IndexSet<NodeId>, new: &BookRider) -> Option<BookRefusal>
+    fn submit_refusal(&self, nodes: &Numbering, new: &BookRider) -> Option<BookRefusal>
         requires indexed { IsIndexed self.now }
-        ensures { result ≡ submit_refusal nodes.now.keys (state_of self.now) new.now }
+        ensures { result ≡ submit_refusal nodes.now.names (state_of self.now) new.now }
     {
         let refusals = [
             duplicate_rider(self.rider(new.id)),
@@ -87,13 +85,13 @@ impl Register {
     /// A vehicle is at a node.
     pub(crate) fn report(
         &mut self,
-        nodes: &IndexSet<NodeId>,
+        nodes: &Numbering,
         vehicle: VehicleId,
         node: NodeId,
         time: Second,
     ) -> Reply
         requires { IsIndexed self.old }
-        ensures stepped { (state_of self.new, result) ≡ report_step nodes.now.keys (state_of self.old) vehicle node time }
+        ensures stepped { (state_of self.new, result) ≡ report_step nodes.now.names (state_of self.old) vehicle node time }
         ensures indexed { IsIndexed self.new }
         ensures room { (n : ℕ) → HasRoom (n + 1) self.old → HasRoom n self.new }
     {
@@ -227,13 +225,13 @@ fn seat_of(aboard: &[Passenger], rider: RiderId) -> Option<usize>
 }
 
 /// Gives a rider the next number.
-fn number(ids: &mut IndexSet<RiderId>, rider: RiderId)
-    requires new { list_any (λ id. id == rider) ids.old.keys ≡ false }
-    requires room { 0 < spare ids.old }
-    ensures keys { ids.new.keys ≡ ids.old.keys ++ rider ∷ [] }
-    ensures room { spare ids.old ≤ spare ids.new + 1 }
+fn number(ids: &mut Numbering, rider: RiderId)
+    requires new { list_any (λ id. id == rider) ids.old.names ≡ false }
+    requires room { 0 < ids.old.spare }
+    ensures names { ids.new.names ≡ ids.old.names ++ rider ∷ [] }
+    ensures room { ids.old.spare ≤ ids.new.spare + 1 }
 {
-    let _ = ids.insert(rider);
+    let _ = ids.number(rider.get());
 }
 
 /// Puts an id into the pool, in its place.

@@ -1,7 +1,6 @@
 //! The register at work: how it begins, and one command of any kind.
 
 ghost use Rattle.std.specs.Prelude.{◌≡◌, ◌==◌, ◌+◌, ◌≤◌, ◌++◌, ◌∷◌, [], ℕ, None, false, map, IfOk, OnOk, OnErr, IsOk, IsTrue, vec_capacity, option_and_then, if◌then◌else◌};
-ghost use Rattle.std.specs.List.{list_any};
 ghost use Rattle.request_book.specs.Book.{opening, is_light};
 ghost use Rattle.request_book.specs.Consistent.{IsConsistent};
 ghost use Rattle.request_book.specs.Keyed.{look_up, placed, KeysRise, KeysDiffer};
@@ -17,8 +16,7 @@ use crate::reply::Reply;
 use crate::rider::{BookRider, Status};
 use crate::state::State;
 use batch_snapshot::{Snapshot, Vehicle, copied_vehicles};
-use indexmap::IndexSet;
-use pool_base::{NodeId, OutOfMemory, RiderId, Sequence, VehicleId};
+use pool_base::{NodeId, Numbering, OutOfMemory, RiderId, Sequence, VehicleId};
 use std::alloc::Global;
 
 impl Register {
@@ -42,7 +40,7 @@ impl Register {
     fn number(&mut self, alloc: Global) -> Result<(), OutOfMemory>
         requires rise { KeysRise (λ v. v.id) self.old.vehicles.items }
         requires riders { self.old.riders.items ≡ [] }
-        requires ids { self.old.ids.keys ≡ [] }
+        requires ids { self.old.ids.names ≡ [] }
         ensures state { OnOk result (state_of self.new ≡ state_of self.old) }
         ensures indexed { OnOk result (IsIndexed self.new) }
     {
@@ -91,14 +89,14 @@ impl Register {
     pub(crate) fn run(
         &mut self,
         alloc: Global,
-        nodes: &IndexSet<NodeId>,
+        nodes: &Numbering,
         wait: u32,
         command: &Command,
     ) -> Result<Reply, OutOfMemory>
         requires indexed { IsIndexed self.old }
         requires consistent { IsConsistent (state_of self.old) }
         requires room { HasRoom 1 self.old }
-        ensures ok { IfOk result (λ reply. (state_of self.new, reply) ≡ step nodes.now.keys wait (state_of self.old) command.now) }
+        ensures ok { IfOk result (λ reply. (state_of self.new, reply) ≡ step nodes.now.names wait (state_of self.old) command.now) }
         ensures err { OnErr result (state_of self.new ≡ state_of self.old) }
         ensures light { IsTrue (is_light command.now) → IsOk result }
         ensures indexed { IsIndexed self.new }
@@ -177,14 +175,14 @@ impl Register {
 /// The register of these vehicles, without a rider and without the numbers by which they are found.
 fn unnumbered(alloc: Global, vehicles: Vec<Vehicle>) -> Register
     ensures state { state_of result ≡ opening vehicles.items }
-    ensures ids { result.ids.keys ≡ [] }
+    ensures ids { result.ids.names ≡ [] }
 {
     Register {
         riders: Vec::new(alloc),
-        ids: IndexSet::new(alloc),
+        ids: Numbering::new(alloc),
         pool: Vec::new(alloc),
         vehicles,
-        vehicle_ids: IndexSet::new(alloc),
+        vehicle_ids: Numbering::new(alloc),
         last_seal: None,
         sealed: None,
         batches: 0,
@@ -192,43 +190,29 @@ fn unnumbered(alloc: Global, vehicles: Vec<Vehicle>) -> Register
 }
 
 /// The vehicles' ids, in their order.
-fn listed_vehicles(alloc: Global, vehicles: &[Vehicle]) -> Result<IndexSet<VehicleId>, OutOfMemory>
+fn listed_vehicles(alloc: Global, vehicles: &[Vehicle]) -> Result<Numbering, OutOfMemory>
     requires { KeysDiffer (λ v. v.id) vehicles.now }
-    ensures { IfOk result (λ ids. ids.keys ≡ map (λ v. v.id) vehicles.now) }
+    ensures { IfOk result (λ ids. ids.names ≡ map (λ v. v.id) vehicles.now) }
 {
-    let mut ids = IndexSet::with_capacity(alloc, vehicles.len())?;
+    let mut ids = Numbering::new(alloc);
+    ids.reserve(vehicles.len())?;
     for vehicle in vehicles {
-        list_vehicle(&mut ids, vehicle.id)?;
+        ids.number(vehicle.id.get())?;
     }
     Ok(ids)
-}
-
-fn list_vehicle(ids: &mut IndexSet<VehicleId>, vehicle: VehicleId) -> Result<(), OutOfMemory>
-    requires { list_any (λ id. id == vehicle) ids.old.keys ≡ false }
-    ensures { OnOk result (ids.new.keys ≡ ids.old.keys ++ vehicle ∷ []) }
-{
-    ids.insert(vehicle)?;
-    Ok(())
 }
 
 /// The riders' ids, in their order.
-fn listed_riders(alloc: Global, riders: &[BookRider]) -> Result<IndexSet<RiderId>, OutOfMemory>
+fn listed_riders(alloc: Global, riders: &[BookRider]) -> Result<Numbering, OutOfMemory>
     requires { KeysDiffer (λ r. r.id) riders.now }
-    ensures { IfOk result (λ ids. ids.keys ≡ map (λ r. r.id) riders.now) }
+    ensures { IfOk result (λ ids. ids.names ≡ map (λ r. r.id) riders.now) }
 {
-    let mut ids = IndexSet::with_capacity(alloc, riders.len())?;
+    let mut ids = Numbering::new(alloc);
+    ids.reserve(riders.len())?;
     for rider in riders {
-        list_rider(&mut ids, rider.id)?;
+        ids.number(rider.id.get())?;
     }
     Ok(ids)
-}
-
-fn list_rider(ids: &mut IndexSet<RiderId>, rider: RiderId) -> Result<(), OutOfMemory>
-    requires { list_any (λ id. id == rider) ids.old.keys ≡ false }
-    ensures { OnOk result (ids.new.keys ≡ ids.old.keys ++ rider ∷ []) }
-{
-    ids.insert(rider)?;
-    Ok(())
 }
 
 /// The ids of the riders who wait or have a promise, by rising id, with room for all that may.

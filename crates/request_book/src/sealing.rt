@@ -20,8 +20,7 @@ use crate::register::{Register, change_status};
 use crate::reply::{BookRefusal, Reply};
 use crate::rider::{BookRider, Status};
 use batch_snapshot::{Promise, Rider, Snapshot, copied_vehicles};
-use indexmap::IndexSet;
-use pool_base::{OutOfMemory, RiderId, Second, Sequence};
+use pool_base::{Numbering, OutOfMemory, RiderId, Second, Sequence};
 use std::alloc::Global;
 
 impl Register {
@@ -229,8 +228,8 @@ fn pool_promise(status: &Status) -> Option<Option<Promise>>
 }
 
 /// Lets riders expire.
-fn expire(riders: &mut Vec<BookRider>, ids: &IndexSet<RiderId>, expired: &[RiderId])
-    requires ids { ids.now.keys ≡ map (λ r. r.id) riders.old.items }
+fn expire(riders: &mut Vec<BookRider>, ids: &Numbering, expired: &[RiderId])
+    requires ids { ids.now.names ≡ map (λ r. r.id) riders.old.items }
     requires differ { KeysDiffer (λ r. r.id) riders.old.items }
     ensures changed { riders.new.items ≡ changed_in_turn (λ r. r.id) (with_status Status.Expired) expired.now riders.old.items }
     ensures len { vec_len riders.new ≡ vec_len riders.old }

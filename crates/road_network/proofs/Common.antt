@@ -18,5 +18,6 @@ pub use Rattle.road_network.specs.declared.hop.Hop.{Hop}
 pub use Rattle.road_network.specs.lemmas.Limits.{greatest_name, longest_arc, most_arcs, most_nodes}
 pub use Rattle.road_network.specs.lemmas.Rows.{arc_in, by_node, first_refusal, names_in, roads_of}
 unfoldable pub use Rattle.road_network.specs.lemmas.Rows.{field_refusal}
-pub use Rattle.road_network.specs.work.Numbering.{with_node, with_row}
+pub use Rattle.pool_base.specs.Numbering.{with_name}
+pub use Rattle.road_network.specs.work.Numbering.{with_row}
 pub use Rattle.road_network.specs.work.Storage.{ArePacked, IsHopAmong, arc_from, arcs_before, arcs_leaving, by_start, hops_at, stored_arcs}

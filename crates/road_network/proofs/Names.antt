@@ -1,6 +1,6 @@
 -- Names and their indexes in a list of nodes.
 use Rattle.std.proofs.Common.{◌≡◌, ℕ, ◌<◌, eqb, true, false, List, length, get_or, Option, Some, None, slice_get, position, refl, ap, ◌∙◌, arith, All, Contains, IfSome, nat_lt}
-use Rattle.road_network.proofs.Common.{IsDistinct, list_any, position_or_len, cases_Bool, nat_tests, passes_at_first, position_or_len_is, All-push, with_node}
+use Rattle.road_network.proofs.Common.{IsDistinct, list_any, position_or_len, cases_Bool, nat_tests, passes_at_first, position_or_len_is, All-push, with_name}
 use Rattle.std.proofs.lemmas.Option.{slice_get-get_or}
 use Rattle.std.proofs.lemmas.List.Quantifiers.{position-Some}
 use Rattle.std.proofs.lemmas.Map.Keys.{any_passes_from_place, apart_from_distinct}
@@ -36,5 +36,5 @@ position-own nodes index name distinct within is =
     let test : nat_lt index (length nodes) ≡ true = grind (arith, nat_tests) in
     rw (first, test) refl
 
-pub All-with_node : (P : ℕ → Type 0) (nodes : List ℕ) (name : ℕ) → All P nodes → P name → All P (with_node nodes name)
-All-with_node P nodes name all here = grind (arith, nat_tests, cases_Bool, (All-push P nodes name all here))
+pub All-with_name : (P : ℕ → Type 0) (nodes : List ℕ) (name : ℕ) → All P nodes → P name → All P (with_name nodes name)
+All-with_name P nodes name all here = grind (arith, nat_tests, cases_Bool, (All-push P nodes name all here))

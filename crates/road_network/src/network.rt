@@ -7,8 +7,7 @@ ghost use Rattle.road_network.specs.Storage.{start_at};
 use crate::arc::Arc;
 use crate::hop::Hop;
 use crate::storage::sort_by_start;
-use indexmap::IndexSet;
-use pool_base::NodeId;
+use pool_base::{NodeId, Numbering};
 use std::alloc::{AllocError, Global};
 use std::marker::Model;
 
@@ -26,7 +25,7 @@ fn first_place(ends: &[usize], node: usize) -> usize
 /// in one list by starting node, with the place where those of each node end.
 #[derive(Drop)]
 pub struct Network {
-    names: IndexSet<u32>,
+    nodes: Numbering,
     ends: Vec<usize>,
     hops: Vec<Hop>,
 }
@@ -39,36 +38,32 @@ impl Model for Network {
     ghost Value = { Roads };
 
     ghost view = { λ a. record {
-      nodes = a.names.keys;
-      arcs = stored_arcs (length a.names.keys) a.ends.items a.hops.items;
+      nodes = a.nodes.names;
+      arcs = stored_arcs (length a.nodes.names) a.ends.items a.hops.items;
     } };
 
-    ghost invariant = { λ a. ArePacked a.names.keys a.ends.items a.hops.items };
+    ghost invariant = { λ a. ArePacked a.nodes.names a.ends.items a.hops.items };
 }
 
 impl Network {
     // The network of these nodes and arcs, the arcs by starting node.
-    pub(crate) fn of(
-        alloc: Global,
-        names: IndexSet<u32>,
-        arcs: &[Arc],
-    ) -> Result<Network, AllocError>
-        requires few_nodes { length names.keys ≤ most_nodes }
+    pub(crate) fn of(alloc: Global, nodes: Numbering, arcs: &[Arc]) -> Result<Network, AllocError>
+        requires few_nodes { length nodes.names ≤ most_nodes }
         requires few_arcs { length arcs.now ≤ most_arcs }
-        requires names { All (λ name. name ≤ greatest_name) names.keys }
-        requires among { All (IsArcAmong (length names.keys)) arcs.now }
+        requires names { All (λ name. name ≤ greatest_name) nodes.names }
+        requires among { All (IsArcAmong (length nodes.names)) arcs.now }
         ensures { IfOk result (λ network. network
-            ≡ record { nodes = names.keys; arcs = by_node (length names.keys) arcs.now }) }
+            ≡ record { nodes = nodes.names; arcs = by_node (length nodes.names) arcs.now }) }
     {
-        let (ends, hops) = sort_by_start(alloc, names.len(), arcs)?;
-        Ok(Network { names, ends, hops })
+        let (ends, hops) = sort_by_start(alloc, nodes.len(), arcs)?;
+        Ok(Network { nodes, ends, hops })
     }
 
     /// Whether some row names the node.
     pub fn has_node(&self, node: NodeId) -> bool
         ensures { IsTrue result ↔ Contains self.now.nodes node }
     {
-        self.names.contains(&node.get())
+        self.nodes.number_of(node.get()).is_some()
     }
 
     /// The index of a node, by the order of first appearance; `None` exactly where no row names it.
@@ -78,7 +73,7 @@ impl Network {
         ensures named { IfSome result (λ index. slice_get self.now.nodes index ≡ Some node) }
         ensures within { IfSome result (λ index. index < length self.now.nodes) }
     {
-        self.names.get_index_of(&node.get())
+        self.nodes.number_of(node.get())
     }
 
     /// The node to which `index_of` gives this index.
@@ -87,7 +82,7 @@ impl Network {
         ensures named { slice_get self.now.nodes index ≡ Some result }
         ensures indexed { position (nat_eq result) self.now.nodes ≡ Some index }
     {
-        let name = self.names.as_slice()[index];
+        let name = self.nodes.names()[index];
         NodeId::new(u64::from(name)).unwrap()
     }
 
@@ -96,7 +91,7 @@ impl Network {
         ensures count { result ≡ length self.now.nodes }
         ensures kept { IsNetwork self.now }
     {
-        self.names.len()
+        self.nodes.len()
     }
 
     /// How many arcs there are.

@@ -5,13 +5,12 @@ ghost use Rattle.road_network.specs.lemmas.Limits.{greatest_name, longest_arc, m
 ghost use Rattle.road_network.specs.Reading.{network_of, nodes_of, arc_seconds};
 ghost use Rattle.road_network.specs.lemmas.Rows.{field_refusal};
 ghost use Rattle.pool_base.specs.Numeral.{number_at};
-ghost use Rattle.road_network.specs.work.Numbering.{with_node};
+ghost use Rattle.pool_base.specs.Numbering.{with_name};
 
 use crate::arc::Arc;
 use crate::fault::NetworkFault;
 use crate::network::Network;
-use indexmap::IndexSet;
-use pool_base::read_number_up_to;
+use pool_base::{Numbering, read_number_up_to};
 use pool_io::Rows;
 use std::alloc::Global;
 
@@ -75,14 +74,14 @@ fn read_row(rows: &Rows, row: usize) -> Result<NamedArc, NetworkFault>
 }
 
 // The index of a node, which is new or known.
-fn number_node(nodes: &mut IndexSet<u32>, name: u32) -> Result<usize, NetworkFault>
-    ensures nodes { IfOk result (λ index. nodes.new.keys ≡ with_node nodes.old.keys name) }
-    ensures index { IfOk result (λ index. index ≡ index_in nodes.new.keys name) }
-    ensures within { IfOk result (λ index. index < length nodes.new.keys) }
+fn number_node(nodes: &mut Numbering, name: u32) -> Result<usize, NetworkFault>
+    ensures nodes { IfOk result (λ index. nodes.new.names ≡ with_name nodes.old.names name) }
+    ensures index { IfOk result (λ index. index ≡ index_in nodes.new.names name) }
+    ensures within { IfOk result (λ index. index < length nodes.new.names) }
     ensures no_memory { IfErr result (λ fault. fault ≡ NetworkFault.OutOfMemory) }
 {
-    match nodes.insert_full(name) {
-        Ok((index, _)) => Ok(index),
+    match nodes.number(name) {
+        Ok(index) => Ok(index),
         Err(_) => Err(NetworkFault::OutOfMemory),
     }
 }
@@ -102,7 +101,7 @@ pub fn read_network(alloc: Global, rows: &Rows) -> Result<Network, NetworkFault>
     if rows.len() > MOST_ARCS {
         return Err(NetworkFault::TooManyArcs);
     }
-    let mut nodes = IndexSet::new(alloc);
+    let mut nodes = Numbering::new(alloc);
     let mut arcs = Vec::new(alloc);
     'rows: for row in 0..rows.len() {
         let named = read_row(rows, row)?;

@@ -1,5 +1,4 @@
 use Rattle.std.specs.Prelude.{◌≡◌, ℕ, ◌+◌, ◌≤◌, Option, Some, None, map, option_and_then, vec_len, vec_capacity, if◌then◌else◌}
-use Rattle.indexmap.specs.IndexSet.{spare}
 use Rattle.request_book.specs.declared.register.Register.{Register}
 use Rattle.request_book.specs.declared.rider.BookRider.{BookRider}
 use Rattle.request_book.specs.declared.state.State.{State}
@@ -17,8 +16,8 @@ pool_id r = if is_active r.status then Some r.id else None
 
 -- by what a register finds its riders and vehicles
 pub record IsIndexed (g : Register) : Type 0 where
-  pub ids : g.ids.keys ≡ map (λ r. r.id) g.riders.items
-  pub vehicle_ids : g.vehicle_ids.keys ≡ map (λ v. v.id) g.vehicles.items
+  pub ids : g.ids.names ≡ map (λ r. r.id) g.riders.items
+  pub vehicle_ids : g.vehicle_ids.names ≡ map (λ v. v.id) g.vehicles.items
   pub riders : KeysDiffer (λ r. r.id) g.riders.items
   pub vehicles : KeysRise (λ v. v.id) g.vehicles.items
   pub pool_rise : KeysRise (λ id. id) g.pool.items
@@ -28,4 +27,4 @@ pub record IsIndexed (g : Register) : Type 0 where
 -- there is room for n more riders without memory
 pub record HasRoom (n : ℕ) (g : Register) : Type 0 where
   pub riders : vec_len g.riders + n ≤ vec_capacity g.riders
-  pub ids : n ≤ spare g.ids
+  pub ids : n ≤ g.ids.spare

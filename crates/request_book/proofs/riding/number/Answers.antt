@@ -8,6 +8,6 @@ if_ok : {A E : Type 0} (r : Result A E) (P : Type 0) → IsOk r → IfOk r (λ _
 if_ok (Ok x) P done h = h
 if_ok (Err e) P done h = absurd (false≢true done)
 
-pub returns-clause-keys : goal.returns-clause-keys
-returns-clause-keys c =
-    if_ok c.insert.result _ (c.insert.ensures.succeeds c.requires.room) c.insert.ensures.keys ∙ inserted c.args.ids.now.keys c.args.rider c.requires.new
+pub returns-clause-names : goal.returns-clause-names
+returns-clause-names c =
+    if_ok c.number.result _ (c.number.ensures.sure c.requires.room) (rw c.get.ensures.value at c.number.ensures.names) ∙ inserted c.args.ids.now.names c.args.rider c.requires.new

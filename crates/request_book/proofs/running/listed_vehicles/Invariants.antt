@@ -2,4 +2,4 @@ use Rattle.std.proofs.Common.{◌≡◌, map, take}
 use Rattle.request_book.proofs.running.listed_vehicles.Given as goal
 
 abbrev pub invariant-loop-vehicle : goal.invariant-loop-vehicle
-invariant-loop-vehicle l = l.ids.keys ≡ map (λ v. v.id) (take l.vehicle-index l.vehicles)
+invariant-loop-vehicle l = l.ids.names ≡ map (λ v. v.id) (take l.vehicle-index l.vehicles)

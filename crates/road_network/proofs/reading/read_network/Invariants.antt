@@ -6,9 +6,9 @@ use Rattle.road_network.proofs.reading.read_network.Given as goal
 abbrev pub invariant-rows : goal.invariant-rows
 invariant-rows l =
     (first_fault (refusal_at l.rows.records) l.row ≡ None)
-    × (l.nodes.keys ≡ nodes_of (take l.row l.rows.records))
-    × (length l.nodes.keys ≤ most_nodes)
-    × (l.arcs.items ≡ map (arc_in l.nodes.keys) (take l.row l.rows.records))
-    × All (IsRowNumbered l.nodes.keys) (take l.row l.rows.records)
+    × (l.nodes.names ≡ nodes_of (take l.row l.rows.records))
+    × (length l.nodes.names ≤ most_nodes)
+    × (l.arcs.items ≡ map (arc_in l.nodes.names) (take l.row l.rows.records))
+    × All (IsRowNumbered l.nodes.names) (take l.row l.rows.records)
     × All (λ fields. arc_seconds fields ≤ longest_arc) (take l.row l.rows.records)
-    × All (λ name. name ≤ greatest_name) l.nodes.keys
+    × All (λ name. name ≤ greatest_name) l.nodes.names

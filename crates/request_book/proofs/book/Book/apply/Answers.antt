@@ -7,7 +7,7 @@ pub invariant_of-self-in-Err-run : goal.invariant_of-self-in-Err-run
 invariant_of-self-in-Err-run c =
     let b = c.self.inside in
     let h = c.self.invariant in
-    let view : State → BookView = λ s. record { nodes = b.nodes.keys; wait = b.wait; first = b.first; base = b.base; entries = b.entries.items; state = s; spare = b.reserved } in
+    let view : State → BookView = λ s. record { nodes = b.nodes.names; wait = b.wait; first = b.first; base = b.base; entries = b.entries.items; state = s; spare = b.reserved } in
     record {
       book = subst (λ s. IsBook (view s)) (sym c.in-Err-run.ensures.err) h.book;
       indexed = c.run.ensures.indexed;
@@ -19,7 +19,7 @@ pub invariant_of-self : goal.invariant_of-self
 invariant_of-self c =
     let b = c.self.inside in
     let h = c.self.invariant in
-    let view : State → List Entry → ℕ → BookView = λ s es n. record { nodes = b.nodes.keys; wait = b.wait; first = b.first; base = b.base; entries = es; state = s; spare = n } in
+    let view : State → List Entry → ℕ → BookView = λ s es n. record { nodes = b.nodes.names; wait = b.wait; first = b.first; base = b.base; entries = es; state = s; spare = n } in
     let spare : b.reserved ≡ c.make_room.new.self.spare = ap (λ (v : BookView). v.spare) c.self.view_is in
     let some : 0 < b.reserved = omega (arith, spare, c.in-Ok.ensures.room) in
     let one_less : b.reserved ≡ (b.reserved - 1) + 1 = omega (arith, some) in

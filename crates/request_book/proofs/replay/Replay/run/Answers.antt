@@ -10,8 +10,8 @@ invariant_of-self-2 c = record { indexed = c.run.ensures.indexed; consistent = b
     before = subst IsConsistent (sym c.in_ok-reserve.ensures.state) c.self.invariant.consistent
 
     by : (r : Result Reply OutOfMemory)
-        → IfOk r (λ reply. (state_of c.run.new.self, reply) ≡ step c.self.inside.nodes.keys c.self.inside.wait (state_of c.reserve.new.self) c.args.command.now)
+        → IfOk r (λ reply. (state_of c.run.new.self, reply) ≡ step c.self.inside.nodes.names c.self.inside.wait (state_of c.reserve.new.self) c.args.command.now)
         → OnErr r (state_of c.run.new.self ≡ state_of c.reserve.new.self) → IsConsistent (state_of c.run.new.self)
     by (Ok reply) stepped same =
-        subst IsConsistent (sym (ap (λ p. p.0) stepped)) (step-consistent c.self.inside.nodes.keys c.self.inside.wait (state_of c.reserve.new.self) c.args.command.now before)
+        subst IsConsistent (sym (ap (λ p. p.0) stepped)) (step-consistent c.self.inside.nodes.names c.self.inside.wait (state_of c.reserve.new.self) c.args.command.now before)
     by (Err e) stepped same = subst IsConsistent (sym same) before

@@ -1,0 +1,7 @@
+use Rattle.std.proofs.Common.{rules, ◌∙◌, ap}
+use Rattle.std.specs.Prelude.{is_some}
+use Rattle.pool_base.proofs.NumberingLemmas.{found}
+use Rattle.pool_base.proofs.numbering.Numbering.number_of.Goals as goal
+
+pub returns-clause-found : goal.returns-clause-found
+returns-clause-found c = search (rules, found)
