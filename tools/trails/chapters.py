@@ -23,7 +23,7 @@ CHAPTERS = (
     ("Files, words and texts", "How files and words are read, how a report is written, and what is wrong with either.",
      "pool_base", "pool_base/src/which", "pool_base/src/memory", "pool_io", "road_network", "fleet_state", "script_rows", "rider_limits", "dispatch_report",
      "route_drive/src/day", "report_audit/src/fault", "report_audit/src/refusal"),
-    ("Notices", "What riders are told.", "rider_notices"),
+    ("Notices", "What riders are told.", "request_book/src/notice", "request_book/specs/Notices", "request_book/specs/Told", "request_book/specs/Seen", "request_book/specs/Steady"),
     ("The run", "What a call of `run` answers. Its clause is `AnswersRun`, and nobody who wants to believe a run need read on.",
      "route_drive/src/day_run", "ridepool/src/status", "ridepool/specs/Seen", "ridepool/specs/Reading", "ridepool/specs/Inputs", "ridepool/specs/Report", "ridepool/specs/Run"),
     ("The day", "What vehicles do that follow their plans, and what a call of `drive` answers: `AnswersDrive`.", "route_drive", "ridepool/specs/Drive"),

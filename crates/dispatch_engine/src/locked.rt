@@ -1,7 +1,6 @@
 //! A book as the lock plays it.
 ghost use Rattle.std.specs.Prelude.{◌≡◌, ◌^◌, ◌<◌, IfOk, IsOk, IsTrue, length};
-ghost use Rattle.request_book.specs.Book.{IsBook};
-ghost use Rattle.request_book.specs.Book.{is_light};
+ghost use Rattle.request_book.specs.Book.{IsBook, is_light};
 ghost use Rattle.dispatch_engine.specs.Locked.{snapshot_before};
 
 use batch_snapshot::Snapshot;

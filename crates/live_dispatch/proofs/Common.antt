@@ -43,12 +43,12 @@ pub use Rattle.request_book.specs.declared.journal.Journal.{Journal}
 pub use Rattle.request_book.specs.declared.reply.Reply.{Reply}
 pub use Rattle.request_book.specs.declared.state.State.{State}
 pub use Rattle.rider_limits.specs.declared.settings.Settings.{Settings}
-pub use Rattle.rider_notices.proofs.lemmas.HeardLemmas.{all-heard-more, all-heard-nothing}
-unfoldable pub use Rattle.rider_notices.specs.Notices.{notices_from}
-pub use Rattle.rider_notices.specs.Notices.{entry_notices}
-pub use Rattle.rider_notices.specs.Seen.{notifiers_seen}
-pub use Rattle.rider_notices.specs.Told.{HaveHeard, NotifierView}
-pub use Rattle.rider_notices.specs.declared.notice.Notice.{Notice}
+pub use Rattle.request_book.proofs.lemmas.HeardLemmas.{all-heard-more, all-heard-nothing}
+unfoldable pub use Rattle.request_book.specs.Notices.{notices_from}
+pub use Rattle.request_book.specs.Notices.{entry_notices}
+pub use Rattle.request_book.specs.Seen.{notifiers_seen}
+pub use Rattle.request_book.specs.Told.{HaveHeard, NotifierView}
+pub use Rattle.request_book.specs.declared.notice.Notice.{Notice}
 pub use Rattle.road_network.specs.Roads.{Roads}
 pub use Rattle.script_rows.specs.Line.{IsBehind}
 pub use Rattle.script_rows.specs.Round.{MayStand, NumberedLanes, lane_at}

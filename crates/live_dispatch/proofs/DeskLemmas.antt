@@ -18,10 +18,10 @@ use Rattle.request_book.specs.declared.journal.Entry.{Entry}
 use Rattle.request_book.specs.declared.reply.Reply.{Reply}
 use Rattle.request_book.specs.declared.reply.Reply.TheVariants.{Closed}
 use Rattle.request_book.specs.declared.state.State.{State}
-use Rattle.rider_notices.specs.Notices.{entry_notices, notices_from}
-use Rattle.rider_notices.specs.Told.{HaveHeard, NotifierView}
-use Rattle.rider_notices.specs.declared.notice.Notice.{Notice}
-use Rattle.rider_notices.proofs.lemmas.HeardLemmas.{all-heard-more, all-heard-nothing}
+use Rattle.request_book.specs.Notices.{entry_notices, notices_from}
+use Rattle.request_book.specs.Told.{HaveHeard, NotifierView}
+use Rattle.request_book.specs.declared.notice.Notice.{Notice}
+use Rattle.request_book.proofs.lemmas.HeardLemmas.{all-heard-more, all-heard-nothing}
 use Rattle.dispatch_report.specs.Lines.{lines_text}
 use Rattle.dispatch_report.specs.Round.{entries_lines, entry_text}
 use Rattle.dispatch_report.specs.declared.fault.ReportFault.{ReportFault}

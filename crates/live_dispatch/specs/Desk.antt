@@ -10,10 +10,10 @@ use Rattle.pool_io.specs.Faults.{Rose}
 use Rattle.request_book.specs.Book.{BookView, IsApplied, IsBook, IsSameBook, next_position}
 use Rattle.request_book.specs.declared.command.Command.{Command}
 use Rattle.request_book.specs.declared.journal.Entry.{Entry}
-use Rattle.rider_notices.specs.Notices.{notices_from}
-use Rattle.rider_notices.specs.Seen.{notifiers_seen}
-use Rattle.rider_notices.specs.Told.{HaveHeard, NotifierView}
-use Rattle.rider_notices.specs.declared.notice.Notice.{Notice}
+use Rattle.request_book.specs.Notices.{notices_from}
+use Rattle.request_book.specs.Seen.{notifiers_seen}
+use Rattle.request_book.specs.Told.{HaveHeard, NotifierView}
+use Rattle.request_book.specs.declared.notice.Notice.{Notice}
 use Rattle.dispatch_report.specs.Lines.{lines_text}
 use Rattle.dispatch_report.specs.Round.{entries_lines, entry_text}
 use Rattle.pool_io.specs.Views.{SinkView}

@@ -15,9 +15,9 @@ use Rattle.request_book.specs.declared.journal.Entry.{Entry}
 use Rattle.request_book.specs.declared.journal.Journal.{Journal}
 use Rattle.request_book.specs.declared.state.State.{State}
 use Rattle.rider_limits.specs.declared.settings.Settings.{Settings}
-use Rattle.rider_notices.specs.Notices.{notices}
-use Rattle.rider_notices.specs.Told.{HaveHeard, NotifierView}
-use Rattle.rider_notices.specs.declared.notice.Notice.{Notice}
+use Rattle.request_book.specs.Notices.{notices}
+use Rattle.request_book.specs.Told.{HaveHeard, NotifierView}
+use Rattle.request_book.specs.declared.notice.Notice.{Notice}
 use Rattle.road_network.specs.Roads.{Roads}
 use Rattle.script_rows.specs.Round.{NumberedLanes, lane_at}
 use Rattle.script_rows.specs.Script.{round_of}

@@ -2,8 +2,8 @@ ghost use Rattle.std.specs.Prelude.{◌≡◌, ◌<◌, ◌≤◌, ◌^◌, [], 
 ghost use Rattle.dispatch_report.specs.declared.fault.ReportFault.{ReportFault};
 ghost use Rattle.request_book.specs.declared.journal.Entry.{Entry};
 ghost use Rattle.request_book.specs.declared.reply.Reply.TheVariants.{Closed};
-ghost use Rattle.rider_notices.specs.Notices.{entry_notices};
-ghost use Rattle.rider_notices.specs.Seen.{notifiers_seen};
+ghost use Rattle.request_book.specs.Notices.{entry_notices};
+ghost use Rattle.request_book.specs.Seen.{notifiers_seen};
 ghost use Rattle.dispatch_engine.specs.Locked.{snapshot_before};
 ghost use Rattle.dispatch_report.specs.Round.{entry_text};
 ghost use Rattle.live_dispatch.specs.Desk.{IsDesk, DeskView, HasEntered, IsSameDesk, desk_of, outputs_seen};
@@ -14,8 +14,9 @@ use dispatch_engine::{LockedReply, sealed_by_command};
 use dispatch_report::{ReportFault, write_step};
 use pool_base::{NodeId, OutOfMemory, Sequence};
 use pool_io::Sink;
-use request_book::{Book, Command, Entry, Reply, State};
-use rider_notices::{Notice, Notifier, notices_of_close, tell_all};
+use request_book::{
+    Book, Command, Entry, Notice, Notifier, Reply, State, notices_of_close, tell_all,
+};
 use std::alloc::Global;
 use std::marker::{Brand, Model, PhantomData};
 

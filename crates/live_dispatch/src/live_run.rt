@@ -10,8 +10,7 @@ ghost use Rattle.live_dispatch.specs.work.Standing.{ended_by};
 use crate::fault::{LiveFault, fault_of_text};
 use dispatch_report::write_end;
 use pool_io::Sink;
-use request_book::Book;
-use rider_notices::Notifier;
+use request_book::{Book, Notifier};
 use script_rows::RowSource;
 use std::alloc::Global;
 

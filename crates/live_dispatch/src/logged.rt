@@ -6,7 +6,7 @@ use crate::desk::{Desk, DeskRoot, LaneCommand, Opening};
 use dispatch_engine::LockedReply;
 use pool_base::OutOfMemory;
 use pool_io::Sink;
-use rider_notices::Notifier;
+use request_book::Notifier;
 use seat_lock::Logged;
 use std::alloc::Global;
 

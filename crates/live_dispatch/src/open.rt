@@ -10,7 +10,7 @@ use crate::read_on::{Halt, read_on};
 use batch_snapshot::Snapshot;
 use dispatch_engine::Setup;
 use pool_io::Sink;
-use rider_notices::Notifier;
+use request_book::Notifier;
 use row_tables::Drafter;
 use script_rows::RowSource;
 use seat_lock::{Pass, SeatLock};

@@ -4,7 +4,7 @@ ghost use Rattle.live_dispatch.specs.Phase.{FaultsFrom, IsHeldBack, RanRows, Tak
 
 use crate::desk::{Desk, LaneCommand, Opening};
 use pool_io::Sink;
-use rider_notices::Notifier;
+use request_book::Notifier;
 use script_rows::{Line, LineFault, RowSource};
 use seat_lock::{Pass, SeatLock};
 use std::alloc::Global;

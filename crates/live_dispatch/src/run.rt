@@ -2,7 +2,7 @@
 ghost use Rattle.std.specs.Prelude.{◌≡◌, ◌<◌, ◌^◌, [], All, Contains, IfOk, IfErr};
 ghost use Rattle.batch_snapshot.specs.Points.{named_nodes};
 ghost use Rattle.live_dispatch.specs.Desk.{desk_of, outputs_seen};
-ghost use Rattle.rider_notices.specs.Seen.{notifiers_seen};
+ghost use Rattle.request_book.specs.Seen.{notifiers_seen};
 ghost use Rattle.live_dispatch.specs.Phase.{FaultsFrom, HasRunOpen, IsHeldBack, desk_after};
 
 use crate::desk::{Desk, Opening};
@@ -12,8 +12,7 @@ use batch_snapshot::Snapshot;
 use dispatch_engine::Setup;
 use dispatch_report::ReportFault;
 use pool_io::Sink;
-use request_book::Book;
-use rider_notices::Notifier;
+use request_book::{Book, Notifier};
 use row_tables::Drafter;
 use script_rows::RowSource;
 use seat_lock::SeatLock;

@@ -10,3 +10,4 @@ pub mod NamedLemmas
 pub mod LawLemmas
 pub mod StepTable
 pub mod BookLemmas
+pub mod HeardLemmas

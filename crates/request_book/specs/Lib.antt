@@ -10,3 +10,7 @@ pub mod Consistent
 pub mod Book
 pub mod lemmas
 pub mod work
+pub mod Told
+pub mod Seen
+pub mod Steady
+pub mod Notices

@@ -17,8 +17,14 @@
 //! }
 //! ```
 //!
+//! Notices tell riders who is promised which vehicle and when, and who is in no trip. Those of a journal
+//! are read off by a replay, those of a close off the book before it. The caller lends notifiers, of one
+//! type or in boxes; each is told the notices in order, and one that fails is dropped while the others go
+//! on.
+//!
 //! Main clauses: `Book::apply`: `applied`, `unchanged`, `sure`, `room`; `Book::take_round`: `journal`,
-//! `next`, `unchanged`.
+//! `next`, `unchanged`; `notices_of`; `notices_of_close`; `tell_journal`; `tell_all`: `heard`, `dropped`;
+//! `Notifier::tell`: `told`, `fault`, `sure`.
 #![tactic(auto)]
 
 mod book;
@@ -26,6 +32,10 @@ mod closing;
 mod command;
 mod journal;
 mod laws;
+mod memory_notifier;
+mod notice;
+mod notifier;
+mod noting;
 mod outcome;
 mod refusals;
 mod register;
@@ -36,6 +46,8 @@ mod riding;
 mod running;
 mod sealing;
 mod state;
+mod statuses;
+mod telling;
 
 pub use book::Book;
 pub use command::Command;
@@ -44,6 +56,10 @@ pub use laws::{
     passengers_are_who_is_aboard, positions_count_entries, refused_commands_change_nothing,
     riders_have_one_status, rounds_join, seats_always_suffice, states_are_consistent,
 };
+pub use memory_notifier::MemoryNotifier;
+pub use notice::Notice;
+pub use notifier::Notifier;
+pub use noting::{notices_of, notices_of_close};
 pub use outcome::{
     Answer, ChosenTrip, LateVehicle, MoveLine, Outcome, Planned, PlannedStop, RowLine,
 };
@@ -51,3 +67,4 @@ pub use replay::Replay;
 pub use reply::{BookRefusal, Reply};
 pub use rider::{BookRider, Status};
 pub use state::State;
+pub use telling::{Told, tell_all, tell_journal};

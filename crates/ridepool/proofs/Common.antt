@@ -42,9 +42,9 @@ pub use Rattle.rider_limits.specs.declared.load_shape.LoadShape.{LoadShape}
 pub use Rattle.rider_limits.specs.declared.settings.Mode.{Mode}
 pub use Rattle.rider_limits.specs.declared.settings.Mode.TheVariants.{Audit, Drive, Load, Run}
 pub use Rattle.rider_limits.specs.declared.settings.Settings.{Settings}
-pub use Rattle.rider_notices.specs.Notices.{notices}
-pub use Rattle.rider_notices.specs.Seen.{notifier_seen}
-pub use Rattle.rider_notices.specs.Told.{HaveHeard, NotifierView}
+pub use Rattle.request_book.specs.Notices.{notices}
+pub use Rattle.request_book.specs.Seen.{notifier_seen}
+pub use Rattle.request_book.specs.Told.{HaveHeard, NotifierView}
 pub use Rattle.road_network.specs.Roads.{Roads}
 pub use Rattle.route_drive.specs.Day.{day_fault}
 pub use Rattle.route_drive.specs.declared.day.DayFault.{DayFault}

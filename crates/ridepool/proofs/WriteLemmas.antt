@@ -17,7 +17,7 @@ use Rattle.dispatch_report.specs.declared.day.DayCounts.{DayCounts}
 use Rattle.route_drive.specs.Driven.{IsLateAnswer, IsTooLateDay}
 use Rattle.route_drive.specs.Promises.{IsKeptDay, IsRunOfDay}
 use Rattle.route_drive.specs.declared.day_run.DriveFault.{DriveFault}
-use Rattle.rider_notices.proofs.lemmas.HeardLemmas.{all-heard-nothing, all-heard-more}
+use Rattle.request_book.proofs.lemmas.HeardLemmas.{all-heard-nothing, all-heard-more}
 use Rattle.dispatch_report.specs.declared.fault.ReportFault.TheVariants as report
 use Rattle.route_drive.specs.declared.day_run.DriveFault.TheVariants as drive
 

@@ -18,7 +18,7 @@ use Rattle.request_book.specs.Book.{BookView, opening}
 use Rattle.rider_limits.specs.Words.{fault_of, text_given}
 use Rattle.rider_limits.specs.declared.settings.Settings.{Settings}
 use Rattle.rider_limits.specs.declared.word_fault.WordFault.{WordFault}
-use Rattle.rider_notices.specs.Told.{NotifierView}
+use Rattle.request_book.specs.Told.{NotifierView}
 use Rattle.road_network.specs.Roads.{Roads}
 use Rattle.road_network.specs.declared.fault.NetworkFault.{NetworkFault}
 use Rattle.script_rows.specs.declared.line.Line.{Line}

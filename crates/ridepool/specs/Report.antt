@@ -8,9 +8,9 @@ use Rattle.pool_io.specs.Sink.{AppendsPart}
 use Rattle.request_book.specs.Book.{opening}
 use Rattle.request_book.specs.declared.journal.Journal.{Journal}
 use Rattle.rider_limits.specs.declared.settings.Settings.{Settings}
-use Rattle.rider_notices.specs.Notices.{notices}
-use Rattle.rider_notices.specs.Told.{NotifierView, HaveHeard}
-use Rattle.rider_notices.specs.declared.notice.Notice.{Notice}
+use Rattle.request_book.specs.Notices.{notices}
+use Rattle.request_book.specs.Told.{NotifierView, HaveHeard}
+use Rattle.request_book.specs.declared.notice.Notice.{Notice}
 use Rattle.road_network.specs.Roads.{Roads}
 use Rattle.route_drive.specs.declared.day_run.DayRound.{DayRound}
 use Rattle.script_rows.specs.Round.{NumberedLanes}

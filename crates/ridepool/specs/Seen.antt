@@ -3,7 +3,7 @@ use Rattle.std.specs.Prelude.{ℕ, List}
 use Rattle.pool_io.specs.Views.{Change, IsUntouched, SinkView, SourceView}
 use Rattle.pool_base.specs.declared.which.Which.{Which}
 use Rattle.pool_base.specs.declared.which.Which.TheVariants.{Network, Fleet, Script, Report}
-use Rattle.rider_notices.specs.Told.{NotifierView}
+use Rattle.request_book.specs.Told.{NotifierView}
 
 -- the sources of the inputs
 pub record Sources : Type 0 where

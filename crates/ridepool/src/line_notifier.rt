@@ -4,7 +4,7 @@ ghost use Rattle.ridepool.specs.work.NoticeText.{notice_text};
 use crate::text::put_at;
 use pool_base::{OutOfMemory, put_bytes};
 use pool_io::Failed;
-use rider_notices::{Notice, Notifier};
+use request_book::{Notice, Notifier};
 use std::alloc::Global;
 use std::io::Write;
 use std::marker::Model;

@@ -2,15 +2,15 @@ ghost use Rattle.std.specs.Prelude.{map};
 ghost use Rattle.std.specs.String.{string_bytes};
 ghost use Rattle.ridepool.specs.Answers.{Answers};
 ghost use Rattle.pool_io.specs.Views.{sink_seen, source_seen};
-ghost use Rattle.rider_notices.specs.Seen.{notifier_seen};
+ghost use Rattle.request_book.specs.Seen.{notifier_seen};
 
 use crate::auditing::write_audit;
 use crate::inputs::inputs_from;
 use crate::status::RunStatus;
 use crate::writing::write_report;
 use pool_io::{Sink, Source};
+use request_book::Notifier;
 use rider_limits::{Mode, read_words};
-use rider_notices::Notifier;
 use std::alloc::Global;
 use std::sync::Wait;
 use std::thread::Threads;

@@ -2,7 +2,7 @@ ghost use Rattle.std.specs.Prelude.{◌≡◌, ◌≤◌, [], false, List, lengt
 ghost use Rattle.std.specs.List.{All};
 ghost use Rattle.dispatch_engine.specs.Run.{IsReady};
 ghost use Rattle.request_book.specs.Consistent.{IsConsistent, IsNode};
-ghost use Rattle.rider_notices.specs.Seen.{notifier_seen};
+ghost use Rattle.request_book.specs.Seen.{notifier_seen};
 ghost use Rattle.pool_io.specs.Views.{sink_seen};
 ghost use Rattle.dispatch_report.specs.Written.{WritesText};
 ghost use Rattle.ridepool.specs.Inputs.{Inputs};
@@ -25,9 +25,8 @@ use dispatch_report::{
 use plan_drafts::RelaxationDrafter;
 use pool_base::OutOfMemory;
 use pool_io::Sink;
-use request_book::Book;
+use request_book::{Book, Notifier, tell_journal};
 use rider_limits::{Mode, Settings};
-use rider_notices::{Notifier, tell_journal};
 use road_network::Network;
 use route_drive::{DayRound, DriveFault, drive_day};
 use row_tables::Drafter;

@@ -9,11 +9,11 @@ mod notices;
 use crate::notices::{OpeningSink, SharedFile, is_taken};
 use pool_base::OutOfMemory;
 use pool_io::{Source, StdSink, StdSource};
+use request_book::Notifier;
 use ridepool::{
     LineNotifier, LiveEnd, RunStatus, fault_text, live, refusal_text, ridepool, words_of_run,
 };
 use rider_limits::{read_words, value_of};
-use rider_notices::Notifier;
 use run_progress::{WatchedGate, WatchedSink};
 use script_rows::{RefusalListener, RowRefusal};
 use std::alloc::Global;

@@ -1,7 +1,7 @@
 //! Sources, sinks and notifiers in memory.
 use pool_base::RiderId;
 use pool_io::{PlainSink, PlainSource, Sink, read_all};
-use rider_notices::{MemoryNotifier, Notice, Notifier};
+use request_book::{MemoryNotifier, Notice, Notifier};
 use run_progress::WatchedSink;
 use std::alloc::{AllocError, Global};
 use std::test::Fail;

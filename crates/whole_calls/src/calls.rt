@@ -1,7 +1,7 @@
 //! Runs on a street of five corners, whose sources and sink lie in memory.
 use pool_io::{MemorySink, MemorySource};
+use request_book::Notifier;
 use ridepool::{RunStatus, ridepool};
-use rider_notices::Notifier;
 use std::alloc::{AllocError, Global};
 use std::sync::Wait;
 use std::thread::Threads;

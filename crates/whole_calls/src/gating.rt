@@ -1,6 +1,6 @@
 //! What a gate sees of whole runs: lanes that meet, a lane that is answered during growth, and pieces of growth.
 use crate::calls::ends_with;
-use rider_notices::Notifier;
+use request_book::Notifier;
 use std::alloc::{AllocError, Global};
 use std::sync::Wait;
 use std::sync::atomic::{AtomicU64, Ordering};

@@ -1,6 +1,6 @@
 //! Three notifiers of a run, of whom one is left out once it fails.
 use crate::calls::ends_with;
-use rider_notices::{MemoryNotifier, Notifier};
+use request_book::{MemoryNotifier, Notifier};
 use std::alloc::{AllocError, Global};
 use std::sync::Wait;
 use std::test::Fail;

@@ -10,7 +10,7 @@ use Rattle.request_book.specs.Replay.{state_after}
 use Rattle.request_book.specs.Step.{step}
 use Rattle.request_book.specs.declared.journal.Entry.{Entry}
 use Rattle.request_book.specs.declared.state.State.{State}
-use Rattle.rider_notices.specs.Notices.{entry_notices, notices_from}
+use Rattle.request_book.specs.Notices.{entry_notices, notices_from}
 
 next-none : (p : ℕ) → p < 2 ^ 64 → next_position p [] ≡ p
 next-none p low = omega arith

@@ -22,7 +22,7 @@ use Rattle.request_book.specs.declared.journal.Entry.{Entry}
 use Rattle.request_book.specs.declared.journal.Journal.{Journal}
 use Rattle.request_book.specs.declared.reply.Reply.{Reply}
 use Rattle.rider_limits.specs.declared.settings.Settings.{Settings}
-use Rattle.rider_notices.specs.Told.{HaveHeard, NotifierView}
+use Rattle.request_book.specs.Told.{HaveHeard, NotifierView}
 use Rattle.road_network.specs.Roads.{Roads}
 use Rattle.script_rows.specs.Line.{IsBehind}
 use Rattle.script_rows.specs.declared.line.Line.{Line}

@@ -7,8 +7,8 @@ use Rattle.pool_io.specs.Faults.{Rose}
 use Rattle.pool_io.specs.Sink.{AppendsPart}
 use Rattle.request_book.specs.declared.reply.Reply.{Reply}
 use Rattle.request_book.specs.declared.reply.Reply.TheVariants.{Closed}
-use Rattle.rider_notices.specs.Told.{HaveHeard, NotifierView}
-use Rattle.rider_notices.specs.declared.notice.Notice.{Notice}
+use Rattle.request_book.specs.Told.{HaveHeard, NotifierView}
+use Rattle.request_book.specs.declared.notice.Notice.{Notice}
 use Rattle.live_dispatch.specs.Desk.{Outputs}
 
 -- the reply says that a batch is closed

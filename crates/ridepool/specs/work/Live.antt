@@ -9,7 +9,7 @@ use Rattle.pool_base.specs.declared.which.Which.TheVariants as file
 use Rattle.pool_io.specs.declared.input.Input.TheVariants.{Rows}
 use Rattle.pool_io.specs.declared.records.RowFault.TheVariants as row
 use Rattle.rider_limits.specs.Words.{fault_of}
-use Rattle.rider_notices.specs.Told.{NotifierView}
+use Rattle.request_book.specs.Told.{NotifierView}
 use Rattle.ridepool.specs.Live.{LiveSeen}
 use Rattle.ridepool.specs.declared.status.RunStatus.{RunStatus}
 use Rattle.ridepool.specs.declared.status.RunStatus.TheVariants.{Done, Words, Script, ReadFault, WriteFault, OutOfMemory}

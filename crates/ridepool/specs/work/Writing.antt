@@ -15,8 +15,8 @@ use Rattle.request_book.specs.declared.journal.Journal.{Journal}
 use Rattle.rider_limits.specs.declared.settings.Mode.{Mode}
 use Rattle.rider_limits.specs.declared.settings.Mode.TheVariants.{Load, Drive}
 use Rattle.rider_limits.specs.declared.settings.Settings.{Settings}
-use Rattle.rider_notices.specs.Notices.{notices}
-use Rattle.rider_notices.specs.Told.{NotifierView, HaveHeard}
+use Rattle.request_book.specs.Notices.{notices}
+use Rattle.request_book.specs.Told.{NotifierView, HaveHeard}
 use Rattle.road_network.specs.Roads.{Roads}
 use Rattle.route_drive.specs.Day.{day_fault}
 use Rattle.route_drive.specs.Driven.{IsTooLateDay}

@@ -12,9 +12,9 @@ loop-index-preserved c =
     let k = c.node_at.result in
     let first = position-Some (λ j. eqb k j) nodes i 0 c.node_at.ensures.indexed in
     let new =
-        ap (list_any (λ j. eqb j k)) c.loop-index.invariant
-        ∙ list_any-agree (λ j. eqb j k) (λ j. eqb k j) (λ j. eqb_comm j k) (take i nodes)
-        ∙ list_any-take (λ j. eqb k j) nodes i 0 first.2 (omega (arith, first.0)) in
+    ap (list_any (λ j. eqb j k)) c.loop-index.invariant
+    ∙ list_any-agree (λ j. eqb j k) (λ j. eqb k j) (λ j. eqb_comm j k) (take i nodes)
+    ∙ list_any-take (λ j. eqb k j) nodes i 0 first.2 (omega (arith, first.0)) in
     (rw c.get.ensures.value at c.in_ok-number.ensures.names)
     ∙ inserted _ k new
     ∙ ap (λ ks. ks ++ k ∷ []) c.loop-index.invariant

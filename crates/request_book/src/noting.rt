@@ -1,0 +1,196 @@
+ghost use Rattle.std.specs.Prelude.{◌≡◌, ◌++◌, ◌∷◌, [], true, false, IfOk, OnOk, if◌then◌else◌};
+ghost use Rattle.std.specs.Option.{option_map_or};
+ghost use Rattle.request_book.specs.Consistent.{IsConsistent};
+ghost use Rattle.request_book.specs.Rider.{is_active};
+ghost use Rattle.request_book.specs.State.{find_rider};
+ghost use Rattle.request_book.specs.declared.reply.Reply.TheVariants.{Closed};
+ghost use Rattle.request_book.specs.Notices.{notices, notices_from, entry_notices, batch_notices, notice_of, trip_notice, stop_second};
+
+use crate::book::Book;
+use crate::command::Command;
+use crate::journal::{Entry, Journal};
+use crate::notice::Notice;
+use crate::outcome::{Answer, ChosenTrip, PlannedStop};
+use crate::replay::Replay;
+use crate::reply::Reply;
+use crate::rider::Status;
+use crate::statuses::Statuses;
+use batch_snapshot::Snapshot;
+use pool_base::{OutOfMemory, RiderId};
+use road_network::Network;
+use std::alloc::Global;
+
+/// The notices of a journal over this network, where a rider waits for `wait` seconds at most.
+///
+/// For each batch that is closed with a plan, in order, each rider of its snapshot who waits or has a
+/// promise as the close comes has one notice, by rising id: the pickup and the drop-off of the first
+/// chosen trip that picks the rider up, or that no trip does. An overflow gives none.
+pub fn notices_of(
+    alloc: Global,
+    journal: &Journal,
+    network: &Network,
+    wait: u32,
+) -> Result<Vec<Notice>, OutOfMemory>
+    requires { IsConsistent journal.now.base }
+    ensures { IfOk result (λ told. told.items ≡ notices network.now.nodes wait journal.now) }
+{
+    let mut told = Vec::new(alloc);
+    note_journal(alloc, &mut told, journal, network, wait)?;
+    Ok(told)
+}
+
+/// The notices of a close, if the book takes it now; another command has none.
+pub fn notices_of_close(
+    alloc: Global,
+    book: &Book,
+    command: &Command,
+) -> Result<Vec<Notice>, OutOfMemory>
+    ensures { IfOk result (λ told. told.items ≡ entry_notices book.now.state command.now Closed) }
+{
+    let mut told = Vec::new(alloc);
+    note_step(&mut told, book, command, &Reply::Closed)?;
+    Ok(told)
+}
+
+/// Notes what a journal tells.
+fn note_journal(
+    alloc: Global,
+    told: &mut Vec<Notice>,
+    journal: &Journal,
+    network: &Network,
+    wait: u32,
+) -> Result<(), OutOfMemory>
+    requires { IsConsistent journal.now.base }
+    ensures { OnOk result (told.new.items ≡ told.old.items ++ notices network.now.nodes wait journal.now) }
+{
+    let mut replay = Replay::of(alloc, network, wait, &journal.base)?;
+    note_entries(told, &mut replay, journal.entries.as_slice())
+}
+
+/// Notes what entries tell, as a replay runs them from where it stands.
+fn note_entries(
+    told: &mut Vec<Notice>,
+    replay: &mut Replay,
+    entries: &[Entry],
+) -> Result<(), OutOfMemory>
+    ensures { OnOk result (told.new.items ≡ told.old.items ++ notices_from replay.old.nodes replay.old.wait replay.old.state entries.now) }
+{
+    for entry in entries {
+        note_step(told, replay, &entry.command, &entry.reply)?;
+        replay.run(&entry.command)?;
+    }
+    Ok(())
+}
+
+/// Notes what a command that was answered so tells, in the state before it.
+fn note_step<S: Statuses>(
+    told: &mut Vec<Notice>,
+    before: &S,
+    command: &Command,
+    reply: &Reply,
+) -> Result<(), OutOfMemory>
+    ensures { OnOk result (told.new.items ≡ told.old.items ++ entry_notices (S.state before.now) command.now reply.now) }
+{
+    match (command, reply) {
+        (Command::Close { outcome, .. }, Reply::Closed) => match before.sealed() {
+            Some(batch) => note_batch(told, before, batch, &outcome.answer),
+            None => Ok(()),
+        },
+        _ => Ok(()),
+    }
+}
+
+/// Notes what an answer tells the riders of its batch.
+fn note_batch<S: Statuses>(
+    told: &mut Vec<Notice>,
+    before: &S,
+    batch: &Snapshot,
+    answer: &Answer,
+) -> Result<(), OutOfMemory>
+    ensures { OnOk result (told.new.items ≡ told.old.items ++ batch_notices (S.state before.now) batch.entry.now answer.now) }
+{
+    match answer {
+        Answer::Overflow => Ok(()),
+        Answer::Planned(plan) => {
+            let chosen = plan.chosen.as_slice();
+            for rider in batch.riders.as_slice() {
+                note_rider(told, before, batch.batch, chosen, rider.id)?;
+            }
+            Ok(())
+        }
+    }
+}
+
+/// Notes the notice of a rider who waits or has a promise.
+fn note_rider<S: Statuses>(
+    told: &mut Vec<Notice>,
+    before: &S,
+    batch: u64,
+    chosen: &[ChosenTrip],
+    rider: RiderId,
+) -> Result<(), OutOfMemory>
+    ensures { OnOk result (told.new.items ≡ told.old.items ++ (if option_map_or (λ known. is_active known.status) (find_rider rider (S.state before.now).riders) false then notice_of batch chosen.now rider ∷ [] else [])) }
+{
+    if is_asking(before, rider) {
+        told.push(notice_of(batch, chosen, rider))?;
+    }
+    Ok(())
+}
+
+/// Whether a rider waits or has a promise.
+fn is_asking<S: Statuses>(state: &S, rider: RiderId) -> bool
+    ensures { result ≡ option_map_or (λ known. is_active known.status) (find_rider rider (S.state state.now).riders) false }
+{
+    match state.status_of(rider) {
+        Some(Status::Waiting | Status::Promised(_)) => true,
+        _ => false,
+    }
+}
+
+/// The notice of a rider: of the first trip that picks the rider up, if one does.
+fn notice_of(batch: u64, chosen: &[ChosenTrip], rider: RiderId) -> Notice
+    ensures { result ≡ notice_of batch chosen.now rider }
+{
+    for trip in chosen {
+        if let Some(notice) = trip_notice(batch, trip, rider) {
+            return notice;
+        }
+    }
+    Notice::Unserved { batch, rider }
+}
+
+/// The notice of a trip to a rider, if it picks the rider up.
+fn trip_notice(batch: u64, trip: &ChosenTrip, rider: RiderId) -> Option<Notice>
+    ensures { result ≡ trip_notice batch trip.now rider }
+{
+    let stops = trip.stops.as_slice();
+    let pickup = pickup_second(stops, rider)?;
+    let dropoff = dropoff_second(stops, rider).unwrap_or(pickup);
+    Some(Notice::Promised {
+        batch,
+        rider,
+        vehicle: trip.vehicle,
+        pickup,
+        dropoff,
+    })
+}
+
+/// The second of the first stop that picks the rider up.
+fn pickup_second(stops: &[PlannedStop], rider: RiderId) -> Option<u64>
+    ensures { result ≡ stop_second true rider stops.now }
+{
+    stops
+        .iter()
+        .find(|stop| stop.pick && stop.rider == rider)
+        .map(|stop| stop.second)
+}
+
+/// The second of the first stop that drops the rider.
+fn dropoff_second(stops: &[PlannedStop], rider: RiderId) -> Option<u64>
+    ensures { result ≡ stop_second false rider stops.now }
+{
+    stops
+        .iter()
+        .find(|stop| !stop.pick && stop.rider == rider)
+        .map(|stop| stop.second)
+}

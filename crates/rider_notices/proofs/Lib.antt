@@ -1,4 +1,0 @@
-pub mod lemmas
-pub mod ToldLemmas
-pub mod SteadyLemmas
-pub mod NoticeLemmas

@@ -1,4 +1,0 @@
-pub mod Told
-pub mod Seen
-pub mod Steady
-pub mod Notices
