@@ -13,7 +13,7 @@ CHAPTERS = (
     ("Plans", "Which trip each vehicle takes, whether that is lawful, and what it costs.",
      "plan_rules/specs/Greedy", "row_tables"),
     ("Bounds", "What no plan can cost less than, and the tree that shows it.",
-     "plan_rules", "dual_bound", "assignment_search", "bound_checker"),
+     "plan_rules", "assignment_search", "bound_checker"),
     ("Outcomes", "What a batch comes to: its lists, its plan, its bound and its moves, and when these are good.",
      "rebalancing", "request_book/src/outcome", "batch_solver/specs/Outcome", "batch_solver", "outcome_check"),
     ("Steps", "What a command changes of the book, and what it answers.",

@@ -3,8 +3,8 @@ use Rattle.std.proofs.Common.{◌≡◌, ◌==◌, ℕ, zero, suc, ◌*◌, ◌<
 use Rattle.assignment_search.proofs.Common.{nat_tests, same_Some, none-some, ints, cases_eq, cases_lt, cases_Bool, and_from, and_parts, get_or_push, get_or_append_left, sum_below, count_below, int_sum_below, Graph, IsRowOf, HasNoRow, riders_at, row_vehicle, has_rider, choice_at, is_in, must_be_served, IsGoodGraph, IsPlan, IsLawful, choice_cost, cost_of, times_chosen, left_out, Usable, multiplier_at, is_usable_by, reduced_cost, vehicle_term, rider_term, leaf_value, first_fit_of, first_fit_below, first_fit, first_fit_value, MayUse, IsSoleRow, IsDeadEnd, Clash, Stranded, rounded_up, flag, flag-true, flag-false, part, int_sum_same, int_sum_le, int_sum_zero, least_below_some, least_below_none, least_below_found, count_below_found, times_served_as_count, times_served_some, in_choice, has_choice, HasUsable, IsFixed, IsSolePlan, false_from_ne_true}
 use Rattle.plan_rules.proofs.lemmas.DualityLemmas.{choices_sum, multiplier_sum_is, prices_sum, riders_give, served_give}
 use Rattle.plan_rules.proofs.lemmas.TreeLemmas.{rounded_up_mono}
-use Rattle.dual_bound.proofs.lemmas.FirstFitLemmas.{length-first_fit}
-use Rattle.dual_bound.proofs.lemmas.FirstFitValueLemmas.{first_fit_leaves_room, rider_term_is}
+use Rattle.assignment_search.proofs.lemmas.FirstFitLemmas.{length-first_fit}
+use Rattle.assignment_search.proofs.lemmas.FirstFitValueLemmas.{first_fit_leaves_room, rider_term_is}
 
 -- where two are counted, two pass
 count_two_found : (n : ℕ) (p : ℕ → Bool) → 2 ≤ count_below n p → (j : ℕ) × (k : ℕ) × (j < k) × (k < n) × (p j ≡ true) × (p k ≡ true)

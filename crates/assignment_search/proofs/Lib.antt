@@ -12,3 +12,6 @@ pub mod AnswerLemmas
 pub mod ApartLemmas
 pub mod OpenLemmas
 pub mod Common
+pub mod ListedLemmas
+pub mod CeilingLemmas
+pub mod CheapestLemmas

@@ -1,1 +1,3 @@
 pub mod UniqueLemmas
+pub mod FirstFitLemmas
+pub mod FirstFitValueLemmas

@@ -10,7 +10,7 @@ ghost use Rattle.assignment_search.specs.work.Growth.{IsGoodLeaf, IsJudged, IsNe
 
 use crate::guide::Guide;
 use crate::lookups::Lookups;
-use dual_bound::{first_fit_by, first_fit_ceiling, leaf_value, quick_ceiling};
+use crate::{first_fit_by, first_fit_ceiling, leaf_value, quick_ceiling};
 use plan_rules::{Multipliers, Node, TripGraph, is_dead_end, vehicle_part};
 use pool_base::OutOfMemory;
 use std::alloc::Global;

@@ -2,7 +2,7 @@
 ghost use Rattle.std.specs.Prelude.{◌<◌, IfOk, IfSome};
 ghost use Rattle.plan_rules.specs.Plan.{IsLawful, cost_of};
 
-use dual_bound::ascend;
+use crate::ascend;
 use plan_rules::{Plan, TripGraph, cost_of, is_lawful};
 use pool_base::OutOfMemory;
 use row_tables::{Draft, DraftNode, Drafter, RowTable};

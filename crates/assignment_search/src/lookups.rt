@@ -2,7 +2,7 @@
 ghost use Rattle.std.specs.Prelude.{IfOk};
 ghost use Rattle.assignment_search.specs.work.Lookups.{AreLookupsOf};
 
-use dual_bound::{CheapestRows, RiderIndex};
+use crate::{CheapestRows, RiderIndex};
 use plan_rules::TripGraph;
 use pool_base::OutOfMemory;
 use row_tables::RowTable;

@@ -1,7 +1,7 @@
 //! The nodes of a tree, each at the rows that may be chosen there.
 ghost use Rattle.std.specs.Prelude.{◌≡◌, ◌↔◌, IfOk, IsTrue, OnOk, false, length};
 ghost use Rattle.bound_checker.specs.lemmas.Visit.{coming_of};
-ghost use Rattle.dual_bound.specs.Index.{IsIndexOf};
+ghost use Rattle.assignment_search.specs.Index.{IsIndexOf};
 ghost use Rattle.plan_rules.specs.Graph.{Graph};
 ghost use Rattle.plan_rules.specs.GoodGraph.{IsGoodGraph};
 ghost use Rattle.plan_rules.specs.Multipliers.{usable_of};
@@ -13,7 +13,7 @@ ghost use Rattle.bound_checker.specs.work.Nodes.{HasMultipliers, IsLimit};
 
 use crate::limit::limit_of;
 use crate::tight::{first_seconds, first_value, index_of};
-use dual_bound::RiderIndex;
+use assignment_search::RiderIndex;
 use plan_rules::{Node, Path, Tree, TripGraph, leaf_value};
 use pool_base::OutOfMemory;
 use std::alloc::Global;

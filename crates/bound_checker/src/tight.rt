@@ -1,13 +1,13 @@
 //! How good a bound is.
 ghost use Rattle.std.specs.Prelude.{◌≡◌, ◌↔◌, ◌+◌, ◌≤◌, IfOk, IsTrue, length};
-ghost use Rattle.dual_bound.specs.Index.{IsIndexOf};
+ghost use Rattle.assignment_search.specs.Index.{IsIndexOf};
 ghost use Rattle.plan_rules.specs.Multipliers.{first_fit_value, usable_of};
 ghost use Rattle.plan_rules.specs.Size.{IsSmallSum};
 ghost use Rattle.plan_rules.specs.Tree.{every_row, rounded_up};
 ghost use Rattle.assignment_search.specs.Found.{IsClose};
 
 use crate::choices::is_closable;
-use dual_bound::{RiderIndex, first_fit_by};
+use assignment_search::{RiderIndex, first_fit_by};
 use plan_rules::{Tree, TripGraph, leaf_value, rounded_up};
 use pool_base::OutOfMemory;
 use row_tables::RowTable;

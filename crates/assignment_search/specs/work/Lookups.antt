@@ -1,6 +1,6 @@
 use Rattle.plan_rules.specs.Graph.{Graph}
-use Rattle.dual_bound.specs.Index.{IsIndexOf}
-use Rattle.dual_bound.specs.Cheapest.{AreCheapestOf}
+use Rattle.assignment_search.specs.Index.{IsIndexOf}
+use Rattle.assignment_search.specs.Cheapest.{AreCheapestOf}
 use Rattle.assignment_search.specs.declared.lookups.Lookups.{Lookups}
 
 -- an index of the graph's riders, and the cheapest rows of its vehicles

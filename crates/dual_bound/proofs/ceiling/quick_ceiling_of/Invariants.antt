@@ -1,5 +1,0 @@
-use Rattle.dual_bound.proofs.Common.{usable_of, AreCeilings}
-use Rattle.dual_bound.proofs.ceiling.quick_ceiling_of.Given as goal
-
-abbrev pub invariant-loop-vehicle : goal.invariant-loop-vehicle
-invariant-loop-vehicle l = AreCeilings l.graph (usable_of l.allowed) l.rooms

@@ -1,5 +1,0 @@
-use Rattle.dual_bound.proofs.lemmas.FirstFitValueLemmas.{first_fit_value_is}
-use Rattle.dual_bound.proofs.laws.first_fit_value_is_a_sum.Goals as goal
-
-pub returns : goal.returns
-returns c = first_fit_value_is

@@ -1,2 +1,0 @@
-pub mod FirstFitLemmas
-pub mod FirstFitValueLemmas

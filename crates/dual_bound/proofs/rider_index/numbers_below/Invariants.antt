@@ -1,5 +1,0 @@
-use Rattle.std.proofs.Common.{◌≡◌, ℕ, ◌<◌, get_or, vec_len}
-use Rattle.dual_bound.proofs.rider_index.numbers_below.Given as goal
-
-abbrev pub invariant-loop-number : goal.invariant-loop-number
-invariant-loop-number l = record { len : vec_len l.numbers ≡ l.number; each : (k : ℕ) → k < l.number → get_or l.numbers.items k 0 ≡ k }
