@@ -15,7 +15,7 @@ import re
 import sys
 
 TOP = os.path.join(os.path.dirname(os.path.abspath(__file__)), "..", "crates")
-CRATES = ["plan_rules", "row_tables", "linear_relaxation", "plan_drafts", "assignment_search"]
+CRATES = ["plan_rules", "row_tables", "plan_drafts", "assignment_search"]
 SHIMS = ["pool_base", "arrayvec", "rand_xoshiro"]
 
 POOL_BASE = """

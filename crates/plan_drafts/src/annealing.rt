@@ -5,10 +5,10 @@
 //! cheapest, and the vehicles that lost riders fill up. A move that isn't taken is undone by its log.
 
 use crate::Plan;
+use crate::allowance::Allowance;
 use crate::beside::{Beside, mark_of};
 use crate::present::Present;
 use crate::regrets::Regrets;
-use linear_relaxation::Allowance;
 use row_tables::fixed_point::{item, set_at, write_over};
 use row_tables::lists::short;
 use row_tables::{Draws, Made};

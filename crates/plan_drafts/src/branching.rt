@@ -4,7 +4,7 @@
 //! with the row taken and with the row forbidden, over the rows at hand, and the greatest product of the two rises
 //! wins.
 use crate::decided::Decided;
-use linear_relaxation::{Ended, MANY_CONDITIONS, Saved};
+use crate::relaxation::{Ended, MANY_CONDITIONS, Saved};
 use row_tables::fixed_point::{ONE, item};
 use row_tables::{Decision, Made, RowTable, Share};
 use std::alloc::Global;

@@ -1,5 +1,5 @@
 //! A relaxation under decisions.
-use linear_relaxation::Relaxation;
+use crate::relaxation::Relaxation;
 use row_tables::lists::short;
 use row_tables::{Decision, Made, RowTable};
 use std::alloc::Global;

@@ -1,4 +1,5 @@
 //! A draft: the relaxation of all rows, plans made from it, and a tree where they leave a gap.
+use crate::allowance::Allowance;
 use crate::beside::Beside;
 use crate::branching::FEW_CONDITIONS;
 use crate::decided::Decided;
@@ -6,10 +7,10 @@ use crate::diving::dive;
 use crate::merge::{Merge, renumbered};
 use crate::plans::Plans;
 use crate::regrets::Regrets;
+use crate::relaxation::Relaxation;
 use crate::scout::{Scout, Start};
 use crate::tree::DraftTree;
 use crate::{Plan, whole};
-use linear_relaxation::{Allowance, Relaxation};
 use pool_base::OutOfMemory;
 use row_tables::{Draft, Drafter, Made, RowTable, Share, ascend, first_multipliers};
 use std::alloc::Global;

@@ -4,6 +4,9 @@
 //! the same rows give the same draft, whatever the number of workers: a fixed number of nodes is parted at once, and
 //! a fixed number of scouts looks for plans, each with a relaxation, a plan and draws of its own.
 //!
+//! A linear relaxation chooses rows in part. Multipliers come out of it that nobody has to trust: a leaf value judges
+//! them. Its numbers are in fixed point, so that each machine does the same.
+//!
 //! A caller:
 //!
 //! ```
@@ -18,6 +21,7 @@
 //! Main clauses: none, only what safety needs.
 #![tactic(auto)]
 
+mod allowance;
 mod annealing;
 mod beside;
 mod branching;
@@ -32,17 +36,8 @@ mod parter;
 mod plans;
 mod present;
 mod regrets;
+mod relaxation;
 mod scout;
 mod tree;
 
 pub use draft::RelaxationDrafter;
-use row_tables::Made;
-
-/// For each vehicle its row, if it has one.
-type Plan = Vec<Option<u32>>;
-
-/// A value that was begun empty, if it could be filled.
-fn whole<T: Drop>(value: T, done: Made<()>) -> Made<T> {
-    done?;
-    Ok(value)
-}

@@ -1,10 +1,11 @@
 //! The parting of a node: it is branched on a row, and its two ends are solved.
 use crate::Plan;
+use crate::allowance::Allowance;
 use crate::branching::{Branching, decision};
 use crate::decided::Decided;
 use crate::diving::whole_plan;
+use crate::relaxation::Relaxation;
 use crate::tree::{DraftTree, Standing, standing_of};
-use linear_relaxation::{Allowance, Relaxation};
 use row_tables::{Decision, Made, RowTable};
 use std::alloc::Global;
 

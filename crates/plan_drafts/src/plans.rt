@@ -3,11 +3,11 @@
 //! Nothing is proved of the plans that come out: they are judged before they are used. All choices follow from counts
 //! and drawn numbers, so that the same rows give the same plan.
 
+use crate::allowance::Allowance;
 use crate::costs::{UNLAWFUL, plan_cost};
 use crate::neighbourhood::Neighbourhood;
 use crate::present::Present;
 use crate::regrets::Regrets;
-use linear_relaxation::Allowance;
 use row_tables::{Made, RowTable, Share};
 use std::alloc::Global;
 use std::cmp::Reverse;

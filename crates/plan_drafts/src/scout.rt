@@ -1,13 +1,14 @@
 //! Plans that are sought side by side: each scout goes its own way from the best plan, and what it finds follows from
 //! its number alone.
+use crate::allowance::Allowance;
 use crate::annealing::anneal;
 use crate::beside::Beside;
 use crate::decided::Decided;
 use crate::diving::dive;
 use crate::plans::Plans;
 use crate::regrets::Regrets;
+use crate::relaxation::Relaxation;
 use crate::tree::DraftTree;
-use linear_relaxation::{Allowance, Relaxation};
 use row_tables::Made;
 use std::alloc::Global;
 

@@ -1,8 +1,9 @@
 //! A tree of decisions, best bound first, without proofs: what comes out is a plan, and for each node a row
 //! to branch on and multipliers, which are judged where they are used.
+use crate::allowance::Allowance;
 use crate::costs::{UNLAWFUL, plan_cost};
 use crate::parter::{MOST_AT_ONCE, Parter};
-use linear_relaxation::{Allowance, Relaxation};
+use crate::relaxation::Relaxation;
 use pool_base::OutOfMemory;
 use row_tables::lists::short;
 use row_tables::{Decision, Draft, DraftNode, Made, RowTable, Share};
