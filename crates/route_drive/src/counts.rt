@@ -101,13 +101,18 @@ pub(crate) fn counts_of(
     let _named = book.entries();
     let arcs = Arcs::of(alloc, network)?;
     let mut search = Search::new(alloc)?;
-    let delay = worst_delay(&mut search, book, &served.dropped, &arcs)?;
-    Ok(DayCounts {
-        picked: served.picked.len() as u64,
-        dropped: served.dropped.len() as u64,
-        worst_wait: worst_wait(book, &served.picked),
-        worst_delay: delay,
-    })
+    let worst = worst_delay(&mut search, book, &served.dropped, &arcs);
+    drop(search);
+    drop(arcs);
+    match worst {
+        Ok(delay) => Ok(DayCounts {
+            picked: served.picked.len() as u64,
+            dropped: served.dropped.len() as u64,
+            worst_wait: worst_wait(book, &served.picked),
+            worst_delay: delay,
+        }),
+        Err(_) => Err(OutOfMemory),
+    }
 }
 
 /// The longest wait of those who were picked up.

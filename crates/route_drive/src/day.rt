@@ -92,23 +92,24 @@ fn check_seals(round: &Round) -> Result<(), DayFault>
 fn has_foreign(commands: &[Command]) -> bool
     ensures { result ≡ list_any (λ c. not (is_of_day c)) commands.now }
 {
-    commands.iter().any(|c| !is_of_day(c))
+    for command in commands {
+        if !is_of_day(command) {
+            return true;
+        }
+    }
+    false
 }
 
 /// Whether a command behind the first is a seal.
 fn has_later_seal(commands: &[Command]) -> bool
     ensures { result ≡ list_any is_seal_command (drop 1 commands.now) }
 {
-    if commands.is_empty() {
-        return false;
+    for k in 1..commands.len() {
+        if is_seal(&commands[k]) {
+            return true;
+        }
     }
-    has_seal(&commands[1..])
-}
-
-fn has_seal(commands: &[Command]) -> bool
-    ensures { result ≡ list_any is_seal_command commands.now }
-{
-    commands.iter().any(|c| is_seal(c))
+    false
 }
 
 /// The second of the seal with which commands begin, if they do.

@@ -1,4 +1,4 @@
-ghost use Rattle.std.specs.Prelude.{◌≡◌, ◌≢◌, ◌<◌, [], ℕ, All, Err, IfErr, IfOk, List, length};
+ghost use Rattle.std.specs.Prelude.{◌≡◌, ◌≢◌, ◌<◌, [], ℕ, All, Err, IfErr, IfOk, List, MatchOption, length};
 ghost use Rattle.std.specs.List.{Any};
 ghost use Rattle.pool_base.specs.TravelTime.{longest};
 ghost use Rattle.request_book.specs.declared.journal.Entry.{Entry as EntryValue};
@@ -44,10 +44,9 @@ pub(crate) fn drive_end<W: Ways, D: Drafter, G: Gate, K: RoundKeeper>(
     ensures run { IfOk result (λ next. (first : K) → HasEnded setup.now.settings.now setup.now.network.now rounds.now drive (K.took first keeper.old) (K.took first keeper.new) next) }
     ensures late { IfErr result (λ fault. (first : K) → IsLateAt (number_after rounds.now) (Any (λ c. longest < second_of c) (left_commands drive.book.state.vehicles drive.courses.items)) (K.took first keeper.old) (K.took first keeper.new) fault) }
 {
-    if rounds.is_empty() {
+    let Some(number) = number_after(rounds) else {
         return Ok(drive);
-    }
-    let number = rounds[rounds.len() - 1].number() + 1;
+    };
     match left_of(alloc, &drive) {
         Ok(left) => run_last(rt, alloc, drive, number, &left, setup, keeper),
         Err(stopped) => {
@@ -55,6 +54,16 @@ pub(crate) fn drive_end<W: Ways, D: Drafter, G: Gate, K: RoundKeeper>(
             Err(stopped_at(stopped, number))
         }
     }
+}
+
+/// The number behind that of the last round, if there is one.
+fn number_after(rounds: &[Round]) -> Option<u32>
+    ensures { MatchOption result (rounds.now ≡ []) (λ number. (0 < length rounds.now) × (number ≡ number_after rounds.now)) }
+{
+    if rounds.is_empty() {
+        return None;
+    }
+    Some(rounds[rounds.len() - 1].number() + 1)
 }
 
 /// The last round of a day.
@@ -66,7 +75,11 @@ fn left_of(alloc: Global, drive: &Drive) -> Result<Round, Stopped>
     ensures late { result ≡ Err Late → Any (λ c. longest < second_of c) (left_commands drive.now.book.state.vehicles drive.now.courses.items) }
 {
     match drive.book.state() {
-        Ok(state) => last_round(alloc, state.vehicles.as_slice(), drive.courses.as_slice()),
+        Ok(state) => {
+            let round = last_round(alloc, state.vehicles.as_slice(), drive.courses.as_slice());
+            drop(state);
+            round
+        }
         Err(_) => Err(Stopped::OutOfMemory),
     }
 }

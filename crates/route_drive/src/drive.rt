@@ -123,7 +123,9 @@ fn courses_at_rest(alloc: Global, book: &Book) -> Result<Vec<Course>, OutOfMemor
     ensures { IfOk result (λ courses. courses.items ≡ map (λ v. at_rest) book.now.state.vehicles) }
 {
     let state = book.state()?;
-    first_courses(alloc, state.vehicles.as_slice())
+    let courses = first_courses(alloc, state.vehicles.as_slice());
+    drop(state);
+    courses
 }
 
 /// Drives a round.
@@ -164,7 +166,11 @@ fn driven_of<W: Ways, D: Drafter, G: Gate>(
     ensures late { result ≡ Err Late → (now : ℕ) × (seal_of round.now ≡ Some now) × EntersTooLate setup.now.network.now setup.now.settings.now.dwell now drive.now.book.state.vehicles drive.now.courses.items }
 {
     match drive.book.state() {
-        Ok(state) => driven_round(rt, alloc, setup, &state, drive.courses.as_slice(), round),
+        Ok(state) => {
+            let driven = driven_round(rt, alloc, setup, &state, drive.courses.as_slice(), round);
+            drop(state);
+            driven
+        }
         Err(_) => Err(Stopped::OutOfMemory),
     }
 }
@@ -301,7 +307,11 @@ fn next_courses(
     ensures { IfOk result (λ after. after.items ≡ courses_after book.now.state round.now journal.now.entries courses.now) }
 {
     match book.state() {
-        Ok(state) => courses_after(alloc, &state, round, journal.entries.as_slice(), courses),
+        Ok(state) => {
+            let after = courses_after(alloc, &state, round, journal.entries.as_slice(), courses);
+            drop(state);
+            after
+        }
         Err(_) => Err(OutOfMemory),
     }
 }

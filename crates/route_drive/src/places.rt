@@ -221,5 +221,10 @@ fn has_later(now: u64, free: u64, steps: &[WalkStep]) -> bool
     requires now { now ≤ longest }
     ensures { result ≡ list_any (λ step. nat_lt now (free + step.seconds)) steps.now }
 {
-    steps.iter().any(|step| now < free + step.seconds as u64)
+    for step in steps {
+        if now < free + step.seconds as u64 {
+            return true;
+        }
+    }
+    false
 }

@@ -1,5 +1,5 @@
 //! The nodes that shortest walks from a start come to, found by a breadth-first search.
-ghost use Rattle.std.specs.Prelude.{◌≡◌, ◌≢◌, ℕ, ◌<◌, false, true, IfOk, IfSome, IfNone, OnOk, length, replicate, slice_index, slice_set, ◌++◌, ◌∷◌, []};
+ghost use Rattle.std.specs.Prelude.{◌≡◌, ◌≢◌, ℕ, ◌<◌, false, true, IfSome, IfNone, OnOk, length, replicate, slice_index, slice_set, ◌++◌, ◌∷◌, []};
 ghost use Rattle.pool_base.specs.TravelTime.{never};
 ghost use Rattle.travel_times.specs.Near.{AreTimesUpTo};
 ghost use Rattle.route_drive.specs.work.Tree.{Grows, IsOpened, IsTree, found_at, is_seen};
@@ -24,14 +24,25 @@ pub struct Tree {
 }
 
 impl Tree {
-    fn new(alloc: Global, nodes: usize) -> Result<Tree, OutOfMemory>
-        ensures seen { IfOk result (λ tree. tree.seen.items ≡ replicate nodes false) }
-        ensures found { IfOk result (λ tree. tree.found.items ≡ []) }
+    /// Nothing is found.
+    pub(crate) fn new(alloc: Global) -> Tree
+        ensures { result.found.items ≡ [] }
     {
-        Ok(Tree {
-            seen: vec![in alloc; false; nodes]?,
+        Tree {
+            seen: Vec::new(alloc),
             found: Vec::new(alloc),
-        })
+        }
+    }
+
+    /// Begins with the start, which is one of so many nodes.
+    fn begin(&mut self, alloc: Global, nodes: usize, start: usize) -> Result<(), OutOfMemory>
+        requires empty { self.old.found.items ≡ [] }
+        requires start { start < nodes }
+        ensures seen { OnOk result (self.new.seen.items ≡ slice_set (replicate nodes false) start true) }
+        ensures found { OnOk result (self.new.found.items ≡ [] ++ (record { node = start; by = 0 }) ∷ []) }
+    {
+        self.seen = vec![in alloc; false; nodes]?;
+        self.mark(start, 0)
     }
 
     fn mark(&mut self, node: usize, by: usize) -> Result<(), OutOfMemory>
@@ -66,28 +77,28 @@ pub(crate) fn shortest_tree(
     times: &[u32],
     start: usize,
     goal: usize,
-) -> Result<Tree, OutOfMemory>
+    tree: &mut Tree,
+) -> Result<(), OutOfMemory>
+    requires empty { tree.old.found.items ≡ [] }
     requires start { start < length network.now.nodes }
     requires goal { goal < length network.now.nodes }
     requires size { length times.now ≡ length network.now.nodes }
     requires times { AreTimesUpTo network.now.arcs (length network.now.nodes) start (slice_index times.now goal) times.now }
     requires near { slice_index times.now goal < never }
-    ensures tree { IfOk result (λ tree. IsTree network.now.arcs times.now tree.seen.items tree.found.items) }
-    ensures first { IfOk result (λ tree. (found_at tree.found.items 0).node ≡ start) }
-    ensures goal { IfOk result (λ tree. is_seen tree.seen.items goal ≡ true) }
+    ensures { OnOk result (IsTree network.now.arcs times.now tree.new.seen.items tree.new.found.items
+        × ((found_at tree.new.found.items 0).node ≡ start) × (is_seen tree.new.seen.items goal ≡ true)) }
 {
     let most = times[goal];
-    let mut tree = Tree::new(alloc, network.node_count())?;
-    tree.mark(start, 0)?;
+    tree.begin(alloc, network.node_count(), start)?;
     let mut next = 0;
     while next < tree.found.len() {
         if tree.seen[goal] {
-            return Ok(tree);
+            return Ok(());
         }
-        open(network, times, most, &mut tree, next)?;
+        open(network, times, most, tree, next)?;
         next += 1;
     }
-    Ok(tree)
+    Ok(())
 }
 
 /// Finds the nodes to which the arcs of one that was found lead, if the time rises by the arc's seconds and is at most
@@ -103,9 +114,9 @@ fn open(
     requires most { most < never }
     requires next { next < length tree.old.found.items }
     requires tree { IsTree network.now.arcs times.now tree.old.seen.items tree.old.found.items }
-    ensures tree { OnOk result (IsTree network.now.arcs times.now tree.new.seen.items tree.new.found.items) }
-    ensures grows { OnOk result (Grows tree.old.seen.items tree.new.seen.items tree.old.found.items tree.new.found.items) }
-    ensures opened { OnOk result (IsOpened network.now.arcs times.now most tree.new.seen.items (found_at tree.old.found.items next).node) }
+    ensures { OnOk result (IsTree network.now.arcs times.now tree.new.seen.items tree.new.found.items
+        × Grows tree.old.seen.items tree.new.seen.items tree.old.found.items tree.new.found.items
+        × IsOpened network.now.arcs times.now most tree.new.seen.items (found_at tree.old.found.items next).node) }
 {
     let _kept = network.node_count();
     let node = tree.found[next].node;

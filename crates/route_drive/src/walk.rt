@@ -1,4 +1,4 @@
-ghost use Rattle.std.specs.Prelude.{◌≡◌, ◌<◌, Contains, IfOk, MatchOption, length, slice_index};
+ghost use Rattle.std.specs.Prelude.{◌≡◌, ◌<◌, [], Contains, IfOk, MatchOption, length, slice_index};
 ghost use Rattle.road_network.specs.Roads.{index_in};
 ghost use Rattle.road_network.specs.Walk.{HasNoWalk};
 ghost use Rattle.travel_times.specs.Near.{AreTimesUpTo};
@@ -58,17 +58,28 @@ pub(crate) fn shortest_walk_with(
     let start = network.index_of(from).unwrap();
     let goal = network.index_of(to).unwrap();
     search.run(arcs, start, Some(goal))?;
-    walk_by(search.alloc, network, &search.seconds, start, goal)
+    let mut tree = Tree::new(search.alloc);
+    walk_by(
+        search.alloc,
+        network,
+        &search.seconds,
+        start,
+        goal,
+        &mut tree,
+    )
 }
 
-/// A shortest walk between two nodes by their indexes, where these are the times as far as the goal.
+/// A shortest walk between two nodes by their indexes, where these are the times as far as the goal, in the room of an
+/// empty tree.
 fn walk_by(
     alloc: Global,
     network: &Network,
     times: &[u32],
     start: usize,
     goal: usize,
+    tree: &mut Tree,
 ) -> Result<Option<Vec<WalkStep>>, OutOfMemory>
+    requires empty { tree.old.found.items ≡ [] }
     requires start { start < length network.now.nodes }
     requires goal { goal < length network.now.nodes }
     requires size { length times.now ≡ length network.now.nodes }
@@ -80,9 +91,9 @@ fn walk_by(
     if time == Times::NEVER {
         return Ok(None);
     }
-    let tree = shortest_tree(alloc, network, times, start, goal)?;
+    shortest_tree(alloc, network, times, start, goal, tree)?;
     let number = tree.number_of(goal).unwrap();
-    let steps = steps_to(alloc, network, times, &tree, number)?;
+    let steps = steps_to(alloc, network, times, tree, number)?;
     Ok(Some(steps))
 }
 

@@ -79,8 +79,8 @@ loop-hop-preserved c =
       }
     ]
 
-pub returns-clause-opened : goal.returns-clause-opened
-returns-clause-opened c =
+pub returns : goal.returns
+returns c =
     let roads = c.args.network.now in
     let times = c.args.times.now in
     let seen = c.loop-hop.tree.seen.items in
@@ -89,4 +89,4 @@ returns-clause-opened c =
     let all : length c.arcs_from-hop-items.result.now ≤ c.loop-hop.hop-index = omega arith in
     let opened : AreHopsOpened (map hop_of (leaving c.index.result.now.node roads.arcs)) (length (map hop_of (leaving c.index.result.now.node roads.arcs))) (slice_index times c.index.result.now.node) times c.args.most seen =
     rw (← c.arcs_from-hop-items.ensures) (λ k d lt h near rises. inv.opened k d (omega arith) h near rises) in
-    rw (← read) (IsOpened-all roads.arcs times c.args.most seen c.index.result.now.node opened)
+    (inv.tree, inv.grows, rw (← read) (IsOpened-all roads.arcs times c.args.most seen c.index.result.now.node opened))

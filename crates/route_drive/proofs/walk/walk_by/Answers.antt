@@ -15,5 +15,5 @@ shortest_tree-requires-clause-near c =
 
 pub unwrap-number-requires : goal.unwrap-number-requires
 unwrap-number-requires c =
-    let one = c.in_ok-tree.ensures.tree.marked c.args.goal c.in_ok-tree.ensures.goal in
+    let one = c.in_ok-shortest_tree.ensures.0.marked c.args.goal c.in_ok-shortest_tree.ensures.2 in
     some_unless c.number_of.result _ c.number_of.ensures.none (λ none. none one.0 one.1 one.2)
