@@ -1,5 +1,5 @@
 -- Sole rows of vehicles, and riders who stand in usable rows.
-use Rattle.std.proofs.Common.{◌≡◌, ℕ, ◌<◌, ◌≤◌, Bool, true, false, MatchBool, MatchOption, List, length, get_or, Option, Some, None, sym, ap, ◌∙◌, subst, ⊎_elim, arith}
+use Rattle.std.proofs.Common.{◌≡◌, ◌||◌, ℕ, ◌+◌, ◌<◌, ◌≤◌, Bool, true, false, MatchBool, MatchOption, List, length, get_or, Option, Some, None, refl, sym, ap, ◌∙◌, subst, ⊎_elim, arith}
 use Rattle.bound_checker.proofs.Common.{same_Some, none-some, false≢true, cases_lt, both_ways, get_or_past, Graph, riders_at, row_vehicle, has_rider, choice_at, must_be_served, IsGoodGraph, Usable, IsSoleRow, IsClash, IsStranded, IsDeadEnd, Clash, AreSoleRows, ShareARider, IsApart, StandsInSome, StandsInNone, MarksStanding}
 use Rattle.plan_rules.proofs.lemmas.PlanLemmas.{must_below}
 
@@ -62,6 +62,29 @@ apart_rows g sole v w j k one other apart share =
     (subst (λ (q : ℕ). has_rider g q share.rider ≡ true) (same_Some share.other k (sym share.second ∙ other)) share.in_second)
 
 -- ---- stranded riders
+
+-- a row that may not be used changes nothing
+pub row_unmarked : (g : Graph) (usable : Usable) (n : ℕ) (marks : List Bool) → usable n ≡ false → MarksStanding g usable n marks → MarksStanding g usable (n + 1) marks
+row_unmarked g usable n marks out are = record { sized = are.sized; each = λ r l. stands (get_or marks r false) r (are.each r l) }
+  where
+    stands : (b : Bool) (r : ℕ) → MatchBool b (StandsInSome g usable n r) (StandsInNone g usable n r) → MatchBool b (StandsInSome g usable (n + 1) r) (StandsInNone g usable (n + 1) r)
+    stands true r some = (some.0, omega (arith, some.1), some.2, some.3)
+    stands false r none = λ k below may.
+        ⊎_elim (λ (low : k < n). none k low may) (λ (high : n ≤ k). absurd (false≢true (sym out ∙ subst (λ (j : ℕ). usable j ≡ true) (omega (arith, below, high)) may))) (cases_lt k n)
+
+-- the riders of one that may be used stand in it
+pub row_marked : (g : Graph) (usable : Usable) (n : ℕ) (old new : List Bool) → usable n ≡ true → length new ≡ length old → ((r : ℕ) → r < length old → get_or new r false ≡ (get_or old r false || has_rider g n r))
+    → MarksStanding g usable n old → MarksStanding g usable (n + 1) new
+row_marked g usable n old new may sized marked are = record {
+  sized = sized ∙ are.sized;
+  each = λ r l. subst (λ (b : Bool). MatchBool b (StandsInSome g usable (n + 1) r) (StandsInNone g usable (n + 1) r)) (sym (marked r (omega (arith, l, are.sized)))) (stands (get_or old r false) (has_rider g n r) r refl (are.each r l));
+}
+  where
+    stands : (b has : Bool) (r : ℕ) → has_rider g n r ≡ has → MatchBool b (StandsInSome g usable n r) (StandsInNone g usable n r) → MatchBool (b || has) (StandsInSome g usable (n + 1) r) (StandsInNone g usable (n + 1) r)
+    stands true has r e some = (some.0, omega (arith, some.1), some.2, some.3)
+    stands false true r e none = (n, omega arith, may, e)
+    stands false false r e none = λ k below usable_there.
+        ⊎_elim (λ (low : k < n). none k low usable_there) (λ (high : n ≤ k). subst (λ (j : ℕ). has_rider g j r ≡ false) (omega (arith, below, high)) e) (cases_lt k n)
 
 pub not_stranded : (g : Graph) (usable : Usable) (marks : List Bool) → IsGoodGraph g → ((r : ℕ) → r < g.riders → must_be_served g r ≡ true → get_or marks r false ≡ true) → MarksStanding g usable (length g.rows) marks → IsStranded g usable → ⊥
 not_stranded g usable marks good all are s =

@@ -1,6 +1,7 @@
 -- Lines that are written one after the other, and what stands where one of them isn't written whole.
 use Rattle.std.proofs.Common.{◌≡◌, ℕ, ◌+◌, ◌<◌, ◌≤◌, Bool, true, false, cond, List, [], ◌∷◌, ◌++◌, length, take, Option, Result, Ok, Err, MatchResult, OnOk, arith, refl, sym, ◌∙◌, ap, subst, length-append, append-nil, append_assoc, add-one, map, get_or}
 use Rattle.dispatch_report.proofs.Common.{Appends, take-append-le, take-append-add, map-append, Rose, AppendsPart, Change, SinkView, WritesText, IsSame, WritesBytes, WritesLines}
+use Rattle.dispatch_report.specs.work.Lines.{AppendsFirst}
 use Rattle.std.specs.List.{flat_map}
 use Rattle.std.proofs.KnownBytes.{Appends-nil, Appends-trans}
 use Rattle.std.proofs.lemmas.Grind.{flat_map-append}
@@ -88,6 +89,28 @@ piece_failed a b p rest of_write.WriteFault e is part rose up =
 piece_failed a b p rest of_write.OutOfMemory e is part rose up =
     let P : List ℕ → Type 0 = λ bytes. AppendsPart a.written b.written bytes in
     record { bytes = subst P (sym (append-nil p)) part; fault = λ was. cc (was, is); never_falls = up }
+
+-- for want of memory nothing is written of a line
+pub nothing_written : (a : SinkView) (p rest xs : List ℕ) (e : ReportFault) → e ≡ OutOfMemory → WritesBytes (record { before = a; after = a }) p rest (xs ++ 10 ∷ []) (Err e)
+nothing_written a p rest xs e is = record {
+  bytes = (0, omega (arith, length-append p (xs ++ 10 ∷ []), length-append xs (10 ∷ [])), Appends-nil a.written);
+  fault = λ was. cc (was, is);
+  never_falls = omega arith;
+}
+
+-- the words of a line, and its end
+pub line_put : (old words new text : List ℕ) → words ≡ old ++ text → new ≡ words ++ 10 ∷ [] → new ≡ old ++ (text ++ 10 ∷ [])
+line_put old words new text is end = end ∙ ap (λ l. l ++ 10 ∷ []) is ∙ append_assoc old text (10 ∷ [])
+
+-- what is put behind a piece waits with it
+pub added_waits : (a : SinkView) (p q added : List ℕ) → q ≡ p ++ added → WritesBytes (record { before = a; after = a }) p q added (Ok tt)
+added_waits a p q added is = record { bytes = ([], Appends-nil a.written, is); fault = λ none. cc none; never_falls = omega arith }
+
+-- or goes out with it
+pub added_goes : {s : Change SinkView} {rest : List ℕ} {e : Result (Unit {0}) ReportFault} (p q added : List ℕ) → q ≡ p ++ added → WritesBytes s q rest [] e → WritesBytes s p rest added e
+added_goes {s} {rest} {e} p q added is w =
+    let P : List ℕ → Type 0 = λ bytes. MatchResult e (λ _. AppendsFirst s.before.written s.after.written bytes rest) (λ _. AppendsPart s.before.written s.after.written bytes) in
+    record { bytes = subst P (append-nil q ∙ is) w.bytes; fault = w.fault; never_falls = w.never_falls }
 
 -- no line
 pub no_lines : (a : SinkView) {p : List ℕ} (r : Result (Unit {0}) ReportFault) → WritesLines (record { before = a; after = a }) p p r r []

@@ -1,4 +1,4 @@
-ghost use Rattle.std.specs.Prelude.{◌≡◌, ◌==◌, ◌++◌, [], OnOk, codes, if◌then◌else◌};
+ghost use Rattle.std.specs.Prelude.{◌≡◌, ◌==◌, ◌++◌, [], OnOk, codes, decimal, if◌then◌else◌};
 ghost use Rattle.dispatch_report.specs.Entry.{command_text, entry_line};
 ghost use Rattle.dispatch_report.specs.Fits.{IsCommand, IsReply, TellsEnd};
 ghost use Rattle.dispatch_report.specs.Words.{numbered, spaced};
@@ -15,12 +15,19 @@ pub fn put_entry(line: &mut Vec<u8>, position: u64, entry: &Entry) -> Result<(),
     ensures command { OnOk result (IsCommand entry.now.command) }
     ensures reply { OnOk result (TellsEnd entry.now.reply → IsReply entry.now.reply) }
 {
-    put_number(line, position)?;
-    put_spaced(line, u64::from(entry.lane))?;
-    put_bytes(line, b" ")?;
+    put_place(line, position, entry.lane)?;
     put_command(line, &entry.command)?;
     put_bytes(line, b" ")?;
     put_reply(line, entry.reply)
+}
+
+/// Appends the position and the lane, each with a space behind it.
+fn put_place(line: &mut Vec<u8>, position: u64, lane: u8) -> Result<(), OutOfMemory>
+    ensures { OnOk result (line.new.items ≡ line.old.items ++ (decimal position ++ spaced lane ++ codes " ")) }
+{
+    put_number(line, position)?;
+    put_spaced(line, u64::from(lane))?;
+    put_bytes(line, b" ")
 }
 
 fn put_command(line: &mut Vec<u8>, command: &Command) -> Result<(), OutOfMemory>

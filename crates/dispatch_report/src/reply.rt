@@ -2,6 +2,7 @@ ghost use Rattle.std.specs.Prelude.{◌≡◌, ◌++◌, ℕ, Option, OnOk, IfSo
 ghost use Rattle.dispatch_report.specs.Entry.{rider_status_text, refusal_text, reply_text};
 ghost use Rattle.dispatch_report.specs.Fits.{IsBatch, IsId, IsRefusal, IsReply, TellsEnd};
 ghost use Rattle.dispatch_report.specs.lemmas.Named.{spaced_or_none};
+ghost use Rattle.dispatch_report.specs.work.Named.{plain_text};
 ghost use Rattle.request_book.specs.declared.reply.Reply.TheVariants.{Refused};
 
 use crate::words::{put_numbered, put_spaced};
@@ -33,12 +34,6 @@ fn put_refusal(line: &mut Vec<u8>, refusal: BookRefusal) -> Result<(), OutOfMemo
     ensures fits { OnOk result (TellsEnd (Refused refusal) → IsRefusal refusal) }
 {
     match refusal {
-        BookRefusal::DuplicateRider => put_bytes(line, b"duplicate-rider"),
-        BookRefusal::UnknownNode => put_bytes(line, b"unknown-node"),
-        BookRefusal::SamePlace => put_bytes(line, b"same-place"),
-        BookRefusal::PoolFull => put_bytes(line, b"pool-full"),
-        BookRefusal::BookFull => put_bytes(line, b"book-full"),
-        BookRefusal::UnknownRider => put_bytes(line, b"unknown-rider"),
         BookRefusal::IsAboard { vehicle } => {
             put_numbered(line, b"is-aboard ", u64::from(vehicle.get()))
         }
@@ -46,14 +41,11 @@ fn put_refusal(line: &mut Vec<u8>, refusal: BookRefusal) -> Result<(), OutOfMemo
             put_bytes(line, b"ended ")?;
             put_bytes(line, status_word(status))
         }
-        BookRefusal::UnknownVehicle => put_bytes(line, b"unknown-vehicle"),
         BookRefusal::TimeBack { last } => put_numbered(line, b"time-back ", u64::from(last.get())),
         BookRefusal::NotPromised { holder } => {
             put_bytes(line, b"not-promised")?;
             put_holder(line, holder)
         }
-        BookRefusal::VehicleFull => put_bytes(line, b"vehicle-full"),
-        BookRefusal::NotAboard => put_bytes(line, b"not-aboard"),
         BookRefusal::BatchOpen { batch } => put_numbered(line, b"batch-open ", batch),
         BookRefusal::ClockBack { last } => put_numbered(
             line,
@@ -64,6 +56,31 @@ fn put_refusal(line: &mut Vec<u8>, refusal: BookRefusal) -> Result<(), OutOfMemo
             put_bytes(line, b"not-this-batch")?;
             put_spaced_or_none(line, current)
         }
+        _ => put_bytes(line, plain_words(refusal)),
+    }
+}
+
+/// The words of a refusal that tells nothing else.
+fn plain_words(refusal: BookRefusal) -> &'static [u8]
+    ensures { result.now ≡ plain_text refusal }
+{
+    match refusal {
+        BookRefusal::DuplicateRider => b"duplicate-rider",
+        BookRefusal::UnknownNode => b"unknown-node",
+        BookRefusal::SamePlace => b"same-place",
+        BookRefusal::PoolFull => b"pool-full",
+        BookRefusal::BookFull => b"book-full",
+        BookRefusal::UnknownRider => b"unknown-rider",
+        BookRefusal::UnknownVehicle => b"unknown-vehicle",
+        BookRefusal::VehicleFull => b"vehicle-full",
+        BookRefusal::NotAboard => b"not-aboard",
+        BookRefusal::IsAboard { .. }
+        | BookRefusal::Ended { .. }
+        | BookRefusal::TimeBack { .. }
+        | BookRefusal::NotPromised { .. }
+        | BookRefusal::BatchOpen { .. }
+        | BookRefusal::ClockBack { .. }
+        | BookRefusal::NotThisBatch { .. } => b"",
     }
 }
 

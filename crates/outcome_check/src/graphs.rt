@@ -19,16 +19,16 @@ pub(crate) fn tells_graphs(
     ensures { IfOk result (λ yes. IsTrue yes ↔ Holds graphs.now.instance.now.settings.now GraphsPoint planned.now (posed_by graphs.now)) }
 {
     let settled = graphs.instance.settled;
-    let lapsed = lapsed_ids(alloc, settled)?;
-    if !are_same_riders(&lapsed, planned.lapsed.as_slice()) {
+    if !are_same_riders(&lapsed_ids(alloc, settled)?, planned.lapsed.as_slice()) {
         return Ok(false);
     }
-    let edges = rv_lines(alloc, settled, graphs.rv)?;
-    if !are_same_edges(&edges, planned.rv.as_slice()) {
+    if !are_same_edges(&rv_lines(alloc, settled, graphs.rv)?, planned.rv.as_slice()) {
         return Ok(false);
     }
-    let pairs = rr_lines(alloc, settled, graphs.rr.all())?;
-    if !are_same_pairs(&pairs, planned.rr.as_slice()) {
+    if !are_same_pairs(
+        &rr_lines(alloc, settled, graphs.rr.all())?,
+        planned.rr.as_slice(),
+    ) {
         return Ok(false);
     }
     let rows = row_lines(alloc, settled, graphs.graph.rows())?;

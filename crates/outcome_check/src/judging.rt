@@ -52,12 +52,12 @@ pub fn judge<W: Ways, G: Gate>(
     ensures points { IfOk result (IsVerdictOf (Meets settings.entry.now network.entry.now snapshot.entry.now outcome.entry.now)) }
     ensures good { IfOk result (λ verdict. (verdict ≡ Good) ↔ IsGoodOutcome settings.entry.now network.entry.now snapshot.entry.now outcome.entry.now) }
 {
-    let points = snapshot.points(alloc)?;
-    let times = ways.table(rt, alloc, points.nodes())?;
-    let settled = settle(alloc, snapshot, settings, &points, &times)?;
     if !are_same_riders(outcome.expired.as_slice(), snapshot.expired.as_slice()) {
         return Ok(Verdict::Fails(Point::Answer));
     }
+    let points = snapshot.points(alloc)?;
+    let times = ways.table(rt, alloc, points.nodes())?;
+    let settled = settle(alloc, snapshot, settings, &points, &times)?;
     let instance = Instance {
         settings,
         points: &points,

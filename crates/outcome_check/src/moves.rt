@@ -54,9 +54,12 @@ fn are_best(
     let Some(pairs) = pairs_of(alloc, times, settled, idle, left, moves)? else {
         return Ok(false);
     };
-    let starts = starts_of(alloc, settled, idle)?;
-    let origins = origins_of(alloc, settled, left)?;
-    let best = rebalance(alloc, &starts, &origins, times)?;
+    let best = rebalance(
+        alloc,
+        &starts_of(alloc, settled, idle)?,
+        &origins_of(alloc, settled, left)?,
+        times,
+    )?;
     if pairs.len() != best.pairs.as_slice().len() {
         return Ok(false);
     }
@@ -132,7 +135,12 @@ fn place_of_vehicle(settled: &Settled, idle: &[usize], id: VehicleId) -> Option<
         (λ i. (i < length idle.now) × (vehicle_id settled.entry.now (slice_index idle.now i) ≡ id)) }
 {
     let known = settled.vehicles.as_slice();
-    idle.iter().position(|vehicle| known[*vehicle].id == id)
+    for place in 0..idle.len() {
+        if known[idle[place]].id == id {
+            return Some(place);
+        }
+    }
+    None
 }
 
 /// The sum of the moves' seconds.

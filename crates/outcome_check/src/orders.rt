@@ -110,7 +110,12 @@ pub(crate) fn place_of_rider(settled: &Settled, riders: &[usize], id: RiderId) -
         (λ i. (i < length riders.now) × (rider_id settled.entry.now (slice_index riders.now i) ≡ id)) }
 {
     let known = settled.riders.as_slice();
-    riders.iter().position(|rider| known[*rider].id == id)
+    for place in 0..riders.len() {
+        if known[riders[place]].id == id {
+            return Some(place);
+        }
+    }
+    None
 }
 
 /// The first place of this id among passengers.
@@ -118,7 +123,12 @@ fn place_aboard(passengers: &[RiderId], id: RiderId) -> Option<usize>
     ensures { MatchOption result ((i : ℕ) → i < length passengers.now → slice_index passengers.now i ≡ id → ⊥)
         (λ i. (i < length passengers.now) × (slice_index passengers.now i ≡ id)) }
 {
-    passengers.iter().position(|passenger| *passenger == id)
+    for place in 0..passengers.len() {
+        if passengers[place] == id {
+            return Some(place);
+        }
+    }
+    None
 }
 
 fn are_same_stops(stops: &[PlannedStop], others: &[PlannedStop]) -> bool

@@ -20,7 +20,7 @@ pub returns-then-not-are_same_pairs : goal.returns-then-not-are_same_pairs
 returns-then-not-are_same_pairs c =
     let settled = c.args.graphs.now.instance.now.settled.now in rightly_no (λ holds.
     both_ways _ c.if-not-are_same_pairs.true (c.are_same_pairs.ensures.1
-    (c.deref-3.ensures.value ∙ c.in_ok-pairs.ensures ∙ ap (λ (pairs : List (ℕ × ℕ)). map (λ (pair : ℕ × ℕ). (rider_id settled pair.0, rider_id settled pair.1)) pairs) c.all.ensures
+    (c.deref-3.ensures.value ∙ c.in_ok-rr_lines.ensures ∙ ap (λ (pairs : List (ℕ × ℕ)). map (λ (pair : ℕ × ℕ). (rider_id settled pair.0, rider_id settled pair.1)) pairs) c.all.ensures
     ∙ sym holds.2 ∙ sym c.as_slice-3.ensures)))
 
 pub returns : goal.returns
@@ -33,9 +33,9 @@ returns c =
     let second : IsTrue c.are_same_edges.result = first_of (search rules, grind (arith, nat_tests)) in
     let third : IsTrue c.are_same_pairs.result = first_of (search rules, grind (arith, nat_tests)) in (
       λ yes. (
-        sym c.as_slice.ensures ∙ sym (c.are_same_riders.ensures.0 first) ∙ c.deref.ensures.value ∙ c.in_ok-lapsed.ensures,
-        sym c.as_slice-2.ensures ∙ sym (c.are_same_edges.ensures.0 second) ∙ c.deref-2.ensures.value ∙ c.in_ok-edges.ensures,
-        sym c.as_slice-3.ensures ∙ sym (c.are_same_pairs.ensures.0 third) ∙ c.deref-3.ensures.value ∙ c.in_ok-pairs.ensures
+        sym c.as_slice.ensures ∙ sym (c.are_same_riders.ensures.0 first) ∙ c.deref.ensures.value ∙ c.in_ok-lapsed_ids.ensures,
+        sym c.as_slice-2.ensures ∙ sym (c.are_same_edges.ensures.0 second) ∙ c.deref-2.ensures.value ∙ c.in_ok-rv_lines.ensures,
+        sym c.as_slice-3.ensures ∙ sym (c.are_same_pairs.ensures.0 third) ∙ c.deref-3.ensures.value ∙ c.in_ok-rr_lines.ensures
             ∙ ap (λ (pairs : List (ℕ × ℕ)). map (λ (pair : ℕ × ℕ). (rider_id settled pair.0, rider_id settled pair.1)) pairs) c.all.ensures,
         sym c.as_slice-4.ensures ∙ sym (c.are_same_rows.ensures.0 yes) ∙ told,
       ),

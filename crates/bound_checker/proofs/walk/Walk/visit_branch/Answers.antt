@@ -1,7 +1,19 @@
 use Rattle.std.proofs.Common.{◌≡◌, ◌<◌, Bool, List, true, false, length, get_or, refl, sym, ap, ◌∙◌, subst, arith}
-use Rattle.bound_checker.proofs.Common.{with_items_is, Usable, usable_of, standing_of, IsPathOf, Decision, Agree, can_branch_agrees, coming_of}
+use Rattle.bound_checker.proofs.Common.{both_ways, with_items_is, Usable, usable_of, standing_of, IsPathOf, Decision, Agree, agree_back, can_branch_agrees, coming_of}
 use Rattle.plan_rules.proofs.lemmas.PathLemmas.{coming_entered, path_push}
 use Rattle.bound_checker.proofs.walk.Walk.visit_branch.Goals as goal
+
+pub returns-then-not-can_branch-clause-err : goal.returns-then-not-can_branch-clause-err
+returns-then-not-can_branch-clause-err c =
+    let g = c.args.graph.now in
+    let walk = c.args.self.now in
+    let u : Usable = (standing_of g walk.decisions.items).usable in
+    let us = c.mark_allowed.new.allowed in
+    let long : length us ≡ length g.rows = c.mark_allowed.ensures.len ∙ ap length c.deref_mut.ensures.value ∙ c.requires.ready.allowed in
+    let items = with_items_is walk.allowed us (omega (arith, long, c.requires.ready.allowed, walk.allowed.ok.0)) in
+    let agree : Agree g (usable_of c.deref.result.now) u = λ k l. ap (λ (xs : List Bool). get_or xs k false) (c.deref.ensures.value ∙ items) ∙ c.mark_allowed.ensures.allowed k l ∙ ap (λ (p : List Decision). (standing_of g p).usable k) c.as_slice.ensures.value in
+    (refl, (c.args.vehicle, c.args.row, refl,
+    λ can. both_ways _ c.if-not-can_branch.true (c.can_branch.ensures.value.1 (can_branch_agrees g u (usable_of c.deref.result.now) c.args.vehicle c.args.row (agree_back g (usable_of c.deref.result.now) u agree) can))))
 
 pub returns-clause-ok : goal.returns-clause-ok
 returns-clause-ok c =
