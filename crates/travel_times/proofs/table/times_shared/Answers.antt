@@ -1,4 +1,3 @@
-use Rattle.std.proofs.Common.{length}
 use Rattle.travel_times.proofs.Common.{length-map}
 use Rattle.travel_times.proofs.table.times_shared.Goals as goal
 
