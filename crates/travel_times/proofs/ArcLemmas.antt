@@ -1,4 +1,4 @@
-use Rattle.std.proofs.Common.{rules, ◌≡◌, ℕ, zero, suc, ◌+◌, ◌-◌, ◌<◌, ◌≤◌, ⊎_elim, List, [], ◌∷◌, ◌++◌, length, map, slice_index, slice_range, add-one, refl, ap, ◌∙◌, arith}
+use Rattle.std.proofs.Common.{rules, ◌≡◌, ℕ, zero, suc, ◌+◌, ◌<◌, ◌≤◌, ⊎_elim, List, [], ◌∷◌, ◌++◌, length, map, slice_index, slice_range, add-one, refl, ap, ◌∙◌, arith}
 use Rattle.travel_times.proofs.Common.{cases_lt, take-append-le, drop-append-le, get_or_append_left, get_or_push, Arc, Hop, hop_of, leaving}
 use Rattle.std.proofs.lemmas.List.{length-append, length-drop, take_all}
 use Rattle.std.proofs.Math.Seq.{drop-append_seam}

@@ -1,8 +1,19 @@
-use Rattle.std.proofs.Common.{◌≡◌, ℕ, ◌+◌, ◌*◌, ◌<◌, ◌++◌, length, slice_index, take, drop, ap, sym, ◌∙◌, subst, arith}
+use Rattle.std.proofs.Common.{◌≡◌, ℕ, ◌+◌, ◌*◌, ◌<◌, ◌++◌, length, slice_index, take, drop, refl, ap, sym, ◌∙◌, subst, arith}
 use Rattle.travel_times.proofs.Common.{length-replicate, never, AreRows}
 use Rattle.std.proofs.lemmas.List.{take_at}
+use Rattle.std.proofs.lemmas.List.Elements.{All-replicate}
 use Rattle.travel_times.proofs.Pieces.{rows_of_written}
 use Rattle.travel_times.proofs.table.cells_between.Goals as goal
+
+pub write_pieces-requires-clause-size : goal.write_pieces-requires-clause-size
+write_pieces-requires-clause-size g c κs within =
+    let n = length c.args.points.now in
+    rw (c.deref_mut.ensures.value, c.in_ok-cells.ensures) (length-replicate (n * n) never)
+
+pub write_pieces-requires-clause-unwritten : goal.write_pieces-requires-clause-unwritten
+write_pieces-requires-clause-unwritten g c κs within =
+    let n = length c.args.points.now in
+    rw (c.deref_mut.ensures.value, c.in_ok-cells.ensures) (All-replicate (λ cell. cell ≡ never) (n * n) never refl)
 
 pub returns : goal.returns
 returns g c =
