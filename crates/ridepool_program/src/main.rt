@@ -86,7 +86,7 @@ const COMMANDS: [&str; 5] = ["run", "live", "drive", "load", "audit"];
 
 const HELP_WORDS: [&str; 2] = ["--help", "-h"];
 
-const VERSION: &str = "ridepool 1.2.9\n";
+const VERSION: &str = "ridepool 1.2.10\n";
 
 fn main(rt: HostRuntime) -> ExitCode {
     let _places = [
