@@ -1,5 +1,1 @@
 pub mod WalkLemmas
-pub mod FaultLemmas
-pub mod ChoiceLemmas
-pub mod NodeLemmas
-pub mod LimitLemmas

@@ -1,12 +1,8 @@
-//! Judges what a search for a plan found, whoever made it: the tree, the bound that it shows, and the plan.
+//! Judges a search tree that anyone made: whether it is sound, and what it shows.
 //!
-//! `check` judges a tree: whether it is sound, and what it shows. A yes gives the tree's value, and no lawful
-//! plan costs less; a no names the first node that is wrong. With the search it shares the types alone: which
-//! rows may be chosen at a node, what a leaf shows and which places are dead ends it computes by loops of its
-//! own, as plain as the definitions.
-//!
-//! Each other call decides its question exactly: a yes says that it holds, a no that it doesn't. The search's
-//! own tables, guides and drafts are not asked.
+//! A yes gives the tree's value, and no lawful plan costs less; a no names the first node that is wrong.
+//! With the search it shares the types alone: which rows may be chosen at a node, what a leaf shows and which
+//! places are dead ends it computes by loops of its own, as plain as the definitions.
 //!
 //! A caller:
 //!
@@ -20,26 +16,15 @@
 //! );
 //! ```
 //!
-//! Main clauses: `check`: `tree`, `bound`, `fault`; `shows_bound`, `is_close`, `is_fair` and `is_best_near`: of each its
-//! one clause.
+//! Main clauses: `check`: `tree`, `bound`, `fault`.
 #![tactic(auto)]
 
-mod best;
-mod bound;
 mod checker;
-mod choices;
 mod dead_end;
 mod decisions;
 mod fault;
 mod leaf;
-mod limit;
-mod nodes;
-mod tight;
 mod walk;
 
-pub use best::is_best_near;
-pub use bound::shows_bound;
 pub use checker::check;
 pub use fault::CheckFault;
-pub use nodes::is_fair;
-pub use tight::is_close;

@@ -1,0 +1,4 @@
+pub mod FaultLemmas
+pub mod ChoiceLemmas
+pub mod NodeLemmas
+pub mod LimitLemmas

@@ -1,0 +1,3 @@
+-- What only the bodies of this crate need.
+pub mod Refusals
+pub mod Nodes
