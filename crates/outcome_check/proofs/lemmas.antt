@@ -14,3 +14,7 @@ pub mod TableLemmas
 pub mod SettledLemmas
 pub mod EdgeLemmas
 pub mod GraphLemmas
+pub mod FaultLemmas
+pub mod ChoiceLemmas
+pub mod NodeLemmas
+pub mod LimitLemmas

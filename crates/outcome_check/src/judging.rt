@@ -12,10 +12,14 @@ ghost use Rattle.outcome_check.specs.declared.verdict.Verdict.TheVariants.{Good}
 ghost use Rattle.outcome_check.specs.work.Orders.{HasOwnIds};
 ghost use Rattle.outcome_check.specs.work.Trips.{GivesTrips};
 
+use crate::best::is_best_near;
+use crate::bound::shows_bound;
 use crate::graphs::{are_same_riders, tells_graphs};
 use crate::late::are_late;
 use crate::moves::are_moves;
+use crate::nodes::is_fair;
 use crate::plan::tells_plan;
+use crate::tight::is_close;
 use crate::trips::plan_of_trips;
 use crate::verdict::Verdict;
 use batch_snapshot::Snapshot;
@@ -26,7 +30,6 @@ use promise_check::settle;
 use request_book::{Answer, Outcome, Planned};
 use rider_limits::Settings;
 use road_network::Network;
-use search_check::{is_best_near, is_close, is_fair, shows_bound};
 use std::alloc::Global;
 use std::thread::Threads;
 use travel_times::Ways;

@@ -20,23 +20,37 @@
 //! }
 //! ```
 //!
-//! Main clauses: `judge`: `points`, `good`; `a_batch_settles_in_one_way`; `a_batch_has_one_graph_of_each_kind`:
+//! What the search found is judged by four calls: the bound, the tree that shows it, and the plan. Each decides
+//! its question exactly. The search's own tables, guides and drafts are not asked.
+//!
+//! Main clauses: `judge`: `points`, `good`; `shows_bound`, `is_close`, `is_fair` and `is_best_near`: of each its
+//! one clause; `a_batch_settles_in_one_way`; `a_batch_has_one_graph_of_each_kind`:
 //! `vehicles`, `riders`, `trips`; `a_batch_has_rows_or_too_many`.
 #![tactic(auto)]
 
+mod best;
+mod bound;
+mod choices;
 mod graphs;
 mod judging;
 mod late;
 mod laws;
+mod limit;
 mod moves;
+mod nodes;
 mod orders;
 mod plan;
+mod tight;
 mod trips;
 mod verdict;
 
+pub use best::is_best_near;
+pub use bound::shows_bound;
 pub use judging::judge;
 pub use laws::{
     a_batch_has_one_graph_of_each_kind, a_batch_has_rows_or_too_many, a_batch_settles_in_one_way,
     a_network_has_one_table, a_snapshot_has_one_list_of_points,
 };
+pub use nodes::is_fair;
+pub use tight::is_close;
 pub use verdict::Verdict;

@@ -1,4 +1,0 @@
-pub mod FaultLemmas
-pub mod ChoiceLemmas
-pub mod NodeLemmas
-pub mod LimitLemmas

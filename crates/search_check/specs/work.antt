@@ -1,3 +1,0 @@
--- What only the bodies of this crate need.
-pub mod Refusals
-pub mod Nodes
