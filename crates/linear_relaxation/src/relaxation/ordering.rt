@@ -112,8 +112,8 @@ impl Ordering {
         if self.order.len() < columns.len() {
             return Ok(false);
         }
-        for (column, placed) in columns.iter_mut().zip(&self.placed) {
-            *column = *placed;
+        for place in 0..columns.len() {
+            set_at(columns, place, item(&self.placed, place, NONE));
         }
         Ok(true)
     }
