@@ -218,9 +218,10 @@ fn peel(
         }
     }
     for turn in 0..side.lists.len() {
-        let Some(number) = queue.get(turn).copied() else {
+        if turn >= queue.len() {
             return Ok(());
-        };
+        }
+        let number = item(queue, turn, NONE);
         let met = side.lists.list(number as usize);
         if let Some(other) = others.first_left(met) {
             others.take_one(met);
