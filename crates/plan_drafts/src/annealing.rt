@@ -4,12 +4,12 @@
 //! fall back to their rows without them, the riders whom the vehicle served before go where they are
 //! cheapest, and the vehicles that lost riders fill up. A move that isn't taken is undone by its log.
 
-use crate::Plan;
 use crate::allowance::Allowance;
 use crate::beside::{Beside, mark_of};
 use crate::present::Present;
 use crate::regrets::Regrets;
-use row_tables::fixed_point::{item, set_at, write_over};
+use crate::{Plan, whole};
+use row_tables::fixed_point::{item, reset, set_at, write_over};
 use row_tables::lists::short;
 use row_tables::{Draws, Made};
 use std::alloc::Global;
@@ -74,7 +74,7 @@ pub fn anneal<'a>(
         beside,
         draws: Draws::new(seed.wrapping_add(SEED)),
         present: Present::new(alloc, regrets.table)?,
-        marks: vec![in alloc; 0; regrets.table.vehicle_count()]?,
+        marks: Vec::new(alloc),
         open: 0,
         steps: Vec::new(alloc),
         change: 0,
@@ -83,17 +83,20 @@ pub fn anneal<'a>(
         least: 0,
         found: Vec::new(alloc),
     };
-    for row in rows.iter().flatten() {
-        annealing.replace(*row);
-    }
-    annealing.note_open();
-    annealing.run(allowance)?;
-    Ok(annealing.found)
+    let done = annealing.run(rows, allowance);
+    whole(annealing.found, done)
 }
 
 impl Annealing<'_> {
-    /// Makes all moves while it cools.
-    fn run(&mut self, allowance: &mut Allowance) -> Made<()> {
+    /// Makes all moves from these rows while it cools.
+    fn run(&mut self, rows: &[Option<u32>], allowance: &mut Allowance) -> Made<()> {
+        reset(&mut self.marks, self.regrets.table.vehicle_count(), 0)?;
+        for row in rows {
+            if let Some(row) = row {
+                self.replace(*row);
+            }
+        }
+        self.note_open();
         let most = (self.regrets.table.row_count() as u64).saturating_mul(MOVES_A_ROW);
         let vehicles = self.regrets.table.vehicle_count() as u64;
         let each = vehicles.saturating_add(A_MOVE);
@@ -235,10 +238,12 @@ impl Annealing<'_> {
 
     /// Whether a rider can be added to the row who is left out and none of these.
     fn is_wanted(&self, row: u32, riders: &[u32]) -> bool {
-        let is_wanted = |rider: &u32| {
-            self.present.server(*rider).is_none() && riders.binary_search(rider).is_err()
-        };
-        self.beside.wider(row).0.iter().any(is_wanted)
+        for rider in self.beside.wider(row).0 {
+            if self.present.server(*rider).is_none() && riders.binary_search(rider).is_err() {
+                return true;
+            }
+        }
+        false
     }
 
     /// Makes the move: takes its first steps, and mends the rest. The riders of the row before may be served again, if
@@ -287,8 +292,8 @@ impl Annealing<'_> {
     /// Adds riders to the vehicle's row as long as that saves something.
     fn fill(&mut self, vehicle: usize) -> Made<()> {
         for _ in 0..MOST_RIDERS {
-            let row = self.present.row(vehicle);
-            match row.and_then(|row| self.best_wider(row)) {
+            let row = self.present.row(vehicle).unwrap_or(u32::MAX);
+            match self.best_wider(row) {
                 None => break,
                 Some(row) => self.set_row(row)?,
             }
@@ -301,12 +306,13 @@ impl Annealing<'_> {
         let mut least = 0;
         let mut best = None;
         let (added, wider) = self.beside.wider(row);
-        for (rider, wider) in added.iter().zip(wider) {
+        for (place, rider) in added.iter().enumerate() {
             if self.present.server(*rider).is_none() {
-                let cost = self.beside.change(row, *wider);
+                let wider = item(wider, place, u32::MAX);
+                let cost = self.beside.change(row, wider);
                 if cost < least {
                     least = cost;
-                    best = Some(*wider);
+                    best = Some(wider);
                 }
             }
         }
@@ -344,6 +350,10 @@ impl Annealing<'_> {
 
     /// Notes who can be added to a row.
     fn note_open(&mut self) {
-        self.open = self.marks.iter().fold(0, |open, marks| open | *marks);
+        let mut open = 0;
+        for marks in &self.marks {
+            open |= *marks;
+        }
+        self.open = open;
     }
 }

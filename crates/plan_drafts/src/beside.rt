@@ -1,7 +1,7 @@
 //! Which rows of a vehicle have one rider less than a row, or one more.
 
 use crate::whole;
-use row_tables::fixed_point::{item, part};
+use row_tables::fixed_point::{item, part, write_over};
 use row_tables::lists::Lists;
 use row_tables::{Made, RowTable};
 use std::alloc::Global;
@@ -21,17 +21,35 @@ pub struct Beside {
 impl Beside {
     pub fn new(alloc: Global, table: &RowTable) -> Made<Self> {
         let mut beside = Beside {
-            without: rows_without(alloc, table)?,
+            without: Lists::new(alloc),
             wider: Lists::new(alloc),
             added: Vec::new(alloc),
             rows: Vec::new(alloc),
         };
-        let done = beside.list_added(table);
+        let done = beside.fill(alloc, table);
         whole(beside, done)
     }
 
-    /// Lists the wider rows, and who is added: those of a row stand by rising riders, as the rows of a vehicle do.
-    fn list_added(&mut self, table: &RowTable) -> Made<()> {
+    /// Lists for each row and each of its riders the row of the same vehicle without her, or one past the last row. A
+    /// vehicle's rows stand by size, then riders.
+    fn list_without(&mut self, alloc: Global, table: &RowTable) -> Made<()> {
+        let mut trip: Vec<u32> = Vec::new(alloc);
+        for row in 0..table.row_count() {
+            let riders = table.riders_of(row);
+            for skipped in 0..riders.len() {
+                write_over(&mut trip, part(riders, 0, skipped))?;
+                trip.extend_from_slice(part(riders, skipped.saturating_add(1), riders.len()))?;
+                self.without.push(find(table, row, &trip))?;
+            }
+            self.without.end()?;
+        }
+        Ok(())
+    }
+
+    /// Lists the narrower rows, the wider ones, and who is added: those of a row stand by rising riders, as the rows of
+    /// a vehicle do.
+    fn fill(&mut self, alloc: Global, table: &RowTable) -> Made<()> {
+        self.list_without(alloc, table)?;
         self.wider.transpose(&self.without, table.row_count())?;
         for row in 0..table.row_count() {
             let mut marks = 0;
@@ -49,8 +67,12 @@ impl Beside {
     pub fn without(&self, table: &RowTable, row: u32, rider: u32) -> Option<u32> {
         let riders = table.riders_of(row as usize);
         let place = riders.binary_search(&rider).ok()?;
-        let narrower = self.without.list(row as usize).get(place).copied()?;
-        Some(narrower).filter(|row| (*row as usize) < table.row_count())
+        let narrower = item(self.without.list(row as usize), place, u32::MAX);
+        if (narrower as usize) < table.row_count() {
+            Some(narrower)
+        } else {
+            None
+        }
     }
 
     /// What the next row costs more than this one, each less what it costs to leave out its riders.
@@ -81,24 +103,6 @@ impl Beside {
     }
 }
 
-/// For each row and each of its riders the row of the same vehicle without her, or one past the last row. A
-/// vehicle's rows stand by size, then riders.
-fn rows_without(alloc: Global, table: &RowTable) -> Made<Lists> {
-    let mut without = Lists::new(alloc);
-    let mut trip: Vec<u32> = Vec::new(alloc);
-    for row in 0..table.row_count() {
-        let riders = table.riders_of(row);
-        for skipped in 0..riders.len() {
-            trip.clear();
-            trip.extend_from_slice(part(riders, 0, skipped))?;
-            trip.extend_from_slice(part(riders, skipped.saturating_add(1), riders.len()))?;
-            without.push(find(table, row, &trip))?;
-        }
-        without.end()?;
-    }
-    Ok(without)
-}
-
 /// The row with these riders among those of the same vehicle before this one, or one past the last row.
 fn find(table: &RowTable, row: usize, trip: &[u32]) -> usize {
     let mut low = table.rows_of(table.vehicle(row)).start;
@@ -124,9 +128,12 @@ fn find(table: &RowTable, row: usize, trip: &[u32]) -> usize {
 
 /// The first of these riders who isn't where she stands among the others.
 fn first_other(riders: &[u32], others: &[u32]) -> u32 {
-    let mut places = riders.iter().enumerate();
-    let other = places.find(|(place, rider)| item(others, *place, u32::MAX) != **rider);
-    other.map_or(u32::MAX, |(_, rider)| *rider)
+    for (place, rider) in riders.iter().enumerate() {
+        if item(others, place, u32::MAX) != *rider {
+            return *rider;
+        }
+    }
+    u32::MAX
 }
 
 /// One of 64 marks for a rider: she is none of those with other marks.

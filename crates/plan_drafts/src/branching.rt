@@ -67,7 +67,7 @@ impl Branching {
         if tries && self.ranks.len() > 1 {
             best = self.try_rows(table, decided, rest.saturating_add(rest / 5))?;
         }
-        Ok(Some(self.row(best)))
+        Ok(Some(item(&self.ranks, best, (0, 0)).1 as usize))
     }
 
     /// Ranks these rows, those that are chosen most nearly by half first, as many as may be tried.
@@ -84,10 +84,6 @@ impl Branching {
         Ok(())
     }
 
-    fn row(&self, place: usize) -> usize {
-        item(&self.ranks, place, (0, 0)).1 as usize
-    }
-
     /// Tries one row after the other, until some in a row are no better. The place of the best one. A row that can't be
     /// the best any more, however much the cost rises where it is taken, isn't tried for that.
     fn try_rows(&mut self, table: &RowTable, decided: &mut Decided, most: i64) -> Made<usize> {
@@ -97,7 +93,7 @@ impl Branching {
             if place.saturating_sub(best) >= self.idle {
                 break;
             }
-            let row = self.row(place);
+            let row = item(&self.ranks, place, (0, 0)).1 as usize;
             let left = self.rise(table, decided, decision(0, row, false), most)?;
             let left = score_of(left, most);
             if left.wrapping_mul(score_of(most, most)) <= most_score {
@@ -147,11 +143,12 @@ pub fn decision(parent: usize, row: usize, is_taken: bool) -> Decision {
 
 /// A row of the basis whose vehicle has another one.
 fn any_open_row(table: &RowTable, decided: &Decided) -> Option<usize> {
-    let is_open = |row: &usize| {
-        *row < table.row_count()
-            && !decided.relaxation.is_forbidden(*row)
-            && decided.has_choice(table, *row)
-    };
-    let columns = decided.relaxation.columns().iter();
-    columns.map(|column| *column as usize).find(is_open)
+    for column in decided.relaxation.columns() {
+        let row = *column as usize;
+        let is_open = row < table.row_count() && !decided.relaxation.is_forbidden(row);
+        if is_open && decided.has_choice(table, row) {
+            return Some(row);
+        }
+    }
+    None
 }

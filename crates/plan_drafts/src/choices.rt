@@ -22,7 +22,7 @@ const A_ROW: u64 = 8;
 
 /// A row that fits, with its regret, what it costs to leave out those of its riders whom no later turn could serve, and
 /// marks of its riders.
-#[derive(Clone, Copy, Default)]
+#[derive(Clone, Copy)]
 struct Fit {
     row: u32,
     above: i64,
@@ -30,8 +30,15 @@ struct Fit {
     marks: u128,
 }
 
+const NO_FIT: Fit = Fit {
+    row: 0,
+    above: 0,
+    last: 0,
+    marks: 0,
+};
+
 /// A vehicle's turn to choose.
-#[derive(Clone, Copy, Default)]
+#[derive(Clone, Copy)]
 struct Turn {
     /// Where its rows begin and end, and which comes next.
     first: usize,
@@ -44,6 +51,16 @@ struct Turn {
     /// What it costs to leave out the riders whom it could serve last and no choice serves.
     left: i64,
 }
+
+const NO_TURN: Turn = Turn {
+    first: 0,
+    end: 0,
+    next: 0,
+    sum: 0,
+    served: 0,
+    least: 0,
+    left: 0,
+};
 
 /// A search, and the work space for the next one.
 #[derive(Drop)]
@@ -65,9 +82,9 @@ pub struct Choices {
 impl Choices {
     pub fn new(alloc: Global, riders: usize) -> Made<Self> {
         Ok(Choices {
+            closings: vec![in alloc; None; riders]?,
             fits: Vec::new(alloc),
             turns: Vec::new(alloc),
-            closings: vec![in alloc; None; riders]?,
             riders: 0,
             picks: Vec::new(alloc),
             best: Vec::new(alloc),
@@ -88,8 +105,8 @@ impl Choices {
             present.release(regrets.table, *vehicle as usize);
         }
         self.find_turns(regrets, present, vehicles)?;
-        self.look_ahead(regrets);
-        let before = self.begin(regrets, present, vehicles)?;
+        let left = self.look_ahead(regrets);
+        let before = self.begin(regrets, present, vehicles, left)?;
         let after = self.search(regrets, before.saturating_add(1), most_steps)?;
         for row in &self.best {
             present.give(regrets.table, *row);
@@ -110,7 +127,7 @@ impl Choices {
                 first,
                 end,
                 next: first,
-                ..Turn::default()
+                ..NO_TURN
             })?;
         }
         let turns = self.turns.as_mut_slice();
@@ -127,7 +144,7 @@ impl Choices {
                 self.fits.push(Fit {
                     row: *row,
                     above: regrets.above(*row),
-                    ..Fit::default()
+                    ..NO_FIT
                 })?;
             }
         }
@@ -137,37 +154,43 @@ impl Choices {
     /// The turn of this number, an empty one behind the last.
     #[inline]
     fn turn(&self, number: usize) -> Turn {
-        item(&self.turns, number, Turn::default())
+        item(&self.turns, number, NO_TURN)
     }
 
     #[inline]
     fn fit(&self, place: usize) -> Fit {
-        item(&self.fits, place, Fit::default())
+        item(&self.fits, place, NO_FIT)
     }
 
     /// Finds for each turn, the last first, the least regret from it on, and the riders whom no later one could serve.
-    fn look_ahead(&mut self, regrets: &Regrets) {
+    /// What it costs to leave out all riders whom one could serve.
+    fn look_ahead(&mut self, regrets: &Regrets) -> i64 {
         self.closings.as_mut_slice().fill(None);
         self.riders = 0;
         let mut least: i64 = 0;
+        let mut left_of_all: i64 = 0;
         for number in (0..self.turns.len()).rev() {
             let turn = self.turn(number);
             if turn.first < turn.end {
                 least = least.saturating_add(self.fit(turn.first).above);
             }
             let left = self.close_riders(regrets, turn, short(number));
+            left_of_all = left_of_all.saturating_add(left);
             if let Some(turn) = self.turns.get_mut(number) {
                 turn.least = least;
                 turn.left = left;
             }
         }
+        left_of_all
     }
 
     /// Has this turn be the last that could serve its riders whom no later one could. What it costs to leave them out.
     fn close_riders(&mut self, regrets: &Regrets, turn: Turn, number: u32) -> i64 {
-        let places = turn.first..turn.end;
-        let costs = places.map(|place| self.close_row(regrets, place, number));
-        costs.fold(0, |left: i64, cost| left.saturating_add(cost))
+        let mut left: i64 = 0;
+        for place in turn.first..turn.end {
+            left = left.saturating_add(self.close_row(regrets, place, number));
+        }
+        left
     }
 
     /// The same for the riders of a row.
@@ -193,10 +216,15 @@ impl Choices {
     }
 
     /// Begins with the present rows of these vehicles as the best. Their regret, with that of the riders whom they
-    /// could serve and don't.
-    fn begin(&mut self, regrets: &Regrets, present: &Present, vehicles: &[u32]) -> Made<i64> {
-        let turns = self.turns.iter();
-        let mut regret = turns.fold(0i64, |sum, turn| sum.saturating_add(turn.left));
+    /// could serve and don't, where it costs this to leave out all whom they could serve.
+    fn begin(
+        &mut self,
+        regrets: &Regrets,
+        present: &Present,
+        vehicles: &[u32],
+        left: i64,
+    ) -> Made<i64> {
+        let mut regret = left;
         self.best.clear();
         for vehicle in vehicles {
             if let Some(row) = present.row(*vehicle as usize) {
@@ -216,8 +244,11 @@ impl Choices {
             if let Some(fit) = self.next_fit(limit) {
                 let is_open = self.descend(regrets, fit, &mut limit)?;
                 steps = steps.saturating_add(u32::from(is_open));
-            } else if !self.leave(regrets) {
-                break;
+            } else {
+                let Some(row) = self.picks.pop() else {
+                    break;
+                };
+                self.count_left(regrets, row, 1);
             }
             if steps > most_steps {
                 break;
@@ -270,15 +301,6 @@ impl Choices {
             self.picks.pop();
         }
         Ok(true)
-    }
-
-    /// Takes the last choice back, if there is one. Whether there was.
-    fn leave(&mut self, regrets: &Regrets) -> bool {
-        let pick = self.picks.pop();
-        if let Some(row) = pick {
-            self.count_left(regrets, row, 1);
-        }
-        pick.is_some()
     }
 
     /// Counts it to the turns so many times what it costs to leave out the row's riders.

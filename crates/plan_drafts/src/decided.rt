@@ -75,7 +75,11 @@ impl Decided {
 
     /// Whether the vehicle of this row has another one that isn't forbidden.
     pub fn has_choice(&self, table: &RowTable, row: usize) -> bool {
-        let is_open = |other: usize| other != row && !self.relaxation.is_forbidden(other);
-        table.rows_of(table.vehicle(row)).any(is_open)
+        for other in table.rows_of(table.vehicle(row)) {
+            if other != row && !self.relaxation.is_forbidden(other) {
+                return true;
+            }
+        }
+        false
     }
 }

@@ -47,13 +47,23 @@ pub fn dive(
         if decided.relaxation.is_tired() || !rank_open(table, decided, &shares, &mut ranks)? {
             return Ok(None);
         }
-        if shares.iter().all(|share| share.part >= WHOLE) {
+        if are_whole(&shares) {
             return Ok(Some(whole_plan(alloc, table, &shares)?));
         }
         let skips = number > 0 && draws.below(4) == 0;
         take_first(table, decided, &ranks, skips)?;
     }
     Ok(None)
+}
+
+/// Whether all rows are chosen whole.
+fn are_whole(shares: &[Share]) -> bool {
+    for share in shares {
+        if share.part < WHOLE {
+            return false;
+        }
+    }
+    true
 }
 
 /// Ranks the rows whose vehicles have another choice by falling share. False where a forbidden row is chosen.

@@ -183,6 +183,7 @@ impl<'a> Drafting<'a> {
         let mut shares: Vec<Share> = Vec::new(self.alloc);
         self.decided.relaxation.find_shares(table, &mut shares)?;
         self.plans.round(&self.regrets, &shares)?;
+        drop(shares);
         self.better()?;
         if self.tree.is_open() && !self.decided.relaxation.is_tired() {
             if let Some(plan) = self.dive()? {
@@ -219,9 +220,8 @@ impl<'a> Drafting<'a> {
             return Ok(());
         }
         let table = self.regrets.table;
-        let value = self.tree.standing(0).map_or(0, |standing| standing.value);
         let cost = self.tree.draft.cost.saturating_mul(1024);
-        let gap = cost.saturating_sub(value);
+        let gap = cost.saturating_sub(self.tree.value(0));
         let is_small = table.condition_count() <= FEW_CONDITIONS;
         let part = if is_small { LARGER_PART } else { POOL_PART };
         let relaxation = &mut self.decided.relaxation;
@@ -287,9 +287,9 @@ impl<'a> Drafting<'a> {
             self.tree
                 .offer(self.alloc, scout.plans.rows(), scout.plans.cost)?;
         }
-        for _ in 0..scouts.len().div_ceil(SCOUTS as usize) {
-            self.tree.allowance.settle(share, left);
-        }
+        let work = share.rest().saturating_sub(left.rest());
+        let times = scouts.len().div_ceil(SCOUTS as usize) as u64;
+        self.tree.allowance.spend(work.saturating_mul(times));
         self.merge(rt, &scouts)
     }
 

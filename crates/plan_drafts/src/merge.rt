@@ -11,7 +11,8 @@ use std::alloc::Global;
 #[derive(Drop)]
 pub struct Merge {
     pub part: RowTable,
-    /// For each row of the part its number in the whole table, and for each row of that its number in the part.
+    /// For each row of the part its number in the whole table, and for each row of that its number in the part, and at
+    /// first any number if a plan chooses it.
     pub wholes: Vec<Option<u32>>,
     parts: Vec<Option<u32>>,
     /// The plan that was the best before, of rows of the part.
@@ -48,23 +49,22 @@ impl Merge {
         scouts: &[Scout],
     ) -> Made<()> {
         let table = regrets.table;
-        let mut is_chosen = vec![in alloc; false; table.row_count()]?;
-        mark(plan, &mut is_chosen);
-        for scout in scouts {
-            mark(scout.plans.rows(), &mut is_chosen);
-        }
         reset(&mut self.parts, table.row_count(), None)?;
+        mark(plan, &mut self.parts);
+        for scout in scouts {
+            mark(scout.plans.rows(), &mut self.parts);
+        }
         for vehicle in 0..table.vehicle_count() {
-            self.put_vehicle(regrets, vehicle, &is_chosen)?;
+            self.put_vehicle(regrets, vehicle)?;
         }
         self.plan = renumbered(alloc, plan, &self.parts)?;
         self.part.index()
     }
 
-    fn put_vehicle(&mut self, regrets: &Regrets, vehicle: usize, is_chosen: &[bool]) -> Made<()> {
+    fn put_vehicle(&mut self, regrets: &Regrets, vehicle: usize) -> Made<()> {
         let table = regrets.table;
         for row in table.rows_of(vehicle) {
-            if item(is_chosen, row, false) || regrets.above(short(row)) <= 0 {
+            if item(&self.parts, row, None).is_some() || regrets.above(short(row)) <= 0 {
                 let number = short(self.wholes.len());
                 self.part.push_row(table.cost(row), table.riders_of(row))?;
                 self.wholes.push(Some(short(row)))?;
@@ -88,8 +88,10 @@ pub fn renumbered(alloc: Global, plan: &[Option<u32>], numbers: &[Option<u32>]) 
 }
 
 /// Marks a plan's rows.
-fn mark(plan: &[Option<u32>], is_chosen: &mut [bool]) {
-    for row in plan.iter().flatten() {
-        set_at(is_chosen, *row as usize, true);
+fn mark(plan: &[Option<u32>], parts: &mut [Option<u32>]) {
+    for row in plan {
+        if let Some(number) = row {
+            set_at(parts, *number as usize, *row);
+        }
     }
 }

@@ -26,11 +26,11 @@ impl Neighbourhood {
     /// Walks over the rows of this table. What is drawn follows from the seed.
     pub fn new(alloc: Global, table: &RowTable, seed: u64) -> Made<Self> {
         Ok(Neighbourhood {
-            vehicles: Vec::new(alloc),
             is_in: vec![in alloc; false; table.vehicle_count()]?,
+            choices: Choices::new(alloc, table.rider_count())?,
+            vehicles: Vec::new(alloc),
             frontier: Vec::new(alloc),
             draws: Draws::new(seed),
-            choices: Choices::new(alloc, table.rider_count())?,
         })
     }
 
@@ -46,18 +46,6 @@ impl Neighbourhood {
         self.vehicles.clear();
         self.frontier.clear();
         self.is_in.as_mut_slice().fill(false);
-        self.begin(regrets, present)?;
-        for _ in 0..size.saturating_mul(6) {
-            if self.vehicles.len() >= size {
-                break;
-            }
-            self.step(regrets, present, size)?;
-        }
-        self.choices
-            .choose(regrets, present, &self.vehicles, most_steps)
-    }
-
-    fn begin(&mut self, regrets: &Regrets, present: &Present) -> Made<()> {
         let left = self.left_rider(regrets, present);
         if let Some(rider) = left {
             self.frontier.push(rider)?;
@@ -66,7 +54,14 @@ impl Neighbourhood {
             let vehicle = self.regretted(regrets, present);
             self.add(regrets, present, vehicle)?;
         }
-        Ok(())
+        for _ in 0..size.saturating_mul(6) {
+            if self.vehicles.len() >= size {
+                break;
+            }
+            self.step(regrets, present, size)?;
+        }
+        self.choices
+            .choose(regrets, present, &self.vehicles, most_steps)
     }
 
     /// A rider who is left out and could be served, if one is soon found.

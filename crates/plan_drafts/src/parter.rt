@@ -108,46 +108,12 @@ impl Parter {
         Ok(())
     }
 
-    /// Makes the end to which this decision leads from where the relaxation stands, and goes back there.
+    /// Makes the end to which this decision leads from where the relaxation stands, and goes back there. It is solved by
+    /// the dual simplex, or where that fails from the node above.
     fn add(&mut self, table: &RowTable, tree: &DraftTree, decision: Decision) -> Made<()> {
         let count = self.decided.len();
         self.decided.decide(table, decision)?;
-        let end = self.end(table, tree, decision)?;
-        self.ends.push(end)?;
-        self.decided.go_back(count);
-        self.decided.relaxation.go_back(&self.branching.saved)
-    }
-
-    /// The end to which this decision leads, which is made. It has the value and the multipliers of the node above
-    /// where those are better.
-    fn end(&mut self, table: &RowTable, tree: &DraftTree, decision: Decision) -> Made<End> {
         let most = tree.draft.cost.saturating_mul(1024).saturating_sub(1023);
-        self.solve(table, most)?;
-        let relaxation = &mut self.decided.relaxation;
-        let mut multipliers = relaxation.multipliers(self.alloc, table.rider_count())?;
-        let mut standing = standing_of(self.alloc, table, relaxation)?;
-        let mut plan = None;
-        if standing.shares.is_empty() && standing.value < most {
-            let mut shares = Vec::new(self.alloc);
-            relaxation.find_shares(table, &mut shares)?;
-            plan = Some(whole_plan(self.alloc, table, &shares)?);
-        }
-        if let Some(above) = tree.standing(decision.parent) {
-            if standing.value < above.value {
-                standing.value = above.value;
-                multipliers = Vec::from_slice(self.alloc, tree.multipliers(decision.parent))?;
-            }
-        }
-        Ok(End {
-            decision,
-            multipliers,
-            standing,
-            plan,
-        })
-    }
-
-    /// Solves the relaxation by the dual simplex, or where that fails from the node above.
-    fn solve(&mut self, table: &RowTable, most: i64) -> Made<()> {
         let relaxation = &mut self.decided.relaxation;
         if !relaxation.solve_dual(table, most, MOST_ROWS)? {
             relaxation.go_back(&self.branching.saved)?;
@@ -155,6 +121,41 @@ impl Parter {
             relaxation.solve(table, most, MOST_ROWS, u32::MAX)?;
             relaxation.hold(true);
         }
-        Ok(())
+        let end = self.end(table, tree, decision, most)?;
+        self.ends.push(end)?;
+        self.decided.go_back(count);
+        self.decided.relaxation.go_back(&self.branching.saved)
+    }
+
+    /// The end to which this decision leads, which is made and solved up to this value. It has the value and the
+    /// multipliers of the node above where those are better.
+    fn end(
+        &mut self,
+        table: &RowTable,
+        tree: &DraftTree,
+        decision: Decision,
+        most: i64,
+    ) -> Made<End> {
+        let relaxation = &mut self.decided.relaxation;
+        let mut standing = standing_of(self.alloc, table, relaxation)?;
+        let mut plan = None;
+        if standing.shares.is_empty() && standing.value < most {
+            let mut shares = Vec::new(self.alloc);
+            relaxation.find_shares(table, &mut shares)?;
+            plan = Some(whole_plan(self.alloc, table, &shares)?);
+        }
+        let above = tree.value(decision.parent);
+        let multipliers = if standing.value < above {
+            standing.value = above;
+            Vec::from_slice(self.alloc, tree.multipliers(decision.parent))?
+        } else {
+            relaxation.multipliers(self.alloc, table.rider_count())?
+        };
+        Ok(End {
+            decision,
+            multipliers,
+            standing,
+            plan,
+        })
     }
 }

@@ -29,8 +29,10 @@ impl Present {
     /// Takes these rows, of which no two have a rider in common.
     pub fn adopt(&mut self, table: &RowTable, rows: &[Option<u32>]) {
         self.clear();
-        for row in rows.iter().flatten() {
-            self.give(table, *row);
+        for row in rows {
+            if let Some(row) = row {
+                self.give(table, *row);
+            }
         }
     }
 
@@ -49,8 +51,12 @@ impl Present {
     /// Whether nobody serves one of the row's riders.
     #[inline]
     pub fn is_free(&self, table: &RowTable, row: u32) -> bool {
-        let riders = table.riders_of(row as usize);
-        riders.iter().all(|rider| self.server(*rider).is_none())
+        for rider in table.riders_of(row as usize) {
+            if self.server(*rider).is_some() {
+                return false;
+            }
+        }
+        true
     }
 
     /// Gives the row to its vehicle.

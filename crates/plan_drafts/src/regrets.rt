@@ -8,7 +8,6 @@ use row_tables::fixed_point::{at, item, set_at};
 use row_tables::lists::{Lists, short};
 use row_tables::{Made, RowTable};
 use std::alloc::Global;
-use std::ops::Range;
 
 /// How many rows of a vehicle are looked at, beside its first one.
 const MOST_ROWS: usize = 200;
@@ -45,7 +44,7 @@ impl<'a> Regrets<'a> {
     pub fn fill(&mut self, alloc: Global, multipliers: &[i64]) -> Made<()> {
         let prices = self.price_riders(alloc, multipliers)?;
         for vehicle in 0..self.table.vehicle_count() {
-            self.reduce(&prices, self.table.rows_of(vehicle))?;
+            self.reduce(&prices, vehicle)?;
         }
         self.list(alloc)
     }
@@ -63,20 +62,28 @@ impl<'a> Regrets<'a> {
     }
 
     /// Notes the regrets of a vehicle's rows.
-    fn reduce(&mut self, prices: &[i64], rows: Range<usize>) -> Made<()> {
-        let costs = (rows.start..rows.end).map(|row| self.table.reduced_cost(prices, row));
-        let least = costs.min().unwrap_or(i64::MAX);
-        for row in rows {
+    fn reduce(&mut self, prices: &[i64], vehicle: usize) -> Made<()> {
+        let least = self.least_cost(prices, vehicle);
+        for row in self.table.rows_of(vehicle) {
             let cost = self.table.reduced_cost(prices, row);
             self.above.push(cost.saturating_sub(least))?;
         }
         Ok(())
     }
 
+    /// The least reduced cost of a vehicle's rows.
+    fn least_cost(&self, prices: &[i64], vehicle: usize) -> i64 {
+        let mut least = i64::MAX;
+        for row in self.table.rows_of(vehicle) {
+            least = least.min(self.table.reduced_cost(prices, row));
+        }
+        least
+    }
+
     /// Lists the rows that are looked at.
     fn list(&mut self, alloc: Global) -> Made<()> {
-        let mut ranks = Vec::new(alloc);
         let mut is_listed = vec![in alloc; false; self.table.row_count()]?;
+        let mut ranks = Vec::new(alloc);
         for vehicle in 0..self.table.vehicle_count() {
             self.rank_vehicle(vehicle, &mut ranks)?;
             self.list_vehicle(vehicle, &ranks, &mut is_listed)?;

@@ -277,7 +277,7 @@ impl Relaxation {
             for row in table.rows_of(vehicle) {
                 let above = table.reduced_cost(multipliers, row).saturating_sub(bar);
                 if above > most && !self.basis.has(row) {
-                    self.pool.forget(row);
+                    set_at(&mut self.pool.is_in, row, false);
                 }
             }
         }

@@ -83,14 +83,14 @@ impl DraftTree {
         multipliers: Vec<i64>,
         standing: Standing,
     ) -> Made<()> {
-        let number = short(self.standings.len());
-        self.open.push((standing.value.wrapping_neg(), number))?;
+        let rank = (standing.value.wrapping_neg(), short(self.standings.len()));
         self.standings.push(standing)?;
         self.draft.nodes.push(DraftNode {
             decision,
             branch: None,
             multipliers,
         })?;
+        self.open.push(rank)?;
         Ok(())
     }
 
@@ -120,14 +120,26 @@ impl DraftTree {
 
     /// The basis of the first solution.
     pub fn root_basis(&self) -> &[u32] {
-        self.standing(0)
-            .map_or(&[], |standing| standing.basis.as_slice())
+        match self.standing(0) {
+            None => &[],
+            Some(standing) => &standing.basis,
+        }
+    }
+
+    /// The relaxation's value at a node, in 1/1024 second; very little where there is none.
+    pub fn value(&self, number: usize) -> i64 {
+        match self.standing(number) {
+            None => i64::MIN,
+            Some(standing) => standing.value,
+        }
     }
 
     /// The multipliers of a node.
     pub fn multipliers(&self, number: usize) -> &[i64] {
-        let node = self.draft.nodes.get(number);
-        node.map_or(&[], |node| node.multipliers.as_slice())
+        match self.draft.nodes.get(number) {
+            None => &[],
+            Some(node) => &node.multipliers,
+        }
     }
 
     /// Grows to so many nodes, by a team with relaxations beside this one and at most so many workers.
@@ -161,10 +173,15 @@ impl DraftTree {
         Ok(())
     }
 
-    /// Gives the open nodes of least value to these, one each, and so much to go through. Whether there was one: not
-    /// where the bound meets the cost, or there is no room.
+    /// Raises the bound to the least value of an open node, or to the cost where no node is open. Gives the open nodes
+    /// of least value to these, one each, and so much to go through. Whether there was one: not where the bound meets
+    /// the cost, or there is no room.
     fn hand_out(&mut self, team: &mut [Parter], budget: usize, allowance: Allowance) -> bool {
-        self.raise_bound();
+        let bound = match self.open.peek() {
+            None => self.draft.cost,
+            Some((value, _)) => seconds_of(value.wrapping_neg()).min(self.draft.cost),
+        };
+        self.draft.bound = self.draft.bound.max(bound);
         let mut room = budget.saturating_sub(self.standings.len()) / 2;
         let mut is_any = false;
         for parter in team.iter_mut() {
@@ -217,15 +234,6 @@ impl DraftTree {
         }
         let (_, number) = self.open.pop()?;
         Some(number as usize)
-    }
-
-    /// Raises the bound to the least value of an open node, or to the cost where no node is open.
-    fn raise_bound(&mut self) {
-        let bound = match self.open.peek() {
-            None => self.draft.cost,
-            Some((value, _)) => seconds_of(value.wrapping_neg()).min(self.draft.cost),
-        };
-        self.draft.bound = self.draft.bound.max(bound);
     }
 
     /// Notes that a node is branched on a row, and that the next two nodes are its ends. It doesn't need the rows any

@@ -64,7 +64,7 @@ fn matched(
     ensures weights { IfOk result (λ s. s.weights ≡ weights) }
 {
     let mut matching = Matching::new(alloc, vehicles, riders, weights)?;
-    let mut tree = Tree::new(alloc, vehicles, riders)?;
+    let mut tree = Tree::new(alloc, riders)?;
     for vehicle in 0..vehicles {
         matching.insert(&mut tree, vehicle)?;
     }
@@ -77,7 +77,7 @@ fn chosen_pairs(alloc: Global, matching: &Matching) -> Result<Vec<(usize, usize)
     requires rider_of { length matching.now.rider_of.items ≡ matching.now.vehicles }
     ensures { IfOk result (λ pairs. IsChosen matching.now matching.now.vehicles pairs.items) }
 {
-    let mut pairs = Vec::with_capacity(alloc, matching.vehicles)?;
+    let mut pairs = Vec::new(alloc);
     for vehicle in 0..matching.vehicles {
         if let Some(rider) = matching.chosen(vehicle) {
             pairs.push((vehicle, rider))?;
@@ -106,7 +106,7 @@ fn negated(alloc: Global, prices: &[u64]) -> Result<Vec<i64>, OutOfMemory>
     requires { (k : ℕ) → k < length prices.now → slice_index prices.now k < 2 ^ 63 }
     ensures { IfOk result (λ v. v.items ≡ map (λ (p : ℕ). neg_ℤ (pos p)) prices.now) }
 {
-    let mut potentials = Vec::with_capacity(alloc, prices.len())?;
+    let mut potentials = Vec::new(alloc);
     for &price in prices {
         potentials.push(below_zero(price))?;
     }

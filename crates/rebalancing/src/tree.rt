@@ -28,16 +28,16 @@ pub(crate) struct Tree {
 }
 
 impl Tree {
-    pub(crate) fn new(alloc: Global, vehicles: usize, riders: usize) -> Result<Tree, OutOfMemory>
+    pub(crate) fn new(alloc: Global, riders: usize) -> Result<Tree, OutOfMemory>
         ensures { IfOk result (HasRoom riders) }
     {
         Ok(Tree {
-            vehicles: Vec::with_capacity(alloc, vehicles)?,
-            riders: Vec::with_capacity(alloc, vehicles)?,
-            parents: Vec::with_capacity(alloc, vehicles)?,
             place: vec![in alloc; 0; riders]?,
             tight_at: vec![in alloc; u64::MAX; riders]?,
             parent_of: vec![in alloc; 0; riders]?,
+            vehicles: Vec::new(alloc),
+            riders: Vec::new(alloc),
+            parents: Vec::new(alloc),
             cheapest: 0,
             lowered: 0,
         })

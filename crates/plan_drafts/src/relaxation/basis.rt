@@ -78,8 +78,7 @@ impl Basis {
             self.columns.push(column)?;
             set_at(&mut self.is_in, column as usize, true);
         }
-        self.good.extend_from_slice(&self.columns)?;
-        Ok(())
+        write_over(&mut self.good, &self.columns)
     }
 
     fn draw_capacities(&mut self, table: &RowTable) -> Made<()> {

@@ -41,7 +41,13 @@ impl Relaxation {
     /// Takes columns in until no level is wrong, or so many came in, or the cost rose by this. How much it
     /// rose. Forbidden rows are to be held at 0, and prices to be those of the basis where it has factors.
     pub fn pivot_dual(&mut self, table: &RowTable, most: u64, limit: i64) -> Made<(Ended, i64)> {
-        self.prepare_dual(table)?;
+        if self.basis.made.is_none() {
+            self.basis.factor(table)?;
+            self.reprice();
+        }
+        if !self.pool.is_listed {
+            self.list_places()?;
+        }
         let mut rise: i64 = 0;
         for _ in 0..most {
             let Some(place) = self.basis.wrong_place(&self.is_forbidden) else {
@@ -56,17 +62,6 @@ impl Relaxation {
             }
         }
         Ok((Ended::Stopped, rise))
-    }
-
-    fn prepare_dual(&mut self, table: &RowTable) -> Made<()> {
-        if self.basis.made.is_none() {
-            self.basis.factor(table)?;
-            self.reprice();
-        }
-        if !self.pool.is_listed {
-            self.list_places()?;
-        }
-        Ok(())
     }
 
     /// Lists the places of each condition in the pool, but for those of rows that are forbidden now.

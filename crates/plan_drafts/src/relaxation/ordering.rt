@@ -112,8 +112,8 @@ impl Ordering {
         if self.order.len() < columns.len() {
             return Ok(false);
         }
-        for (column, placed) in columns.iter_mut().zip(&self.placed) {
-            *column = *placed;
+        for place in 0..columns.len() {
+            set_at(columns, place, item(&self.placed, place, NONE));
         }
         Ok(true)
     }
@@ -218,9 +218,10 @@ fn peel(
         }
     }
     for turn in 0..side.lists.len() {
-        let Some(number) = queue.get(turn).copied() else {
+        if turn >= queue.len() {
             return Ok(());
-        };
+        }
+        let number = item(queue, turn, NONE);
         let met = side.lists.list(number as usize);
         if let Some(other) = others.first_left(met) {
             others.take_one(met);

@@ -8,7 +8,7 @@ use std::alloc::Global;
 #[derive(Drop)]
 pub struct Pool {
     pub columns: Vec<u32>,
-    /// Whether each column of the table is in.
+    /// Whether each column of the table is in, or is to stay in once the pool is pressed together.
     pub is_in: Vec<bool>,
     /// For each place what its column costs and its conditions: they lie side by side, unlike those of a table,
     /// of which a pool has few rows.
@@ -53,11 +53,6 @@ impl Pool {
             self.conditions.push_list(table.conditions_of(column))?;
         }
         Ok(())
-    }
-
-    /// Has a column be out once the pool is pressed together.
-    pub fn forget(&mut self, column: usize) {
-        set_at(&mut self.is_in, column, false);
     }
 
     /// Presses the columns together that are in.

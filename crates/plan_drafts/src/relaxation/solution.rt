@@ -1,6 +1,7 @@
 //! What a solution costs, how near it is to the best, and which rows it chooses.
 use crate::relaxation::Relaxation;
 use row_tables::fixed_point::{ONE, times};
+use row_tables::lists::short;
 use row_tables::{Made, RowTable, Share};
 
 /// Within so much of what it may be at most a solution counts as the best, in 1/1024 second.
@@ -15,8 +16,9 @@ impl Relaxation {
     /// What so much of each column of the basis costs.
     fn cost_of_all(&self, parts: &[i64]) -> i64 {
         let mut cost: i64 = 0;
-        for (column, part) in self.basis.columns.iter().zip(parts) {
-            cost = cost.wrapping_add(times(self.cost_of(*column as usize), *part));
+        for (place, part) in parts.iter().enumerate() {
+            let each = self.cost_of(self.basis.column(place));
+            cost = cost.wrapping_add(times(each, *part));
         }
         cost
     }
@@ -25,10 +27,11 @@ impl Relaxation {
     pub fn find_shares(&mut self, table: &RowTable, shares: &mut Vec<Share>) -> Made<()> {
         self.basis.find_parts(&mut self.parts);
         shares.clear();
-        for (column, part) in self.basis.columns.iter().zip(&self.parts) {
-            if (*column as usize) < table.row_count() && *part > ONE / 100 {
+        for (place, part) in self.parts.iter().enumerate() {
+            let row = self.basis.column(place);
+            if row < table.row_count() && *part > ONE / 100 {
                 shares.push(Share {
-                    row: *column,
+                    row: short(row),
                     part: *part,
                 })?;
             }

@@ -1,5 +1,14 @@
-use Rattle.std.proofs.Common.{◌∙◌}
+use Rattle.std.proofs.Common.{refl, ◌∙◌}
 use Rattle.rebalancing.proofs.best_moves.matched.Goals as goal
+
+pub loop-vehicle-init : goal.loop-vehicle-init
+loop-vehicle-init c =
+    let made = c.in_ok-matching.ensures in (
+      made.priced,
+      record { few_vehicles = rw made.vehicles c.requires.few_vehicles; few_riders = rw made.riders c.requires.few_riders; table = rw (made.vehicles, made.riders, made.weights) c.requires.table },
+      c.in_ok-tree.ensures,
+      record { vehicles = refl; riders = refl; weights = refl },
+    )
 
 pub loop-vehicle-preserved : goal.loop-vehicle-preserved
 loop-vehicle-preserved c =
