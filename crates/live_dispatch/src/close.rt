@@ -22,16 +22,16 @@ pub(crate) fn close_batch<K: Sink, N: Notifier, J: Opening, W: Ways, D: Drafter,
     rt: &(impl Threads + Wait + Sync),
     alloc: Global,
     lock: &SeatLock<Desk<K, N, J>>,
-    mut pass: Pass<Desk<K, N, J>>,
+    pass: &mut Pass<Desk<K, N, J>>,
     snapshot: &Snapshot,
     setup: &Setup<'_, W, D, G>,
-) -> (Pass<Desk<K, N, J>>, bool)
-    requires own { IsPassOf lock.now pass }
-    requires lane { (pass.lane ≡ 0) × (pass.calls ≡ []) }
+) -> bool
+    requires own { IsPassOf lock.now pass.old }
+    requires lane { (pass.old.lane ≡ 0) × (pass.old.calls ≡ []) }
     requires nodes { All (λ node. Contains setup.now.network.now.nodes node) (named_nodes snapshot.now) }
-    ensures own { IsPassOf lock.now result.0 }
-    ensures lane { result.0.lane ≡ 0 }
-    ensures closed { ClosesBatch setup.now.settings.now setup.now.network.now snapshot.entry.now result.1 (commands_in result.0) }
+    ensures own { IsPassOf lock.now pass.new }
+    ensures lane { pass.new.lane ≡ 0 }
+    ensures closed { ClosesBatch setup.now.settings.now setup.now.network.now snapshot.entry.now result (commands_in pass.new) }
 {
     let Setup {
         network,
@@ -43,7 +43,7 @@ pub(crate) fn close_batch<K: Sink, N: Notifier, J: Opening, W: Ways, D: Drafter,
     let Ok(outcome) = solve_batch(
         rt, alloc, snapshot, network, *ways, *drafter, settings, *gate,
     ) else {
-        return (pass, false);
+        return false;
     };
     let close = LaneCommand {
         lane: 0,
@@ -52,8 +52,8 @@ pub(crate) fn close_batch<K: Sink, N: Notifier, J: Opening, W: Ways, D: Drafter,
             outcome,
         },
     };
-    match lock.with_turn(rt, alloc, &mut pass, close) {
-        Ok(_) => (pass, true),
-        Err(_) => (pass, false),
+    match lock.with_turn(rt, alloc, pass, close) {
+        Ok(_) => true,
+        Err(_) => false,
     }
 }

@@ -63,7 +63,11 @@ pub(crate) fn work_both<
         move || -> (Pass<Desk<K, N, J>>, bool)
             requires { IsPassOf lock.now first × (first.lane ≡ 0) × (first.calls ≡ []) × All (λ node. Contains setup.now.network.now.nodes node) (named_nodes snapshot.now) }
             ensures { IsPassOf lock.entry.now result.0 × (result.0.lane ≡ 0) × ClosesBatch setup.entry.now.settings.now setup.entry.now.network.now snapshot.entry.now result.1 (commands_in result.0) }
-        { close_batch(rt, alloc, lock, first, snapshot, setup) },
+        {
+            let mut pass = first;
+            let closed = close_batch(rt, alloc, lock, &mut pass, snapshot, setup);
+            (pass, closed)
+        },
         move || -> Reading<K, N, J, L>
             requires { IsPassOf lock.now second.0 × (second.0.lane ≡ 1) × (second.0.calls ≡ []) × (L.last second.1 ≡ round) }
             ensures { IsPassOf lock.entry.now result.pass × (result.pass.lane ≡ 1) × RanRows round (commands_in result.pass) (TakesRun result.stop (L.to_come second.1) (L.to_come result.lines)) × IsHeldBack round (L.last result.lines) result.stop × FaultsFrom result.stop (L.faults second.1) (L.faults result.lines) }

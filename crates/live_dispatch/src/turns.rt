@@ -169,7 +169,11 @@ fn run_one<
             run.round = Some(round);
             Ok((run, None))
         }
-        Ok(Some(snapshot)) => run_batch(rt, alloc, run, round, &snapshot, setup),
+        Ok(Some(snapshot)) => {
+            let answer = run_batch(rt, alloc, run, round, &snapshot, setup);
+            drop(snapshot);
+            answer
+        }
         Err(fault) => Err(stop(run, fault_of_text(fault))),
     }
 }

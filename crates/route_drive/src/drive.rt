@@ -1,5 +1,4 @@
 ghost use Rattle.std.specs.Prelude.{◌≡◌, [], ℕ, None, Some, Err, IfErr, IfOk, length, map};
-ghost use Rattle.request_book.specs.Book.{next_position};
 ghost use Rattle.request_book.specs.Consistent.{IsConsistent};
 ghost use Rattle.route_drive.specs.declared.day_run.DriveFault.TheVariants.{OutOfMemory as NoMemory};
 ghost use Rattle.dispatch_engine.specs.Run.{IsReady};
@@ -185,7 +184,7 @@ pub(crate) fn stopped_at(stopped: Stopped, round: u32) -> DriveFault
     }
 }
 
-/// Runs a round as it is driven.
+/// Runs a round as it is driven, and leaves the day with one more round.
 fn run_driven<W: Ways, D: Drafter, G: Gate, K: RoundKeeper>(
     rt: &(impl Threads + Wait + Sync),
     alloc: Global,
@@ -207,15 +206,26 @@ fn run_driven<W: Ways, D: Drafter, G: Gate, K: RoundKeeper>(
         courses,
         served,
     } = drive;
+    let number = round.number();
     match run_taken(rt, alloc, book, driven, setup) {
-        Ok((book, journal)) => {
-            let drive = Drive {
-                book,
-                courses,
-                served,
-            };
-            keep(alloc, drive, journal, round, keeper)
-        }
+        Ok((book, journal)) => match next_courses(alloc, &book, round, &journal, &courses) {
+            Ok(next) => {
+                drop(courses);
+                let drive = Drive {
+                    book,
+                    courses: next,
+                    served,
+                };
+                with_round(alloc, drive, DayRound { number, journal }, keeper)
+            }
+            Err(_) => {
+                drop(book);
+                drop(courses);
+                drop(served);
+                drop(journal);
+                Err(DriveFault::OutOfMemory)
+            }
+        },
         Err(_) => Err(DriveFault::OutOfMemory),
     }
 }
@@ -234,65 +244,14 @@ pub(crate) fn run_taken<W: Ways, D: Drafter, G: Gate>(
     ensures consistent { IfOk result (λ taken. IsConsistent taken.1.base) }
 {
     match run_round(rt, alloc, book, round, setup) {
-        Ok(book) => take(book),
+        Ok(mut book) => match book.take_round() {
+            Ok(journal) => Ok((book, journal)),
+            Err(fault) => {
+                drop(book);
+                Err(fault)
+            }
+        },
         Err(_) => Err(OutOfMemory),
-    }
-}
-
-/// A book with its journal taken.
-fn take(book: Book) -> Result<(Book, Journal), OutOfMemory>
-    ensures journal { IfOk result (λ taken. taken.1 ≡ record { first = book.first; base = book.base; entries = book.entries }) }
-    ensures next { IfOk result (λ taken. taken.0 ≡ record { nodes = book.nodes; wait = book.wait; first = next_position book.first book.entries; base = book.state; entries = []; state = book.state; spare = 0 }) }
-    ensures consistent { IfOk result (λ taken. IsConsistent taken.1.base) }
-{
-    let mut book = book;
-    match book.take_round() {
-        Ok(journal) => Ok((book, journal)),
-        Err(fault) => {
-            drop(book);
-            Err(fault)
-        }
-    }
-}
-
-/// A day with one more round.
-fn keep<K: RoundKeeper>(
-    alloc: Global,
-    drive: Drive,
-    journal: Journal,
-    round: &Round,
-    keeper: &mut K,
-) -> Result<Drive, DriveFault>
-    requires { IsConsistent journal.base }
-    ensures book { IfOk result (λ next. next.book ≡ drive.book) }
-    ensures courses { IfOk result (λ next. next.courses.items ≡ courses_after drive.book.state round.now journal.entries drive.courses.items) }
-    ensures served { IfOk result (λ next. AddsServed journal.entries drive.served next.served) }
-    ensures kept { IfOk result (λ _. (first : K) → Takes (K.took first keeper.old) (K.took first keeper.new) (record { number = round.now.number; journal = journal })) }
-    ensures late { IfErr result (λ fault. fault ≡ NoMemory) }
-{
-    let number = round.number();
-    let Drive {
-        book,
-        courses,
-        served,
-    } = drive;
-    match next_courses(alloc, &book, round, &journal, &courses) {
-        Ok(next) => {
-            drop(courses);
-            let drive = Drive {
-                book,
-                courses: next,
-                served,
-            };
-            with_round(alloc, drive, DayRound { number, journal }, keeper)
-        }
-        Err(_) => {
-            drop(book);
-            drop(courses);
-            drop(served);
-            drop(journal);
-            Err(DriveFault::OutOfMemory)
-        }
     }
 }
 

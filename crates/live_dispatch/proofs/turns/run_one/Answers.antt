@@ -4,8 +4,8 @@ use Rattle.live_dispatch.proofs.StepLemmas.{row-stands}
 use Rattle.live_dispatch.proofs.TurnLemmas.{row-ended, row-opens}
 use Rattle.live_dispatch.proofs.turns.run_one.Goals as goal
 
-pub run_batch-requires-clause-nodes : goal.run_batch-requires-clause-nodes
-run_batch-requires-clause-nodes g c κs within =
+pub run_batch-answer-requires-clause-nodes : goal.run_batch-answer-requires-clause-nodes
+run_batch-answer-requires-clause-nodes g c κs within =
     let taken = subst (λ o. HasTaken c.args.run.book c.args.row.lane c.args.row.command o c.run_row.new.book) c.in-Ok-Some.field-0-is c.in-Ok-Some.ensures.taken in
     snapshot-known c.args.run.book.nodes c.args.setup.now.network.now.nodes c.args.row.command taken.reply c.in-Ok-Some.snapshot c.requires.ready.nodes taken.fits
 
@@ -19,7 +19,7 @@ returns-in-Ok-None-clause-went g c = λ start stands.
 
 pub returns-in-Ok-Some-clause-went : goal.returns-in-Ok-Some-clause-went
 returns-in-Ok-Some-clause-went g c = λ start stands.
-    c.run_batch.ensures.went start c.args.row refl
+    c.run_batch-answer.ensures.went start c.args.row refl
     (row-opens c.args.setup.now.settings.now c.args.setup.now.network.now start _ c.args.row stands c.requires.behind.0 c.args.run.proof c.requires.behind.2 c.in-Ok-Some.snapshot
     (moment c.run_row.new.book c.args.run.round (g.L.RowSource.to_come c.args.run.rows) (g.L.RowSource.faults c.args.run.rows) (outputs_seen g.K.Sink.written g.K.Sink.faults g.N.Notifier.told g.N.Notifier.faults g.N.Notifier.steady c.run_row.new.sink c.args.run.notifiers.items)) _ _
     (subst (λ o. HasTaken c.args.run.book c.args.row.lane c.args.row.command o c.run_row.new.book) c.in-Ok-Some.field-0-is c.in-Ok-Some.ensures.taken) c.in-Ok-Some.ensures.wrote refl refl refl)
