@@ -98,7 +98,12 @@ fn pairs_of(
 fn may_follow(pairs: &[(usize, usize)], next: (usize, usize)) -> bool
     ensures { IsTrue result ↔ All (CanPrecede next) pairs.now }
 {
-    pairs.iter().all(|pair| pair.0 < next.0 && pair.1 != next.1)
+    for pair in pairs {
+        if pair.0 >= next.0 || pair.1 == next.1 {
+            return false;
+        }
+    }
+    true
 }
 
 /// The pair of which the move tells.

@@ -29,7 +29,6 @@ pub(crate) fn tells_plan(
     if cost_of(graph, plan) != planned.cost {
         return Ok(false);
     }
-    let left = left_riders(alloc, graph, plan.chosen())?;
-    let ids = rider_ids(alloc, settled, &left)?;
+    let ids = rider_ids(alloc, settled, &left_riders(alloc, graph, plan.chosen())?)?;
     Ok(are_same_riders(&ids, planned.left.as_slice()))
 }

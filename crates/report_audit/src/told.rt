@@ -1,5 +1,5 @@
 //! What the lines of a block tell.
-ghost use Rattle.std.specs.Prelude.{◌≡◌, IfOk, fold};
+ghost use Rattle.std.specs.Prelude.{◌≡◌, ◌++◌, ◌∷◌, [], IfOk, fold};
 ghost use Rattle.report_audit.specs.Told.{nothing_told, told_by, with_line};
 ghost use Rattle.report_audit.specs.work.Told.{told_in};
 
@@ -57,22 +57,22 @@ impl BlockTold {
     {
         match line {
             BlockLine::Batch(batch) => self.batch = batch,
-            BlockLine::Expired(rider) => self.expired.push(rider)?,
+            BlockLine::Expired(rider) => return put(&mut self.expired, rider),
             BlockLine::Overflow => self.overflow = true,
-            BlockLine::Lapsed(rider) => self.lapsed.push(rider)?,
-            BlockLine::Late(late) => self.late.push(late)?,
-            BlockLine::Alone(pair) => self.rv.push(pair)?,
-            BlockLine::Shared(pair) => self.rr.push(pair)?,
-            BlockLine::Row(row) => self.rows.push(row)?,
-            BlockLine::Trip(trip) => self.chosen.push(trip)?,
-            BlockLine::Out(rider) => self.left.push(rider)?,
-            BlockLine::Move(line) => self.moves.push(line)?,
+            BlockLine::Lapsed(rider) => return put(&mut self.lapsed, rider),
+            BlockLine::Late(late) => return put(&mut self.late, late),
+            BlockLine::Alone(pair) => return put(&mut self.rv, pair),
+            BlockLine::Shared(pair) => return put(&mut self.rr, pair),
+            BlockLine::Row(row) => return put(&mut self.rows, row),
+            BlockLine::Trip(trip) => return put(&mut self.chosen, trip),
+            BlockLine::Out(rider) => return put(&mut self.left, rider),
+            BlockLine::Move(line) => return put(&mut self.moves, line),
             BlockLine::Cost(cost) => self.cost = cost,
             BlockLine::Bound(bound) => self.bound = bound,
             BlockLine::Nodes(nodes) => self.nodes = nodes,
-            BlockLine::Branch(branch) => self.tree.push(BlockLine::Branch(branch))?,
-            BlockLine::Leaf(leaf) => self.tree.push(BlockLine::Leaf(leaf))?,
-            BlockLine::Dead => self.tree.push(BlockLine::Dead)?,
+            BlockLine::Branch(branch) => return put(&mut self.tree, BlockLine::Branch(branch)),
+            BlockLine::Leaf(leaf) => return put(&mut self.tree, BlockLine::Leaf(leaf)),
+            BlockLine::Dead => return put(&mut self.tree, BlockLine::Dead),
             BlockLine::End => {}
         }
         Ok(())
@@ -99,5 +99,12 @@ fn take_all(told: &mut BlockTold, lines: Vec<BlockLine>) -> Result<(), OutOfMemo
     for line in lines {
         told.take(line)?;
     }
+    Ok(())
+}
+
+fn put<X: Drop>(list: &mut Vec<X>, item: X) -> Result<(), OutOfMemory>
+    ensures { IfOk result (λ _. list.new.items ≡ list.old.items ++ item ∷ []) }
+{
+    list.push(item)?;
     Ok(())
 }

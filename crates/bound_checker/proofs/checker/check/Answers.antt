@@ -56,6 +56,25 @@ returns-in-Err-clause-fault c =
     let reads : ReadsTo g (every_row ∷ []) (take i nodes) (u ∷ later) = subst (λ (b : Bool). ReadsTo g (every_row ∷ []) (take i nodes) (coming_of g b path)) c.if-walk.false c.loop-place.invariant.reads in
     fault_here g nodes i u later node c.in-Err.fault reads low (slice_get-get_or nodes i node low ∙ ap Some (sym here)) c.in-Err.ensures.err
 
+pub returns-then-walk-clause-fault : goal.returns-then-walk-clause-fault
+returns-then-walk-clause-fault c =
+    let g = c.args.graph.now in
+    let i = c.loop-place.place in
+    record {
+      before = subst (λ (b : Bool). ReadsTo g (every_row ∷ []) (take i c.args.tree.now) (coming_of g b c.loop-place.walk.decisions.items)) c.if-walk.true c.loop-place.invariant.reads;
+      within = omega (arith, ap length c.nodes-node-items.ensures);
+    }
+
+pub returns-then-not-walk-clause-fault : goal.returns-then-not-walk-clause-fault
+returns-then-not-walk-clause-fault c =
+    let g = c.args.graph.now in
+    let nodes : List Node = c.args.tree.now in
+    let i = c.loop-place.place in
+    let path = c.loop-place.walk.decisions.items in
+    let whole : take i nodes ≡ nodes = take_all i nodes (omega (arith, ap length c.nodes-node-items.ensures)) in
+    let reads = subst (λ (b : Bool). ReadsTo g (every_row ∷ []) (take i nodes) (coming_of g b path)) c.if-not-walk.true c.loop-place.invariant.reads in
+    record { usable = (standing_of g path).usable; later = (standing_of g path).coming; before = subst (λ (xs : List Node). ReadsTo g (every_row ∷ []) xs ((standing_of g path).usable ∷ (standing_of g path).coming)) whole reads }
+
 pub returns-clause-tree : goal.returns-clause-tree
 returns-clause-tree c =
     let g = c.args.graph.now in

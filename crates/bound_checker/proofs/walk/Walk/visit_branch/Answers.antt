@@ -11,9 +11,15 @@ returns-then-not-can_branch-clause-err c =
     let us = c.mark_allowed.new.allowed in
     let long : length us ≡ length g.rows = c.mark_allowed.ensures.len ∙ ap length c.deref_mut.ensures.value ∙ c.requires.ready.allowed in
     let items = with_items_is walk.allowed us (omega (arith, long, c.requires.ready.allowed, walk.allowed.ok.0)) in
-    let agree : Agree g (usable_of c.deref.result.now) u = λ k l. ap (λ (xs : List Bool). get_or xs k false) (c.deref.ensures.value ∙ items) ∙ c.mark_allowed.ensures.allowed k l ∙ ap (λ (p : List Decision). (standing_of g p).usable k) c.as_slice.ensures.value in
-    (refl, (c.args.vehicle, c.args.row, refl,
-    λ can. both_ways _ c.if-not-can_branch.true (c.can_branch.ensures.value.1 (can_branch_agrees g u (usable_of c.deref.result.now) c.args.vehicle c.args.row (agree_back g (usable_of c.deref.result.now) u agree) can))))
+    let agree : Agree g (usable_of c.deref.result.now) u = λ k l. ap (λ (xs : List Bool). get_or xs k false) (c.deref.ensures.value ∙ items) ∙ c.mark_allowed.ensures.allowed k l ∙ ap (λ (p : List Decision). (standing_of g p).usable k) c.as_slice.ensures.value in (
+      refl,
+      (
+        c.args.vehicle,
+        c.args.row,
+        refl,
+        λ can. both_ways _ c.if-not-can_branch.true (c.can_branch.ensures.value.1 (can_branch_agrees g u (usable_of c.deref.result.now) c.args.vehicle c.args.row (agree_back g (usable_of c.deref.result.now) u agree) can)),
+      ),
+    )
 
 pub returns-clause-ok : goal.returns-clause-ok
 returns-clause-ok c =
