@@ -19,42 +19,6 @@ loop-node-preserved-then-is_told c =
       taken = λ old. rw c.in_ok-push-2.ensures.items (All-push (λ (v : ℕ). v < length c.args.known.now.hops.now) c.loop-node.taken.items node (inv.taken old) below);
     }
 
-pub next_near-requires : goal.next_near-requires
-next_near-requires c = c.loop-node.invariant.waiting ∙ sym c.loop-node.invariant.seconds
-
-pub bounds-seconds-node : goal.bounds-seconds-node
-bounds-seconds-node c =
-    let next : IsNextTaken c.loop-node.waiting c.next_near.new.waiting c.in-Some.node = c.in-Some.ensures.some in
-    omega (arith, next.within, c.loop-node.invariant.waiting, c.loop-node.invariant.seconds)
-
-pub bounds-known-node : goal.bounds-known-node
-bounds-known-node c =
-    let next : IsNextTaken c.loop-node.waiting c.next_near.new.waiting c.in-Some.node = c.in-Some.ensures.some in
-    omega (arith, next.within, c.loop-node.invariant.waiting, c.requires.labels)
-
-pub is_told-requires : goal.is_told-requires
-is_told-requires c =
-    let node = c.in-Some.node in
-    let next : IsNextTaken c.loop-node.waiting c.next_near.new.waiting node = c.in-Some.ensures.some in
-    let below : c.in-Some.node < length c.args.known.now.labels.now = omega (arith, next.within, c.loop-node.invariant.waiting, c.requires.labels) in
-    let label : c.as_slice.result.now ≡ get_or c.args.known.now.labels.now node [] = c.as_slice.ensures ∙ sym c.index-known-node.is ∙ get_or_read c.args.known.now.labels.now node c.index-known-node.result below c.index-known-node.is [] in
-    rw label (c.requires.hubs node [] below)
-
-pub bounds-known-node-in-Some : goal.bounds-known-node-in-Some
-bounds-known-node-in-Some c =
-    let next : IsNextTaken c.loop-node.waiting c.next_near.new.waiting c.in-Some.node = c.in-Some.ensures.some in
-    omega (arith, next.within, c.loop-node.invariant.waiting)
-
-pub relax-requires-clause-lengths : goal.relax-requires-clause-lengths
-relax-requires-clause-lengths c =
-    let next : IsNextTaken c.loop-node.waiting c.next_near.new.waiting c.in-Some.node = c.in-Some.ensures.some in
-    next.same_length ∙ c.loop-node.invariant.waiting ∙ sym c.loop-node.invariant.seconds
-
-pub relax-requires-clause-short : goal.relax-requires-clause-short
-relax-requires-clause-short c =
-    let next : IsNextTaken c.loop-node.waiting c.next_near.new.waiting c.in-Some.node = c.in-Some.ensures.some in
-    (c.loop-node.invariant.pruning c.requires.hops.0 c.requires.hops.1 c.requires.hops.2).reached c.in-Some.node next.waited
-
 pub relax-requires-clause-hops : goal.relax-requires-clause-hops
 relax-requires-clause-hops c =
     let inv = c.loop-node.invariant in

@@ -9,18 +9,6 @@ label_by_rank-requires-clause-made g c κs within =
     rw (c.deref.ensures.value, c.deref-2.ensures.value)
     (roads.arcs, c.requires.ranks.0, made_from roads.arcs c.args.order.now c.requires.ranks.0 c.in_ok-ahead.ahead.items c.in_ok-back.back.items (length roads.nodes) c.node_count.ensures.kept.arcs c.in_ok-ahead.ensures c.in_ok-back.ensures c.requires.ranks.1)
 
-pub label_by_rank-requires-clause-clean : goal.label_by_rank-requires-clause-clean
-label_by_rank-requires-clause-clean g c κs within = rw (c.deref.ensures.value, c.in_ok-ahead.ensures.each, ← c.node_count.ensures.count) c.in_ok-space.ensures
-
-pub label_by_rank-requires-clause-few : goal.label_by_rank-requires-clause-few
-label_by_rank-requires-clause-few g c κs within = rw (c.deref.ensures.value, c.in_ok-ahead.ensures.each) c.node_count.ensures.kept.few_nodes
-
-pub label_by_rank-requires-clause-forward : goal.label_by_rank-requires-clause-forward
-label_by_rank-requires-clause-forward g c κs within = rw (c.deref.ensures.value, c.in_ok-ahead.ensures.each) c.requires.forward
-
-pub label_by_rank-requires-clause-backward : goal.label_by_rank-requires-clause-backward
-label_by_rank-requires-clause-backward g c κs within = rw (c.deref.ensures.value, c.in_ok-ahead.ensures.each) c.requires.backward
-
 pub returns : goal.returns
 returns g c =
     let roads = c.args.network.now in

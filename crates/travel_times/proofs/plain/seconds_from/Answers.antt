@@ -1,6 +1,5 @@
-use Rattle.std.proofs.Common.{◌≡◌, ℕ, ◌<◌, false, length, slice_index, set, map, replicate, sym, ◌∙◌, arith}
+use Rattle.std.proofs.Common.{◌≡◌, ℕ, ◌<◌, false, length, slice_index, set, map, replicate, arith}
 use Rattle.travel_times.proofs.Common.{with_item, with_items_is, get_or_read, get_or-replicate, length-replicate, never, hop_of, leaving, IsNextTaken, RelaxesHops}
-use Rattle.std.proofs.lemmas.List.{length-set}
 use Rattle.travel_times.proofs.lemmas.SearchLemmas.{IsSearching-start, IsSearching-step, IsTimeBetween-settled, IsNextTaken-set, hops_among, none_waits, none_waits_near}
 use Rattle.travel_times.proofs.plain.seconds_from.Goals as goal
 
@@ -13,41 +12,6 @@ loop-node-init c =
           (λ node h. get_or-replicate {A = ℕ} n node never 0 h) (none_waits n)),
       c.node_count-nodes.ensures.kept,
     )
-
-pub first_near-requires : goal.first_near-requires
-first_near-requires c =
-    let inv = c.loop-node.invariant.0 in
-    rw (c.deref.ensures.value, c.deref-in-loop-node.ensures.value) (inv.waiting_length ∙ sym inv.seconds_length)
-
-pub index_mut-requires-in-Some : goal.index_mut-requires-in-Some
-index_mut-requires-in-Some c =
-    let some = rw c.deref.ensures.value at c.in-Some.ensures.some in
-    omega (arith, some.0, c.loop-node.waiting.ok.0)
-
-pub index-here-requires : goal.index-here-requires
-index-here-requires c =
-    let inv = c.loop-node.invariant.0 in
-    let some = rw c.deref.ensures.value at c.in-Some.ensures.some in
-    omega (arith, some.0, inv.waiting_length, inv.seconds_length, c.loop-node.seconds.ok.0)
-
-pub arcs_from-requires : goal.arcs_from-requires
-arcs_from-requires c =
-    let some = rw c.deref.ensures.value at c.in-Some.ensures.some in
-    omega (arith, some.0, c.loop-node.invariant.0.waiting_length)
-
-pub relax-requires-clause-lengths : goal.relax-requires-clause-lengths
-relax-requires-clause-lengths c =
-    let inv = c.loop-node.invariant.0 in
-    rw (c.deref_mut.ensures.value, c.deref_mut-in-Some.ensures.value) (length-set c.loop-node.waiting.items c.in-Some.node false ∙ inv.waiting_length ∙ sym inv.seconds_length)
-
-pub relax-requires-clause-short : goal.relax-requires-clause-short
-relax-requires-clause-short c =
-    let s = c.loop-node.seconds.items in
-    let inv = c.loop-node.invariant.0 in
-    let node = c.in-Some.node in
-    let some = rw c.deref.ensures.value at c.in-Some.ensures.some in
-    let within : c.in-Some.node < length c.loop-node.seconds.items = omega (arith, some.0, inv.waiting_length, inv.seconds_length) in
-    rw (get_or_read s node c.index-here.result.now within c.index-here.ensures 0) (inv.reached node some.1)
 
 pub relax-requires-clause-hops : goal.relax-requires-clause-hops
 relax-requires-clause-hops c =

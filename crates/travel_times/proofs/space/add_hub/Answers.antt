@@ -4,53 +4,6 @@ use Rattle.travel_times.proofs.Adding.{adds_hub, handed, found_range, spread_amo
 use Rattle.travel_times.proofs.Building.{held}
 use Rattle.travel_times.proofs.space.add_hub.Goals as goal
 
-pub spread-requires-clause-within : goal.spread-requires-clause-within
-spread-requires-clause-within c =
-    let inside : c.args.start < length c.args.own.now = omega (arith, c.requires.own.0, c.requires.start) in
-    let label : c.as_slice-hubs.result.now ≡ get_or c.args.own.now c.args.start [] = c.as_slice-hubs.ensures ∙ get_or_read c.args.own.now c.args.start c.index-own-start.result inside c.index-own-start.is [] in
-    rw (label, c.deref_mut.ensures.value, c.requires.clean.via_each) (c.requires.own.1 c.args.start [] inside)
-
-pub search-requires-clause-seconds : goal.search-requires-clause-seconds
-search-requires-clause-seconds c = rw c.deref_mut-2.ensures.value (c.requires.clean.seconds_each, c.requires.clean.seconds_none)
-
-pub search-requires-clause-waiting : goal.search-requires-clause-waiting
-search-requires-clause-waiting c = rw c.deref_mut-3.ensures.value (c.requires.clean.waiting_each, c.requires.clean.waiting_none)
-
-pub search-requires-clause-hubs : goal.search-requires-clause-hubs
-search-requires-clause-hubs c =
-    let s = c.args.space.now in
-    let via_each : length c.spread.new.via ≡ c.args.space.now.via.len = omega (arith, c.spread.auto.via, ap length c.deref_mut.ensures.value, s.via.ok.0) in
-    let via_n : length c.spread.new.via ≡ length c.args.hops.now = omega (arith, via_each, s.via.ok.0, c.requires.clean.via_each) in
-    rw (c.deref.ensures.value, held s.via.len c.spread.new.via s.via.items via_each, via_n) c.requires.labels.1
-
-pub hand_over-requires-clause-labels : goal.hand_over-requires-clause-labels
-hand_over-requires-clause-labels c =
-    let s = c.args.space.now in
-    let seconds_each : length c.search.new.seconds ≡ c.args.space.now.seconds.len = omega (arith, c.search.auto.seconds, ap length c.deref_mut-2.ensures.value, s.seconds.ok.0) in
-    rw (c.deref_mut-4.ensures.value, held s.seconds.len c.search.new.seconds s.seconds.items seconds_each) (omega (arith, seconds_each, s.seconds.ok.0, c.requires.clean.seconds_each, c.requires.labels.0))
-
-pub hand_over-requires-clause-hubs : goal.hand_over-requires-clause-hubs
-hand_over-requires-clause-hubs c =
-    let s = c.args.space.now in
-    let via_each : length c.spread.new.via ≡ c.args.space.now.via.len = omega (arith, c.spread.auto.via, ap length c.deref_mut.ensures.value, s.via.ok.0) in
-    let via_n : length c.spread.new.via ≡ length c.args.hops.now = omega (arith, via_each, s.via.ok.0, c.requires.clean.via_each) in
-    rw (c.deref-3.ensures.value, held s.via.len c.spread.new.via s.via.items via_each, via_n) c.requires.labels.1
-
-pub hand_over-requires-clause-start : goal.hand_over-requires-clause-start
-hand_over-requires-clause-start c =
-    let s = c.args.space.now in
-    let via_each : length c.spread.new.via ≡ c.args.space.now.via.len = omega (arith, c.spread.auto.via, ap length c.deref_mut.ensures.value, s.via.ok.0) in
-    rw (c.deref-3.ensures.value, held s.via.len c.spread.new.via s.via.items via_each) (omega (arith, via_each, s.via.ok.0, c.requires.clean.via_each, c.requires.start))
-
-pub clear-requires-clause-within : goal.clear-requires-clause-within
-clear-requires-clause-within c =
-    let s = c.args.space.now in
-    let inside : c.args.start < length c.args.own.now = omega (arith, c.requires.own.0, c.requires.start) in
-    let label : c.as_slice-hubs.result.now ≡ get_or c.args.own.now c.args.start [] = c.as_slice-hubs.ensures ∙ get_or_read c.args.own.now c.args.start c.index-own-start.result inside c.index-own-start.is [] in
-    let via_each : length c.spread.new.via ≡ c.args.space.now.via.len = omega (arith, c.spread.auto.via, ap length c.deref_mut.ensures.value, s.via.ok.0) in
-    let via_n : length c.spread.new.via ≡ length c.args.hops.now = omega (arith, via_each, s.via.ok.0, c.requires.clean.via_each) in
-    rw (label, c.deref_mut-5.ensures.value, held s.via.len c.spread.new.via s.via.items via_each, via_n) (c.requires.own.1 c.args.start [] inside)
-
 pub spread-requires-clause-none : goal.spread-requires-clause-none
 spread-requires-clause-none c = rw c.deref_mut.ensures.value c.requires.clean.via_none
 

@@ -1,4 +1,4 @@
-use Rattle.std.proofs.Common.{◌≡◌, ℕ, ◌<◌, false, length, slice_index, map, replicate, sym, ◌∙◌, arith}
+use Rattle.std.proofs.Common.{◌≡◌, ℕ, ◌<◌, false, length, slice_index, map, replicate, ◌∙◌, arith}
 use Rattle.travel_times.proofs.Common.{with_items, with_items_is, get_or_read, get_or-replicate, length-replicate, never, hop_of, leaving, reach, IsNextTaken, RelaxesHops}
 use Rattle.travel_times.proofs.lemmas.SearchLemmas.{AreTimesUpTo-settled, IsSearching-start, IsSearching-step, hops_among, none_waits, reach_short}
 use Rattle.travel_times.proofs.search.Search.run.Goals as goal
@@ -15,44 +15,6 @@ loop-node-init c =
 
 pub reach-requires : goal.reach-requires
 reach-requires c = rw (c.deref-in-loop-node.ensures.value, c.loop-node.invariant.0.seconds_length) c.requires.goal
-
-pub next_near-requires : goal.next_near-requires
-next_near-requires c =
-    let inv = c.loop-node.invariant.0 in
-    rw (c.deref_mut.ensures.value, c.deref.ensures.value) (inv.waiting_length ∙ sym inv.seconds_length)
-
-pub index-here-requires : goal.index-here-requires
-index-here-requires c =
-    let s = c.loop-node.self in
-    let inv = c.loop-node.invariant.0 in
-    let taken : IsNextTaken s.waiting.items c.next_near.new.waiting c.in-Some.node = rw c.deref_mut.ensures.value at c.in-Some.ensures.some in
-    omega (arith, taken.within, inv.waiting_length, inv.seconds_length, s.seconds.ok.0)
-
-pub leaving-requires : goal.leaving-requires
-leaving-requires c =
-    let inv = c.loop-node.invariant.0 in
-    let taken : IsNextTaken c.loop-node.self.waiting.items c.next_near.new.waiting c.in-Some.node = rw c.deref_mut.ensures.value at c.in-Some.ensures.some in
-    omega (arith, taken.within, inv.waiting_length, c.args.arcs.now.copied.each)
-
-pub relax-requires-clause-few : goal.relax-requires-clause-few
-relax-requires-clause-few c = rw (c.deref_mut-in-Some.ensures.value, c.loop-node.invariant.0.seconds_length) c.loop-node.invariant.1.few_nodes
-
-pub relax-requires-clause-lengths : goal.relax-requires-clause-lengths
-relax-requires-clause-lengths c =
-    let s = c.loop-node.self in
-    let inv = c.loop-node.invariant.0 in
-    let taken : IsNextTaken s.waiting.items c.next_near.new.waiting c.in-Some.node = rw c.deref_mut.ensures.value at c.in-Some.ensures.some in
-    let waiting_length : length c.next_near.new.waiting ≡ s.waiting.len = omega (arith, taken.same_length, s.waiting.ok.0) in
-    rw (c.deref_mut-in-Some.ensures.value, c.deref_mut-in-Some-2.ensures.value, with_items_is s.waiting c.next_near.new.waiting waiting_length) (taken.same_length ∙ inv.waiting_length ∙ sym inv.seconds_length)
-
-pub relax-requires-clause-short : goal.relax-requires-clause-short
-relax-requires-clause-short c =
-    let s = c.loop-node.self in
-    let inv = c.loop-node.invariant.0 in
-    let node = c.in-Some.node in
-    let taken : IsNextTaken s.waiting.items c.next_near.new.waiting c.in-Some.node = rw c.deref_mut.ensures.value at c.in-Some.ensures.some in
-    let within : c.in-Some.node < length c.loop-node.self.seconds.items = omega (arith, taken.within, inv.waiting_length, inv.seconds_length) in
-    rw (get_or_read s.seconds.items node c.index-here.result.now within c.index-here.ensures 0) (inv.reached node taken.waited)
 
 pub relax-requires-clause-hops : goal.relax-requires-clause-hops
 relax-requires-clause-hops c =
