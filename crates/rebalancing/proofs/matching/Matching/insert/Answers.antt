@@ -73,6 +73,16 @@ shift-requires-in-search-clause-not_past c =
     let inv = c.search.invariant in
     none_past _ _ _ c.search.nearest _ c.slack-slack.result _ inv.next inv.tree.reached.tight_length c.slack-slack.ensures.some (omega arith)
 
+pub grow-requires-clause-priced : goal.grow-requires-clause-priced
+grow-requires-clause-priced c =
+    let root : root_of c.shift-in-search.new.tree ≡ root_of c.search.tree = ap root_of c.shift-in-search.ensures.lowered_alone in
+    rw root c.shift-in-search.ensures.priced
+
+pub grow-requires-clause-tree : goal.grow-requires-clause-tree
+grow-requires-clause-tree c =
+    let root : root_of c.shift-in-search.new.tree ≡ root_of c.search.tree = ap root_of c.shift-in-search.ensures.lowered_alone in
+    rw root c.shift-in-search.ensures.tree
+
 pub search-preserved : goal.search-preserved
 search-preserved c =
     let inv = c.search.invariant in
