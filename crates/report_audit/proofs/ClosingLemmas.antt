@@ -1,5 +1,5 @@
 -- The close of a batch, taken into a book.
-use Rattle.std.proofs.Common.{◌≡◌, ℕ, ◌<◌, ◌^◌, List, Some, eqb, get_or, sym, ◌∙◌, subst, rules}
+use Rattle.std.proofs.Common.{◌≡◌, ℕ, ◌<◌, ◌^◌, List, Some, eqb, get_or, sym, subst, rules}
 use Rattle.report_audit.proofs.Common.{Batch, BeginsWithGood, BookView, IsApplied, next_position, Close, Outcome, Reply, Settings, Roads, TakesClose, close_line, IsBookOf}
 use Rattle.std.specs.List.{All, Contains}
 use Rattle.std.proofs.lemmas.Bool.{eqb-true}

@@ -1,5 +1,5 @@
 -- Where an audit stands, and what it says there.
-use Rattle.std.specs.Prelude.{◌≡◌, ◌≢◌, ◌↔◌, ℕ, ◌<◌, ◌≤◌, ◌+◌, ◌-◌, ◌^◌, ◌==◌, true, false, Bool, IsTrue, List, [], ◌∷◌, ◌++◌, length, take, min, count_by, codes, decimal, Option, None, option_map}
+use Rattle.std.specs.Prelude.{◌≡◌, ◌≢◌, ◌↔◌, ℕ, ◌<◌, ◌+◌, ◌-◌, ◌^◌, ◌==◌, true, false, Bool, IsTrue, List, [], ◌∷◌, ◌++◌, length, take, min, count_by, codes, decimal, Option, None, option_map}
 use Rattle.std.specs.List.{All}
 use Rattle.batch_snapshot.specs.Batch.{Batch}
 use Rattle.batch_snapshot.specs.Kept.{IsFleet}
