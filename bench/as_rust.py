@@ -197,9 +197,9 @@ fn main() {
             rows.push(TripRow { vehicle, riders: trip, cost }).expect("memory");
         }
     }
-    let graph = TripGraph::new(Global, vehicles, riders, penalty as u32, rows, held).expect("a good graph");
+    let graph = TripGraph::new(Global, vehicles, riders, penalty as u32, rows, held).ok().expect("a good graph");
     let start = std::time::Instant::now();
-    let found = assignment_search::search_by(&Machine, Global, &graph, budget, workers, &plan_drafts::RelaxationDrafter).expect("memory");
+    let found = assignment_search::search_by(&Machine, Global, &graph, budget, workers, &plan_drafts::RelaxationDrafter).ok().expect("memory");
     let took = start.elapsed().as_micros();
     let nodes = found.tree.nodes().len();
     println!("rows {count} bound {} cost {} nodes {nodes} microseconds {took}", found.bound, found.cost);
@@ -233,6 +233,8 @@ def as_rust(text):
     text = re.sub(r"#!?\[tactic\([^)]*\)\]|#\[error[^\]]*\]|#\[from\]", "", text)
     text = re.sub(r"#\[cfg\(test\)\]\s*mod \w+;", "", text)
     text = re.sub(r"#\[derive\(([^)]*)\)\]", derived, text)
+    # Rattle compares an enum without data as it stands.
+    text = re.sub(r"^pub enum Ended", "#[derive(PartialEq)]\npub enum Ended", text, flags=re.M)
     text = text.replace("<T: Drop>", "<T>")
     text = re.sub(r"use (std::alloc|std::collections|std::marker|std::thread|pool_base)(::[^;]*)?;", "", text)
     text = re.sub(r"vec!\[in (?:self\.)?alloc; ([^;\]]*); ((?:[^\[\]]|\[[^\]]*\])*?)\]", r"filled(\1, \2)", text)
