@@ -5,8 +5,14 @@
 #![tactic(auto)]
 
 mod notices;
+mod progress;
+mod reading;
+mod watched_gate;
+mod watched_sink;
 
 use crate::notices::{OpeningSink, SharedFile, is_taken};
+use crate::watched_gate::WatchedGate;
+use crate::watched_sink::WatchedSink;
 use pool_base::OutOfMemory;
 use pool_io::{Source, StdSink, StdSource};
 use request_book::Notifier;
@@ -14,7 +20,6 @@ use ridepool::{
     LineNotifier, LiveEnd, RunStatus, fault_text, live, refusal_text, ridepool, words_of_run,
 };
 use rider_limits::{read_words, value_of};
-use run_progress::{WatchedGate, WatchedSink};
 use script_rows::{RefusalListener, RowRefusal};
 use std::alloc::Global;
 use std::fs::File;

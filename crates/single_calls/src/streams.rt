@@ -1,8 +1,7 @@
 //! Sources, sinks and notifiers in memory.
 use pool_base::RiderId;
-use pool_io::{PlainSink, PlainSource, Sink, read_all};
+use pool_io::{PlainSource, read_all};
 use request_book::{MemoryNotifier, Notice, Notifier};
-use run_progress::WatchedSink;
 use std::alloc::{AllocError, Global};
 use std::test::Fail;
 
@@ -25,18 +24,9 @@ fn is_read(alloc: Global, text: &[u8]) -> bool {
     }
 }
 
-// Whether what is written to a watched sink stands in the sink.
-fn is_written(alloc: Global) -> bool {
-    let terminal: Option<&mut Vec<u8>> = None;
-    let mut watched = WatchedSink::over(alloc, PlainSink::new(alloc), terminal);
-    matches!(watched.write(b"more bytes"), Ok(10))
-        && watched.into_inner().written() == b"more bytes".as_slice()
-}
-
 #[test]
 fn streams_in_memory(rt: HostRuntime) {
     assert!(rt; is_read(rt.alloc(), b"bytes"));
-    assert!(rt; is_written(rt.alloc()));
 }
 
 // A notifier with room for two notices that fails its second call.

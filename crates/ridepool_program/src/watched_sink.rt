@@ -18,7 +18,7 @@ pub(crate) const CLEAR: &[u8] = b"\r\x1b[K";
 /// The line comes when a piece of whole lines is written, from the lines before the first round on; the next
 /// write takes it away. A terminal that fails, and want of memory for the line, change nothing else.
 #[derive(Drop)]
-pub struct WatchedSink<K, W> {
+pub(crate) struct WatchedSink<K, W> {
     sink: K,
     alloc: Global,
     terminal: Option<W>,
@@ -34,7 +34,7 @@ impl<K, W> Model for WatchedSink<K, W> {
 
 impl<K, W> WatchedSink<K, W> {
     /// Watches a sink. Without a terminal nothing is shown. It keeps the allocator.
-    pub fn over(alloc: Global, sink: K, terminal: Option<W>) -> WatchedSink<K, W>
+    pub(crate) fn over(alloc: Global, sink: K, terminal: Option<W>) -> WatchedSink<K, W>
         ensures { result ≡ sink }
     {
         WatchedSink {
@@ -47,7 +47,7 @@ impl<K, W> WatchedSink<K, W> {
     }
 
     /// The sink that was watched.
-    pub fn into_inner(self) -> K
+    pub(crate) fn into_inner(self) -> K
     where
         W: Drop,
         ensures { result ≡ self }
@@ -58,7 +58,7 @@ impl<K, W> WatchedSink<K, W> {
 
 impl<K, W: Write> WatchedSink<K, W> {
     /// Takes the line away, if one stands.
-    pub fn clear(&mut self)
+    pub(crate) fn clear(&mut self)
         ensures { self.new ≡ self.old }
     {
         if !self.is_shown {

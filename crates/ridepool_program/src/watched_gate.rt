@@ -8,14 +8,14 @@ use worker_gate::Gate;
 ///
 /// Want of memory for the line, and a terminal that fails, change nothing.
 #[derive(Clone, Copy)]
-pub struct WatchedGate {
+pub(crate) struct WatchedGate {
     alloc: Global,
     terminal: Option<Stderr>,
 }
 
 impl WatchedGate {
     /// Without a terminal nothing is shown. It keeps the allocator.
-    pub fn over(alloc: Global, terminal: Option<Stderr>) -> WatchedGate {
+    pub(crate) fn over(alloc: Global, terminal: Option<Stderr>) -> WatchedGate {
         WatchedGate { alloc, terminal }
     }
 
