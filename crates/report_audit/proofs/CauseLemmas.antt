@@ -2,8 +2,8 @@
 use Rattle.std.proofs.Common.{◌≡◌, ◌≢◌, ℕ, true, List, [], ◌∷◌, ◌++◌, refl, sym, ap, ◌∙◌, subst, rules}
 use Rattle.report_audit.proofs.Common.{BlockRefusal, Extent, IsInForm, MayFollow, position_behind, IsCut, IsOutOfForm, IsWrongBatch, IsWrongLine, is_one_line, no_one_line, IsFirstLine, Settings, Roads}
 use Rattle.report_audit.proofs.lemmas.AuditLemmas.{one_refusal}
-use Rattle.report_lines.proofs.lemmas.LineLemmas.{first_once}
-use Rattle.report_lines.specs.declared.next.NextLine.TheVariants.{Entry as EntryOf}
+use Rattle.report_audit.proofs.lemmas.LineLemmas.{first_once}
+use Rattle.report_audit.specs.declared.next.NextLine.TheVariants.{Entry as EntryOf}
 use Rattle.report_audit.specs.declared.refusal.BlockRefusal.TheVariants as refusal
 
 -- why a text goes on no further: it is over, or what stands next is wrong in this way

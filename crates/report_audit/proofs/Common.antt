@@ -1,11 +1,11 @@
 -- The names that the proofs of this crate cite from elsewhere, passed on from one place. Declares nothing.
 pub use Rattle.std.proofs.lemmas.Result.{err_from_is_err_and}
-pub use Rattle.std.proofs.lemmas.Bool.{both_ways, cases_eq, cases_lt, cond-true, cond_both}
-pub use Rattle.std.proofs.lemmas.List.{drop_all, drop_more, get_or-map, get_or-replicate, get_or_past, length-map, length-replicate}
+pub use Rattle.std.proofs.lemmas.Bool.{and_from, and_parts, both_ways, cases_eq, cases_lt, cond-true, cond_both, eqb-false}
+pub use Rattle.std.proofs.lemmas.List.{append_cancel_left, at_drop_more, drop_all, drop_more, get_or-map, get_or-replicate, get_or_past, length-map, length-replicate, map-append}
 pub use Rattle.std.proofs.lemmas.List.Elements.{All-append, All-cons, All-contains, All-from_get_or, All-head, All-map, All-tail}
 pub use Rattle.std.proofs.lemmas.List.Sums.{position_or_len_is, prefix_len-le-length}
 pub use Rattle.std.proofs.lemmas.Option.{slice_get-get_or, slice_get-map}
-pub use Rattle.std.specs.List.{position, position_or_len}
+pub use Rattle.std.specs.List.{list_all, position, position_or_len}
 pub use Rattle.batch_snapshot.specs.Batch.{Batch}
 pub use Rattle.batch_snapshot.specs.declared.vehicle.Vehicle.{Vehicle}
 pub use Rattle.report_audit.specs.Block.{BeginsWithGood, BeginsWithWrong, MeetsAs, Refuses}
@@ -18,12 +18,13 @@ pub use Rattle.dispatch_engine.specs.Progress.{AreDone, HaveCome, IsNext, IsNext
 pub use Rattle.dispatch_engine.specs.Run.{IsRoundRun, IsRun, journal_of, position_after_run, state_after_run}
 pub use Rattle.dispatch_engine.specs.declared.stand.LaneStand.{LaneStand}
 pub use Rattle.dispatch_report.specs.Entry.{command_text, entry_line, refusal_text, reply_text, rider_status_text}
-pub use Rattle.dispatch_report.specs.Fits.{IsCommand, IsReply, TellsEnd}
-pub use Rattle.dispatch_report.specs.Head.{head_text}
+pub use Rattle.dispatch_report.specs.Fits.{IsCommand, IsId, IsReply, TellsEnd}
+unfoldable pub use Rattle.dispatch_report.specs.Head.{head_text}
+pub use Rattle.dispatch_report.specs.Head.{settings_line}
 unfoldable pub use Rattle.dispatch_report.specs.Lines.{lines_text}
 unfoldable pub use Rattle.dispatch_report.specs.Round.{end_text, entries_lines, round_text}
 pub use Rattle.dispatch_report.specs.Round.{entry_block}
-unfoldable pub use Rattle.dispatch_report.specs.Words.{numbered}
+unfoldable pub use Rattle.dispatch_report.specs.Words.{numbered, signed}
 pub use Rattle.dispatch_report.specs.Words.{spaced}
 pub use Rattle.pool_io.specs.Faults.{one_more}
 pub use Rattle.report_audit.specs.Fault.{FailsAsLine, FailsAt, HasFault, IsCut, IsOutOfForm, IsWrongBatch, IsWrongBlock, IsWrongLine}
@@ -32,18 +33,18 @@ pub use Rattle.report_audit.specs.Report.{IsAudited, IsReportOfRun, batches_afte
 pub use Rattle.report_audit.specs.Types.{AreTold, HasFittingBlock, IsTold, JournalsAreTold}
 pub use Rattle.report_audit.specs.declared.fault.AuditFault.{AuditFault}
 pub use Rattle.report_audit.specs.work.Place.{entries_text, with_entry, with_more}
-pub use Rattle.report_audit.specs.work.Standing.{BlockFails, EntryRead, IsBetween, IsBookOf, IsFaultAt, IsGiven, IsInRound, IsOpen, IsOtherLine, IsRoundStart, IsWithin, OnlyFollows, TakesClose, TakesCommand, Waits, close_line, fault_of_head, line_left}
-pub use Rattle.report_lines.proofs.lemmas.NextLemmas.{one_kind}
-pub use Rattle.report_lines.proofs.lemmas.OneBlock.{append_one_line, cut_once, no_one_line, numbered_one_line, spaced_one_line, two_line}
-pub use Rattle.report_lines.specs.Cut.{is_one_line}
-pub use Rattle.report_lines.specs.Head.{BeginsWithHead}
-pub use Rattle.report_lines.specs.HeadFault.{FitsLine, HasForm, HeadFails, HeadLine, LineFails, LinesFail, head_lines, sizes_of}
-pub use Rattle.report_lines.specs.HeadLines.{AreSizes}
-pub use Rattle.report_lines.specs.Line.{IsFirstLine}
-pub use Rattle.report_lines.specs.Settings.{AreSettingsOf}
-pub use Rattle.report_lines.specs.Next.{IsEntry, IsNextLine}
-pub use Rattle.report_lines.specs.declared.head_fault.HeadFault.{HeadFault}
-pub use Rattle.report_lines.specs.declared.next.NextLine.{NextLine}
+pub use Rattle.report_audit.specs.work.Standing.{BlockRefuses, EntryRead, IsBetween, IsBookOf, IsFaultAt, IsGiven, IsInRound, IsOpen, IsOtherLine, IsRoundStart, IsWithin, OnlyFollows, TakesClose, TakesCommand, Waits, close_line, fault_of_head, line_left}
+pub use Rattle.report_audit.proofs.lemmas.NextLemmas.{one_kind}
+pub use Rattle.report_audit.proofs.lemmas.OneBlock.{append_one_line, cut_once, no_one_line, numbered_one_line, spaced_one_line, two_line}
+pub use Rattle.report_audit.specs.Cut.{is_one_line}
+pub use Rattle.report_audit.specs.Head.{BeginsWithHead}
+pub use Rattle.report_audit.specs.HeadFault.{FitsLine, HasForm, HeadFails, HeadLine, LineFails, LinesFail, head_lines, sizes_of}
+pub use Rattle.report_audit.specs.HeadLines.{AreSettings, AreSizes, settings_text, sizes_text}
+pub use Rattle.report_audit.specs.Line.{IsFirstLine}
+pub use Rattle.report_audit.specs.Settings.{AreLawful, AreSettingsOf}
+pub use Rattle.report_audit.specs.Next.{IsEntry, IsNextLine}
+pub use Rattle.report_audit.specs.declared.head_fault.HeadFault.{HeadFault}
+pub use Rattle.report_audit.specs.declared.next.NextLine.{NextLine}
 pub use Rattle.request_book.proofs.lemmas.BookLemmas.{applied-book, replies-push, round-book}
 pub use Rattle.request_book.proofs.lemmas.StepTable.{by-table, would_seal-table}
 pub use Rattle.request_book.specs.Book.{BookView, IsApplied, IsBook, next_position, opening, would_seal}
@@ -77,8 +78,8 @@ pub use Rattle.report_audit.specs.work.Judged.{HoldUpTo, stops_of, verdict_place
 pub use Rattle.report_audit.specs.work.Told.{told_in}
 pub use Rattle.outcome_check.proofs.lemmas.VerdictLemmas.{HoldBelow}
 pub use Rattle.plan_rules.specs.declared.node.Node.{Node}
-pub use Rattle.report_lines.specs.Order.{follow_on, last_place}
-pub use Rattle.dispatch_report.specs.Block.{block_lines, late_as_line, lines_of, row_as_line, tree_line, trip_as_line}
+pub use Rattle.report_audit.specs.Order.{follow_on, is_between, kind_place, last_place, may_follow_at}
+pub use Rattle.dispatch_report.specs.Block.{block_line_text, block_lines, late_as_line, lines_of, pair_line, row_as_line, stop_text, tree_line, trip_as_line}
 pub use Rattle.dispatch_report.specs.declared.block_line.BlockLine.{BlockLine}
 pub use Rattle.dispatch_report.specs.declared.block_line.BlockLine.TheVariants.{Alone, Bound, Branch, Cost, Dead, End, Expired, Lapsed, Late, Leaf, Move, Nodes, Out, Overflow, Row, Shared, Trip}
 pub use Rattle.dispatch_report.specs.declared.block_line.LateText.{LateText}
@@ -91,3 +92,16 @@ pub use Rattle.batch_snapshot.specs.Kept.{IsKept}
 pub use Rattle.outcome_check.specs.Verdict.{IsVerdictOf, Meets, point_place}
 pub use Rattle.request_book.specs.declared.outcome.Planned.{Planned}
 pub use Rattle.batch_solver.specs.declared.point.Point.{Point}
+pub use Rattle.std.proofs.lemmas.Fmt.{decimal_digit, decimal_is_IsNumeral_wide}
+pub use Rattle.std.proofs.lemmas.Grind.{flat_map-append}
+pub use Rattle.std.specs.Char.{is_ascii_digit}
+pub use Rattle.pool_base.specs.Number.{AllDigits, value_of}
+pub use Rattle.pool_base.specs.lemmas.Number.{value_after}
+pub use Rattle.report_audit.specs.BlockLines.{BeginsBlock, BlockFails, IsBadBlock, IsBlock, IsCutBlock}
+pub use Rattle.report_audit.specs.BlockLine.{AreIds, FitsStop, IsBlockLine, IsLong, IsWide}
+pub use Rattle.report_audit.specs.Reading.{BeginsWith, BeginsWithNone, BothAre, both_texts, ends_number}
+pub use Rattle.report_audit.specs.declared.head.SettingsText.{SettingsText}
+pub use Rattle.report_audit.specs.work.Head.{HasHead, IsShortNumber, LinesThen, dwell_text, fleet_line, told_lines, told_of}
+pub use Rattle.report_audit.specs.work.Entries.{IsAnswered, IsAnyReply, IsTextOf, IsToldBy, IsToldByAny, fields_of, replies, spaced_reply, told_text, word_replies}
+pub use Rattle.report_audit.specs.work.Lines.{IsOrder, IsVisit, order_text, visit_text}
+pub use Rattle.request_book.specs.declared.outcome.PlannedStop.{PlannedStop}

@@ -1,10 +1,10 @@
 -- An entry that an audit reads.
 use Rattle.std.proofs.Common.{◌≡◌, ◌≢◌, ℕ, ◌<◌, ◌≤◌, true, List, [], ◌∷◌, ◌++◌, length, set, slice_get, Option, Some, None, refl, sym, ap, ◌∙◌, subst, length-append, arith}
-use Rattle.report_audit.proofs.Common.{Batch, BlockRefusal, IsCloseOf, IsGoodClose, last_sealed, journal_of, entry_line, lines_text, entry_block, IsNextLine, NextLine, one_kind, LaneStand, stand_at, stand_after, HaveCome, IsNext, IsNextFrom, come_more, BookView, IsApplied, IsNoClose, step, Command, Close, Entry, Journal, Outcome, Reply, Closed, State, replies-push, Settings, Roads, NumberedLanes, MayStand, lane_at, IsFirstLine, IsWrongBlock, Extent, BeginsRound, MayFollow, position_behind, state_behind, with_entry, HasFittingBlock, IsCommand, IsReply, IsOtherLine, TakesClose, BlockFails, EntryRead, IsWithin, Waits, TakesCommand, close_line}
+use Rattle.report_audit.proofs.Common.{Batch, BlockRefusal, IsCloseOf, IsGoodClose, last_sealed, journal_of, entry_line, lines_text, entry_block, IsNextLine, NextLine, one_kind, LaneStand, stand_at, stand_after, HaveCome, IsNext, IsNextFrom, come_more, BookView, IsApplied, IsNoClose, step, Command, Close, Entry, Journal, Outcome, Reply, Closed, State, replies-push, Settings, Roads, NumberedLanes, MayStand, lane_at, IsFirstLine, IsWrongBlock, Extent, BeginsRound, MayFollow, position_behind, state_behind, with_entry, HasFittingBlock, IsCommand, IsReply, IsOtherLine, TakesClose, BlockRefuses, EntryRead, IsWithin, Waits, TakesCommand, close_line}
 use Rattle.std.proofs.lemmas.List.{length-set}
 use Rattle.std.proofs.lemmas.Option.{slice_get_within, get_or_from_slice_get}
 use Rattle.report_audit.specs.declared.refusal.BlockRefusal.TheVariants as refusal
-use Rattle.report_lines.specs.declared.next.NextLine.TheVariants.{Entry as EntryOf}
+use Rattle.report_audit.specs.declared.next.NextLine.TheVariants.{Entry as EntryOf}
 use Rattle.report_audit.proofs.JournalLemmas.{closes-push, told-push, sealed-after, close-is}
 use Rattle.report_audit.proofs.LaneLemmas.{come_begins, no_close_of, no_outcome, none_beyond, waits_command, waits_close, waits_for}
 use Rattle.report_audit.proofs.NextLemmas.{book_of_applied, book_state, book_step, candidate_lane, candidate_next, close_of, entry_by, journal_applied, next_begins, read_one}
@@ -146,7 +146,7 @@ module _ {settings : Settings} {roads : Roads} {round : NumberedLanes} {b : Book
               other (follow.2 ∙ ap (λ (x : Entry). entry_line (position_behind (journal_of b)) x) same)
 
           -- the block behind the close's line is wrong
-          pub wrong_block : (refused : BlockRefusal) (after : List ℕ) → refused ≢ refusal.OutOfMemory → BlockFails settings roads b batch lane line after refused → (text : List ℕ) → IsFirstLine text line after
+          pub wrong_block : (refused : BlockRefusal) (after : List ℕ) → refused ≢ refusal.OutOfMemory → BlockRefuses settings roads b batch lane line after refused → (text : List ℕ) → IsFirstLine text line after
               → IsWrongBlock settings roads round (journal_of b) text refused
           unfolding closing
           wrong_block refused after some fails text has =

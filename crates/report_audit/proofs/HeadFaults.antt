@@ -2,8 +2,8 @@
 use Rattle.std.proofs.Common.{◌≡◌, ℕ, ◌+◌, ◌<◌, ◌^◌, true, List, [], ◌∷◌, inl, inr, sym, ap, ◌∙◌, subst}
 use Rattle.report_audit.proofs.Common.{is_one_line, HeadLine, HasForm, FitsLine, HeadFails, LineFails, LinesFail, head_lines, sizes_of, AreSizes, IsFirstLine, HeadFault, no_one_line, Roads}
 use Rattle.std.specs.List.{AllByRecursion}
-use Rattle.report_lines.specs.declared.head_fault.HeadFault.TheVariants.{Cut, Form, Head}
-use Rattle.report_lines.proofs.lemmas.LineLemmas.{first_once, line_no_fault, said_behind}
+use Rattle.report_audit.specs.declared.head_fault.HeadFault.TheVariants.{Cut, Form, Head}
+use Rattle.report_audit.proofs.lemmas.LineLemmas.{first_once, line_no_fault, said_behind}
 
 -- a line that fits has its form
 abbrev FitsInForm : HeadLine → Type 0

@@ -20,3 +20,8 @@ pub mod TextLemmas
 pub mod ToldLemmas
 pub mod WholeLemmas
 pub mod lemmas
+pub mod ListLemmas
+pub mod StopLemmas
+pub mod SignedLemmas
+pub mod OneLine
+pub mod EntryLineLemmas

@@ -7,10 +7,10 @@ use Rattle.std.proofs.lemmas.List.Elements.{All-head, All-tail}
 use Rattle.batch_snapshot.specs.Kept.{IsKept}
 use Rattle.report_audit.proofs.lemmas.AuditLemmas.{good_is_judged, good_not_refused}
 use Rattle.dispatch_report.specs.Block.{lines_of}
-use Rattle.report_lines.specs.Block.{IsBlock}
-use Rattle.report_lines.proofs.lemmas.LineLemmas.{first_once}
-use Rattle.report_lines.proofs.lemmas.OutcomeLemmas.{outcome_block}
-use Rattle.report_lines.specs.declared.next.NextLine.TheVariants.{Round as RoundOf, Done as DoneOf, Entry as EntryOf}
+use Rattle.report_audit.specs.BlockLines.{IsBlock}
+use Rattle.report_audit.proofs.lemmas.LineLemmas.{first_once}
+use Rattle.report_audit.proofs.lemmas.OutcomeLemmas.{outcome_block}
+use Rattle.report_audit.specs.declared.next.NextLine.TheVariants.{Round as RoundOf, Done as DoneOf, Entry as EntryOf}
 use Rattle.request_book.specs.Consistent.{IsConsistent}
 use Rattle.request_book.proofs.lemmas.BatchLemmas.{batch-kept}
 use Rattle.request_book.proofs.lemmas.ConsistentLemmas.{answer-keeps, close-keeps, step-consistent}

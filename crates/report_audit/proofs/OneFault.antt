@@ -7,10 +7,10 @@ use Rattle.std.proofs.lemmas.List.{append_cancel_left, append_cancel_right}
 use Rattle.std.proofs.lemmas.List.Elements.{All-weaker}
 use Rattle.std.specs.List.{All}
 use Rattle.dispatch_report.specs.Head.{settings_line}
-use Rattle.report_lines.specs.HeadLines.{sizes_text}
-use Rattle.report_lines.proofs.lemmas.HeadLemmas.{settings_of_one}
-use Rattle.report_lines.proofs.lemmas.LineLemmas.{line_more}
-use Rattle.report_lines.proofs.lemmas.WholeHead.{lawful_short, no_head as fails_no_head, same_settings, settings_line_is, settings_one_line, told_lawful}
+use Rattle.report_audit.specs.HeadLines.{sizes_text}
+use Rattle.report_audit.proofs.lemmas.HeadLemmas.{settings_of_one}
+use Rattle.report_audit.proofs.lemmas.LineLemmas.{line_more}
+use Rattle.report_audit.proofs.lemmas.WholeHead.{lawful_short, no_head as fails_no_head, same_settings, settings_line_is, settings_one_line, told_lawful}
 use Rattle.request_book.proofs.lemmas.BookLemmas.{opening-consistent}
 use Rattle.report_audit.proofs.HeadFaults.{head_fails_once}
 use Rattle.report_audit.proofs.CauseLemmas.{Cause, Over, Cut, Form, Wrong, Block, Ends}
@@ -19,7 +19,7 @@ use Rattle.report_audit.proofs.TextLemmas.{end-is, round-is}
 use Rattle.report_audit.specs.Place.{HasRounds}
 use Rattle.report_audit.specs.declared.fault.AuditFault.TheVariants as fault
 use Rattle.report_audit.specs.declared.refusal.BlockRefusal.TheVariants as block
-use Rattle.report_lines.specs.declared.head_fault.HeadFault.TheVariants as head
+use Rattle.report_audit.specs.declared.head_fault.HeadFault.TheVariants as head
 
 module _ (settings : Settings) (roads : Roads) (cause : Cause) (rest : List ℕ) where
   -- a round and what goes on behind it, or the part of one behind which the text ends

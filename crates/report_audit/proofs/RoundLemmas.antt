@@ -1,7 +1,7 @@
 -- A round that an audit reads.
 use Rattle.std.proofs.Common.{◌≡◌, ℕ, ◌<◌, ◌≤◌, ◌+◌, ◌-◌, ◌^◌, true, false, Bool, List, [], ◌∷◌, ◌++◌, length, replicate, drop, min, codes, Option, Some, None, refl, sym, ap, ◌∙◌, subst, append-nil, append_assoc, arith, option_map, count_by, rules}
 use Rattle.report_audit.proofs.Common.{cases_lt, get_or_past, get_or-replicate, length-replicate, Batch, Vehicle, ClosesAreGood, IsLaneRunFrom, IsRoundRun, IsRun, journal_of, round_text, numbered, IsNextLine, LaneStand, at_start, stand_at, HaveCome, AreDone, BookView, next_position, state_after, state_after_run, position_after_run, RepliesAreSteps, Entry, Journal, State, round-book, opening, Settings, Roads, NumberedLanes, IsRound, lane_at, IsFirstLine, Extent, HasFault, AuditFault, position_behind, closes, batches_after, rounds_text, head_text, AreTold, JournalsAreTold, entries_text, with_entry, IsRoundStart, IsBookOf, IsInRound, IsBetween, IsFaultAt, OnlyFollows, EntryRead}
-use Rattle.report_lines.specs.declared.next.NextLine.TheVariants.{Round as RoundOf}
+use Rattle.report_audit.specs.declared.next.NextLine.TheVariants.{Round as RoundOf}
 use Rattle.report_audit.proofs.JournalLemmas.{after-none, closes-none}
 use Rattle.report_audit.proofs.LaneLemmas.{come_begins, done_end, end_done}
 use Rattle.report_audit.proofs.NextLemmas.{book_state}

@@ -3,7 +3,7 @@ use Rattle.std.proofs.Common.{◌≡◌, ℕ, ◌+◌, ◌<◌, ◌≤◌, ◌^�
 use Rattle.report_audit.proofs.Common.{drop_all, drop_more, position_after_run, Vehicle, head_text, end_text, numbered, rounds_text, IsFirstLine, IsNextLine, BeginsWithHead, BookView, next_position, opening, Settings, Roads, NumberedLanes, Extent, AuditFault, HasFault, IsAudited, IsRoundStart, IsBetween, IsFaultAt, OnlyFollows}
 use Rattle.std.proofs.Math.Seq.{take-suc}
 use Rattle.std.proofs.lemmas.List.{take_all}
-use Rattle.report_lines.specs.declared.next.NextLine.TheVariants.{Done as DoneOf}
+use Rattle.report_audit.specs.declared.next.NextLine.TheVariants.{Done as DoneOf}
 use Rattle.report_audit.proofs.TextLemmas.{end-is, next-low, next-none}
 
 -- items up to the next one

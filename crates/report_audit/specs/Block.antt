@@ -6,8 +6,8 @@ use Rattle.dispatch_report.specs.Lines.{lines_text}
 use Rattle.outcome_check.specs.Verdict.{Meets, IsVerdictOf, point_place}
 use Rattle.batch_solver.specs.declared.point.Point.{Point}
 use Rattle.outcome_check.specs.declared.verdict.Verdict.TheVariants.{Fails}
-use Rattle.report_lines.specs.Block.{IsBlock, BlockFails}
-use Rattle.report_lines.specs.declared.block.BlockFault.TheVariants as fault
+use Rattle.report_audit.specs.BlockLines.{IsBlock, BlockFails}
+use Rattle.report_audit.specs.declared.block_lines.BlockFault.TheVariants as fault
 use Rattle.dispatch_report.specs.declared.block_line.BlockLine.{BlockLine}
 use Rattle.request_book.specs.declared.outcome.Outcome.{Outcome}
 use Rattle.rider_limits.specs.declared.settings.Settings.{Settings}

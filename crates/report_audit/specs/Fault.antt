@@ -6,12 +6,12 @@ use Rattle.report_audit.specs.Block.{Refuses}
 use Rattle.report_audit.specs.declared.refusal.BlockRefusal.{BlockRefusal}
 use Rattle.report_audit.specs.declared.refusal.BlockRefusal.TheVariants as block
 use Rattle.dispatch_report.specs.Entry.{entry_line}
-use Rattle.report_lines.specs.HeadFault.{HeadFails}
-use Rattle.report_lines.specs.Line.{IsFirstLine}
-use Rattle.report_lines.specs.Settings.{AreSettingsOf}
-use Rattle.report_lines.specs.declared.head_fault.HeadFault.{HeadFault}
-use Rattle.report_lines.specs.declared.head_fault.HeadFault.TheVariants as head
-use Rattle.report_lines.specs.Cut.{is_one_line}
+use Rattle.report_audit.specs.HeadFault.{HeadFails}
+use Rattle.report_audit.specs.Line.{IsFirstLine}
+use Rattle.report_audit.specs.Settings.{AreSettingsOf}
+use Rattle.report_audit.specs.declared.head_fault.HeadFault.{HeadFault}
+use Rattle.report_audit.specs.declared.head_fault.HeadFault.TheVariants as head
+use Rattle.report_audit.specs.Cut.{is_one_line}
 use Rattle.request_book.specs.declared.journal.Entry.{Entry}
 use Rattle.request_book.specs.declared.journal.Journal.{Journal}
 use Rattle.request_book.specs.declared.reply.Reply.TheVariants.{Closed}

@@ -1,7 +1,7 @@
 -- Which outcomes a block can tell.
 use Rattle.std.specs.Prelude.{ℕ, ◌≤◌, length, IfSome, true}
 use Rattle.std.specs.List.{All}
-use Rattle.report_lines.specs.BlockLine.{IsBlockLine}
+use Rattle.report_audit.specs.BlockLine.{IsBlockLine}
 use Rattle.dispatch_report.specs.Block.{lines_of}
 use Rattle.request_book.specs.declared.outcome.Answer.{Answer}
 use Rattle.request_book.specs.declared.outcome.Answer.TheVariants.{Overflow, Planned as Plan}

@@ -7,3 +7,14 @@ pub mod Report
 pub mod Told
 pub mod Types
 pub mod work
+pub mod Reading
+pub mod Cut
+pub mod Line
+pub mod BlockLine
+pub mod Order
+pub mod BlockLines
+pub mod HeadLines
+pub mod Settings
+pub mod Head
+pub mod HeadFault
+pub mod Next

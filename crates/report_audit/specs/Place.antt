@@ -6,9 +6,9 @@ use Rattle.dispatch_report.specs.Entry.{entry_line}
 use Rattle.dispatch_report.specs.Head.{head_text}
 use Rattle.dispatch_report.specs.Round.{round_text, end_text}
 use Rattle.dispatch_report.specs.Words.{numbered}
-use Rattle.report_lines.specs.Next.{IsEntry, IsNextLine}
-use Rattle.report_lines.specs.declared.next.NextLine.{NextLine}
-use Rattle.report_lines.specs.declared.next.NextLine.TheVariants.{Entry as EntryOf}
+use Rattle.report_audit.specs.Next.{IsEntry, IsNextLine}
+use Rattle.report_audit.specs.declared.next.NextLine.{NextLine}
+use Rattle.report_audit.specs.declared.next.NextLine.TheVariants.{Entry as EntryOf}
 use Rattle.request_book.specs.Book.{next_position, opening}
 use Rattle.request_book.specs.Replay.{state_after, RepliesAreSteps}
 use Rattle.request_book.specs.Step.{step}

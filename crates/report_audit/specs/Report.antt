@@ -4,7 +4,7 @@ use Rattle.batch_snapshot.specs.declared.vehicle.Vehicle.{Vehicle}
 use Rattle.dispatch_engine.specs.Run.{IsRun, position_after_run}
 use Rattle.dispatch_report.specs.Head.{head_text}
 use Rattle.dispatch_report.specs.Round.{round_text, end_text}
-use Rattle.report_lines.specs.Settings.{AreSettingsOf}
+use Rattle.report_audit.specs.Settings.{AreSettingsOf}
 use Rattle.request_book.specs.Book.{opening}
 use Rattle.request_book.specs.declared.command.Command.{Command}
 use Rattle.request_book.specs.declared.command.Command.TheVariants.{Close}

@@ -2,7 +2,7 @@
 use Rattle.std.specs.Prelude.{ℕ, List, [], ◌∷◌}
 use Rattle.std.specs.List.{AllByRecursion}
 use Rattle.report_audit.specs.Fits.{FitsTypes}
-use Rattle.report_lines.specs.Next.{IsEntry}
+use Rattle.report_audit.specs.Next.{IsEntry}
 use Rattle.pool_io.specs.Faults.{one_more}
 use Rattle.request_book.specs.declared.command.Command.{Command}
 use Rattle.request_book.specs.declared.command.Command.TheVariants.{Close}

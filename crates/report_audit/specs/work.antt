@@ -4,3 +4,6 @@ pub mod Judged
 pub mod Place
 pub mod Standing
 pub mod Told
+pub mod Lines
+pub mod Head
+pub mod Entries

@@ -1,7 +1,7 @@
 //! The close of a batch, and its block.
 ghost use Rattle.std.specs.Prelude.{◌≡◌, ◌≢◌, ◌<◌, ◌^◌, ◌↔◌, IfOk, IsTrue, MatchOption, MatchResult, Some};
 ghost use Rattle.request_book.specs.Book.{next_position};
-ghost use Rattle.report_audit.specs.work.Standing.{BlockFails, IsBookOf, TakesClose, close_line};
+ghost use Rattle.report_audit.specs.work.Standing.{BlockRefuses, IsBookOf, TakesClose, close_line};
 
 use crate::block::audit_block;
 use crate::line::{Between, is_entry_line};
@@ -29,7 +29,7 @@ pub(crate) fn audit_close<'a, G: Gate>(
     requires sealed { book.old.state.sealed ≡ Some snapshot.now }
     ensures { MatchResult result (λ found. MatchOption found (between.entry.line.now ≢ close_line (next_position book.old.first book.old.entries) lane snapshot.entry.now.number)
         (λ rest. TakesClose setup.entry.now.settings.now setup.entry.now.network.now book.old snapshot.entry.now lane between.entry.line.now between.entry.after.now rest.now book.new))
-        (BlockFails setup.entry.now.settings.now setup.entry.now.network.now book.old snapshot.entry.now lane between.entry.line.now between.entry.after.now) }
+        (BlockRefuses setup.entry.now.settings.now setup.entry.now.network.now book.old snapshot.entry.now lane between.entry.line.now between.entry.after.now) }
 {
     let position = book.next_position();
     if !is_close_line(setup.alloc, between.line, position, lane, snapshot.batch)? {

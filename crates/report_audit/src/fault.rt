@@ -7,9 +7,9 @@ ghost use Rattle.report_audit.specs.work.Standing.{fault_of_head};
 ghost use Rattle.road_network.specs.Roads.{Roads};
 ghost use Rattle.script_rows.specs.Round.{NumberedLanes};
 
+use crate::HeadFault;
 use crate::refusal::BlockRefusal;
 use pool_base::OutOfMemory;
-use report_lines::HeadFault;
 
 /// What an audit says of a report that is one of its script.
 #[derive(Clone, Copy)]

@@ -5,11 +5,11 @@ ghost use Rattle.report_audit.specs.Judged.{at_most, late_of, judged_outcome, no
 ghost use Rattle.report_audit.specs.work.Told.{told_in};
 
 use crate::told::BlockTold;
+use crate::{BlockLine, LateText, RowText, TripText};
 use arrayvec::ArrayVec;
 use batch_snapshot::Vehicle;
 use plan_rules::{Multipliers, Node, Tree};
 use pool_base::{OutOfMemory, RiderId, Sequence, VehicleId};
-use report_lines::{BlockLine, LateText, RowText, TripText};
 use request_book::{Answer, ChosenTrip, LateVehicle, Outcome, Planned, PlannedStop, RowLine};
 use std::alloc::Global;
 

@@ -8,7 +8,21 @@
 //! it. It is found where there is one; else it is said what is wrong: where the text is cut or a line out of form, or the
 //! first point that fails.
 //!
-//! A caller:
+//! The lines are read from their beginnings, a word or a number at a time: a line is read exactly where it is the line that
+//! the report prints for something. No number is followed by a digit, so the text of each thing ends at one place alone, and
+//! what is read is the only thing that the line can say. Of an entry nothing is kept but its lane: its line is only known
+//! to be in form.
+//!
+//! Callers:
+//!
+//! ```
+//! fn judge(text: &[u8], network: &Network) -> Told {
+//!     match read_head(text, 3, network, 2) {
+//!         Ok((settings, rest)) => Told::Head(settings.dwell, settings.workers, rest.len()),
+//!         Err(fault) => Told::Fault(fault),
+//!     }
+//! }
+//! ```
 //!
 //! ```
 //! fn audited<T: Threads + Sync>(
@@ -24,28 +38,52 @@
 //! ```
 //!
 //! Main clauses: `audit`: `accepted`, `refused`, `fault`, `sound`, `only`; `audit_block`: `good`, `lines`, `only`, `none`,
-//! `fault`; the law `a_text_is_refused_in_one_way`.
+//! `fault`; the law `a_text_is_refused_in_one_way`; of lines `read_head`: `read`, `only`, `none`, `fault`; `read_block`;
+//! `read_next`; the laws `a_line_says_one_thing`, `a_text_begins_with_one_block` and `a_text_has_one_fault`.
 #![tactic(auto)]
 
 mod block;
+mod block_line;
+mod block_lines;
 mod close;
 mod entry;
 mod fault;
+mod head;
+mod head_fault;
 mod judged;
 mod laws;
 mod line;
+mod line_laws;
+mod lists;
+mod next;
 mod refusal;
 mod report;
 mod round;
 mod setup;
 mod telling;
 mod told;
+mod words;
 
 pub use block::{AuditedBlock, audit_block};
+pub use block_line::{read_block_line, read_branch, read_move, read_rider, read_rr, read_rv};
+pub use block_lines::{BlockFault, read_block};
+pub use dispatch_report::{BlockLine, LateText, RowText, TripText};
 pub use fault::{AuditFault, Audited};
+pub use head::{SettingsText, read_head, read_settings, read_sizes};
+pub use head_fault::HeadFault;
 pub use laws::{
     a_good_block_is_not_refused, a_text_is_refused_in_one_way, long_orders_fail_by_the_late,
     long_rows_fail_by_the_graphs, long_trips_fail_by_the_trips, untold_lines_fail_by_the_bound,
 };
+pub use line_laws::{
+    a_block_has_no_fault, a_line_is_of_one_kind, a_line_says_one_thing,
+    a_text_begins_with_one_block, a_text_has_one_fault, an_outcome_prints_a_block,
+};
+pub use lists::{read_late, read_leaf, read_row, read_trip};
+pub use next::{NextLine, read_next};
 pub use refusal::BlockRefusal;
 pub use report::audit;
+pub use words::{
+    is_words, line_first, number_first, numbered_first, pair_first, read_numbered, read_signed,
+    words_first,
+};

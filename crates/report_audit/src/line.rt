@@ -5,16 +5,16 @@ ghost use Rattle.dispatch_report.specs.Fits.{IsCommand, IsReply, TellsEnd};
 ghost use Rattle.report_audit.specs.Fault.{IsWrongLine};
 ghost use Rattle.report_audit.specs.Place.{Extent};
 ghost use Rattle.report_audit.specs.work.Standing.{IsFaultAt, IsOpen, OnlyFollows, line_left};
-ghost use Rattle.report_lines.specs.Line.{IsFirstLine};
-ghost use Rattle.report_lines.specs.Next.{IsNextLine};
+ghost use Rattle.report_audit.specs.Line.{IsFirstLine};
+ghost use Rattle.report_audit.specs.Next.{IsNextLine};
 ghost use Rattle.rider_limits.specs.declared.settings.Settings.{Settings};
 ghost use Rattle.road_network.specs.Roads.{Roads};
 ghost use Rattle.script_rows.specs.Round.{NumberedLanes};
 
 use crate::fault::AuditFault;
+use crate::{NextLine, line_first, read_next};
 use dispatch_report::put_entry;
 use pool_base::OutOfMemory;
-use report_lines::{NextLine, line_first, read_next};
 use request_book::Entry;
 use std::alloc::Global;
 

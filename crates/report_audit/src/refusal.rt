@@ -3,10 +3,10 @@ ghost use Rattle.report_audit.specs.declared.refusal.BlockRefusal.TheVariants.{O
 ghost use Rattle.report_audit.specs.work.Block.{refusal_for};
 ghost use Rattle.report_audit.specs.work.Judged.{verdict_place};
 
+use crate::BlockFault;
 use batch_solver::Point;
 use outcome_check::Verdict;
 use pool_base::OutOfMemory;
-use report_lines::BlockFault;
 
 /// Why a text begins with no block of a good outcome.
 #[derive(Clone, Copy)]

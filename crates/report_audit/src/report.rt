@@ -6,15 +6,15 @@ ghost use Rattle.report_audit.specs.Report.{IsAudited, IsReportOfRun};
 ghost use Rattle.report_audit.specs.declared.fault.AuditFault.{AuditFault as OneFault};
 ghost use Rattle.report_audit.specs.declared.fault.AuditFault.TheVariants.{OutOfMemory as NoMemory};
 ghost use Rattle.report_audit.specs.work.Standing.{IsGiven, IsOpened};
-ghost use Rattle.report_lines.specs.Head.{BeginsWithHead};
+ghost use Rattle.report_audit.specs.Head.{BeginsWithHead};
 
 use crate::fault::{AuditFault, Audited, of_head};
 use crate::line::{behind_line, nothing_behind};
 use crate::round::audit_round;
 use crate::setup::AuditSetup;
+use crate::{NextLine, read_head};
 use batch_snapshot::Fleet;
 use dispatch_engine::opened_book;
-use report_lines::{NextLine, read_head};
 use request_book::Book;
 use road_network::Network;
 use script_rows::Script;

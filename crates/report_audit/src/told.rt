@@ -3,8 +3,8 @@ ghost use Rattle.std.specs.Prelude.{◌≡◌, ◌++◌, ◌∷◌, [], IfOk, fo
 ghost use Rattle.report_audit.specs.Told.{nothing_told, told_by, with_line};
 ghost use Rattle.report_audit.specs.work.Told.{told_in};
 
+use crate::{BlockLine, LateText, RowText, TripText};
 use pool_base::{OutOfMemory, RiderId, Sequence, VehicleId};
-use report_lines::{BlockLine, LateText, RowText, TripText};
 use request_book::MoveLine;
 use std::alloc::Global;
 

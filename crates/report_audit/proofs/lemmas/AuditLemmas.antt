@@ -7,19 +7,19 @@ use Rattle.outcome_check.specs.declared.verdict.Verdict.{Verdict}
 use Rattle.outcome_check.specs.declared.verdict.Verdict.TheVariants.{Good, Fails}
 use Rattle.outcome_check.proofs.lemmas.PosedLemmas.{good_meets}
 use Rattle.outcome_check.proofs.lemmas.VerdictLemmas.{last_place}
-use Rattle.report_lines.specs.Block.{IsBlock, BlockFails}
+use Rattle.report_audit.specs.BlockLines.{IsBlock, BlockFails}
 use Rattle.dispatch_report.specs.Block.{block_line_text}
-use Rattle.report_lines.specs.BlockLine.{IsBlockLine}
-use Rattle.report_lines.specs.declared.block.BlockFault.{BlockFault}
-use Rattle.report_lines.proofs.lemmas.OneBlock.{block_of_one, block_no_fault, one_fault}
-use Rattle.report_lines.proofs.lemmas.OutcomeLemmas.{outcome_block}
+use Rattle.report_audit.specs.BlockLine.{IsBlockLine}
+use Rattle.report_audit.specs.declared.block_lines.BlockFault.{BlockFault}
+use Rattle.report_audit.proofs.lemmas.OneBlock.{block_of_one, block_no_fault, one_fault}
+use Rattle.report_audit.proofs.lemmas.OutcomeLemmas.{outcome_block}
 use Rattle.report_audit.specs.work.Block.{refusal_for}
 use Rattle.report_audit.specs.declared.refusal.BlockRefusal.{BlockRefusal}
 use Rattle.report_audit.specs.declared.refusal.BlockRefusal.TheVariants.{OutOfMemory, Cut, Form, Wrong}
 use Rattle.report_audit.proofs.NumberedLemmas.{vehicle_ids, outcome_numbered, outcome_trips}
 use Rattle.report_audit.proofs.OutcomeLemmas.{IsToldAs, judged_few, lines_are, outcome_is_told}
 use Rattle.batch_solver.specs.declared.point.Point.TheVariants as point
-use Rattle.report_lines.specs.declared.block.BlockFault.TheVariants as fault
+use Rattle.report_audit.specs.declared.block_lines.BlockFault.TheVariants as fault
 
 -- two lists of points, one beside the other, where something else holds
 hold_both : (N : Type 0) (P Q : Point → Type 0) (m n : ℕ) → N → HoldUpTo P m → HoldUpTo Q n → HoldUpTo (λ q. N × P q × Q q) (min m n)

@@ -1,5 +1,5 @@
-use Rattle.report_lines.specs.declared.block.BlockFault.{BlockFault}
-use Rattle.report_lines.specs.declared.block.BlockFault.TheVariants as fault
+use Rattle.report_audit.specs.declared.block_lines.BlockFault.{BlockFault}
+use Rattle.report_audit.specs.declared.block_lines.BlockFault.TheVariants as fault
 use Rattle.report_audit.specs.declared.refusal.BlockRefusal.{BlockRefusal}
 use Rattle.report_audit.specs.declared.refusal.BlockRefusal.TheVariants.{OutOfMemory, Cut, Form}
 

@@ -14,13 +14,13 @@ use Rattle.dispatch_report.specs.Entry.{entry_line}
 use Rattle.dispatch_report.specs.Fits.{IsCommand, IsReply}
 use Rattle.dispatch_report.specs.Round.{round_text}
 use Rattle.dispatch_report.specs.Words.{numbered, spaced}
-use Rattle.report_lines.specs.HeadFault.{sizes_of}
-use Rattle.report_lines.specs.HeadLines.{AreSizes}
-use Rattle.report_lines.specs.Next.{IsNextLine}
-use Rattle.report_lines.specs.Settings.{AreSettingsOf}
-use Rattle.report_lines.specs.declared.head_fault.HeadFault.{HeadFault}
-use Rattle.report_lines.specs.declared.head_fault.HeadFault.TheVariants as head
-use Rattle.report_lines.specs.declared.next.NextLine.{NextLine}
+use Rattle.report_audit.specs.HeadFault.{sizes_of}
+use Rattle.report_audit.specs.HeadLines.{AreSizes}
+use Rattle.report_audit.specs.Next.{IsNextLine}
+use Rattle.report_audit.specs.Settings.{AreSettingsOf}
+use Rattle.report_audit.specs.declared.head_fault.HeadFault.{HeadFault}
+use Rattle.report_audit.specs.declared.head_fault.HeadFault.TheVariants as head
+use Rattle.report_audit.specs.declared.next.NextLine.{NextLine}
 use Rattle.request_book.specs.Book.{BookView, IsApplied, IsBook, next_position, opening}
 use Rattle.request_book.specs.Step.{step}
 use Rattle.request_book.specs.declared.command.Command.{Command}
@@ -120,8 +120,8 @@ pub record TakesClose (settings : Settings) (roads : Roads) (old : BookView) (ba
   pub applied : IsApplied old lane (Close batch.number outcome) Closed new
 
 -- the line is that of the batch's close, and no good outcome's block stands behind it
-abbrev pub BlockFails : Settings → Roads → BookView → Batch → ℕ → List ℕ → List ℕ → BlockRefusal → Type 0
-BlockFails settings roads old batch lane line after refused = refused ≢ refusal.OutOfMemory
+abbrev pub BlockRefuses : Settings → Roads → BookView → Batch → ℕ → List ℕ → List ℕ → BlockRefusal → Type 0
+BlockRefuses settings roads old batch lane line after refused = refused ≢ refusal.OutOfMemory
     → (batch.number < 2 ^ 64) × (line ≡ close_line (next_position old.first old.entries) lane batch.number) × Refuses settings roads batch after refused
 
 -- an entry was read, the text is shorter, and what an audit keeps within a round holds behind it
