@@ -1,6 +1,6 @@
 -- The names that the proofs of this crate cite from elsewhere, passed on from one place. Declares nothing.
-pub use Rattle.std.proofs.lemmas.List.{drop_more, get_or_default, get_or_read, length-map, length_push, nil_from_length}
-pub use Rattle.std.proofs.lemmas.List.Elements.{All-contains, All-map, All-nil, Contains-get_or}
+pub use Rattle.std.proofs.lemmas.List.{drop_more, get_or-append_right, get_or-map, get_or-replicate, get_or_append_left, get_or_default, get_or_push, get_or_read, length-map, length-replicate, length_push, map_more, nil_from_length, set_past, with_items_is}
+pub use Rattle.std.proofs.lemmas.List.Elements.{All-contains, All-from_get_or, All-head, All-map, All-nil, All-push, All-tail, Contains-append_left, Contains-get_or, Contains-push}
 pub use Rattle.std.specs.List.{AllByRecursion, AllZip, list_any, range_with_len}
 pub use Rattle.batch_snapshot.specs.Batch.{Batch}
 pub use Rattle.batch_solver.specs.Instance.{posed_by}
@@ -17,7 +17,7 @@ pub use Rattle.plan_rules.specs.declared.row.TripRow.{TripRow}
 pub use Rattle.plan_rules.specs.lemmas.Plan.{MarksServed, times_chosen}
 pub use Rattle.pool_base.specs.Times.{point_count, travel_time}
 pub use Rattle.promise_check.proofs.lemmas.Promises.{filter_range_below, filter_range_skips, filter_range_takes}
-pub use Rattle.rebalancing.specs.Matching.{IsBestMatching, IsMatching}
+pub use Rattle.batch_solver.specs.Matching.{IsBestMatching, IsMatching, pair_seconds}
 pub use Rattle.request_book.specs.declared.outcome.ChosenTrip.{ChosenTrip}
 pub use Rattle.request_book.specs.declared.outcome.MoveLine.{MoveLine}
 pub use Rattle.request_book.specs.declared.outcome.PlannedStop.{PlannedStop}
@@ -32,3 +32,14 @@ pub use Rattle.stop_orders.specs.declared.settled.Settled.{Settled}
 pub use Rattle.stop_orders.specs.declared.settled_vehicle.SettledVehicle.{SettledVehicle}
 pub use Rattle.stop_orders.specs.declared.stop.Stop.{Stop}
 pub use Rattle.stop_orders.specs.declared.task.Task.{Task}
+pub use Rattle.std.proofs.lemmas.Bool.{cases_eq, cases_lt}
+pub use Rattle.std.proofs.lemmas.Int.{ints}
+pub use Rattle.std.proofs.lemmas.List.Sums.{sum_by-cons, sum_by-le, sum_by-le-sum_by, sum_by-set}
+pub use Rattle.pool_base.specs.TravelTime.{longest, never}
+pub use Rattle.batch_solver.specs.Potentials.{ArePotentials, pair_worth, potential}
+pub use Rattle.batch_solver.specs.declared.matching.Matching.{Matching}
+pub use Rattle.batch_solver.specs.work.Chosen.{IsChosen, seconds_in}
+pub use Rattle.batch_solver.specs.work.Prices.{IsPriced, IsPricedMatching, IsSameProblem, IsSized, weight_in}
+pub use Rattle.batch_solver.specs.work.Relaxation.{Falls, Improves, IsCheaper, Relaxes, Rises}
+pub use Rattle.batch_solver.specs.work.SearchTree.{HasRoom, IsCheapest, IsGrown, IsNearest, IsOpen, IsOpenMatching, IsReached, IsRooted, IsSearchTree, root_of}
+pub use Rattle.batch_solver.specs.work.Weights.{weight_at, weight_of}

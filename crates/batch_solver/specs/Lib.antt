@@ -6,3 +6,5 @@ pub mod Outcome
 pub mod Instance
 pub mod lemmas
 pub mod work
+pub mod Matching
+pub mod Potentials

@@ -3,7 +3,7 @@ use Rattle.std.specs.Prelude.{◌≡◌, ◌==◌, ℕ, ◌<◌, false, ◌&&◌
 use Rattle.std.specs.Option.{option_map_or}
 use Rattle.std.specs.List.{range_with_len}
 use Rattle.plan_rules.specs.Graph.{Graph, choice_at, riders_at}
-use Rattle.rebalancing.specs.Matching.{IsBestMatching, pair_seconds}
+use Rattle.batch_solver.specs.Matching.{IsBestMatching, pair_seconds}
 use Rattle.request_book.specs.declared.outcome.MoveLine.{MoveLine}
 use Rattle.stop_orders.specs.Settled.{vehicle_at, rider_at}
 use Rattle.stop_orders.specs.declared.settled.Settled.{Settled}

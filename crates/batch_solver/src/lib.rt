@@ -19,22 +19,36 @@
 //! take(rt, alloc, book, pass, close, gate)
 //! ```
 //!
-//! Main clauses: of `solve_batch` its one clause, `IsGoodOutcome`.
+//! Idle vehicles go to riders who were left out: `rebalance` matches the two one to one over reachable pairs, most pairs
+//! first, then the least total of seconds. Its answer comes with potentials, from which `potentials_show_best` has it that
+//! no other matching is better.
+//!
+//! Main clauses: of `solve_batch` its one clause, `IsGoodOutcome`; of `rebalance` `best`, `rising`, `total` and `potentials`,
+//! which README.md quotes.
 #![tactic(auto)]
 
+mod best_moves;
 mod instance;
 mod late;
 mod left;
 mod lines;
+mod matched;
+mod matching;
+mod matching_law;
+mod matching_tree;
+mod matching_weights;
 mod moves;
 mod point;
 mod solving;
 mod told;
 mod trips;
 
+pub use best_moves::rebalance;
 pub use instance::{Graphs, Instance};
 pub use left::left_riders;
 pub use lines::{lapsed_ids, rider_ids, row_lines, rr_lines, rv_lines};
+pub use matched::{Moves, Pairs, Potentials};
+pub use matching_law::potentials_show_best;
 pub use moves::{idle_vehicles, origins_of, starts_of};
 pub use point::Point;
 pub use solving::solve_batch;

@@ -8,10 +8,10 @@ ghost use Rattle.batch_solver.specs.Instance.{AreExact};
 ghost use Rattle.batch_solver.specs.Moves.{AreMoves, idle_vehicles, is_idle, move_line, HasPlaces, move_from_to};
 ghost use Rattle.batch_solver.specs.Told.{left_riders};
 
+use crate::best_moves::rebalance;
 use crate::instance::Graphs;
 use plan_rules::TripGraph;
 use pool_base::{OutOfMemory, Times};
-use rebalancing::rebalance;
 use request_book::MoveLine;
 use std::alloc::Global;
 use stop_orders::Settled;

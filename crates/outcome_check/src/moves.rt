@@ -11,7 +11,7 @@ ghost use Rattle.outcome_check.specs.work.Moves.{CanPrecede, HaveOwnPlaces, IsWi
 use crate::orders::place_of_rider;
 use batch_solver::{Graphs, idle_vehicles, origins_of, starts_of};
 use pool_base::{OutOfMemory, Times, VehicleId};
-use rebalancing::rebalance;
+use batch_solver::rebalance;
 use request_book::MoveLine;
 use std::alloc::Global;
 use stop_orders::Settled;

@@ -7,7 +7,7 @@ ghost use Rattle.report_audit.specs.work.Standing.{fault_of_head};
 ghost use Rattle.road_network.specs.Roads.{Roads};
 ghost use Rattle.script_rows.specs.Round.{NumberedLanes};
 
-use crate::HeadFault;
+use crate::head_fault::HeadFault;
 use crate::refusal::BlockRefusal;
 use pool_base::OutOfMemory;
 

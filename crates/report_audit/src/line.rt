@@ -12,7 +12,8 @@ ghost use Rattle.road_network.specs.Roads.{Roads};
 ghost use Rattle.script_rows.specs.Round.{NumberedLanes};
 
 use crate::fault::AuditFault;
-use crate::{NextLine, line_first, read_next};
+use crate::next::{NextLine, read_next};
+use crate::words::line_first;
 use dispatch_report::put_entry;
 use pool_base::OutOfMemory;
 use request_book::Entry;

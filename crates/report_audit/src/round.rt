@@ -3,10 +3,10 @@ ghost use Rattle.std.specs.Prelude.{◌≡◌, MatchResult, count_by};
 ghost use Rattle.report_audit.specs.Report.{closes};
 ghost use Rattle.report_audit.specs.work.Standing.{IsRoundStart, IsThrough, RoundFails, RoundRead as IsRead};
 
-use crate::NextLine;
 use crate::entry::audit_entry;
 use crate::fault::AuditFault;
 use crate::line::behind_line;
+use crate::next::NextLine;
 use crate::setup::AuditSetup;
 use dispatch_engine::Progress;
 use request_book::{Book, Command, Entry, Reply};

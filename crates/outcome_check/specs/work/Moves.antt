@@ -3,7 +3,7 @@ use Rattle.std.specs.Prelude.{◌≡◌, ◌≢◌, ℕ, ◌<◌, List, All, All
 use Rattle.batch_solver.specs.Moves.{move_line, origins_of, starts_of}
 use Rattle.batch_solver.specs.Told.{rider_id}
 use Rattle.batch_solver.specs.lemmas.Named.{vehicle_id}
-use Rattle.rebalancing.specs.Matching.{IsMatching}
+use Rattle.batch_solver.specs.Matching.{IsMatching}
 use Rattle.request_book.specs.declared.outcome.MoveLine.{MoveLine}
 use Rattle.stop_orders.specs.Settled.{rider_at, vehicle_at}
 use Rattle.stop_orders.specs.declared.settled.Settled.{Settled}

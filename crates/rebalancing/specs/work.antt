@@ -1,5 +1,0 @@
-pub mod Prices
-pub mod Relaxation
-pub mod SearchTree
-pub mod Chosen
-pub mod Weights
