@@ -1,6 +1,6 @@
 -- The names that the proofs of this crate cite from elsewhere, passed on from one place. Declares nothing.
-pub use Rattle.std.proofs.lemmas.List.{drop_more, get_or-append_right, get_or-map, get_or-replicate, get_or_append_left, get_or_default, get_or_push, get_or_read, length-map, length-replicate, length_push, map_more, nil_from_length, set_past, with_items_is}
-pub use Rattle.std.proofs.lemmas.List.Elements.{All-contains, All-from_get_or, All-head, All-map, All-nil, All-push, All-tail, Contains-append_left, Contains-get_or, Contains-push}
+pub use Rattle.std.proofs.lemmas.List.{drop_more, get_or-append_right, get_or-map, get_or-replicate, get_or_append_left, get_or_default, get_or_push, get_or_read, length-map, length-replicate, length_push, map_more, nil_from_length, set_past, take_more, with_items_is}
+pub use Rattle.std.proofs.lemmas.List.Elements.{All-contains, All-filter, All-from_get_or, All-head, All-map, All-nil, All-push, All-tail, Contains-append_left, Contains-append_right, Contains-get_or, Contains-push, Contains-push_cases, filter-append, filter_passes}
 pub use Rattle.std.specs.List.{AllByRecursion, AllZip, list_any, range_with_len}
 pub use Rattle.batch_snapshot.specs.Batch.{Batch}
 pub use Rattle.batch_solver.specs.Instance.{posed_by}
@@ -16,17 +16,17 @@ pub use Rattle.plan_rules.specs.lemmas.Graph.{HasNoRow, is_in}
 pub use Rattle.plan_rules.specs.declared.row.TripRow.{TripRow}
 pub use Rattle.plan_rules.specs.lemmas.Plan.{MarksServed, times_chosen}
 pub use Rattle.pool_base.specs.Times.{point_count, travel_time}
-pub use Rattle.promise_check.proofs.lemmas.Promises.{filter_range_below, filter_range_skips, filter_range_takes}
+pub use Rattle.batch_solver.proofs.lemmas.Promises.{filter_range_below, filter_range_skips, filter_range_takes}
 pub use Rattle.batch_solver.specs.Matching.{IsBestMatching, IsMatching, pair_seconds}
 pub use Rattle.request_book.specs.declared.outcome.ChosenTrip.{ChosenTrip}
 pub use Rattle.request_book.specs.declared.outcome.MoveLine.{MoveLine}
 pub use Rattle.request_book.specs.declared.outcome.PlannedStop.{PlannedStop}
 pub use Rattle.rider_limits.specs.declared.settings.Settings.{Settings}
 pub use Rattle.stop_orders.proofs.lemmas.VisitLemmas.{visit_place}
-pub use Rattle.stop_orders.specs.Settled.{IsTrip, rider_at, trip_task, vehicle_at}
+pub use Rattle.stop_orders.specs.Settled.{IsTrip, greatest, no_rider, rider_at, trip_task, vehicle_at, vehicle_task}
 pub use Rattle.stop_orders.specs.lemmas.Named.{no_vehicle}
-pub use Rattle.stop_orders.specs.Sound.{IsSound}
-pub use Rattle.stop_orders.specs.Task.{IsLeastDelay, IsOrderOf, IsTask, ReachesAll, Serves, no_leg, order_delay, seconds_of, visit_at, visits_of}
+pub use Rattle.stop_orders.specs.Sound.{IsShort, IsSound, IsSoundVehicle}
+pub use Rattle.stop_orders.specs.Task.{IsLeastDelay, IsLeg, IsOrderOf, IsServable, IsTask, ReachesAll, Serves, leg_at, no_leg, order_delay, persons, seconds_of, visit_at, visits_of}
 pub use Rattle.stop_orders.specs.Visit.{place_of, seconds_from}
 pub use Rattle.stop_orders.specs.declared.settled.Settled.{Settled}
 pub use Rattle.stop_orders.specs.declared.settled_vehicle.SettledVehicle.{SettledVehicle}
@@ -43,3 +43,20 @@ pub use Rattle.batch_solver.specs.work.Prices.{IsPriced, IsPricedMatching, IsSam
 pub use Rattle.batch_solver.specs.work.Relaxation.{Falls, Improves, IsCheaper, Relaxes, Rises}
 pub use Rattle.batch_solver.specs.work.SearchTree.{HasRoom, IsCheapest, IsGrown, IsNearest, IsOpen, IsOpenMatching, IsReached, IsRooted, IsSearchTree, root_of}
 pub use Rattle.batch_solver.specs.work.Weights.{weight_at, weight_of}
+pub use Rattle.std.proofs.lemmas.Option.{slice_get-get_or, slice_get_within}
+pub use Rattle.std.specs.List.Sorted.{IsStrictlyIncreasing}
+pub use Rattle.std.specs.Option.{option_map_or}
+pub use Rattle.batch_snapshot.specs.Points.{ArePoints}
+pub use Rattle.batch_snapshot.specs.declared.passenger.Passenger.{Passenger}
+pub use Rattle.batch_snapshot.specs.declared.promise.Promise.{Promise}
+pub use Rattle.batch_snapshot.specs.declared.rider.Rider.{Rider}
+pub use Rattle.batch_snapshot.specs.declared.vehicle.Vehicle.{Vehicle}
+pub use Rattle.batch_solver.specs.Promised.{IsLive, promised_limit, promised_to}
+pub use Rattle.batch_solver.specs.Requests.{IsLegOf, request_at}
+pub use Rattle.batch_solver.specs.Settling.{HasRightLimit, IsSettled}
+pub use Rattle.batch_solver.specs.lemmas.NamedPromises.{HoldsPromised, IsHeld, is_promised_to, kept_leg, kept_legs, no_request}
+pub use Rattle.batch_solver.specs.work.Promised.{AreKept, kept_rider}
+pub use Rattle.batch_solver.specs.work.Requests.{ArePlain, CanBeKept, IsBetweenPlaces, IsPlain}
+pub use Rattle.batch_solver.specs.work.Settling.{AreSettledVehicles, HasVehiclePlaces, IsSettledVehicle}
+pub use Rattle.stop_orders.specs.declared.leg.Leg.{Leg}
+pub use Rattle.stop_orders.specs.declared.settled_rider.SettledRider.{SettledRider}

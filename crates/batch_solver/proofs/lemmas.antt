@@ -2,3 +2,4 @@ pub mod LeftLemmas
 pub mod MoveLemmas
 pub mod PointLemmas
 pub mod TripLemmas
+pub mod Promises

@@ -8,3 +8,6 @@ pub mod lemmas
 pub mod work
 pub mod Matching
 pub mod Potentials
+pub mod Requests
+pub mod Promised
+pub mod Settling

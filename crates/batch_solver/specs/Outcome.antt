@@ -8,7 +8,7 @@ use Rattle.trip_graph.specs.declared.rv_edge.RvEdge.{RvEdge}
 use Rattle.plan_rules.specs.Graph.{Graph}
 use Rattle.pool_base.specs.Times.{travel_time}
 use Rattle.pool_base.specs.declared.times.Times.{Times}
-use Rattle.promise_check.specs.Settling.{IsSettled}
+use Rattle.batch_solver.specs.Settling.{IsSettled}
 use Rattle.request_book.specs.declared.outcome.Answer.{Answer}
 use Rattle.request_book.specs.declared.outcome.Outcome.{Outcome}
 use Rattle.request_book.specs.declared.outcome.Planned.{Planned}

@@ -4,3 +4,6 @@ pub mod Relaxation
 pub mod SearchTree
 pub mod Chosen
 pub mod Weights
+pub mod Requests
+pub mod Promised
+pub mod Settling

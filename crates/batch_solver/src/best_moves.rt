@@ -6,8 +6,8 @@ ghost use Rattle.batch_solver.specs.work.Weights.{weight_at};
 ghost use Rattle.batch_solver.specs.work.Prices.{IsPricedMatching, IsSized, weight_in};
 ghost use Rattle.batch_solver.specs.work.Chosen.{IsChosen, seconds_in};
 
-use crate::matching::Matching;
 use crate::matched::{Moves, Pairs, Potentials};
+use crate::matching::Matching;
 use crate::matching_tree::Tree;
 use crate::matching_weights::{PAIR_WORTH, weights_of};
 use pool_base::{OutOfMemory, Times};

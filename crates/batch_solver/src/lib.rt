@@ -19,16 +19,21 @@
 //! take(rt, alloc, book, pass, close, gate)
 //! ```
 //!
+//! `settle` says which promises can still be kept, and which limits follow for every rider. A vehicle is live where some
+//! order of stops serves its passengers and all riders promised to it, each by the promised second. Their limits then hold
+//! for every vehicle; other promises have lapsed.
+//!
 //! Idle vehicles go to riders who were left out: `rebalance` matches the two one to one over reachable pairs, most pairs
 //! first, then the least total of seconds. Its answer comes with potentials, from which `potentials_show_best` has it that
 //! no other matching is better.
 //!
-//! Main clauses: of `solve_batch` its one clause, `IsGoodOutcome`; of `rebalance` `best`, `rising`, `total` and `potentials`,
+//! Main clauses: of `solve_batch` its one clause, `IsGoodOutcome`; of `settle` `settled` and `sound`; of `rebalance` `best`, `rising`, `total` and `potentials`,
 //! which README.md quotes.
 #![tactic(auto)]
 
 mod best_moves;
 mod instance;
+mod kept_riders;
 mod late;
 mod left;
 mod lines;
@@ -39,6 +44,11 @@ mod matching_tree;
 mod matching_weights;
 mod moves;
 mod point;
+mod promised;
+mod requests;
+mod serving;
+mod settled_vehicles;
+mod settling;
 mod solving;
 mod told;
 mod trips;
@@ -51,5 +61,6 @@ pub use matched::{Moves, Pairs, Potentials};
 pub use matching_law::potentials_show_best;
 pub use moves::{idle_vehicles, origins_of, starts_of};
 pub use point::Point;
+pub use settling::settle;
 pub use solving::solve_batch;
 pub use told::tell_stops;

@@ -44,8 +44,8 @@ pub use Rattle.plan_rules.specs.declared.row.TripRow.{TripRow}
 pub use Rattle.plan_rules.specs.lemmas.Graph.{HasNoRow}
 pub use Rattle.plan_rules.specs.lemmas.Tree.{IsWholeTree, places_read}
 pub use Rattle.pool_base.specs.Times.{point_count, travel_time}
-pub use Rattle.promise_check.proofs.lemmas.Promises.{filter_range_below, filter_range_rises, rising_once}
-pub use Rattle.promise_check.specs.Settling.{IsPlaced, IsSettled}
+pub use Rattle.batch_solver.proofs.lemmas.Promises.{filter_range_below, filter_range_rises, rising_once}
+pub use Rattle.batch_solver.specs.Settling.{IsPlaced, IsSettled}
 pub use Rattle.batch_solver.specs.Matching.{IsBestMatching, IsMatching, pair_seconds}
 pub use Rattle.request_book.specs.declared.outcome.Answer.{Answer}
 pub use Rattle.request_book.specs.declared.outcome.ChosenTrip.{ChosenTrip}

@@ -9,9 +9,8 @@ ghost use Rattle.pool_base.specs.Times.{point_count, travel_time};
 ghost use Rattle.outcome_check.specs.work.Moves.{CanPrecede, HaveOwnPlaces, IsWithin, TellsMoves};
 
 use crate::orders::place_of_rider;
-use batch_solver::{Graphs, idle_vehicles, origins_of, starts_of};
+use batch_solver::{Graphs, idle_vehicles, origins_of, rebalance, starts_of};
 use pool_base::{OutOfMemory, Times, VehicleId};
-use batch_solver::rebalance;
 use request_book::MoveLine;
 use std::alloc::Global;
 use stop_orders::Settled;

@@ -15,7 +15,7 @@ use Rattle.plan_rules.specs.Tree.SearchTree.{Parted, Bounded, Closed}
 use Rattle.plan_rules.specs.declared.node.Node.TheVariants.{Branch, Leaf, Dead}
 use Rattle.plan_rules.specs.declared.row.TripRow.{TripRow}
 use Rattle.pool_base.specs.Times.{travel_time}
-use Rattle.promise_check.specs.Settling.{IsSettled}
+use Rattle.batch_solver.specs.Settling.{IsSettled}
 use Rattle.request_book.specs.declared.outcome.Answer.TheVariants.{Overflow, Planned as Plan}
 use Rattle.stop_orders.specs.declared.settled.Settled.{Settled}
 use Rattle.batch_solver.specs.declared.point.Point.TheVariants as point

@@ -6,12 +6,12 @@ ghost use Rattle.request_book.specs.declared.outcome.Outcome.{Outcome as OneOutc
 ghost use Rattle.report_audit.specs.Block.{BeginsWithGood, Refuses};
 ghost use Rattle.report_audit.specs.declared.refusal.BlockRefusal.TheVariants.{OutOfMemory as NoMemory};
 
-use batch_snapshot::Snapshot;
 use crate::block_lines::read_block;
 use crate::judged::outcome_of;
 use crate::refusal::{BlockRefusal, place_of, refusal_of};
 use crate::telling::untold_place;
 use crate::told::told_by;
+use batch_snapshot::Snapshot;
 use outcome_check::judge;
 use request_book::Outcome;
 use rider_limits::Settings;

@@ -16,13 +16,13 @@ ghost use Rattle.request_book.specs.Command.{IsNoClose};
 ghost use Rattle.request_book.specs.declared.reply.Reply.{Reply as OneReply};
 ghost use Rattle.script_rows.specs.Round.{IsRound};
 
-use batch_snapshot::Snapshot;
 use crate::close::audit_close;
 use crate::fault::{AuditFault, block_fault};
 use crate::line::{Between, is_entry_line, line_at, line_between, wrong_line};
 use crate::next::NextLine;
 use crate::refusal::BlockRefusal;
 use crate::setup::AuditSetup;
+use batch_snapshot::Snapshot;
 use dispatch_engine::{Progress, sealed_by_command};
 use pool_base::OutOfMemory;
 use request_book::{Book, Command, Entry, Reply};

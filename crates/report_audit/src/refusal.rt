@@ -3,8 +3,8 @@ ghost use Rattle.report_audit.specs.declared.refusal.BlockRefusal.TheVariants.{O
 ghost use Rattle.report_audit.specs.work.Block.{refusal_for};
 ghost use Rattle.report_audit.specs.work.Judged.{verdict_place};
 
-use batch_solver::Point;
 use crate::block_lines::BlockFault;
+use batch_solver::Point;
 use outcome_check::Verdict;
 use pool_base::OutOfMemory;
 

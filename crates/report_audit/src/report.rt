@@ -8,13 +8,13 @@ ghost use Rattle.report_audit.specs.declared.fault.AuditFault.TheVariants.{OutOf
 ghost use Rattle.report_audit.specs.work.Standing.{IsGiven, IsOpened};
 ghost use Rattle.report_audit.specs.Head.{BeginsWithHead};
 
-use batch_snapshot::Fleet;
 use crate::fault::{AuditFault, Audited, of_head};
 use crate::head::read_head;
 use crate::line::{behind_line, nothing_behind};
 use crate::next::NextLine;
 use crate::round::audit_round;
 use crate::setup::AuditSetup;
+use batch_snapshot::Fleet;
 use dispatch_engine::opened_book;
 use request_book::Book;
 use road_network::Network;

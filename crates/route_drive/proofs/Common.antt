@@ -41,11 +41,11 @@ pub use Rattle.pool_base.specs.Times.{travel_time}
 pub use Rattle.pool_base.specs.TravelTime.{IsTravelTime, longest, never}
 pub use Rattle.pool_base.specs.declared.times.Times.{Times}
 pub use Rattle.pool_io.specs.Faults.{one_more}
-pub use Rattle.promise_check.proofs.lemmas.Promises.{filter_range_has, promised_trip}
-pub use Rattle.promise_check.specs.Promised.{IsLive, promised_limit, promised_to}
-pub use Rattle.promise_check.specs.Requests.{IsLegOf, request_at}
-pub use Rattle.promise_check.specs.Settling.{IsPlaced, IsSettled}
-pub use Rattle.promise_check.specs.lemmas.Named.{IsHeld, ideal_second, is_promised_to, kept_leg, kept_legs, no_request}
+pub use Rattle.batch_solver.proofs.lemmas.Promises.{filter_range_has, promised_trip}
+pub use Rattle.batch_solver.specs.Promised.{IsLive, promised_limit, promised_to}
+pub use Rattle.batch_solver.specs.Requests.{IsLegOf, request_at}
+pub use Rattle.batch_solver.specs.Settling.{IsPlaced, IsSettled}
+pub use Rattle.batch_solver.specs.lemmas.NamedPromises.{IsHeld, ideal_second, is_promised_to, kept_leg, kept_legs, no_request}
 pub use Rattle.request_book.proofs.lemmas.BatchLemmas.{after_seal-id}
 pub use Rattle.request_book.proofs.lemmas.ConsistentLemmas.{step-consistent}
 pub use Rattle.request_book.proofs.lemmas.KeyedLemmas.{All-look_up, KeysDiffer-filter_map, KeysDiffer-from_rise, KeysDiffer-map, by_key-order, look_up-at, look_up-changed_here, look_up-changed_there, look_up-filter_map, look_up-here, look_up-key, look_up-map, look_up-nil, look_up-push_found, look_up-push_here, look_up-push_there, look_up-there, map-changed_at, without_key-absent}

@@ -9,7 +9,7 @@ use crate::line::{LINE, batch_on, network_of, settings};
 use crate::walking::fast;
 use batch_snapshot::{Points, Snapshot};
 use pool_base::{OutOfMemory, Steps, Times};
-use promise_check::settle;
+use batch_solver::settle;
 use road_network::Network;
 use std::alloc::Global;
 use std::marker::Brand;
