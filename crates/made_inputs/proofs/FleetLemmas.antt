@@ -5,10 +5,10 @@ use Rattle.std.proofs.lemmas.Bool.{le-ltb, ne_eqb}
 use Rattle.std.proofs.lemmas.List.{get_or-take, length-take-le}
 use Rattle.std.proofs.Math.Nat.{mul-le-mul}
 use Rattle.batch_snapshot.specs.declared.vehicle.Vehicle.{Vehicle}
-use Rattle.fleet_state.specs.declared.fault.FleetFault.TheVariants.{TooManyVehicles}
-use Rattle.fleet_state.specs.Vehicle.{vehicle_in}
-use Rattle.fleet_state.specs.lemmas.Named.{empty_vehicle, vehicle_of_row}
-use Rattle.fleet_state.specs.Fleet.{IsFleetOf}
+use Rattle.script_rows.specs.declared.fleet_fault.FleetFault.TheVariants.{TooManyVehicles}
+use Rattle.script_rows.specs.Vehicle.{vehicle_in}
+use Rattle.script_rows.specs.lemmas.NamedFleet.{empty_vehicle, vehicle_of_row}
+use Rattle.script_rows.specs.Fleet.{IsFleetOf}
 use Rattle.std.proofs.lemmas.List.FromFn.{length-map-range_with_len, get_or-map-range_with_len, map-range_with_len_more}
 use Rattle.std.specs.List.{range_with_len}
 use Rattle.made_inputs.proofs.FieldLemmas.{AllFit, small_number}

@@ -3,7 +3,7 @@ use Rattle.pool_io.specs.Table.{Table, table_of}
 use Rattle.batch_snapshot.specs.declared.vehicle.Vehicle.{Vehicle}
 use Rattle.road_network.specs.Roads.{Roads}
 use Rattle.road_network.specs.Reading.{network_of}
-use Rattle.fleet_state.specs.Fleet.{IsFleetOf}
+use Rattle.script_rows.specs.Fleet.{IsFleetOf}
 use Rattle.script_rows.specs.declared.version.ScriptVersion.TheVariants.{One}
 use Rattle.script_rows.specs.Round.{NumberedLanes}
 use Rattle.script_rows.specs.Script.{script_of}

@@ -8,12 +8,11 @@ ghost use Rattle.request_book.specs.Consistent.{IsNode};
 
 use crate::made::make;
 use batch_snapshot::Fleet;
-use fleet_state::{FleetFault, read_fleet};
 use pool_base::OutOfMemory;
 use pool_io::{RowFault, Rows, rows};
 use rider_limits::LoadShape;
 use road_network::{Network, NetworkFault, read_network};
-use script_rows::{Script, ScriptFault, ScriptVersion, read_script};
+use script_rows::{FleetFault, Script, ScriptFault, ScriptVersion, read_fleet, read_script};
 use std::alloc::Global;
 
 /// The network, the fleet and the script of a made workload.

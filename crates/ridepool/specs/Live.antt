@@ -4,7 +4,7 @@ use Rattle.std.specs.Io.KnownBytes.{Appends}
 use Rattle.batch_snapshot.specs.declared.vehicle.Vehicle.{Vehicle}
 use Rattle.dispatch_report.specs.Head.{head_text}
 use Rattle.pool_io.specs.Views.{Change, IsUntouched, SinkView, SourceView}
-use Rattle.fleet_state.specs.declared.fault.FleetFault.{FleetFault}
+use Rattle.script_rows.specs.declared.fleet_fault.FleetFault.{FleetFault}
 use Rattle.live_dispatch.specs.Live.{BeginsRows, RunsRows}
 use Rattle.script_rows.specs.Lines.{lines_in}
 use Rattle.script_rows.specs.Start.{live_rows, HasOtherStart}

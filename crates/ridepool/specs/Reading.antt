@@ -2,8 +2,8 @@
 use Rattle.std.specs.Prelude.{◌≡◌, ◌↔◌, ℕ, List, Result, Ok, Err, map, Contains}
 use Rattle.std.specs.List.Sorted.{IsStrictlyIncreasing}
 use Rattle.batch_snapshot.specs.declared.vehicle.Vehicle.{Vehicle}
-use Rattle.fleet_state.specs.Fleet.{vehicles_of}
-use Rattle.fleet_state.specs.declared.fault.FleetFault.{FleetFault}
+use Rattle.script_rows.specs.Fleet.{vehicles_of}
+use Rattle.script_rows.specs.declared.fleet_fault.FleetFault.{FleetFault}
 use Rattle.pool_base.specs.Header.{network_header, fleet_header, script_header, party_header}
 use Rattle.pool_io.specs.Table.{Table, table_of}
 use Rattle.pool_io.specs.declared.input.Input.{Input}

@@ -1,5 +1,5 @@
 use Rattle.std.specs.Prelude.{ℕ, ◌≢◌}
-use Rattle.fleet_state.specs.declared.fault.FleetFault.TheVariants as fleet
+use Rattle.script_rows.specs.declared.fleet_fault.FleetFault.TheVariants as fleet
 use Rattle.pool_io.specs.declared.input.Input.TheVariants.{Rows, Own}
 use Rattle.pool_io.specs.declared.records.RowFault.TheVariants as row
 use Rattle.report_audit.specs.declared.fault.AuditFault.TheVariants as audit

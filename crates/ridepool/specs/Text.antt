@@ -1,8 +1,8 @@
 -- The line on standard error that tells why a run ended.
 use Rattle.std.specs.Prelude.{ℕ, List, [], ◌++◌, codes}
 use Rattle.dispatch_report.specs.Words.{numbered}
-use Rattle.fleet_state.specs.declared.fault.FleetFault.{FleetFault}
-use Rattle.fleet_state.specs.declared.fault.FleetFault.TheVariants as fleet
+use Rattle.script_rows.specs.declared.fleet_fault.FleetFault.{FleetFault}
+use Rattle.script_rows.specs.declared.fleet_fault.FleetFault.TheVariants as fleet
 use Rattle.script_rows.specs.declared.judge.RowRefusal.{RowRefusal}
 use Rattle.script_rows.specs.declared.judge.RowRefusal.TheVariants as refusal
 use Rattle.pool_base.specs.Which.{file_name}

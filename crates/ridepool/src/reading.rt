@@ -14,11 +14,10 @@ ghost use Rattle.script_rows.specs.Word.{columns_of};
 
 use crate::status::RunStatus;
 use batch_snapshot::Fleet;
-use fleet_state::{FleetFault, read_fleet};
 use pool_base::Which;
 use pool_io::{Input, ReadAll, RowFault, Rows, Source, read_all, rows};
 use road_network::{Network, NetworkFault, read_network};
-use script_rows::{Script, ScriptFault, ScriptVersion, read_script};
+use script_rows::{FleetFault, Script, ScriptFault, ScriptVersion, read_fleet, read_script};
 use std::alloc::Global;
 
 /// The greatest number of bytes of an input.

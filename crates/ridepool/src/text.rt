@@ -4,14 +4,13 @@ ghost use Rattle.ridepool.specs.Text.{at_place, longer_than, too_long_text, word
 
 use crate::reading::most_bytes;
 use crate::status::RunStatus;
-use fleet_state::FleetFault;
 use pool_base::{OutOfMemory, Which, put_bytes, put_number};
 use pool_io::{Input, RowFault};
 use report_audit::AuditFault;
 use rider_limits::WordFault;
 use road_network::NetworkFault;
 use route_drive::DayFault;
-use script_rows::{RowRefusal, ScriptFault};
+use script_rows::{FleetFault, RowRefusal, ScriptFault};
 use std::alloc::Global;
 
 /// The line that tells why a run ended, without the program's name and without its end; empty where all

@@ -1,9 +1,9 @@
 -- The names that the proofs of this crate cite from elsewhere, passed on from one place. Declares nothing.
-pub use Rattle.std.proofs.lemmas.Bool.{and_left, and_parts, cases_order}
-pub use Rattle.std.proofs.lemmas.List.{get_or_at, get_or_default, length_push, map-append, set_at}
-pub use Rattle.std.proofs.lemmas.List.Elements.{All-head, All-nil, All-push, All-same, All-tail, All-weaker, filter-append}
+pub use Rattle.std.proofs.lemmas.Bool.{and_left, and_parts, cases_lt, cases_order, cond-false, cond-true, not-false}
+pub use Rattle.std.proofs.lemmas.List.{drop-map, get_or-map, get_or_at, get_or_default, length-map, length_push, map-append, set_at, take-map, take_more}
+pub use Rattle.std.proofs.lemmas.List.Elements.{All-append, All-cons, All-drop, All-head, All-nil, All-push, All-same, All-tail, All-take, All-weaker, Contains-append_cases, Contains-append_left, Contains-append_right, Contains-push, Contains-push_cases, filter-append}
 pub use Rattle.std.proofs.lemmas.Result.{err_from_is_err_and, on_ok_weaker}
-pub use Rattle.std.specs.List.{list_all, list_any, range_with_len}
+pub use Rattle.std.specs.List.{AllWithin, list_all, list_any, prefix_len, range_with_len}
 pub use Rattle.pool_base.proofs.lemmas.InOrderLemmas.{all_or_first-err, all_or_first-ok, refused_where-passed, then_ok}
 pub use Rattle.pool_base.specs.InOrder.{all_or_first, refused_where, ◌>>=◌}
 pub use Rattle.pool_io.specs.Table.{field_at, record_at}
@@ -20,3 +20,15 @@ pub use Rattle.script_rows.specs.lemmas.Named.{line_at, round_before, rounds_of}
 unfoldable pub use Rattle.script_rows.specs.work.Building.{with_line}
 pub use Rattle.script_rows.specs.work.Building.{commands_of, joins, last_round}
 pub use Rattle.script_rows.specs.work.Words.{is_empty_in}
+pub use Rattle.std.proofs.lemmas.List.Edits.{get_or-insert_above, get_or-insert_at, get_or-insert_below, length-insert}
+pub use Rattle.std.proofs.lemmas.List.Folds.{Any-from_list_any, list_any-append, list_any_at, list_any_none}
+pub use Rattle.batch_snapshot.specs.Kept.{IsFleet}
+pub use Rattle.batch_snapshot.specs.Vehicle.{HasSeats}
+pub use Rattle.batch_snapshot.specs.declared.vehicle.Vehicle.{Vehicle}
+pub use Rattle.script_rows.specs.Fleet.{IsFleetOf, vehicles_of}
+unfoldable pub use Rattle.script_rows.specs.Vehicle.{vehicle_in}
+pub use Rattle.script_rows.specs.declared.fleet_fault.FleetFault.TheVariants.{Duplicate, Seats, TooManyVehicles, UnknownNode}
+pub use Rattle.script_rows.specs.lemmas.NamedFleet.{empty_vehicle, vehicle_of_row}
+pub use Rattle.script_rows.specs.work.Place.{IsPlaceOf, has_id_at, has_vehicle}
+pub use Rattle.pool_base.specs.Numeral.{number_at, number_in}
+pub use Rattle.road_network.specs.Roads.{has_node}

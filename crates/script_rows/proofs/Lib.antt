@@ -5,3 +5,6 @@ pub mod ScriptLemmas
 pub mod Common
 pub mod PieceLemmas
 pub mod RowLemmas
+pub mod FleetPlaceLemmas
+pub mod FleetRowLemmas
+pub mod FleetLemmas

@@ -7,3 +7,5 @@ pub mod work
 pub mod Lines
 pub mod Rows
 pub mod Start
+pub mod Vehicle
+pub mod Fleet

@@ -3,3 +3,5 @@ pub mod Building
 pub mod Words
 pub mod Pieces
 pub mod Steps
+pub mod Place
+pub mod FleetRow

@@ -1,13 +1,15 @@
-//! The script of a run: its rows, read into rounds of sixteen lanes of commands.
+//! The rows of a run's inputs: a script, read into rounds of sixteen lanes of commands, and a fleet, read into vehicles by
+//! rising id.
 //!
 //! Rows are judged in their order, and each fault is named with its row and column. A round holds the
-//! rows of one number; each of its lanes holds its rows in order.
+//! rows of one number; each of its lanes holds its rows in order. Every vehicle stands at a node of the network, with
+//! nobody aboard, and no id stands twice.
 //!
 //! A script that is written while it is read gives its rows one by one. A line ends with a line feed or a
 //! carriage return, and is handed out without waiting for what follows. Each is read as the one row of a
 //! script. An accepted row is handed on; a refused one is told to whoever listens, and skipped.
 //!
-//! A caller:
+//! Callers:
 //!
 //! ```
 //! fn read(
@@ -26,12 +28,28 @@
 //! }
 //! ```
 //!
-//! Main clauses: `read_script`: `accepted`, `refused`; `read_row`; `RowSource::next`: `row`, `behind`, `fault`;
+//! ```
+//! fn book_on(alloc: Global, network: &Network, fleet: &[u8]) -> Option<Book> {
+//!     match rows(alloc, fleet, b"vehicle,seats,node,second") {
+//!         Ok(rows) => match read_fleet(alloc, &rows, network) {
+//!             Ok(fleet) => Book::new(alloc, network, fleet, 120).ok(),
+//!             Err(_) => None,
+//!         },
+//!         Err(_) => None,
+//!     }
+//! }
+//! ```
+//!
+//! Main clauses: `read_fleet`: `accepted`, `named`, `refused`; `read_script`: `accepted`, `refused`; `read_row`; `RowSource::next`: `row`, `behind`, `fault`;
 //! `read_start`: `started`, `other`, `fault`; `LineStream::next_line`: `line`.
 #![tactic(auto)]
 
 mod fault;
 mod fields;
+mod fleet_fault;
+mod fleet_fields;
+mod fleet_place;
+mod fleet_reading;
 mod judge;
 mod line;
 mod lines;
@@ -43,7 +61,10 @@ mod start;
 mod version;
 mod word;
 
+pub use batch_snapshot::Fleet;
 pub use fault::ScriptFault;
+pub use fleet_fault::FleetFault;
+pub use fleet_reading::{FLEET_HEADER, read_fleet};
 pub use judge::{Judged, RowRefusal};
 pub use line::Line;
 pub use lines::{LineFault, LineStream};

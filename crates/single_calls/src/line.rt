@@ -1,11 +1,11 @@
 //! A line of five nodes, and the batch of two riders who ask for a ride on it.
 use batch_snapshot::Snapshot;
-use fleet_state::{HEADER, read_fleet};
 use pool_base::{NodeId, Party, RiderId, Second};
 use pool_io::rows;
 use request_book::{Book, Command, Reply};
 use rider_limits::{Mode, Settings, TimesWay};
 use road_network::{Network, read_network};
+use script_rows::{FLEET_HEADER, read_fleet};
 use std::alloc::Global;
 
 /// Five nodes in a line, a minute between neighbours.
@@ -53,7 +53,7 @@ pub fn batch_on(alloc: Global, network: &Network) -> Option<Snapshot> {
 
 /// The vehicle's book on the network, before its first round.
 fn book_on(alloc: Global, network: &Network) -> Option<Book> {
-    match rows(alloc, FLEET, HEADER) {
+    match rows(alloc, FLEET, FLEET_HEADER) {
         Ok(table) => match read_fleet(alloc, &table, network) {
             Ok(fleet) => Book::new(alloc, network, fleet, 120).ok(),
             Err(_) => None,

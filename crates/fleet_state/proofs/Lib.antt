@@ -1,4 +1,0 @@
-pub mod PlaceLemmas
-pub mod RowLemmas
-pub mod FleetLemmas
-pub mod Common

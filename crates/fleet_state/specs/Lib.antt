@@ -1,4 +1,0 @@
-pub mod Vehicle
-pub mod Fleet
-pub mod lemmas
-pub mod work
