@@ -16,7 +16,6 @@ pub use Rattle.plan_rules.specs.lemmas.Graph.{HasNoRow, is_in}
 pub use Rattle.plan_rules.specs.declared.row.TripRow.{TripRow}
 pub use Rattle.plan_rules.specs.lemmas.Plan.{MarksServed, times_chosen}
 pub use Rattle.pool_base.specs.Times.{point_count, travel_time}
-pub use Rattle.batch_solver.proofs.lemmas.Promises.{filter_range_below, filter_range_skips, filter_range_takes}
 pub use Rattle.batch_solver.specs.Matching.{IsBestMatching, IsMatching, pair_seconds}
 pub use Rattle.request_book.specs.declared.outcome.ChosenTrip.{ChosenTrip}
 pub use Rattle.request_book.specs.declared.outcome.MoveLine.{MoveLine}

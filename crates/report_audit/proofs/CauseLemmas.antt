@@ -1,6 +1,7 @@
 -- A text ends at a place for one cause.
 use Rattle.std.proofs.Common.{◌≡◌, ◌≢◌, ℕ, true, List, [], ◌∷◌, ◌++◌, refl, sym, ap, ◌∙◌, subst, rules}
-use Rattle.report_audit.proofs.Common.{BlockRefusal, Extent, IsInForm, MayFollow, position_behind, IsCut, IsOutOfForm, IsWrongBatch, IsWrongLine, is_one_line, no_one_line, IsFirstLine, Settings, Roads}
+use Rattle.report_audit.proofs.Common.{BlockRefusal, Extent, IsInForm, MayFollow, position_behind, IsCut, IsOutOfForm, IsWrongBatch, IsWrongLine, is_one_line, IsFirstLine, Settings, Roads}
+use Rattle.report_audit.proofs.lemmas.OneBlock.{no_one_line}
 use Rattle.report_audit.proofs.lemmas.AuditLemmas.{one_refusal}
 use Rattle.report_audit.proofs.lemmas.LineLemmas.{first_once}
 use Rattle.report_audit.specs.declared.next.NextLine.TheVariants.{Entry as EntryOf}

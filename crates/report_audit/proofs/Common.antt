@@ -34,8 +34,6 @@ pub use Rattle.report_audit.specs.Types.{AreTold, HasFittingBlock, IsTold, Journ
 pub use Rattle.report_audit.specs.declared.fault.AuditFault.{AuditFault}
 pub use Rattle.report_audit.specs.work.Place.{entries_text, with_entry, with_more}
 pub use Rattle.report_audit.specs.work.Standing.{BlockRefuses, EntryRead, IsBetween, IsBookOf, IsFaultAt, IsGiven, IsInRound, IsOpen, IsOtherLine, IsRoundStart, IsWithin, OnlyFollows, TakesClose, TakesCommand, Waits, close_line, fault_of_head, line_left}
-pub use Rattle.report_audit.proofs.lemmas.NextLemmas.{one_kind}
-pub use Rattle.report_audit.proofs.lemmas.OneBlock.{append_one_line, cut_once, no_one_line, numbered_one_line, spaced_one_line, two_line}
 pub use Rattle.report_audit.specs.Cut.{is_one_line}
 pub use Rattle.report_audit.specs.Head.{BeginsWithHead}
 pub use Rattle.report_audit.specs.HeadFault.{FitsLine, HasForm, HeadFails, HeadLine, LineFails, LinesFail, head_lines, sizes_of}

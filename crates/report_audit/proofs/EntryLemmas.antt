@@ -1,6 +1,7 @@
 -- An entry that an audit reads.
 use Rattle.std.proofs.Common.{◌≡◌, ◌≢◌, ℕ, ◌<◌, ◌≤◌, true, List, [], ◌∷◌, ◌++◌, length, set, slice_get, Option, Some, None, refl, sym, ap, ◌∙◌, subst, length-append, arith}
-use Rattle.report_audit.proofs.Common.{Batch, BlockRefusal, IsCloseOf, IsGoodClose, last_sealed, journal_of, entry_line, lines_text, entry_block, IsNextLine, NextLine, one_kind, LaneStand, stand_at, stand_after, HaveCome, IsNext, IsNextFrom, come_more, BookView, IsApplied, IsNoClose, step, Command, Close, Entry, Journal, Outcome, Reply, Closed, State, replies-push, Settings, Roads, NumberedLanes, MayStand, lane_at, IsFirstLine, IsWrongBlock, Extent, BeginsRound, MayFollow, position_behind, state_behind, with_entry, HasFittingBlock, IsCommand, IsReply, IsOtherLine, TakesClose, BlockRefuses, EntryRead, IsWithin, Waits, TakesCommand, close_line}
+use Rattle.report_audit.proofs.Common.{Batch, BlockRefusal, IsCloseOf, IsGoodClose, last_sealed, journal_of, entry_line, lines_text, entry_block, IsNextLine, NextLine, LaneStand, stand_at, stand_after, HaveCome, IsNext, IsNextFrom, come_more, BookView, IsApplied, IsNoClose, step, Command, Close, Entry, Journal, Outcome, Reply, Closed, State, replies-push, Settings, Roads, NumberedLanes, MayStand, lane_at, IsFirstLine, IsWrongBlock, Extent, BeginsRound, MayFollow, position_behind, state_behind, with_entry, HasFittingBlock, IsCommand, IsReply, IsOtherLine, TakesClose, BlockRefuses, EntryRead, IsWithin, Waits, TakesCommand, close_line}
+use Rattle.report_audit.proofs.lemmas.NextLemmas.{one_kind}
 use Rattle.std.proofs.lemmas.List.{length-set}
 use Rattle.std.proofs.lemmas.Option.{slice_get_within, get_or_from_slice_get}
 use Rattle.report_audit.specs.declared.refusal.BlockRefusal.TheVariants as refusal

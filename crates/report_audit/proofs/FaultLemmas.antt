@@ -1,6 +1,7 @@
 -- A fault, said where the rest of a report begins.
 use Rattle.std.proofs.Common.{◌≡◌, ℕ, ◌-◌, true, List, [], ◌∷◌, ◌++◌, length, take, ◌+◌, ◌==◌, count_by, refl, ap, ◌∙◌, length-append, arith}
-use Rattle.report_audit.proofs.Common.{Vehicle, AreSettingsOf, one_kind, IsNextLine, NextLine, IsFirstLine, Settings, Roads, NumberedLanes, FailsAt, IsCut, IsOutOfForm, FailsAsLine, HasFault, HeadFails, HeadFault, fault_of_head, IsWrongLine, Extent, IsInForm, IsRightUpTo, IsFaultAt, IsOpen, OnlyFollows, is_one_line, line_left}
+use Rattle.report_audit.proofs.Common.{Vehicle, AreSettingsOf, IsNextLine, NextLine, IsFirstLine, Settings, Roads, NumberedLanes, FailsAt, IsCut, IsOutOfForm, FailsAsLine, HasFault, HeadFails, HeadFault, fault_of_head, IsWrongLine, Extent, IsInForm, IsRightUpTo, IsFaultAt, IsOpen, OnlyFollows, is_one_line, line_left}
+use Rattle.report_audit.proofs.lemmas.NextLemmas.{one_kind}
 use Rattle.report_audit.specs.declared.next.NextLine.TheVariants.{Entry as EntryOf}
 use Rattle.report_audit.specs.declared.head_fault.HeadFault.TheVariants as head
 use Rattle.report_audit.specs.declared.fault.AuditFault.TheVariants as fault

@@ -1,6 +1,7 @@
 -- A head fails in one way.
 use Rattle.std.proofs.Common.{◌≡◌, ℕ, ◌+◌, ◌<◌, ◌^◌, true, List, [], ◌∷◌, inl, inr, sym, ap, ◌∙◌, subst}
-use Rattle.report_audit.proofs.Common.{is_one_line, HeadLine, HasForm, FitsLine, HeadFails, LineFails, LinesFail, head_lines, sizes_of, AreSizes, IsFirstLine, HeadFault, no_one_line, Roads}
+use Rattle.report_audit.proofs.Common.{is_one_line, HeadLine, HasForm, FitsLine, HeadFails, LineFails, LinesFail, head_lines, sizes_of, AreSizes, IsFirstLine, HeadFault, Roads}
+use Rattle.report_audit.proofs.lemmas.OneBlock.{no_one_line}
 use Rattle.std.specs.List.{AllByRecursion}
 use Rattle.report_audit.specs.declared.head_fault.HeadFault.TheVariants.{Cut, Form, Head}
 use Rattle.report_audit.proofs.lemmas.LineLemmas.{first_once, line_no_fault, said_behind}

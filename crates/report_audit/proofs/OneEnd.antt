@@ -1,6 +1,8 @@
 -- Two ends of the same text are equal.
 use Rattle.std.proofs.Common.{◌≡◌, ◌≢◌, ◌⊎◌, ◌==◌, ℕ, ◌<◌, ◌≤◌, ◌^◌, ⊎_elim, Bool, true, false, cond, List, [], ◌∷◌, ◌++◌, codes, Option, None, Some, inl, inr, refl, sym, ap, ◌∙◌, subst, append-nil, append_assoc, arith, rules}
-use Rattle.report_audit.proofs.Common.{Batch, BeginsWithGood, batch_of, by-table, close, plain-quiet, sealed_state, seal_refusal, seal_step, table_step, Seal, Sealed, ClosesAreGood, IsCloseOf, IsGoodClose, IsLaneRun, IsLaneRunFrom, of_lane, entry_line, lines_text, entry_block, numbered, one_more, Extent, AreAtEnd, BeginsRound, IsInForm, MayComeNext, MayFollow, position_behind, state_behind, AreTold, HasFittingBlock, entries_text, is_one_line, cut_once, numbered_one_line, one_kind, IsEntry, IsFirstLine, next_position, RepliesAreSteps, state_after, step, Command, Close, Entry, Journal, Outcome, Reply, Closed, State, Settings, Roads, NumberedLanes, lane_at, sealed_by}
+use Rattle.report_audit.proofs.Common.{Batch, BeginsWithGood, batch_of, by-table, close, plain-quiet, sealed_state, seal_refusal, seal_step, table_step, Seal, Sealed, ClosesAreGood, IsCloseOf, IsGoodClose, IsLaneRun, IsLaneRunFrom, of_lane, entry_line, lines_text, entry_block, numbered, one_more, Extent, AreAtEnd, BeginsRound, IsInForm, MayComeNext, MayFollow, position_behind, state_behind, AreTold, HasFittingBlock, entries_text, is_one_line, IsEntry, IsFirstLine, next_position, RepliesAreSteps, state_after, step, Command, Close, Entry, Journal, Outcome, Reply, Closed, State, Settings, Roads, NumberedLanes, lane_at, sealed_by}
+use Rattle.report_audit.proofs.lemmas.OneBlock.{cut_once, numbered_one_line}
+use Rattle.report_audit.proofs.lemmas.NextLemmas.{one_kind}
 use Rattle.std.specs.List.{All}
 use Rattle.std.proofs.lemmas.Bool.Decides.{nat_tests}
 use Rattle.std.proofs.lemmas.List.Elements.{All-head, All-tail}

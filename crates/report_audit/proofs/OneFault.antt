@@ -1,6 +1,7 @@
 -- A text has one fault, and the report of a run none.
 use Rattle.std.proofs.Common.{◌≡◌, ◌≢◌, ℕ, ◌+◌, ◌-◌, ◌≤◌, ◌<◌, ◌^◌, min, true, codes, inl, inr, List, [], ◌∷◌, ◌++◌, length, refl, sym, ap, ◌∙◌, subst, append-nil, append_assoc, arith, rules, ◌⊎◌}
-use Rattle.report_audit.proofs.Common.{IsGiven, AreAtEnd, entries_text, AuditFault, BeginsWithHead, BeginsRound, Extent, FailsAsLine, FailsAt, HasFault, HeadFails, HeadFault, IsLaneBeginning, IsRound, IsLaneRun, IsReportOfRun, IsRightUpTo, IsRun, Journal, JournalsAreTold, NumberedLanes, Roads, Settings, State, Vehicle, cut_once, end_text, fault_of_head, lane_at, next_position, numbered, of_lane, opening, position_after_run, round_text, rounds_so_far, rounds_text, sizes_of, state_after, state_after_run, is_one_line}
+use Rattle.report_audit.proofs.Common.{IsGiven, AreAtEnd, entries_text, AuditFault, BeginsWithHead, BeginsRound, Extent, FailsAsLine, FailsAt, HasFault, HeadFails, HeadFault, IsLaneBeginning, IsRound, IsLaneRun, IsReportOfRun, IsRightUpTo, IsRun, Journal, JournalsAreTold, NumberedLanes, Roads, Settings, State, Vehicle, end_text, fault_of_head, lane_at, next_position, numbered, of_lane, opening, position_after_run, round_text, rounds_so_far, rounds_text, sizes_of, state_after, state_after_run, is_one_line}
+use Rattle.report_audit.proofs.lemmas.OneBlock.{cut_once}
 unfoldable use Rattle.dispatch_report.specs.Head.{head_text}
 unfoldable use Rattle.dispatch_report.specs.Lines.{lines_text}
 use Rattle.std.proofs.lemmas.List.{append_cancel_left, append_cancel_right}

@@ -1,6 +1,7 @@
 -- Texts of entries and rounds.
 use Rattle.std.proofs.Common.{◌≡◌, ℕ, ◌<◌, ◌^◌, Bool, true, false, cond, eqb, List, [], ◌∷◌, ◌++◌, codes, decimal, Some, None, refl, sym, ap, ◌∙◌, append_assoc, arith, rules}
-use Rattle.report_audit.proofs.Common.{command_text, entry_line, refusal_text, reply_text, rider_status_text, lines_text, entries_lines, entry_block, round_text, end_text, numbered, spaced, one_more, is_one_line, append_one_line, numbered_one_line, spaced_one_line, two_line, next_position, Command, Submit, Cancel, Report, Pickup, Dropoff, Seal, Close, Entry, Journal, BookRefusal, IsAboard, Ended, TimeBack, NotPromised, BatchOpen, ClockBack, NotThisBatch, Reply, Sealed, Refused, Status, Waiting, entries_text}
+use Rattle.report_audit.proofs.Common.{command_text, entry_line, refusal_text, reply_text, rider_status_text, lines_text, entries_lines, entry_block, round_text, end_text, numbered, spaced, one_more, is_one_line, next_position, Command, Submit, Cancel, Report, Pickup, Dropoff, Seal, Close, Entry, Journal, BookRefusal, IsAboard, Ended, TimeBack, NotPromised, BatchOpen, ClockBack, NotThisBatch, Reply, Sealed, Refused, Status, Waiting, entries_text}
+use Rattle.report_audit.proofs.lemmas.OneBlock.{append_one_line, numbered_one_line, spaced_one_line, two_line}
 use Rattle.std.specs.List.{flat_map}
 use Rattle.std.proofs.lemmas.Grind.{flat_map-append}
 

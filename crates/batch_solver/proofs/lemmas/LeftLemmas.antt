@@ -1,6 +1,7 @@
 -- Riders who are in no chosen row.
 use Rattle.std.proofs.Common.{◌≡◌, ◌==◌, ℕ, ◌+◌, ◌<◌, ◌≤◌, Bool, true, false, not, List, [], ◌∷◌, ◌++◌, length, get_or, nat_lt, Option, sym, ap, ◌∙◌, arith}
-use Rattle.batch_solver.proofs.Common.{range_with_len, get_or_read, Graph, times_chosen, filter_range_takes, filter_range_skips, MarksServed}
+use Rattle.batch_solver.proofs.Common.{range_with_len, get_or_read, Graph, times_chosen, MarksServed}
+use Rattle.batch_solver.proofs.lemmas.Promises.{filter_range_takes, filter_range_skips}
 use Rattle.std.specs.List.{filter}
 use Rattle.std.proofs.lemmas.List.Sums.{length-filter, count_by-le-length}
 use Rattle.std.proofs.lemmas.List.FromFn.{length-range_with_len}

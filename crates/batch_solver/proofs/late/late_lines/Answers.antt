@@ -1,5 +1,6 @@
 use Rattle.std.proofs.Common.{◌≡◌, ℕ, ◌<◌, true, false, List, [], ◌∷◌, ◌++◌, length, sym, ap, ◌∙◌, subst}
-use Rattle.batch_solver.proofs.Common.{AllZip, range_with_len, travel_time, filter_range_skips, filter_range_takes, SettledVehicle, vehicle_at, IsLate}
+use Rattle.batch_solver.proofs.Common.{AllZip, range_with_len, travel_time, SettledVehicle, vehicle_at, IsLate}
+use Rattle.batch_solver.proofs.lemmas.Promises.{filter_range_skips, filter_range_takes}
 use Rattle.std.specs.List.{filter}
 use Rattle.batch_solver.proofs.lemmas.TripLemmas.{all_zip_push, vehicle_read}
 use Rattle.batch_solver.proofs.late.late_lines.Goals as goal

@@ -1,5 +1,6 @@
 use Rattle.std.proofs.Common.{◌≡◌, ◌==◌, ◌<◌, [], ◌∷◌, ◌++◌, sym, ap, ◌∙◌, arith}
-use Rattle.batch_solver.proofs.Common.{filter_range_below, times_chosen}
+use Rattle.batch_solver.proofs.Common.{times_chosen}
+use Rattle.batch_solver.proofs.lemmas.Promises.{filter_range_below}
 use Rattle.batch_solver.proofs.lemmas.LeftLemmas.{left_takes, left_skips, kept_few}
 use Rattle.batch_solver.proofs.left.left_riders.Goals.{then-not-index+in_ok-push, else-not-index}
 use Rattle.batch_solver.proofs.left.left_riders.Goals as goal

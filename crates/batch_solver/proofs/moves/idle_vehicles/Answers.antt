@@ -1,5 +1,6 @@
 use Rattle.std.proofs.Common.{◌≡◌, [], ◌∷◌, ◌++◌, length, sym, ap, ◌∙◌, arith}
-use Rattle.batch_solver.proofs.Common.{filter_range_below, filter_range_takes, filter_range_skips, is_idle}
+use Rattle.batch_solver.proofs.Common.{is_idle}
+use Rattle.batch_solver.proofs.lemmas.Promises.{filter_range_below, filter_range_takes, filter_range_skips}
 use Rattle.batch_solver.proofs.lemmas.LeftLemmas.{kept_few}
 use Rattle.batch_solver.proofs.moves.idle_vehicles.Goals.{then-is_idle+in_ok-push, else-is_idle}
 use Rattle.batch_solver.proofs.moves.idle_vehicles.Goals as goal

@@ -1,5 +1,6 @@
 use Rattle.std.proofs.Common.{◌≡◌, ◌==◌, ◌<◌, ◌≤◌, length, sym, ◌∙◌, arith}
-use Rattle.batch_solver.proofs.Common.{filter_range_below, nil_from_length, times_chosen, point_count, travel_time, idle_vehicles}
+use Rattle.batch_solver.proofs.Common.{nil_from_length, times_chosen, point_count, travel_time, idle_vehicles}
+use Rattle.batch_solver.proofs.lemmas.Promises.{filter_range_below}
 use Rattle.batch_solver.proofs.lemmas.LeftLemmas.{kept_few}
 use Rattle.batch_solver.proofs.lemmas.MoveLemmas.{has_places, no_moves}
 use Rattle.batch_solver.proofs.moves.move_lines.Goals as goal
