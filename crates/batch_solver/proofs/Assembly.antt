@@ -3,7 +3,7 @@ use Rattle.batch_solver.proofs.Common.{option_map_or, length-map, get_or-map, ge
 use Rattle.std.specs.List.{All, Contains, slice_get}
 use Rattle.std.proofs.lemmas.Bool.Decides.{nat_tests, Decides-eqb}
 use Rattle.pool_base.specs.TravelTime.{longest}
-use Rattle.batch_snapshot.specs.Kept.{IsKept}
+use Rattle.request_book.specs.Kept.{IsKept}
 use Rattle.stop_orders.specs.declared.settled.Settled.{Settled}
 use Rattle.batch_solver.proofs.lemmas.Promises.{some_at, rising_once, promised_trip}
 use Rattle.batch_solver.proofs.Seats.{kept_leg_valid, legs_valid, task_with_legs, plain_can_be_kept}

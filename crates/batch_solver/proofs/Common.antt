@@ -2,7 +2,7 @@
 pub use Rattle.std.proofs.lemmas.List.{drop_more, get_or-append_right, get_or-map, get_or-replicate, get_or_append_left, get_or_default, get_or_push, get_or_read, length-map, length-replicate, length_push, map_more, nil_from_length, set_past, take_more, with_items_is}
 pub use Rattle.std.proofs.lemmas.List.Elements.{All-contains, All-filter, All-from_get_or, All-head, All-map, All-nil, All-push, All-tail, Contains-append_left, Contains-append_right, Contains-get_or, Contains-push, Contains-push_cases, filter-append, filter_passes}
 pub use Rattle.std.specs.List.{AllByRecursion, AllZip, list_any, range_with_len}
-pub use Rattle.batch_snapshot.specs.Batch.{Batch}
+pub use Rattle.request_book.specs.Batch.{Batch}
 pub use Rattle.batch_solver.specs.Instance.{posed_by}
 pub use Rattle.batch_solver.specs.Moves.{AreMoves, HasPlaces, idle_vehicles, is_idle, move_line, origins_of, starts_of}
 pub use Rattle.batch_solver.specs.Points.{Posed}
@@ -45,11 +45,11 @@ pub use Rattle.batch_solver.specs.work.Weights.{weight_at, weight_of}
 pub use Rattle.std.proofs.lemmas.Option.{slice_get-get_or, slice_get_within}
 pub use Rattle.std.specs.List.Sorted.{IsStrictlyIncreasing}
 pub use Rattle.std.specs.Option.{option_map_or}
-pub use Rattle.batch_snapshot.specs.Points.{ArePoints}
-pub use Rattle.batch_snapshot.specs.declared.passenger.Passenger.{Passenger}
-pub use Rattle.batch_snapshot.specs.declared.promise.Promise.{Promise}
-pub use Rattle.batch_snapshot.specs.declared.rider.Rider.{Rider}
-pub use Rattle.batch_snapshot.specs.declared.vehicle.Vehicle.{Vehicle}
+pub use Rattle.request_book.specs.Points.{ArePoints}
+pub use Rattle.request_book.specs.declared.passenger.Passenger.{Passenger}
+pub use Rattle.request_book.specs.declared.promise.Promise.{Promise}
+pub use Rattle.request_book.specs.declared.batch_rider.Rider.{Rider}
+pub use Rattle.request_book.specs.declared.vehicle.Vehicle.{Vehicle}
 pub use Rattle.batch_solver.specs.Promised.{IsLive, promised_limit, promised_to}
 pub use Rattle.batch_solver.specs.Requests.{IsLegOf, request_at}
 pub use Rattle.batch_solver.specs.Settling.{HasRightLimit, IsSettled}

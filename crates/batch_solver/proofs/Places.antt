@@ -1,7 +1,7 @@
 use Rattle.std.proofs.Common.{ℕ, zero, suc, ◌<◌, List, [], ◌∷◌, length, get_or, refl, arith}
 use Rattle.batch_solver.proofs.Common.{Contains-append_left, Contains-append_right, Passenger, Rider, Batch, ArePoints, IsBetweenPlaces, HasVehiclePlaces}
 use Rattle.std.specs.List.{All, Contains, flat_map}
-use Rattle.batch_snapshot.specs.lemmas.Points.{vehicle_nodes, rider_nodes}
+use Rattle.request_book.specs.lemmas.Points.{vehicle_nodes, rider_nodes}
 
 in_flat_map : {X : Type 0} (f : X → List ℕ) (xs : List X) (k : ℕ) (d : X) (y : ℕ) → k < length xs → Contains (f (get_or xs k d)) y → Contains (flat_map f xs) y
 in_flat_map f [] k d y h c = absurd (omega arith)

@@ -1,7 +1,7 @@
 -- When the outcome of a batch is good.
 use Rattle.std.specs.Prelude.{◌≡◌, ℕ, List, map}
-use Rattle.batch_snapshot.specs.Batch.{Batch}
-use Rattle.batch_snapshot.specs.Points.{ArePoints}
+use Rattle.request_book.specs.Batch.{Batch}
+use Rattle.request_book.specs.Points.{ArePoints}
 use Rattle.trip_graph.specs.RrGraph.{IsRrGraph}
 use Rattle.trip_graph.specs.RvGraph.{IsRvGraph}
 use Rattle.trip_graph.specs.declared.rv_edge.RvEdge.{RvEdge}

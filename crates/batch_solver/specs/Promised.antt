@@ -1,7 +1,7 @@
 use Rattle.std.specs.Prelude.{◌==◌, ℕ, ◌+◌, ◌≤◌, false, List, length, map, min, filter, slice_index_or}
 use Rattle.std.specs.Option.{option_map_or}
 use Rattle.std.specs.List.{range_with_len}
-use Rattle.batch_snapshot.specs.declared.rider.Rider.{Rider}
+use Rattle.request_book.specs.declared.batch_rider.Rider.{Rider}
 use Rattle.stop_orders.specs.declared.settled_rider.SettledRider.{SettledRider}
 use Rattle.stop_orders.specs.declared.settled_vehicle.SettledVehicle.{SettledVehicle}
 use Rattle.stop_orders.specs.Task.{IsServable}

@@ -1,6 +1,6 @@
 use Rattle.std.specs.Prelude.{◌≡◌, ℕ, ◌+◌, List, nat_lt, Some, None, if◌then◌else◌, slice_get, slice_index_or}
 use Rattle.pool_base.specs.TravelTime.{never}
-use Rattle.batch_snapshot.specs.declared.rider.Rider.{Rider}
+use Rattle.request_book.specs.declared.batch_rider.Rider.{Rider}
 use Rattle.stop_orders.specs.declared.leg.Leg.{Leg}
 use Rattle.rider_limits.specs.declared.settings.Settings.{Settings}
 

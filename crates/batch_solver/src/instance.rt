@@ -1,7 +1,7 @@
 ghost use Rattle.std.specs.Prelude.{◌≡◌, length};
 ghost use Rattle.pool_base.specs.Times.{point_count};
 
-use batch_snapshot::Points;
+use request_book::Points;
 use plan_rules::TripGraph;
 use pool_base::Times;
 use rider_limits::Settings;

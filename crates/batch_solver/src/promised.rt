@@ -3,7 +3,7 @@ ghost use Rattle.batch_solver.specs.Promised.{promised_to};
 ghost use Rattle.batch_solver.specs.lemmas.NamedPromises.{is_promised_to};
 
 use arrayvec::ArrayVec;
-use batch_snapshot::Rider;
+use request_book::Rider;
 use pool_base::VehicleId;
 
 /// The numbers of the riders whose promise names the vehicle; `None` where they are more than `most`.

@@ -6,7 +6,7 @@ ghost use Rattle.batch_solver.specs.Requests.{IsLegOf};
 ghost use Rattle.batch_solver.specs.lemmas.NamedPromises.{ideal_second};
 ghost use Rattle.batch_solver.specs.work.Requests.{IsPlain, ArePlain, IsBetweenPlaces};
 
-use batch_snapshot::{Points, Rider};
+use request_book::{Points, Rider};
 use pool_base::{NodeId, OutOfMemory, Party, Second, Times};
 use rider_limits::Settings;
 use std::alloc::Global;

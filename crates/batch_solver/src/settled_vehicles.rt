@@ -1,7 +1,7 @@
 ghost use Rattle.std.specs.Prelude.{◌≡◌, ℕ, ◌+◌, ◌<◌, ◌≤◌, ◌⊎◌, [], All, Contains, IfOk, MatchBool, Some, length, map, slice_get, sum_by, slice_index_or};
 ghost use Rattle.pool_base.specs.Times.{point_count, travel_time};
-ghost use Rattle.batch_snapshot.specs.Vehicle.{HasSeats};
-ghost use Rattle.batch_snapshot.specs.declared.passenger.Passenger.{Passenger};
+ghost use Rattle.request_book.specs.Vehicle.{HasSeats};
+ghost use Rattle.request_book.specs.declared.passenger.Passenger.{Passenger};
 ghost use Rattle.stop_orders.specs.Task.{IsLeg, IsTask, IsServable, leg_at, persons};
 ghost use Rattle.stop_orders.specs.Settled.{no_rider, vehicle_task};
 ghost use Rattle.stop_orders.specs.Sound.{IsShort};
@@ -16,7 +16,7 @@ use crate::promised::riders_promised_to;
 use crate::requests::{leg_of, place_of};
 use crate::serving::can_serve;
 use arrayvec::ArrayVec;
-use batch_snapshot::{Passenger, Points, Rider, Vehicle};
+use request_book::{Passenger, Points, Rider, Vehicle};
 use pool_base::{OutOfMemory, RiderId, Second, Times};
 use rider_limits::Settings;
 use std::alloc::Global;

@@ -1,6 +1,6 @@
 ghost use Rattle.std.specs.Prelude.{◌≡◌, ◌≤◌, IfOk, length, map};
 ghost use Rattle.pool_base.specs.Times.{point_count, travel_time};
-ghost use Rattle.batch_snapshot.specs.Points.{ArePoints};
+ghost use Rattle.request_book.specs.Points.{ArePoints};
 ghost use Rattle.stop_orders.specs.Settled.{greatest};
 ghost use Rattle.stop_orders.specs.Sound.{IsSound};
 ghost use Rattle.batch_solver.specs.Settling.{IsSettled};
@@ -8,7 +8,7 @@ ghost use Rattle.batch_solver.specs.Settling.{IsSettled};
 use crate::kept_riders::riders_as_promised;
 use crate::requests::plain_riders;
 use crate::settled_vehicles::{Basis, settled_vehicles};
-use batch_snapshot::{Points, Snapshot, Vehicle};
+use request_book::{Points, Snapshot, Vehicle};
 use pool_base::{OutOfMemory, Times};
 use rider_limits::Settings;
 use std::alloc::Global;

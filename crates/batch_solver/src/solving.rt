@@ -1,5 +1,5 @@
 ghost use Rattle.std.specs.Prelude.{◌≡◌, All, Contains, IfOk, OnOk};
-ghost use Rattle.batch_snapshot.specs.Points.{named_nodes};
+ghost use Rattle.request_book.specs.Points.{named_nodes};
 ghost use Rattle.plan_rules.specs.Plan.{IsLawful};
 ghost use Rattle.pool_base.specs.Times.{travel_time};
 ghost use Rattle.batch_solver.specs.Instance.{AreExact, HasSoundLimits, posed_by};
@@ -14,7 +14,7 @@ use crate::moves::move_lines;
 use crate::settling::settle;
 use crate::trips::chosen_trips;
 use assignment_search::{Found, search_by};
-use batch_snapshot::Snapshot;
+use request_book::Snapshot;
 use plan_rules::Tree;
 use pool_base::{OutOfMemory, Sequence};
 use request_book::{Answer, Outcome, Planned};

@@ -5,7 +5,7 @@ pub use Rattle.std.proofs.lemmas.List.{drop_all, get_or-map, get_or-replicate, g
 pub use Rattle.std.proofs.lemmas.List.Elements.{All-append, All-cons, All-nil, All-weaker, filter-append}
 pub use Rattle.std.proofs.lemmas.Result.{IfOk-weaker, on_err_weaker, on_ok_weaker}
 pub use Rattle.std.specs.List.{AllByRecursion, AllZip, enumerate_from}
-pub use Rattle.batch_snapshot.specs.Batch.{Batch}
+pub use Rattle.request_book.specs.Batch.{Batch}
 pub use Rattle.batch_solver.specs.Outcome.{IsGoodOutcome}
 unfoldable pub use Rattle.dispatch_engine.specs.Lane.{ClosesAreGood}
 pub use Rattle.dispatch_engine.specs.Lane.{HasGained, HasRun, IsCloseOf, IsGoodClose, IsGoodFor, IsLaneBeginning, IsLaneRun, IsLaneRunFrom, LaneClosesAreGood, last_sealed, of_lane}

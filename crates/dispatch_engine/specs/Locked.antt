@@ -1,7 +1,7 @@
 -- A book as the lock plays it: the calls in its journal, each with its reply and the batch that it sealed.
 use Rattle.std.specs.Prelude.{◌≡◌, ℕ, false, List, [], ◌∷◌, All, Option, None, Some, option_map}
-use Rattle.batch_snapshot.specs.Batch.{Batch}
-use Rattle.batch_snapshot.specs.Points.{named_nodes}
+use Rattle.request_book.specs.Batch.{Batch}
+use Rattle.request_book.specs.Points.{named_nodes}
 use Rattle.request_book.specs.Book.{BookView, is_light, would_seal}
 use Rattle.request_book.specs.Consistent.{IsNode}
 use Rattle.request_book.specs.Step.{step}

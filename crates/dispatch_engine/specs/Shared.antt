@@ -1,6 +1,6 @@
 -- What lanes know of the book that they share.
 use Rattle.std.specs.Prelude.{◌≡◌, ℕ, ◌+◌, ◌<◌, ◌≤◌, ◌==◌, List, [], ◌∷◌, ◌++◌, length, All, Option, slice_index_or, sum_by, count_by, nat_lt, if◌then◌else◌}
-use Rattle.batch_snapshot.specs.Batch.{Batch}
+use Rattle.request_book.specs.Batch.{Batch}
 use Rattle.request_book.specs.Book.{BookView}
 use Rattle.request_book.specs.Replay.{state_after, RepliesAreSteps}
 use Rattle.request_book.specs.declared.command.Command.{Command}

@@ -3,7 +3,7 @@ ghost use Rattle.std.specs.Prelude.{◌≡◌, ◌^◌, ◌<◌, IfOk, IsOk, IsT
 ghost use Rattle.request_book.specs.Book.{IsBook, is_light};
 ghost use Rattle.dispatch_engine.specs.Locked.{snapshot_before};
 
-use batch_snapshot::Snapshot;
+use request_book::Snapshot;
 use pool_base::{NodeId, OutOfMemory, Sequence};
 use request_book::{Book, Command, Entry, Reply, State};
 use seat_lock::Logged;

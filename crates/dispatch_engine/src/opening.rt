@@ -2,7 +2,7 @@ ghost use Rattle.std.specs.Prelude.{◌≡◌, [], All, IfOk};
 ghost use Rattle.request_book.specs.Book.{opening};
 ghost use Rattle.request_book.specs.Consistent.{IsNode};
 
-use batch_snapshot::{Fleet, copied_vehicles};
+use request_book::{Fleet, copied_vehicles};
 use pool_base::OutOfMemory;
 use request_book::Book;
 use road_network::Network;

@@ -6,7 +6,7 @@ ghost use Rattle.seat_lock.specs.Values.{AreAllPasses, IsNew, IsPassOf};
 ghost use Rattle.dispatch_engine.specs.Shared.{with_snapshot, HasCalled, HasCalledSome, IsFinished, IsSamePass};
 
 use crate::locked::{LockedBook, LockedReply};
-use batch_snapshot::Snapshot;
+use request_book::Snapshot;
 use pool_base::{OutOfMemory, Second};
 use request_book::{Book, Command, Reply, rounds_join};
 use seat_lock::{Played, Refused, SeatLock};

@@ -9,7 +9,7 @@ use crate::block::{write_number, write_words};
 use crate::fault::ReportFault;
 use crate::lines::{Line, write_item, write_rest};
 use crate::words::put_numbered;
-use batch_snapshot::Fleet;
+use request_book::Fleet;
 use pool_base::{OutOfMemory, put_bytes};
 use pool_io::Sink;
 use rider_limits::Settings;

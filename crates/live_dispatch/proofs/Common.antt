@@ -6,7 +6,7 @@ pub use Rattle.std.proofs.lemmas.Bool.Decides.{nat_tests}
 pub use Rattle.std.proofs.lemmas.List.{get_or_past, map-append}
 pub use Rattle.std.proofs.lemmas.List.Elements.{All-head, All-nil, All-push, All-same, All-tail, All-weaker, filter-append}
 pub use Rattle.std.specs.Io.KnownBytes.{Appends}
-pub use Rattle.batch_snapshot.specs.Batch.{Batch}
+pub use Rattle.request_book.specs.Batch.{Batch}
 pub use Rattle.dispatch_engine.proofs.lemmas.LaneLemmas.{IsInZero, closes-join, each-told, ends-closed}
 pub use Rattle.dispatch_engine.proofs.lemmas.RunLemmas.{begun-next, filter-mapped, position-more, run-append, run-more, snapshot-known, state-more}
 pub use Rattle.dispatch_engine.proofs.lemmas.StandLemmas.{stands-plain}

@@ -26,7 +26,7 @@ use Rattle.dispatch_report.specs.Lines.{lines_text}
 use Rattle.dispatch_report.specs.Round.{entries_lines, entry_text}
 use Rattle.dispatch_report.specs.declared.fault.ReportFault.{ReportFault}
 use Rattle.dispatch_report.specs.declared.fault.ReportFault.TheVariants.{WriteFault}
-use Rattle.batch_snapshot.specs.Batch.{Batch}
+use Rattle.request_book.specs.Batch.{Batch}
 use Rattle.dispatch_engine.specs.declared.locked.LockedReply.{LockedReply}
 use Rattle.live_dispatch.proofs.lemmas.EntryLemmas.{entries-append, notices-append, one-notices, one-text}
 use Rattle.live_dispatch.specs.work.Telling.{TellsClose, WroteLast, is_closed}

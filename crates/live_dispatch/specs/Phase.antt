@@ -1,7 +1,7 @@
 -- What the two threads do while a batch is open.
 use Rattle.live_dispatch.specs.Desk.{desk_root, pass_of, DeskView, IsDesk, Outputs}
 use Rattle.std.specs.Prelude.{◌≡◌, ◌≢◌, ℕ, ◌≤◌, ◌==◌, Bool, true, false, filter, List, [], ◌∷◌, ◌++◌, map, Option, None, Some, All, ⊤}
-use Rattle.batch_snapshot.specs.Batch.{Batch}
+use Rattle.request_book.specs.Batch.{Batch}
 use Rattle.pool_io.specs.Faults.{Rose}
 use Rattle.batch_solver.specs.Outcome.{IsGoodOutcome}
 use Rattle.request_book.specs.declared.command.Command.TheVariants.{Close}

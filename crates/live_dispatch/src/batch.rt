@@ -1,7 +1,7 @@
 //! A batch from its seal to its close.
 ghost use Rattle.std.specs.Prelude.{◌≡◌, ℕ, All, Contains, IfOk, MatchResult};
-ghost use Rattle.batch_snapshot.specs.Batch.{Batch};
-ghost use Rattle.batch_snapshot.specs.Points.{named_nodes};
+ghost use Rattle.request_book.specs.Batch.{Batch};
+ghost use Rattle.request_book.specs.Points.{named_nodes};
 ghost use Rattle.live_dispatch.specs.Phase.{FaultsFrom, IsHeldBack};
 ghost use Rattle.live_dispatch.specs.Desk.{outputs_seen};
 ghost use Rattle.script_rows.specs.declared.line.Line.{Line};
@@ -12,7 +12,7 @@ use crate::fault::{LiveFault, fault_of_text};
 use crate::live_run::{Dispatched, LiveRun, end, stop};
 use crate::read_on::Halt;
 use crate::run::{OpenBatch, Opened, Unopened, run_open};
-use batch_snapshot::Snapshot;
+use request_book::Snapshot;
 use dispatch_engine::Setup;
 use dispatch_report::ReportFault;
 use pool_base::OutOfMemory;

@@ -1,10 +1,10 @@
 ghost use Rattle.std.specs.Prelude.{◌≡◌, [], All, Contains};
-ghost use Rattle.batch_snapshot.specs.Points.{named_nodes};
+ghost use Rattle.request_book.specs.Points.{named_nodes};
 ghost use Rattle.seat_lock.specs.Values.{IsPassOf};
 ghost use Rattle.live_dispatch.specs.Phase.{ClosesBatch, commands_in};
 
 use crate::desk::{Desk, LaneCommand, Opening};
-use batch_snapshot::Snapshot;
+use request_book::Snapshot;
 use batch_solver::solve_batch;
 use dispatch_engine::Setup;
 use pool_io::Sink;

@@ -9,7 +9,7 @@ ghost use Rattle.dispatch_report.specs.Round.{entry_text};
 ghost use Rattle.live_dispatch.specs.Desk.{IsDesk, DeskView, HasEntered, IsSameDesk, desk_of, outputs_seen};
 ghost use Rattle.live_dispatch.specs.work.Telling.{TellsClose, WroteLast, is_closed};
 
-use batch_snapshot::Snapshot as Sealed;
+use request_book::Snapshot as Sealed;
 use dispatch_engine::{LockedReply, sealed_by_command};
 use dispatch_report::{ReportFault, write_step};
 use pool_base::{NodeId, OutOfMemory, Sequence};

@@ -1,13 +1,13 @@
 ghost use Rattle.std.specs.Prelude.{◌≡◌, ◌<◌, [], ◌∷◌, All, Contains, vec_capacity};
 ghost use Rattle.live_dispatch.specs.Desk.{desk_log, desk_root};
-ghost use Rattle.batch_snapshot.specs.Points.{named_nodes};
+ghost use Rattle.request_book.specs.Points.{named_nodes};
 ghost use Rattle.seat_lock.specs.Values.{AreAllPasses, GainsCalls, IsNew, IsPassOf};
 ghost use Rattle.live_dispatch.specs.Phase.{ClosesBatch, FaultsFrom, IsHeldBack, RanRows, TakesRun, commands_in};
 
 use crate::close::close_batch;
 use crate::desk::{Desk, Opening};
 use crate::read_on::{Halt, read_on};
-use batch_snapshot::Snapshot;
+use request_book::Snapshot;
 use dispatch_engine::Setup;
 use pool_io::Sink;
 use request_book::Notifier;

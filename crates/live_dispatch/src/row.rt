@@ -8,7 +8,7 @@ ghost use Rattle.request_book.specs.declared.journal.Entry.{Entry};
 ghost use Rattle.live_dispatch.specs.work.Rows.{start_text};
 ghost use Rattle.live_dispatch.specs.work.Standing.{HasTaken, WritesSome, entry_for, row_text};
 
-use batch_snapshot::Snapshot;
+use request_book::Snapshot;
 use dispatch_engine::sealed_by_command;
 use dispatch_report::{ReportFault, write_round_start, write_step};
 use pool_base::OutOfMemory;

@@ -1,6 +1,6 @@
 //! A batch that is open, from a book and a sink to a book and a sink.
 ghost use Rattle.std.specs.Prelude.{◌≡◌, ◌<◌, ◌^◌, [], All, Contains, IfOk, IfErr};
-ghost use Rattle.batch_snapshot.specs.Points.{named_nodes};
+ghost use Rattle.request_book.specs.Points.{named_nodes};
 ghost use Rattle.live_dispatch.specs.Desk.{desk_of, outputs_seen};
 ghost use Rattle.request_book.specs.Seen.{notifiers_seen};
 ghost use Rattle.live_dispatch.specs.Phase.{FaultsFrom, HasRunOpen, IsHeldBack, desk_after};
@@ -8,7 +8,7 @@ ghost use Rattle.live_dispatch.specs.Phase.{FaultsFrom, HasRunOpen, IsHeldBack, 
 use crate::desk::{Desk, Opening};
 use crate::open::{Reading, finish, two_of, work_both};
 use crate::read_on::Halt;
-use batch_snapshot::Snapshot;
+use request_book::Snapshot;
 use dispatch_engine::Setup;
 use dispatch_report::ReportFault;
 use pool_io::Sink;

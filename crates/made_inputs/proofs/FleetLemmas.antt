@@ -4,7 +4,7 @@ use Rattle.std.specs.List.Sorted.{IsStrictlyIncreasing}
 use Rattle.std.proofs.lemmas.Bool.{le-ltb, ne_eqb}
 use Rattle.std.proofs.lemmas.List.{get_or-take, length-take-le}
 use Rattle.std.proofs.Math.Nat.{mul-le-mul}
-use Rattle.batch_snapshot.specs.declared.vehicle.Vehicle.{Vehicle}
+use Rattle.request_book.specs.declared.vehicle.Vehicle.{Vehicle}
 use Rattle.script_rows.specs.declared.fleet_fault.FleetFault.TheVariants.{TooManyVehicles}
 use Rattle.script_rows.specs.Vehicle.{vehicle_in}
 use Rattle.script_rows.specs.lemmas.NamedFleet.{empty_vehicle, vehicle_of_row}

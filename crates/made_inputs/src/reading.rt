@@ -7,7 +7,7 @@ ghost use Rattle.pool_io.specs.lemmas.Records.{header_fields};
 ghost use Rattle.request_book.specs.Consistent.{IsNode};
 
 use crate::made::make;
-use batch_snapshot::Fleet;
+use request_book::Fleet;
 use pool_base::OutOfMemory;
 use pool_io::{RowFault, Rows, rows};
 use rider_limits::LoadShape;

@@ -1,10 +1,10 @@
 -- The names that the proofs of this crate cite from elsewhere, passed on from one place. Declares nothing.
 pub use Rattle.assignment_search.specs.Found.{IsBestNear, IsClose, IsFair, ShowsBound, IsFairNode, IsJustified}
 pub use Rattle.assignment_search.specs.Growth.{product_below}
-pub use Rattle.batch_snapshot.proofs.lemmas.KeptLemmas.{once_apart}
-pub use Rattle.batch_snapshot.specs.Batch.{Batch}
-pub use Rattle.batch_snapshot.specs.Kept.{IsKept}
-pub use Rattle.batch_snapshot.specs.lemmas.Kept.{IsOnce, riders_aboard}
+pub use Rattle.request_book.proofs.lemmas.KeptLemmas.{once_apart}
+pub use Rattle.request_book.specs.Batch.{Batch}
+pub use Rattle.request_book.specs.Kept.{IsKept}
+pub use Rattle.request_book.specs.lemmas.Kept.{IsOnce, riders_aboard}
 pub use Rattle.batch_solver.proofs.lemmas.LeftLemmas.{kept_few}
 pub use Rattle.batch_solver.proofs.lemmas.MoveLemmas.{has_places, no_moves, none_matched, pairs_within}
 pub use Rattle.batch_solver.proofs.lemmas.TripLemmas.{valid_task, vehicle_read}

@@ -1,6 +1,6 @@
 -- What a verdict says of an outcome.
 use Rattle.std.specs.Prelude.{ℕ, ◌<◌}
-use Rattle.batch_snapshot.specs.Batch.{Batch}
+use Rattle.request_book.specs.Batch.{Batch}
 use Rattle.batch_solver.specs.Outcome.{IsOutcomeWith}
 use Rattle.batch_solver.specs.Points.{Holds}
 use Rattle.batch_solver.specs.declared.point.Point.{Point}

@@ -1,6 +1,6 @@
 //! The judge of an outcome.
 ghost use Rattle.std.specs.Prelude.{◌≡◌, ◌↔◌, ◌<◌, All, Contains, IfOk, IsTrue};
-ghost use Rattle.batch_snapshot.specs.Points.{named_nodes};
+ghost use Rattle.request_book.specs.Points.{named_nodes};
 ghost use Rattle.batch_solver.specs.Instance.{AreExact, HasSoundLimits, posed_by};
 ghost use Rattle.batch_solver.specs.Outcome.{AnswersWith, IsGoodOutcome};
 ghost use Rattle.batch_solver.specs.Points.{Holds};
@@ -22,7 +22,7 @@ use crate::plan::tells_plan;
 use crate::tight::is_close;
 use crate::trips::plan_of_trips;
 use crate::verdict::Verdict;
-use batch_snapshot::Snapshot;
+use request_book::Snapshot;
 use batch_solver::{Graphs, Instance, Point, left_riders, settle};
 use plan_rules::{Plan, TripGraph};
 use pool_base::OutOfMemory;

@@ -1,8 +1,8 @@
 //! Each law is a call with no code, whose clause is the law.
 ghost use Rattle.std.specs.Prelude.{◌≡◌, ℕ, List};
 ghost use Rattle.std.specs.List.Sorted.{IsStrictlyIncreasing};
-ghost use Rattle.batch_snapshot.specs.Batch.{Batch};
-ghost use Rattle.batch_snapshot.specs.Points.{ArePoints};
+ghost use Rattle.request_book.specs.Batch.{Batch};
+ghost use Rattle.request_book.specs.Points.{ArePoints};
 ghost use Rattle.trip_graph.specs.RrGraph.{IsRrGraph};
 ghost use Rattle.trip_graph.specs.RvGraph.{IsRvGraph};
 ghost use Rattle.trip_graph.specs.declared.rv_edge.RvEdge.{RvEdge};

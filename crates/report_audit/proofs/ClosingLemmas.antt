@@ -4,7 +4,7 @@ use Rattle.report_audit.proofs.Common.{Batch, BeginsWithGood, BookView, IsApplie
 use Rattle.std.specs.List.{All, Contains}
 use Rattle.std.proofs.lemmas.Bool.{eqb-true}
 use Rattle.std.proofs.lemmas.Map.Views.{Contains-from_any}
-use Rattle.batch_snapshot.specs.Points.{named_nodes}
+use Rattle.request_book.specs.Points.{named_nodes}
 use Rattle.request_book.specs.Consistent.{IsNode}
 use Rattle.report_audit.proofs.JournalLemmas.{close-is}
 

@@ -6,8 +6,8 @@ pub use Rattle.std.proofs.lemmas.List.Elements.{All-append, All-cons, All-contai
 pub use Rattle.std.proofs.lemmas.List.Sums.{position_or_len_is, prefix_len-le-length}
 pub use Rattle.std.proofs.lemmas.Option.{slice_get-get_or, slice_get-map}
 pub use Rattle.std.specs.List.{list_all, position, position_or_len}
-pub use Rattle.batch_snapshot.specs.Batch.{Batch}
-pub use Rattle.batch_snapshot.specs.declared.vehicle.Vehicle.{Vehicle}
+pub use Rattle.request_book.specs.Batch.{Batch}
+pub use Rattle.request_book.specs.declared.vehicle.Vehicle.{Vehicle}
 pub use Rattle.report_audit.specs.Block.{BeginsWithGood, BeginsWithWrong, MeetsAs, Refuses}
 pub use Rattle.report_audit.specs.declared.refusal.BlockRefusal.{BlockRefusal}
 pub use Rattle.dispatch_engine.proofs.lemmas.LaneLemmas.{plain-quiet}
@@ -86,7 +86,7 @@ pub use Rattle.dispatch_report.specs.declared.block_line.TripText.{TripText}
 pub use Rattle.request_book.specs.declared.outcome.RowLine.{RowLine}
 pub use Rattle.request_book.specs.declared.outcome.Answer.{Answer}
 pub use Rattle.batch_solver.specs.Outcome.{AnswersWith, HasGraphsWith, IsGoodOutcome, IsGoodPlan}
-pub use Rattle.batch_snapshot.specs.Kept.{IsKept}
+pub use Rattle.request_book.specs.Kept.{IsKept}
 pub use Rattle.outcome_check.specs.Verdict.{IsVerdictOf, Meets, point_place}
 pub use Rattle.request_book.specs.declared.outcome.Planned.{Planned}
 pub use Rattle.batch_solver.specs.declared.point.Point.{Point}

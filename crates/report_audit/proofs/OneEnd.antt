@@ -6,7 +6,7 @@ use Rattle.report_audit.proofs.lemmas.NextLemmas.{one_kind}
 use Rattle.std.specs.List.{All}
 use Rattle.std.proofs.lemmas.Bool.Decides.{nat_tests}
 use Rattle.std.proofs.lemmas.List.Elements.{All-head, All-tail}
-use Rattle.batch_snapshot.specs.Kept.{IsKept}
+use Rattle.request_book.specs.Kept.{IsKept}
 use Rattle.report_audit.proofs.lemmas.AuditLemmas.{good_is_judged, good_not_refused}
 use Rattle.dispatch_report.specs.Block.{lines_of}
 use Rattle.report_audit.specs.BlockLines.{IsBlock}

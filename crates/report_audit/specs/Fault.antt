@@ -1,7 +1,7 @@
 -- What each fault of a report means.
 use Rattle.std.specs.Prelude.{◌≡◌, ◌≢◌, ℕ, ◌+◌, ◌-◌, ◌^◌, ◌==◌, min, true, List, [], ◌++◌, length, count_by, Some}
-use Rattle.batch_snapshot.specs.Batch.{Batch}
-use Rattle.batch_snapshot.specs.declared.vehicle.Vehicle.{Vehicle}
+use Rattle.request_book.specs.Batch.{Batch}
+use Rattle.request_book.specs.declared.vehicle.Vehicle.{Vehicle}
 use Rattle.report_audit.specs.Block.{Refuses}
 use Rattle.report_audit.specs.declared.refusal.BlockRefusal.{BlockRefusal}
 use Rattle.report_audit.specs.declared.refusal.BlockRefusal.TheVariants as block

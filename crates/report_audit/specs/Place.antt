@@ -1,5 +1,5 @@
 use Rattle.std.specs.Prelude.{◌≡◌, ◌≢◌, ℕ, true, List, ◌∷◌, ◌++◌, length, codes, []}
-use Rattle.batch_snapshot.specs.declared.vehicle.Vehicle.{Vehicle}
+use Rattle.request_book.specs.declared.vehicle.Vehicle.{Vehicle}
 use Rattle.dispatch_engine.specs.Lane.{of_lane, IsLaneRun, IsLaneBeginning, ClosesAreGood}
 use Rattle.dispatch_engine.specs.Run.{IsRun, position_after_run, state_after_run}
 use Rattle.dispatch_report.specs.Entry.{entry_line}

@@ -1,6 +1,6 @@
 //! The audit of a block.
 ghost use Rattle.std.specs.Prelude.{◌≡◌, ◌≢◌, ℕ, true, All, Contains, IfOk, IfErr, List, length, min};
-ghost use Rattle.batch_snapshot.specs.Points.{named_nodes};
+ghost use Rattle.request_book.specs.Points.{named_nodes};
 ghost use Rattle.dispatch_report.specs.Block.{block_lines};
 ghost use Rattle.request_book.specs.declared.outcome.Outcome.{Outcome as OneOutcome};
 ghost use Rattle.report_audit.specs.Block.{BeginsWithGood, Refuses};
@@ -11,7 +11,7 @@ use crate::judged::outcome_of;
 use crate::refusal::{BlockRefusal, place_of, refusal_of};
 use crate::telling::untold_place;
 use crate::told::told_by;
-use batch_snapshot::Snapshot;
+use request_book::Snapshot;
 use outcome_check::judge;
 use request_book::Outcome;
 use rider_limits::Settings;

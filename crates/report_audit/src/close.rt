@@ -7,7 +7,7 @@ use crate::block::audit_block;
 use crate::line::{Between, is_entry_line};
 use crate::refusal::BlockRefusal;
 use crate::setup::AuditSetup;
-use batch_snapshot::Snapshot;
+use request_book::Snapshot;
 use pool_base::{OutOfMemory, Sequence};
 use request_book::{Answer, Book, Command, Entry, Outcome, Reply};
 use std::alloc::Global;

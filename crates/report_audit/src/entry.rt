@@ -22,7 +22,7 @@ use crate::line::{Between, is_entry_line, line_at, line_between, wrong_line};
 use crate::next::NextLine;
 use crate::refusal::BlockRefusal;
 use crate::setup::AuditSetup;
-use batch_snapshot::Snapshot;
+use request_book::Snapshot;
 use dispatch_engine::{Progress, sealed_by_command};
 use pool_base::OutOfMemory;
 use request_book::{Book, Command, Entry, Reply};

@@ -1,5 +1,5 @@
 ghost use Rattle.std.specs.Prelude.{◌≡◌, ◌≢◌, ℕ, List};
-ghost use Rattle.batch_snapshot.specs.declared.vehicle.Vehicle.{Vehicle};
+ghost use Rattle.request_book.specs.declared.vehicle.Vehicle.{Vehicle};
 ghost use Rattle.report_audit.specs.declared.refusal.BlockRefusal.TheVariants.{OutOfMemory as NoBlockMemory};
 ghost use Rattle.report_audit.specs.Fault.{FailsAt, HasFault, IsWrongBatch};
 ghost use Rattle.report_audit.specs.declared.fault.AuditFault.TheVariants.{OutOfMemory as NoMemory};

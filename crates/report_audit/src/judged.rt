@@ -7,7 +7,7 @@ ghost use Rattle.report_audit.specs.work.Told.{told_in};
 use crate::dispatch_report::{BlockLine, LateText, RowText, TripText};
 use crate::told::BlockTold;
 use arrayvec::ArrayVec;
-use batch_snapshot::Vehicle;
+use request_book::Vehicle;
 use plan_rules::{Multipliers, Node, Tree};
 use pool_base::{OutOfMemory, RiderId, Sequence, VehicleId};
 use request_book::{Answer, ChosenTrip, LateVehicle, Outcome, Planned, PlannedStop, RowLine};

@@ -1,7 +1,7 @@
 //! Laws of blocks that are judged: each is a call with no code, whose clause is the law.
 ghost use Rattle.std.specs.Prelude.{◌≡◌, ◌≢◌, ℕ, ◌<◌, ◌≤◌, IfSome, List, Contains, length, true};
-ghost use Rattle.batch_snapshot.specs.Batch.{Batch};
-ghost use Rattle.batch_snapshot.specs.Kept.{IsKept};
+ghost use Rattle.request_book.specs.Batch.{Batch};
+ghost use Rattle.request_book.specs.Kept.{IsKept};
 ghost use Rattle.dispatch_report.specs.Block.{lines_of};
 ghost use Rattle.dispatch_report.specs.declared.block_line.BlockLine.TheVariants.{Late, Row, Trip};
 ghost use Rattle.dispatch_report.specs.declared.block_line.LateText.{LateText};

@@ -14,7 +14,7 @@ use crate::line::{behind_line, nothing_behind};
 use crate::next::NextLine;
 use crate::round::audit_round;
 use crate::setup::AuditSetup;
-use batch_snapshot::Fleet;
+use request_book::Fleet;
 use dispatch_engine::opened_book;
 use request_book::Book;
 use road_network::Network;

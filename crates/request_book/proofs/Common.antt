@@ -8,27 +8,27 @@ pub use Rattle.std.proofs.lemmas.List.Sorted.{answers_always, searchable_from_so
 pub use Rattle.std.proofs.lemmas.List.Sums.{sum_by-cons, sum_by_push}
 pub use Rattle.std.specs.List.{cons_option, list_any}
 pub use Rattle.std.specs.List.Sorted.{IsBinarySearchResult, IsSearchInRange, IsStrictlyIncreasing}
-pub use Rattle.batch_snapshot.specs.Batch.{Batch}
-pub use Rattle.batch_snapshot.specs.Kept.{IsFleet, IsKept}
-pub use Rattle.batch_snapshot.specs.lemmas.Kept.{riders_aboard}
-pub use Rattle.batch_snapshot.specs.Vehicle.{HasSeats, persons_aboard}
-pub use Rattle.batch_snapshot.specs.declared.passenger.Passenger.{Passenger}
-pub use Rattle.batch_snapshot.specs.declared.rider.Rider.{Rider}
-pub use Rattle.batch_snapshot.specs.declared.vehicle.Vehicle.{Vehicle}
+pub use Rattle.request_book.specs.Batch.{Batch}
+pub use Rattle.request_book.specs.Kept.{IsFleet, IsKept}
+pub use Rattle.request_book.specs.lemmas.Kept.{riders_aboard}
+pub use Rattle.request_book.specs.Vehicle.{HasSeats, persons_aboard}
+pub use Rattle.request_book.specs.declared.passenger.Passenger.{Passenger}
+pub use Rattle.request_book.specs.declared.batch_rider.Rider.{Rider}
+pub use Rattle.request_book.specs.declared.vehicle.Vehicle.{Vehicle}
 pub use Rattle.pool_base.specs.declared.memory.OutOfMemory.{OutOfMemory}
 pub use Rattle.pool_io.specs.Faults.{one_more}
 pub use Rattle.request_book.specs.Book.{BookView, IsBook, next_position, opening, would_seal}
 unfoldable pub use Rattle.request_book.specs.Closing.{picks}
-unfoldable pub use Rattle.request_book.specs.lemmas.Closing.{trip_picks, after_answer, closed_state}
 pub use Rattle.request_book.specs.Closing.{Pick, after_plan}
+unfoldable pub use Rattle.request_book.specs.lemmas.Closing.{after_answer, closed_state, trip_picks}
 pub use Rattle.request_book.specs.Consistent.{AreConsistent, IsConsistent, IsNode, IsPassenger, NamesNodes, seat_in, status_in}
 unfoldable pub use Rattle.request_book.specs.Keyed.{AllAbove, KeysDiffer, KeysRise, by_key, changed_at, look_up, placed}
 unfoldable pub use Rattle.request_book.specs.lemmas.Keyed.{without}
 unfoldable pub use Rattle.request_book.specs.Replay.{RepliesAreSteps, state_after}
 pub use Rattle.request_book.specs.Rider.{is_active, passenger_of, vehicle_of, with_status}
-pub use Rattle.request_book.specs.lemmas.Named.{pool_count, asking, in_batch, lets_out, planned_status, stands_at, takes_in}
-unfoldable pub use Rattle.request_book.specs.Sealing.{batch_of}
 unfoldable pub use Rattle.request_book.specs.lemmas.Named.{sealed_state}
+pub use Rattle.request_book.specs.lemmas.Named.{asking, in_batch, lets_out, planned_status, pool_count, stands_at, takes_in}
+unfoldable pub use Rattle.request_book.specs.Sealing.{batch_of}
 pub use Rattle.request_book.specs.Sealing.{after_seal, is_over}
 pub use Rattle.request_book.specs.State.{find_passenger, find_rider, find_vehicle}
 unfoldable pub use Rattle.request_book.specs.Step.{cancel, close, dropoff, pickup, report, seal, step, submit}

@@ -11,3 +11,4 @@ pub mod LawLemmas
 pub mod StepTable
 pub mod BookLemmas
 pub mod HeardLemmas
+pub mod KeptLemmas

@@ -1,7 +1,7 @@
 use Rattle.std.specs.Prelude.{ℕ, ◌&&◌, List, Some, None, option_map, unwrap_or, is_some, if◌then◌else◌}
 use Rattle.std.specs.List.{flat_map, filter_map}
-use Rattle.batch_snapshot.specs.declared.promise.Promise.{Promise}
-use Rattle.batch_snapshot.specs.declared.rider.Rider.{Rider}
+use Rattle.request_book.specs.declared.promise.Promise.{Promise}
+use Rattle.request_book.specs.declared.batch_rider.Rider.{Rider}
 use Rattle.request_book.specs.declared.outcome.ChosenTrip.{ChosenTrip}
 use Rattle.request_book.specs.declared.rider.BookRider.{BookRider}
 use Rattle.request_book.specs.declared.rider.Status.TheVariants.{Waiting, Promised}

@@ -1,10 +1,10 @@
 use Rattle.std.specs.Prelude.{◌≡◌, ℕ, ◌≤◌, ◌==◌, true, List, length, Option, None, Some, option_and_then, if◌then◌else◌, is_some, option_map, count_by}
 use Rattle.std.specs.List.{All}
-use Rattle.batch_snapshot.specs.Batch.{Batch}
-use Rattle.batch_snapshot.specs.Points.{named_nodes}
-use Rattle.batch_snapshot.specs.Vehicle.{HasSeats}
-use Rattle.batch_snapshot.specs.declared.vehicle.Vehicle.{Vehicle}
-use Rattle.batch_snapshot.specs.declared.passenger.Passenger.{Passenger}
+use Rattle.request_book.specs.Batch.{Batch}
+use Rattle.request_book.specs.Points.{named_nodes}
+use Rattle.request_book.specs.Vehicle.{HasSeats}
+use Rattle.request_book.specs.declared.vehicle.Vehicle.{Vehicle}
+use Rattle.request_book.specs.declared.passenger.Passenger.{Passenger}
 use Rattle.request_book.specs.declared.rider.BookRider.{BookRider}
 use Rattle.request_book.specs.declared.rider.Status.{Status}
 use Rattle.request_book.specs.declared.state.State.{State}

@@ -14,3 +14,7 @@ pub mod Told
 pub mod Seen
 pub mod Steady
 pub mod Notices
+pub mod Vehicle
+pub mod Batch
+pub mod Kept
+pub mod Points

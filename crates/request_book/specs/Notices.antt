@@ -1,7 +1,7 @@
 -- The notices of a journal.
 use Rattle.std.specs.Prelude.{ℕ, Bool, true, false, if◌then◌else◌, ◌==◌, ◌&&◌, not, List, [], ◌∷◌, ◌++◌, Option, map, filter, find, option_map, unwrap_or}
 use Rattle.std.specs.Option.{option_map_or}
-use Rattle.batch_snapshot.specs.Batch.{Batch}
+use Rattle.request_book.specs.Batch.{Batch}
 use Rattle.request_book.specs.Command.{closed_outcome}
 use Rattle.request_book.specs.Rider.{is_active}
 use Rattle.request_book.specs.State.{find_rider}

@@ -1,6 +1,6 @@
 use Rattle.std.specs.Prelude.{ℕ, Bool, Option, None, Some, is_some}
-use Rattle.batch_snapshot.specs.declared.passenger.Passenger.{Passenger}
-use Rattle.batch_snapshot.specs.declared.promise.Promise.{Promise}
+use Rattle.request_book.specs.declared.passenger.Passenger.{Passenger}
+use Rattle.request_book.specs.declared.promise.Promise.{Promise}
 use Rattle.request_book.specs.declared.rider.Status.{Status}
 use Rattle.request_book.specs.declared.rider.Status.TheVariants.{Waiting, Promised, Aboard}
 use Rattle.request_book.specs.declared.rider.BookRider.{BookRider}

@@ -1,7 +1,7 @@
 use Rattle.pool_io.specs.Faults.{one_more}
 use Rattle.std.specs.Prelude.{ℕ, Bool, ◌+◌, ◌&&◌, None, Some, map, option_map, nat_lt, nat_le, if◌then◌else◌}
 use Rattle.std.specs.List.{filter_map}
-use Rattle.batch_snapshot.specs.Batch.{Batch}
+use Rattle.request_book.specs.Batch.{Batch}
 use Rattle.request_book.specs.declared.rider.BookRider.{BookRider}
 use Rattle.request_book.specs.declared.rider.Status.TheVariants.{Expired}
 use Rattle.request_book.specs.declared.state.State.{State}

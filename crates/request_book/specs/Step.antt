@@ -2,8 +2,8 @@
 -- in which they stand; the first that holds is the reply, and nothing changes.
 use Rattle.std.specs.Prelude.{ℕ, ◌==◌, ◌+◌, ◌&&◌, not, List, [], ◌∷◌, ◌++◌, length, map, filter, count_by, None, Some, is_some, nat_le, nat_lt, Result, Ok, Err}
 use Rattle.std.specs.Option.{ok_or, option_map_or}
-use Rattle.batch_snapshot.specs.Vehicle.{persons_aboard}
-use Rattle.batch_snapshot.specs.declared.vehicle.Vehicle.{Vehicle}
+use Rattle.request_book.specs.Vehicle.{persons_aboard}
+use Rattle.request_book.specs.declared.vehicle.Vehicle.{Vehicle}
 use Rattle.pool_base.specs.InOrder.{◌>>=◌, refused_where}
 use Rattle.request_book.specs.declared.outcome.Answer.{Answer}
 use Rattle.request_book.specs.declared.outcome.Answer.TheVariants.{Overflow, Planned}

@@ -9,7 +9,7 @@ use crate::register::Register;
 use crate::reply::Reply;
 use crate::rider::{BookRider, Status};
 use crate::state::State;
-use batch_snapshot::{Fleet, Snapshot, Vehicle, copied_vehicles};
+use crate::{Fleet, Snapshot, Vehicle, copied_vehicles};
 use pool_base::{NodeId, Numbering, OutOfMemory, RiderId, Second, Sequence};
 use road_network::Network;
 use std::alloc::Global;

@@ -16,7 +16,7 @@ use crate::refusals::not_this_batch;
 use crate::register::Register;
 use crate::reply::Reply;
 use crate::rider::{BookRider, Status};
-use batch_snapshot::{Promise, Rider};
+use crate::{Promise, Rider};
 use pool_base::{Numbering, RiderId, VehicleId};
 
 impl Register {

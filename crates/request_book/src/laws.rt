@@ -2,9 +2,9 @@
 
 ghost use Rattle.std.specs.Prelude.{◌≡◌, ◌++◌, ◌↔◌, ℕ, List, Some};
 ghost use Rattle.std.specs.List.{All};
-ghost use Rattle.batch_snapshot.specs.Kept.{IsFleet};
-ghost use Rattle.batch_snapshot.specs.Vehicle.{HasSeats};
-ghost use Rattle.batch_snapshot.specs.declared.vehicle.Vehicle.{Vehicle};
+ghost use Rattle.request_book.specs.Kept.{IsFleet};
+ghost use Rattle.request_book.specs.Vehicle.{HasSeats};
+ghost use Rattle.request_book.specs.declared.vehicle.Vehicle.{Vehicle};
 ghost use Rattle.request_book.specs.Book.{next_position, opening};
 ghost use Rattle.request_book.specs.Consistent.{IsConsistent, IsPassenger, status_in};
 ghost use Rattle.request_book.specs.Keyed.{KeysDiffer};

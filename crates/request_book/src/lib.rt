@@ -17,6 +17,20 @@
 //! }
 //! ```
 //!
+//! A batch works on a snapshot: vehicles with their passengers, and the riders who ask, at one moment. It keeps its lists
+//! by rising id, its sizes within the limits, and each rider in one place only. `Points` are the distinct nodes that it
+//! names, by rising name; the layers above work with their places in that list.
+//!
+//! ```
+//! /// Whether a copy tells the same, and each node that is named stands once.
+//! fn copied(alloc: Global, snapshot: &Snapshot) -> Result<(bool, bool), OutOfMemory> {
+//!     let copy = snapshot.copy(alloc)?;
+//!     let points = snapshot.points(alloc)?;
+//!     let once = points.nodes() == [node(7), node(9)].as_slice();
+//!     Ok((copy.same(snapshot), once))
+//! }
+//! ```
+//!
 //! Notices tell riders who is promised which vehicle and when, and who is in no trip. Those of a journal
 //! are read off by a replay, those of a close off the book before it. The caller lends notifiers, of one
 //! type or in boxes; each is told the notices in order, and one that fails is dropped while the others go
@@ -24,12 +38,14 @@
 //!
 //! Main clauses: `Book::apply`: `applied`, `unchanged`, `sure`, `room`; `Book::take_round`: `journal`,
 //! `next`, `unchanged`; `notices_of`; `notices_of_close`; `tell_journal`; `tell_all`: `heard`, `dropped`;
-//! `Notifier::tell`: `told`, `fault`, `sure`.
+//! `Notifier::tell`: `told`, `fault`, `sure`; `Snapshot::points`: `points`, `most`; `Snapshot::copy`: `copy`, `kept`.
 #![tactic(auto)]
 
+mod batch_rider;
 mod book;
 mod closing;
 mod command;
+mod fleet;
 mod journal;
 mod laws;
 mod memory_notifier;
@@ -37,6 +53,9 @@ mod notice;
 mod notifier;
 mod noting;
 mod outcome;
+mod passenger;
+mod points;
+mod promise;
 mod refusals;
 mod register;
 mod replay;
@@ -45,12 +64,16 @@ mod rider;
 mod riding;
 mod running;
 mod sealing;
+mod snapshot;
 mod state;
 mod statuses;
 mod telling;
+mod vehicle;
 
+pub use batch_rider::Rider;
 pub use book::Book;
 pub use command::Command;
+pub use fleet::Fleet;
 pub use journal::{Entry, Journal};
 pub use laws::{
     passengers_are_who_is_aboard, positions_count_entries, refused_commands_change_nothing,
@@ -63,8 +86,13 @@ pub use noting::{notices_of, notices_of_close};
 pub use outcome::{
     Answer, ChosenTrip, LateVehicle, MoveLine, Outcome, Planned, PlannedStop, RowLine,
 };
+pub use passenger::Passenger;
+pub use points::Points;
+pub use promise::Promise;
 pub use replay::Replay;
 pub use reply::{BookRefusal, Reply};
 pub use rider::{BookRider, Status};
+pub use snapshot::{Snapshot, copied_vehicles};
 pub use state::State;
 pub use telling::{Told, tell_all, tell_journal};
+pub use vehicle::Vehicle;

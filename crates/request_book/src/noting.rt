@@ -15,7 +15,7 @@ use crate::replay::Replay;
 use crate::reply::Reply;
 use crate::rider::Status;
 use crate::statuses::Statuses;
-use batch_snapshot::Snapshot;
+use crate::Snapshot;
 use pool_base::{OutOfMemory, RiderId};
 use road_network::Network;
 use std::alloc::Global;

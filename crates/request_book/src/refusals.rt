@@ -1,12 +1,12 @@
 //! The refusals of the book, one function each, as the step table tells them.
 
 ghost use Rattle.std.specs.Prelude.{◌≡◌, ◌+◌, ◌<◌, ◌≤◌, ◌*◌, Option, Some, None, nat_le, length, sum_by, IfNone, if◌then◌else◌};
-ghost use Rattle.batch_snapshot.specs.Vehicle.{persons_aboard};
+ghost use Rattle.request_book.specs.Vehicle.{persons_aboard};
 ghost use Rattle.request_book.specs.lemmas.Refusals.{first_of, duplicate_rider, unknown_node, same_place, aboard_refusal, ended_refusal, promise_refusal, seat_refusal, time_back, vehicle_full, batch_open, clock_back, not_this_batch};
 
 use crate::reply::BookRefusal;
 use crate::rider::{BookRider, Status};
-use batch_snapshot::{Passenger, Snapshot, Vehicle};
+use crate::{Passenger, Snapshot, Vehicle};
 use pool_base::{NodeId, Numbering, Party, Second, VehicleId};
 
 /// How many riders may wait or have a promise.

@@ -9,7 +9,7 @@ use crate::register::Register;
 use crate::reply::Reply;
 use crate::rider::Status;
 use crate::state::State;
-use batch_snapshot::Snapshot;
+use crate::Snapshot;
 use pool_base::{NodeId, Numbering, OutOfMemory, RiderId};
 use road_network::Network;
 use std::alloc::Global;

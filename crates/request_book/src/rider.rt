@@ -1,4 +1,4 @@
-use batch_snapshot::Promise;
+use crate::Promise;
 use pool_base::{NodeId, Party, RiderId, Second, VehicleId};
 
 /// Where a rider's request stands.

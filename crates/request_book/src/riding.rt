@@ -2,7 +2,7 @@
 
 ghost use Rattle.std.specs.Prelude.{◌≡◌, ◌==◌, ◌+◌, ◌<◌, ◌≤◌, ◌++◌, ◌∷◌, [], ℕ, Some, None, true, false, length, option_and_then, MatchOption, All, slice_index_or, vec_len, vec_capacity};
 ghost use Rattle.std.specs.List.{list_any};
-ghost use Rattle.batch_snapshot.specs.Vehicle.{HasSeats};
+ghost use Rattle.request_book.specs.Vehicle.{HasSeats};
 ghost use Rattle.request_book.specs.Keyed.{look_up, changed_at, placed, KeysRise, KeysDiffer};
 ghost use Rattle.request_book.specs.lemmas.Keyed.{without};
 ghost use Rattle.request_book.specs.work.Register.{state_of, IsIndexed, HasRoom};
@@ -20,7 +20,7 @@ use crate::refusals::{
 use crate::register::{Register, add, change_status};
 use crate::reply::{BookRefusal, Reply};
 use crate::rider::{BookRider, Status};
-use batch_snapshot::{Passenger, Vehicle};
+use crate::{Passenger, Vehicle};
 use pool_base::{NodeId, Numbering, RiderId, Second, VehicleId};
 
 impl Register {

@@ -15,7 +15,7 @@ use crate::register::Register;
 use crate::reply::Reply;
 use crate::rider::{BookRider, Status};
 use crate::state::State;
-use batch_snapshot::{Snapshot, Vehicle, copied_vehicles};
+use crate::{Snapshot, Vehicle, copied_vehicles};
 use pool_base::{NodeId, Numbering, OutOfMemory, RiderId, Sequence, VehicleId};
 use std::alloc::Global;
 

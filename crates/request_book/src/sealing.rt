@@ -19,7 +19,7 @@ use crate::refusals::{POOL, batch_open, clock_back, first_of};
 use crate::register::{Register, change_status};
 use crate::reply::{BookRefusal, Reply};
 use crate::rider::{BookRider, Status};
-use batch_snapshot::{Promise, Rider, Snapshot, copied_vehicles};
+use crate::{Promise, Rider, Snapshot, copied_vehicles};
 use pool_base::{Numbering, OutOfMemory, RiderId, Second, Sequence};
 use std::alloc::Global;
 

@@ -1,5 +1,5 @@
 use crate::rider::BookRider;
-use batch_snapshot::{Snapshot, Vehicle};
+use crate::{Snapshot, Vehicle};
 use pool_base::{Second, Sequence};
 
 /// All riders and vehicles of a book at one moment.

@@ -1,7 +1,7 @@
 -- A call of `live`: what is seen of it, how it ends, and what stands then.
 use Rattle.std.specs.Prelude.{◌≡◌, ℕ, List, [], ◌∷◌, ◌++◌, Option, Some, None, Ok, Err, codes, is_none, length, if◌then◌else◌, ◌⊎◌}
 use Rattle.std.specs.Io.KnownBytes.{Appends}
-use Rattle.batch_snapshot.specs.declared.vehicle.Vehicle.{Vehicle}
+use Rattle.request_book.specs.declared.vehicle.Vehicle.{Vehicle}
 use Rattle.dispatch_report.specs.Head.{head_text}
 use Rattle.pool_io.specs.Views.{Change, IsUntouched, SinkView, SourceView}
 use Rattle.script_rows.specs.declared.fleet_fault.FleetFault.{FleetFault}

@@ -1,7 +1,7 @@
 -- What the bytes of the inputs give: a value, or the first refusal.
 use Rattle.std.specs.Prelude.{◌≡◌, ◌↔◌, ℕ, List, Result, Ok, Err, map, Contains}
 use Rattle.std.specs.List.Sorted.{IsStrictlyIncreasing}
-use Rattle.batch_snapshot.specs.declared.vehicle.Vehicle.{Vehicle}
+use Rattle.request_book.specs.declared.vehicle.Vehicle.{Vehicle}
 use Rattle.script_rows.specs.Fleet.{vehicles_of}
 use Rattle.script_rows.specs.declared.fleet_fault.FleetFault.{FleetFault}
 use Rattle.pool_base.specs.Header.{network_header, fleet_header, script_header, party_header}

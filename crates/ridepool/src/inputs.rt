@@ -7,7 +7,7 @@ ghost use Rattle.ridepool.specs.work.Reading.{GotInputs, ReadSources};
 
 use crate::reading::{fleet_from, network_from, script_from};
 use crate::status::RunStatus;
-use batch_snapshot::Fleet;
+use request_book::Fleet;
 use made_inputs::{MadeInputs, make_inputs};
 use pool_io::Source;
 use rider_limits::{LoadShape, Mode, Settings};

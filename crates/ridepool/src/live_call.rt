@@ -18,7 +18,7 @@ use crate::status::RunStatus;
 use crate::ways::ways_by;
 use crate::words::live_settings;
 use crate::writing::status_of;
-use batch_snapshot::Fleet;
+use request_book::Fleet;
 use dispatch_engine::{Setup, opened_book};
 use dispatch_report::write_head;
 use live_dispatch::{Dispatched, LiveFault, dispatch};

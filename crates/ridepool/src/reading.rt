@@ -13,7 +13,7 @@ ghost use Rattle.script_rows.specs.Script.{script_of};
 ghost use Rattle.script_rows.specs.Word.{columns_of};
 
 use crate::status::RunStatus;
-use batch_snapshot::Fleet;
+use request_book::Fleet;
 use pool_base::Which;
 use pool_io::{Input, ReadAll, RowFault, Rows, Source, read_all, rows};
 use road_network::{Network, NetworkFault, read_network};

@@ -16,7 +16,7 @@ use crate::held_day::{HeldDay, write_held};
 use crate::inputs::ReadInputs;
 use crate::status::RunStatus;
 use crate::ways::ways_by;
-use batch_snapshot::Fleet;
+use request_book::Fleet;
 use dispatch_engine::{Setup, opened_book, run_round};
 use dispatch_report::{
     DayCounts, ReportFault, write_day_end, write_end, write_head, write_load, write_round,

@@ -15,13 +15,13 @@ pub use Rattle.std.proofs.lemmas.Slice.Zip.{all_zipped_more, length-zip}
 unfoldable pub use Rattle.std.specs.List.{IsDistinct}
 pub use Rattle.std.specs.List.{All, AllByRecursion, AllZip, Any, filter_map, flat_map, list_any, position, position_or_len, range_with_len, sum_by, zip}
 pub use Rattle.std.specs.Option.{option_map_or, option_or}
-pub use Rattle.batch_snapshot.specs.Batch.{Batch}
-pub use Rattle.batch_snapshot.specs.Kept.{IsFleet}
-pub use Rattle.batch_snapshot.specs.Vehicle.{HasSeats, persons_aboard}
-pub use Rattle.batch_snapshot.specs.declared.passenger.Passenger.{Passenger}
-pub use Rattle.batch_snapshot.specs.declared.promise.Promise.{Promise}
-pub use Rattle.batch_snapshot.specs.declared.rider.Rider.{Rider}
-pub use Rattle.batch_snapshot.specs.declared.vehicle.Vehicle.{Vehicle}
+pub use Rattle.request_book.specs.Batch.{Batch}
+pub use Rattle.request_book.specs.Kept.{IsFleet}
+pub use Rattle.request_book.specs.Vehicle.{HasSeats, persons_aboard}
+pub use Rattle.request_book.specs.declared.passenger.Passenger.{Passenger}
+pub use Rattle.request_book.specs.declared.promise.Promise.{Promise}
+pub use Rattle.request_book.specs.declared.batch_rider.Rider.{Rider}
+pub use Rattle.request_book.specs.declared.vehicle.Vehicle.{Vehicle}
 pub use Rattle.batch_solver.specs.Outcome.{AnswersWith, HasGraphsWith, IsGoodOutcome, IsGoodPlan}
 pub use Rattle.batch_solver.specs.Told.{rider_id, told_stop}
 pub use Rattle.batch_solver.specs.Trips.{IsLate, IsTripOf}

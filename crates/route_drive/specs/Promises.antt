@@ -2,11 +2,11 @@
 use Rattle.std.specs.Prelude.{◌≡◌, ℕ, ◌+◌, ◌≤◌, false, List, [], ◌∷◌, Some, None, IfSome, All, map}
 use Rattle.pool_base.specs.Times.{travel_time}
 use Rattle.pool_base.specs.declared.times.Times.{Times}
-use Rattle.batch_snapshot.specs.Batch.{Batch}
-use Rattle.batch_snapshot.specs.Kept.{IsFleet}
-use Rattle.batch_snapshot.specs.Vehicle.{HasSeats}
-use Rattle.batch_snapshot.specs.declared.promise.Promise.{Promise}
-use Rattle.batch_snapshot.specs.declared.vehicle.Vehicle.{Vehicle}
+use Rattle.request_book.specs.Batch.{Batch}
+use Rattle.request_book.specs.Kept.{IsFleet}
+use Rattle.request_book.specs.Vehicle.{HasSeats}
+use Rattle.request_book.specs.declared.promise.Promise.{Promise}
+use Rattle.request_book.specs.declared.vehicle.Vehicle.{Vehicle}
 use Rattle.dispatch_engine.specs.Run.{state_after_run}
 use Rattle.batch_solver.specs.Settling.{IsSettled}
 use Rattle.request_book.specs.Book.{opening}

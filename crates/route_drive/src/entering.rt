@@ -12,7 +12,7 @@ ghost use Rattle.script_rows.specs.Round.{MayStand};
 
 use crate::course::{Course, NodeAt};
 use crate::places::places_at;
-use batch_snapshot::Vehicle;
+use request_book::Vehicle;
 use dispatch_engine::Setup;
 use pool_base::{NodeId, OutOfMemory, Second, VehicleId};
 use request_book::{Command, PlannedStop};

@@ -11,7 +11,7 @@ ghost use Rattle.route_drive.specs.Walk.{IsShortestWalk};
 
 use crate::course::{Course, Heading, NodeAt, Stay};
 use crate::walk::{WalkStep, shortest_walk_with};
-use batch_snapshot::Vehicle;
+use request_book::Vehicle;
 use pool_base::{NodeId, OutOfMemory, Second};
 use rayon::prelude::*;
 use request_book::PlannedStop;

@@ -9,7 +9,7 @@ ghost use Rattle.route_drive.specs.Entering.{to_come};
 use crate::course::Course;
 use crate::day::first_seal;
 use arrayvec::ArrayVec;
-use batch_snapshot::Vehicle;
+use request_book::Vehicle;
 use pool_base::{NodeId, OutOfMemory, RiderId, Second, VehicleId};
 use request_book::{Answer, BookRider, Command, Entry, Planned, PlannedStop, Reply, State};
 use script_rows::Round;

@@ -13,7 +13,7 @@ ghost use Rattle.script_rows.specs.Round.{MayStand, lane_at};
 use crate::course::Course;
 use crate::day::first_seal;
 use crate::entering::{Stopped, command_of, enter_all, put};
-use batch_snapshot::Vehicle;
+use request_book::Vehicle;
 use dispatch_engine::Setup;
 use pool_base::{OutOfMemory, Second, VehicleId};
 use request_book::{Command, PlannedStop, State};

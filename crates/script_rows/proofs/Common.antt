@@ -22,9 +22,9 @@ pub use Rattle.script_rows.specs.work.Building.{commands_of, joins, last_round}
 pub use Rattle.script_rows.specs.work.Words.{is_empty_in}
 pub use Rattle.std.proofs.lemmas.List.Edits.{get_or-insert_above, get_or-insert_at, get_or-insert_below, length-insert}
 pub use Rattle.std.proofs.lemmas.List.Folds.{Any-from_list_any, list_any-append, list_any_at, list_any_none}
-pub use Rattle.batch_snapshot.specs.Kept.{IsFleet}
-pub use Rattle.batch_snapshot.specs.Vehicle.{HasSeats}
-pub use Rattle.batch_snapshot.specs.declared.vehicle.Vehicle.{Vehicle}
+pub use Rattle.request_book.specs.Kept.{IsFleet}
+pub use Rattle.request_book.specs.Vehicle.{HasSeats}
+pub use Rattle.request_book.specs.declared.vehicle.Vehicle.{Vehicle}
 pub use Rattle.script_rows.specs.Fleet.{IsFleetOf, vehicles_of}
 unfoldable pub use Rattle.script_rows.specs.Vehicle.{vehicle_in}
 pub use Rattle.script_rows.specs.declared.fleet_fault.FleetFault.TheVariants.{Duplicate, Seats, TooManyVehicles, UnknownNode}

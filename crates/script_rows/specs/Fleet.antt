@@ -1,7 +1,7 @@
 use Rattle.std.specs.Prelude.{◌≡◌, ◌↔◌, ℕ, ◌+◌, List, [], Result, Ok, Err, length, map, take, slice_index_or, nat_lt, Contains, if◌then◌else◌}
 use Rattle.std.specs.List.Sorted.{IsStrictlyIncreasing}
 use Rattle.pool_base.specs.InOrder.{all_or_first}
-use Rattle.batch_snapshot.specs.declared.vehicle.Vehicle.{Vehicle}
+use Rattle.request_book.specs.declared.vehicle.Vehicle.{Vehicle}
 use Rattle.script_rows.specs.declared.fleet_fault.FleetFault.{FleetFault}
 use Rattle.script_rows.specs.declared.fleet_fault.FleetFault.TheVariants.{TooManyVehicles}
 use Rattle.script_rows.specs.Vehicle.{vehicle_in}

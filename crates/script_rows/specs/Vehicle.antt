@@ -2,7 +2,7 @@ use Rattle.std.specs.Prelude.{ℕ, ◌==◌, not, ◌&&◌, List, [], Result, Ok
 use Rattle.std.specs.List.{list_any}
 use Rattle.pool_base.specs.InOrder.{◌>>=◌, refused_where}
 use Rattle.pool_base.specs.Numeral.{number_in, number_at}
-use Rattle.batch_snapshot.specs.declared.vehicle.Vehicle.{Vehicle}
+use Rattle.request_book.specs.declared.vehicle.Vehicle.{Vehicle}
 use Rattle.road_network.specs.Roads.{has_node}
 use Rattle.script_rows.specs.declared.fleet_fault.FleetFault.{FleetFault}
 use Rattle.script_rows.specs.declared.fleet_fault.FleetFault.TheVariants.{Number, Seats, UnknownNode, Duplicate}

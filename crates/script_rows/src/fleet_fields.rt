@@ -7,7 +7,7 @@ ghost use Rattle.road_network.specs.Roads.{has_node};
 
 use crate::fleet_fault::FleetFault;
 use arrayvec::ArrayVec;
-use batch_snapshot::{Passenger, Vehicle};
+use request_book::{Passenger, Vehicle};
 use pool_base::{NodeId, Second, VehicleId, read_number_up_to};
 use pool_io::Rows;
 use road_network::Network;

@@ -2,7 +2,7 @@ ghost use Rattle.std.specs.Prelude.{◌≡◌, true, map, nat_lt, MatchOption};
 ghost use Rattle.std.specs.List.Sorted.{IsStrictlyIncreasing};
 ghost use Rattle.script_rows.specs.work.Place.{has_vehicle, has_id_at, IsPlaceOf};
 
-use batch_snapshot::Vehicle;
+use request_book::Vehicle;
 use pool_base::VehicleId;
 
 fn is_lower(vehicle: &Vehicle, id: VehicleId) -> bool

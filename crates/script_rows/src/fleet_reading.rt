@@ -5,7 +5,7 @@ ghost use Rattle.script_rows.specs.Fleet.{vehicles_of, IsFleetOf};
 use crate::fleet_fault::FleetFault;
 use crate::fleet_fields::read_vehicle;
 use crate::fleet_place::find_place;
-use batch_snapshot::Fleet;
+use request_book::Fleet;
 use pool_io::Rows;
 use road_network::Network;
 use std::alloc::Global;

@@ -61,7 +61,7 @@ mod start;
 mod version;
 mod word;
 
-pub use batch_snapshot::Fleet;
+pub use request_book::Fleet;
 pub use fault::ScriptFault;
 pub use fleet_fault::FleetFault;
 pub use fleet_reading::{FLEET_HEADER, read_fleet};

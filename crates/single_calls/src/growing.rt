@@ -1,13 +1,13 @@
 //! The batch on the line: a copy of it, who could ride in which vehicle, and the trips of its vehicle.
 ghost use Rattle.std.specs.Prelude.{◌≡◌, ℕ, ◌<◌, Contains, length};
 ghost use Rattle.pool_base.specs.Times.{point_count, travel_time};
-ghost use Rattle.batch_snapshot.specs.Points.{ArePoints};
+ghost use Rattle.request_book.specs.Points.{ArePoints};
 ghost use Rattle.stop_orders.specs.Settled.{IsRrEdge};
 ghost use Rattle.stop_orders.specs.Sound.{IsSound};
 
 use crate::line::{LINE, batch_on, network_of, settings};
 use crate::walking::fast;
-use batch_snapshot::{Points, Snapshot};
+use request_book::{Points, Snapshot};
 use batch_solver::settle;
 use pool_base::{OutOfMemory, Steps, Times};
 use road_network::Network;

@@ -1,5 +1,5 @@
 //! A line of five nodes, and the batch of two riders who ask for a ride on it.
-use batch_snapshot::Snapshot;
+use request_book::Snapshot;
 use pool_base::{NodeId, Party, RiderId, Second};
 use pool_io::rows;
 use request_book::{Book, Command, Reply};

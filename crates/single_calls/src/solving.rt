@@ -2,7 +2,7 @@
 ghost use Rattle.std.specs.Prelude.{◌≡◌};
 
 use crate::line::{LINE, batch_on, network_of, settings};
-use batch_snapshot::Snapshot;
+use request_book::Snapshot;
 use batch_solver::solve_batch;
 use plan_drafts::RelaxationDrafter;
 use pool_base::{NodeId, OutOfMemory, Times};

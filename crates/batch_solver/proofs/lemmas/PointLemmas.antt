@@ -1,7 +1,7 @@
 -- The points of a batch are nodes that it names.
 use Rattle.std.proofs.Common.{ℕ, List, get_or, All, Contains}
 use Rattle.batch_solver.proofs.Common.{All-contains, Contains-get_or, Batch}
-use Rattle.batch_snapshot.specs.Points.{ArePoints, named_nodes}
+use Rattle.request_book.specs.Points.{ArePoints, named_nodes}
 
 pub points_known : (b : Batch) (nodes points : List ℕ) → ArePoints b points → All (λ node. Contains nodes node) (named_nodes b) → All (λ node. Contains nodes node) points
 points_known b nodes points are known k d below =

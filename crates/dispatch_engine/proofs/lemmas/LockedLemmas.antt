@@ -1,8 +1,8 @@
 -- The calls in a book's journal, entry by entry.
 use Rattle.std.proofs.Common.{◌≡◌, ℕ, suc, false, List, [], ◌∷◌, ◌++◌, length, Option, Some, refl, sym, ap, subst, ◌∙◌, arith}
 use Rattle.std.specs.Prelude.{All, option_map}
-use Rattle.batch_snapshot.specs.Batch.{Batch}
-use Rattle.batch_snapshot.specs.Points.{named_nodes}
+use Rattle.request_book.specs.Batch.{Batch}
+use Rattle.request_book.specs.Points.{named_nodes}
 use Rattle.request_book.specs.Book.{BookView, IsApplied, IsBook, is_light}
 use Rattle.request_book.specs.Consistent.{IsNode}
 use Rattle.request_book.specs.Replay.{state_after}

@@ -4,7 +4,7 @@ use Rattle.dispatch_engine.proofs.Common.{Batch, Command, Entry, Reply, next_pos
 use Rattle.std.proofs.Math.Seq.{take-suc}
 use Rattle.std.proofs.lemmas.Bool.{eqb-true}
 use Rattle.std.proofs.lemmas.Map.Views.{Contains-from_any}
-use Rattle.batch_snapshot.specs.Points.{named_nodes}
+use Rattle.request_book.specs.Points.{named_nodes}
 use Rattle.request_book.specs.Consistent.{IsNode}
 use Rattle.dispatch_engine.specs.Locked.{Fits}
 

@@ -4,9 +4,9 @@ use Rattle.outcome_check.proofs.Common.{get_or_append_left, get_or-append_right,
 use Rattle.std.specs.List.{flat_map}
 use Rattle.std.proofs.lemmas.List.{length-append}
 use Rattle.std.proofs.lemmas.Option.{slice_get-get_or}
-use Rattle.batch_snapshot.specs.declared.passenger.Passenger.{Passenger}
-use Rattle.batch_snapshot.specs.declared.rider.Rider.{Rider}
-use Rattle.batch_snapshot.specs.declared.vehicle.Vehicle.{Vehicle}
+use Rattle.request_book.specs.declared.passenger.Passenger.{Passenger}
+use Rattle.request_book.specs.declared.batch_rider.Rider.{Rider}
+use Rattle.request_book.specs.declared.vehicle.Vehicle.{Vehicle}
 use Rattle.outcome_check.proofs.lemmas.IdleLemmas.{one_rider}
 
 -- a list stands in another one from a place on

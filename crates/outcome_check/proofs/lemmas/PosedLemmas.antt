@@ -3,7 +3,7 @@ use Rattle.std.proofs.Common.{◌≡◌, ◌↔◌, ℕ, List, map, refl, subst,
 use Rattle.outcome_check.proofs.Common.{Batch, AnswersWith, HasGraphsWith, IsGoodOutcome, IsOutcomeWith, IsGoodPlan, Holds, Posed, Point, IsRrGraph, IsRvGraph, RvEdge, Graph, travel_time, IsSettled, Answer, Planned, Settings, Roads, index_in, Settled, AreTravelTimes, IsTripGraphOf, IsVerdictOf, Meets, Verdict, Good, Fails}
 use Rattle.outcome_check.proofs.lemmas.GraphLemmas.{one_trip_graph}
 use Rattle.outcome_check.proofs.lemmas.SortedLemmas.{same_rising}
-use Rattle.batch_snapshot.specs.Points.{ArePoints}
+use Rattle.request_book.specs.Points.{ArePoints}
 use Rattle.outcome_check.proofs.lemmas.EdgeLemmas.{one_rr_graph, one_rv_graph}
 use Rattle.outcome_check.proofs.lemmas.SettledLemmas.{one_settling}
 use Rattle.outcome_check.proofs.lemmas.TableLemmas.{one_table}

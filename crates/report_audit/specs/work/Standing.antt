@@ -1,9 +1,9 @@
 -- Where an audit stands, and what it says there.
 use Rattle.std.specs.Prelude.{◌≡◌, ◌≢◌, ◌↔◌, ℕ, ◌<◌, ◌+◌, ◌-◌, ◌^◌, ◌==◌, true, false, Bool, IsTrue, List, [], ◌∷◌, ◌++◌, length, take, min, count_by, codes, decimal, Option, None, option_map}
 use Rattle.std.specs.List.{All}
-use Rattle.batch_snapshot.specs.Batch.{Batch}
-use Rattle.batch_snapshot.specs.Kept.{IsFleet}
-use Rattle.batch_snapshot.specs.declared.vehicle.Vehicle.{Vehicle}
+use Rattle.request_book.specs.Batch.{Batch}
+use Rattle.request_book.specs.Kept.{IsFleet}
+use Rattle.request_book.specs.declared.vehicle.Vehicle.{Vehicle}
 use Rattle.report_audit.specs.Block.{BeginsWithGood, Refuses}
 use Rattle.report_audit.specs.declared.refusal.BlockRefusal.{BlockRefusal}
 use Rattle.report_audit.specs.declared.refusal.BlockRefusal.TheVariants as refusal

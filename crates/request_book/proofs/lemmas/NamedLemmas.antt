@@ -3,8 +3,8 @@ use Rattle.std.proofs.lemmas.Bool.Decides.{nat_tests}
 use Rattle.std.proofs.Common.{rules, arith, ◌≡◌, ℕ, ◌&&◌, List, [], ◌∷◌, ◌++◌, map, Option, Some, None, refl, sym, ap, subst, ◌∙◌, option_and_then}
 use Rattle.request_book.proofs.Common.{first_of, cond_both, All-nil, All-cons, All-head, All-tail, All-append, All-push, All-map, All-weaker, Passenger, Rider, Vehicle, Command, Submit, Cancel, Report, Pickup, Dropoff, Seal, Close, Answer, Overflow, Planned, Accepted, Cancelled, Placed, Picked, Dropped, BookRider, Status, Aboard, Delivered, Expired, State, after_answer, after_plan, picks, in_batch, takes_in, lets_out, asking, planned_status, IsConsistent, IsNode, NamesNodes, seat_in, KeysDiffer, by_key, unknown_node, is_active, with_status, passenger_of, is_over, after_seal, batch_of, sealed_state, find_rider, find_vehicle, find_passenger, rider_becomes, vehicle_becomes, step, stands_at, picked_up, dropped_off, submit_refusal, submit_step, cancel_step, report_step, pickup_step, dropoff_step, seal_step, close_step, table_step}
 use Rattle.std.specs.List.{All, filter_map, flat_map}
-use Rattle.batch_snapshot.specs.Points.{named_nodes}
-use Rattle.batch_snapshot.specs.lemmas.Points.{vehicle_nodes, rider_nodes}
+use Rattle.request_book.specs.Points.{named_nodes}
+use Rattle.request_book.specs.lemmas.Points.{vehicle_nodes, rider_nodes}
 use Rattle.request_book.specs.declared.rider.Status.TheVariants.{Cancelled as GivenUp}
 use Rattle.request_book.proofs.lemmas.BatchLemmas.{batch-each}
 use Rattle.request_book.proofs.lemmas.ConsistentLemmas.{answer-keeps, close-keeps}

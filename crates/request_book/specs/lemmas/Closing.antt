@@ -1,6 +1,6 @@
 use Rattle.std.specs.Prelude.{ℕ, List, None, Some, map, if◌then◌else◌}
 use Rattle.std.specs.List.{filter_map}
-use Rattle.batch_snapshot.specs.declared.rider.Rider.{Rider}
+use Rattle.request_book.specs.declared.batch_rider.Rider.{Rider}
 use Rattle.request_book.specs.declared.outcome.Answer.{Answer}
 use Rattle.request_book.specs.declared.outcome.Answer.TheVariants.{Overflow, Planned}
 use Rattle.request_book.specs.declared.outcome.PlannedStop.{PlannedStop}

@@ -1,7 +1,7 @@
 use Rattle.std.specs.Prelude.{ℕ, Bool, List, Option, Some, None, count_by, is_some, map, if◌then◌else◌, ◌∷◌, ◌++◌, option_map, nat_le, unwrap_or, []}
-use Rattle.batch_snapshot.specs.declared.promise.Promise.{Promise}
-use Rattle.batch_snapshot.specs.declared.rider.Rider.{Rider}
-use Rattle.batch_snapshot.specs.declared.vehicle.Vehicle.{Vehicle}
+use Rattle.request_book.specs.declared.promise.Promise.{Promise}
+use Rattle.request_book.specs.declared.batch_rider.Rider.{Rider}
+use Rattle.request_book.specs.declared.vehicle.Vehicle.{Vehicle}
 use Rattle.request_book.specs.declared.rider.BookRider.{BookRider}
 use Rattle.request_book.specs.Keyed.{look_up}
 use Rattle.request_book.specs.Rider.{is_active, passenger_of, pool_promise}

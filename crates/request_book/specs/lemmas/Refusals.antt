@@ -1,9 +1,9 @@
 -- The refusals of the book, each exactly where it holds. What a rider or a vehicle that isn't there
 -- would answer is left to the refusal that says so.
 use Rattle.std.specs.Prelude.{ℕ, ◌==◌, ◌+◌, List, [], ◌∷◌, length, Option, None, Some, option_map, option_and_then, nat_lt, nat_le, if◌then◌else◌}
-use Rattle.batch_snapshot.specs.Batch.{Batch}
-use Rattle.batch_snapshot.specs.Vehicle.{persons_aboard}
-use Rattle.batch_snapshot.specs.declared.vehicle.Vehicle.{Vehicle}
+use Rattle.request_book.specs.Batch.{Batch}
+use Rattle.request_book.specs.Vehicle.{persons_aboard}
+use Rattle.request_book.specs.declared.vehicle.Vehicle.{Vehicle}
 use Rattle.request_book.specs.declared.reply.BookRefusal.{BookRefusal}
 use Rattle.request_book.specs.declared.reply.BookRefusal.TheVariants.{DuplicateRider, UnknownNode, SamePlace, PoolFull, BookFull, UnknownRider, IsAboard, Ended, UnknownVehicle, TimeBack, NotPromised, VehicleFull, NotAboard, BatchOpen, ClockBack, NotThisBatch}
 use Rattle.request_book.specs.declared.rider.BookRider.{BookRider}

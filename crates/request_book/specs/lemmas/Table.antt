@@ -1,7 +1,7 @@
 -- The step table as the register works it: each command's refusals as a list of those that hold, tried in its order.
 -- `step-table` (proofs/lemmas/StepTable) says that it is the step table.
 use Rattle.std.specs.Prelude.{ℕ, List, [], ◌∷◌, ◌++◌, Option, None, Some}
-use Rattle.batch_snapshot.specs.Batch.{Batch}
+use Rattle.request_book.specs.Batch.{Batch}
 use Rattle.request_book.specs.declared.outcome.Answer.{Answer}
 use Rattle.request_book.specs.declared.command.Command.{Command}
 use Rattle.request_book.specs.declared.command.Command.TheVariants.{Submit, Cancel, Report, Pickup, Dropoff, Seal, Close}

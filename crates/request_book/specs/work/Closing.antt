@@ -1,5 +1,5 @@
 use Rattle.std.specs.Prelude.{Bool, true, false, ◌&&◌, List, ◌∷◌, if◌then◌else◌, []}
-use Rattle.batch_snapshot.specs.declared.rider.Rider.{Rider}
+use Rattle.request_book.specs.declared.batch_rider.Rider.{Rider}
 use Rattle.request_book.specs.declared.rider.BookRider.{BookRider}
 use Rattle.request_book.specs.declared.rider.Status.{Status}
 use Rattle.request_book.specs.declared.rider.Status.TheVariants.{Waiting, Promised}

@@ -25,7 +25,7 @@ use Rattle.route_drive.specs.work.Counting.{AddsServed, AreServed}
 use Rattle.pool_base.specs.TravelTime.{longest}
 use Rattle.route_drive.specs.Entering.{EntersTooLate, left_commands, second_of}
 use Rattle.route_drive.specs.declared.day.DayFault.{DayFault}
-use Rattle.batch_snapshot.specs.declared.vehicle.Vehicle.{Vehicle}
+use Rattle.request_book.specs.declared.vehicle.Vehicle.{Vehicle}
 use Rattle.route_drive.specs.declared.course.Stay.{Stay}
 
 -- where a vehicle was reported, and from when on it can leave

@@ -1,6 +1,6 @@
 -- Parts of a fleet's rows, as proofs call them.
 use Rattle.std.specs.Prelude.{ℕ, ◌+◌, List, [], Result, take, slice_index_or}
-use Rattle.batch_snapshot.specs.declared.vehicle.Vehicle.{Vehicle}
+use Rattle.request_book.specs.declared.vehicle.Vehicle.{Vehicle}
 use Rattle.script_rows.specs.Vehicle.{vehicle_in}
 use Rattle.script_rows.specs.declared.fleet_fault.FleetFault.{FleetFault}
 

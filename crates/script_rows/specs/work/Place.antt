@@ -1,6 +1,6 @@
 use Rattle.std.specs.Prelude.{◌≡◌, ℕ, ◌<◌, ◌≤◌, Bool, false, List, length, nat_lt, ◌==◌, ◌&&◌, slice_index_or}
 use Rattle.std.specs.List.{AllWithin, list_any, prefix_len}
-use Rattle.batch_snapshot.specs.declared.vehicle.Vehicle.{Vehicle}
+use Rattle.request_book.specs.declared.vehicle.Vehicle.{Vehicle}
 use Rattle.script_rows.specs.lemmas.NamedFleet.{empty_vehicle}
 
 -- some vehicle has this id

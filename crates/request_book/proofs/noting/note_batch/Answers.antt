@@ -1,7 +1,7 @@
 use Rattle.std.proofs.Common.{false, ap}
 use Rattle.std.specs.Option.{option_map_or}
-use Rattle.batch_snapshot.specs.Batch.{Batch}
-use Rattle.batch_snapshot.specs.declared.rider.Rider.{Rider}
+use Rattle.request_book.specs.Batch.{Batch}
+use Rattle.request_book.specs.declared.batch_rider.Rider.{Rider}
 use Rattle.request_book.specs.Rider.{is_active}
 use Rattle.request_book.specs.State.{find_rider}
 use Rattle.request_book.specs.Notices.{notice_of}
