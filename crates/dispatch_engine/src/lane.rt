@@ -1,7 +1,7 @@
 //! A lane's commands, called by its pass, with the batches that it seals.
 ghost use Rattle.std.specs.Prelude.{◌≡◌, ◌∷◌, [], All, OnErr, OnOk};
 ghost use Rattle.script_rows.specs.Round.{MayStand};
-ghost use Rattle.seat_lock.specs.Values.{IsPassOf};
+ghost use Rattle.worker_gate.specs.Values.{IsPassOf};
 ghost use Rattle.dispatch_engine.specs.Shared.{IsSamePass};
 ghost use Rattle.dispatch_engine.specs.Lane.{HasRun, IsLaneBeginning, IsLaneRun};
 ghost use Rattle.dispatch_engine.specs.work.Crew.{HasTaken};

@@ -3,12 +3,11 @@ ghost use Rattle.std.specs.Prelude.{◌≡◌, ◌^◌, ◌<◌, IfOk, IsOk, IsT
 ghost use Rattle.request_book.specs.Book.{IsBook, is_light};
 ghost use Rattle.dispatch_engine.specs.Locked.{snapshot_before};
 
-use request_book::Snapshot;
 use pool_base::{NodeId, OutOfMemory, Sequence};
-use request_book::{Book, Command, Entry, Reply, State};
-use seat_lock::Logged;
+use request_book::{Book, Command, Entry, Reply, Snapshot, State};
 use std::alloc::Global;
 use std::marker::Model;
+use worker_gate::Logged;
 
 /// A book whose calls the lock plays. Contracts see it as the book, and know what every book keeps.
 #[derive(Drop)]

@@ -2,9 +2,8 @@ ghost use Rattle.std.specs.Prelude.{◌≡◌, [], All, IfOk};
 ghost use Rattle.request_book.specs.Book.{opening};
 ghost use Rattle.request_book.specs.Consistent.{IsNode};
 
-use request_book::{Fleet, copied_vehicles};
 use pool_base::OutOfMemory;
-use request_book::Book;
+use request_book::{Book, Fleet, copied_vehicles};
 use road_network::Network;
 use std::alloc::Global;
 

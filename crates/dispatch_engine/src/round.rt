@@ -1,7 +1,7 @@
 ghost use Rattle.std.specs.Prelude.{◌≡◌, ℕ, ◌<◌, ◌≤◌, [], All, IfOk};
 ghost use Rattle.request_book.specs.Book.{IsBook, IsSameBook};
 ghost use Rattle.script_rows.specs.Round.{IsRound, lane_at};
-ghost use Rattle.seat_lock.specs.Values.{AreAllPasses, IsNew};
+ghost use Rattle.worker_gate.specs.Values.{AreAllPasses, IsNew};
 ghost use Rattle.dispatch_engine.specs.work.Crew.{HaveRunLanes, IsSharedBy};
 ghost use Rattle.dispatch_engine.specs.Run.{IsReady, IsRoundRun, IsSameRun, journal_of};
 

@@ -10,7 +10,7 @@ use Rattle.request_book.specs.Step.{step}
 use Rattle.rider_limits.specs.declared.settings.Settings.{Settings}
 use Rattle.road_network.specs.Roads.{Roads}
 use Rattle.script_rows.specs.declared.line.Line.{Line}
-use Rattle.seat_lock.specs.Values.{calls_of, GainsCalls, PassValue}
+use Rattle.worker_gate.specs.Values.{calls_of, GainsCalls, PassValue}
 use Rattle.dispatch_engine.specs.Locked.{calls_from}
 use Rattle.dispatch_engine.specs.declared.locked.LockedReply.{LockedReply}
 use Rattle.live_dispatch.specs.Desk.{desk_call, desk_log, desk_root, DeskView, IsDesk}

@@ -9,7 +9,7 @@ use Rattle.request_book.specs.declared.journal.Entry.{Entry}
 use Rattle.request_book.specs.declared.outcome.Outcome.{Outcome}
 use Rattle.rider_limits.specs.declared.settings.Settings.{Settings}
 use Rattle.road_network.specs.Roads.{Roads}
-use Rattle.seat_lock.specs.Values.{PassValue}
+use Rattle.worker_gate.specs.Values.{PassValue}
 use Rattle.dispatch_report.specs.declared.fault.ReportFault.{ReportFault}
 use Rattle.request_book.specs.Book.{BookView}
 use Rattle.dispatch_engine.specs.declared.locked.LockedReply.{LockedReply}

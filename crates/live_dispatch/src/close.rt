@@ -1,21 +1,19 @@
 ghost use Rattle.std.specs.Prelude.{◌≡◌, [], All, Contains};
 ghost use Rattle.request_book.specs.Points.{named_nodes};
-ghost use Rattle.seat_lock.specs.Values.{IsPassOf};
+ghost use Rattle.worker_gate.specs.Values.{IsPassOf};
 ghost use Rattle.live_dispatch.specs.Phase.{ClosesBatch, commands_in};
 
 use crate::desk::{Desk, LaneCommand, Opening};
-use request_book::Snapshot;
 use batch_solver::solve_batch;
 use dispatch_engine::Setup;
 use pool_io::Sink;
-use request_book::{Command, Notifier};
+use request_book::{Command, Notifier, Snapshot};
 use row_tables::Drafter;
-use seat_lock::{Pass, SeatLock};
 use std::alloc::Global;
 use std::sync::Wait;
 use std::thread::Threads;
 use travel_times::Ways;
-use worker_gate::Gate;
+use worker_gate::{Gate, Pass, SeatLock};
 
 /// Solves the batch and closes it, and says whether it did.
 pub(crate) fn close_batch<K: Sink, N: Notifier, J: Opening, W: Ways, D: Drafter, G: Gate>(

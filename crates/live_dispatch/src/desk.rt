@@ -9,13 +9,13 @@ ghost use Rattle.dispatch_report.specs.Round.{entry_text};
 ghost use Rattle.live_dispatch.specs.Desk.{IsDesk, DeskView, HasEntered, IsSameDesk, desk_of, outputs_seen};
 ghost use Rattle.live_dispatch.specs.work.Telling.{TellsClose, WroteLast, is_closed};
 
-use request_book::Snapshot as Sealed;
 use dispatch_engine::{LockedReply, sealed_by_command};
 use dispatch_report::{ReportFault, write_step};
 use pool_base::{NodeId, OutOfMemory, Sequence};
 use pool_io::Sink;
 use request_book::{
-    Book, Command, Entry, Notice, Notifier, Reply, State, notices_of_close, tell_all,
+    Book, Command, Entry, Notice, Notifier, Reply, Snapshot as Sealed, State, notices_of_close,
+    tell_all,
 };
 use std::alloc::Global;
 use std::marker::{Brand, Model, PhantomData};

@@ -1,14 +1,14 @@
 ghost use Rattle.std.specs.Prelude.{◌≡◌, []};
-ghost use Rattle.seat_lock.specs.Values.{IsPassOf};
+ghost use Rattle.worker_gate.specs.Values.{IsPassOf};
 ghost use Rattle.live_dispatch.specs.Phase.{FaultsFrom, IsHeldBack, RanRows, TakesRun, commands_in};
 
 use crate::desk::{Desk, LaneCommand, Opening};
 use pool_io::Sink;
 use request_book::Notifier;
 use script_rows::{Line, LineFault, RowSource};
-use seat_lock::{Pass, SeatLock};
 use std::alloc::Global;
 use std::sync::Wait;
+use worker_gate::{Pass, SeatLock};
 
 /// Why no more rows are read while a batch is open.
 #[derive(Drop)]

@@ -8,12 +8,11 @@ ghost use Rattle.request_book.specs.declared.journal.Entry.{Entry};
 ghost use Rattle.live_dispatch.specs.work.Rows.{start_text};
 ghost use Rattle.live_dispatch.specs.work.Standing.{HasTaken, WritesSome, entry_for, row_text};
 
-use request_book::Snapshot;
 use dispatch_engine::sealed_by_command;
 use dispatch_report::{ReportFault, write_round_start, write_step};
 use pool_base::OutOfMemory;
 use pool_io::Sink;
-use request_book::{Book, Command, Entry};
+use request_book::{Book, Command, Entry, Snapshot};
 use script_rows::Line;
 
 /// Runs a row and writes its line, behind the line of its round where the last row was of another. It gives the batch

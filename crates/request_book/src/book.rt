@@ -4,12 +4,14 @@ ghost use Rattle.request_book.specs.Consistent.{IsConsistent, IsNode};
 ghost use Rattle.request_book.specs.State.{find_rider};
 
 use crate::command::Command;
+use crate::fleet::Fleet;
 use crate::journal::{Entry, Journal};
 use crate::register::Register;
 use crate::reply::Reply;
 use crate::rider::{BookRider, Status};
+use crate::snapshot::{Snapshot, copied_vehicles};
 use crate::state::State;
-use crate::{Fleet, Snapshot, Vehicle, copied_vehicles};
+use crate::vehicle::Vehicle;
 use pool_base::{NodeId, Numbering, OutOfMemory, RiderId, Second, Sequence};
 use road_network::Network;
 use std::alloc::Global;

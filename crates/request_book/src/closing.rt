@@ -11,12 +11,13 @@ ghost use Rattle.request_book.specs.lemmas.Named.{in_batch};
 ghost use Rattle.request_book.specs.work.Closing.{is_waiting, waits_again, takes_promise, promised_in_turn};
 ghost use Rattle.request_book.specs.lemmas.Table.{close_step};
 
+use crate::batch_rider::Rider;
 use crate::outcome::{Answer, ChosenTrip, PlannedStop};
+use crate::promise::Promise;
 use crate::refusals::not_this_batch;
 use crate::register::Register;
 use crate::reply::Reply;
 use crate::rider::{BookRider, Status};
-use crate::{Promise, Rider};
 use pool_base::{Numbering, RiderId, VehicleId};
 
 impl Register {

@@ -4,9 +4,11 @@ ghost use Rattle.std.specs.Prelude.{◌≡◌, ◌+◌, ◌<◌, ◌≤◌, ◌*
 ghost use Rattle.request_book.specs.Vehicle.{persons_aboard};
 ghost use Rattle.request_book.specs.lemmas.Refusals.{first_of, duplicate_rider, unknown_node, same_place, aboard_refusal, ended_refusal, promise_refusal, seat_refusal, time_back, vehicle_full, batch_open, clock_back, not_this_batch};
 
+use crate::passenger::Passenger;
 use crate::reply::BookRefusal;
 use crate::rider::{BookRider, Status};
-use crate::{Passenger, Snapshot, Vehicle};
+use crate::snapshot::Snapshot;
+use crate::vehicle::Vehicle;
 use pool_base::{NodeId, Numbering, Party, Second, VehicleId};
 
 /// How many riders may wait or have a promise.

@@ -4,7 +4,8 @@ ghost use Rattle.request_book.specs.Rider.{with_status};
 ghost use Rattle.request_book.specs.State.{find_rider, find_vehicle};
 
 use crate::rider::{BookRider, Status};
-use crate::{Snapshot, Vehicle};
+use crate::snapshot::Snapshot;
+use crate::vehicle::Vehicle;
 use pool_base::{Numbering, RiderId, Second, VehicleId};
 
 /// The riders and vehicles of a book, with the numbers by which they are found.

@@ -1,4 +1,4 @@
-use crate::Promise;
+use crate::promise::Promise;
 use pool_base::{NodeId, Party, RiderId, Second, VehicleId};
 
 /// Where a rider's request stands.

@@ -13,6 +13,7 @@ ghost use Rattle.request_book.specs.Consistent.{IsConsistent};
 ghost use Rattle.request_book.specs.Step.{rider_becomes};
 ghost use Rattle.request_book.specs.lemmas.Table.{submit_refusal, submit_step, cancel_step, report_step, pickup_step, dropoff_step};
 
+use crate::passenger::Passenger;
 use crate::refusals::{
     book_full, duplicate_rider, first_of, has_ended, is_aboard, not_aboard, not_promised,
     pool_full, same_place, time_back, unknown_node, vehicle_full,
@@ -20,7 +21,7 @@ use crate::refusals::{
 use crate::register::{Register, add, change_status};
 use crate::reply::{BookRefusal, Reply};
 use crate::rider::{BookRider, Status};
-use crate::{Passenger, Vehicle};
+use crate::vehicle::Vehicle;
 use pool_base::{NodeId, Numbering, RiderId, Second, VehicleId};
 
 impl Register {

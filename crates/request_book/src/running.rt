@@ -14,8 +14,9 @@ use crate::refusals::POOL;
 use crate::register::Register;
 use crate::reply::Reply;
 use crate::rider::{BookRider, Status};
+use crate::snapshot::{Snapshot, copied_vehicles};
 use crate::state::State;
-use crate::{Snapshot, Vehicle, copied_vehicles};
+use crate::vehicle::Vehicle;
 use pool_base::{NodeId, Numbering, OutOfMemory, RiderId, Sequence, VehicleId};
 use std::alloc::Global;
 

@@ -15,11 +15,13 @@ ghost use Rattle.request_book.specs.work.Named.{over_id};
 ghost use Rattle.pool_io.specs.Faults.{one_more};
 ghost use Rattle.request_book.specs.lemmas.Table.{seal_refusal, seal_step};
 
+use crate::batch_rider::Rider;
+use crate::promise::Promise;
 use crate::refusals::{POOL, batch_open, clock_back, first_of};
 use crate::register::{Register, change_status};
 use crate::reply::{BookRefusal, Reply};
 use crate::rider::{BookRider, Status};
-use crate::{Promise, Rider, Snapshot, copied_vehicles};
+use crate::snapshot::{Snapshot, copied_vehicles};
 use pool_base::{Numbering, OutOfMemory, RiderId, Second, Sequence};
 use std::alloc::Global;
 

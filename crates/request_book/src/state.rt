@@ -1,5 +1,6 @@
 use crate::rider::BookRider;
-use crate::{Snapshot, Vehicle};
+use crate::snapshot::Snapshot;
+use crate::vehicle::Vehicle;
 use pool_base::{Second, Sequence};
 
 /// All riders and vehicles of a book at one moment.

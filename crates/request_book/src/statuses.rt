@@ -3,7 +3,7 @@ ghost use Rattle.std.specs.Prelude.{◌≡◌, option_map};
 use crate::book::Book;
 use crate::replay::Replay;
 use crate::rider::Status;
-use crate::Snapshot;
+use crate::snapshot::Snapshot;
 use pool_base::RiderId;
 
 /// What tells the statuses of riders, and the batch that is sealed.

@@ -4,7 +4,7 @@ ghost use Rattle.request_book.specs.Notices.{notices};
 ghost use Rattle.request_book.specs.Seen.{notifiers_seen};
 ghost use Rattle.request_book.specs.Told.{HasHeard, HaveHeard};
 
-use crate::Journal;
+use crate::journal::Journal;
 use crate::notice::Notice;
 use crate::notifier::Notifier;
 use crate::noting::notices_of;

@@ -7,9 +7,9 @@ ghost use Rattle.stop_orders.specs.Sound.{IsSound};
 
 use crate::line::{LINE, batch_on, network_of, settings};
 use crate::walking::fast;
-use request_book::{Points, Snapshot};
 use batch_solver::settle;
 use pool_base::{OutOfMemory, Steps, Times};
+use request_book::{Points, Snapshot};
 use road_network::Network;
 use std::alloc::Global;
 use std::marker::Brand;

@@ -1,8 +1,7 @@
 //! A line of five nodes, and the batch of two riders who ask for a ride on it.
-use request_book::Snapshot;
 use pool_base::{NodeId, Party, RiderId, Second};
 use pool_io::rows;
-use request_book::{Book, Command, Reply};
+use request_book::{Book, Command, Reply, Snapshot};
 use rider_limits::{Mode, Settings, TimesWay};
 use road_network::{Network, read_network};
 use script_rows::{FLEET_HEADER, read_fleet};

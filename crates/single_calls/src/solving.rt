@@ -2,11 +2,10 @@
 ghost use Rattle.std.specs.Prelude.{◌≡◌};
 
 use crate::line::{LINE, batch_on, network_of, settings};
-use request_book::Snapshot;
 use batch_solver::solve_batch;
 use plan_drafts::RelaxationDrafter;
 use pool_base::{NodeId, OutOfMemory, Times};
-use request_book::{Answer, Outcome};
+use request_book::{Answer, Outcome, Snapshot};
 use rider_limits::Settings;
 use road_network::Network;
 use std::alloc::Global;

@@ -1,2 +1,4 @@
 pub mod Outs
 pub mod work
+pub mod Counted
+pub mod Values

@@ -1,5 +1,5 @@
 use Rattle.std.proofs.Common.{ℕ, sym, subst, ◌∷◌, [], ◌∙◌, refl, arith}
-use Rattle.seat_lock.specs.Values.{entry}
+use Rattle.worker_gate.specs.Values.{entry}
 use Rattle.script_rows.specs.Line.{IsBehind}
 use Rattle.live_dispatch.specs.Phase.{GoesOn}
 use Rattle.live_dispatch.proofs.ReadLemmas.{ran-so, run-more, called_ok, refused_err}

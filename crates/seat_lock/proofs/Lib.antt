@@ -1,8 +1,0 @@
-pub mod Totals
-pub mod Calls
-pub mod StageLemmas
-pub mod Keeps
-pub mod Handing
-pub mod Turning
-pub mod Positions
-pub mod Common
