@@ -1,9 +1,9 @@
 ghost use Rattle.std.specs.Prelude.{◌≡◌, length};
 ghost use Rattle.pool_base.specs.Times.{point_count};
 
-use request_book::Points;
 use plan_rules::TripGraph;
 use pool_base::Times;
+use request_book::Points;
 use rider_limits::Settings;
 use stop_orders::{PairList, Settled};
 use trip_graph::RvEdge;

@@ -4,8 +4,8 @@ ghost use Rattle.batch_solver.specs.lemmas.NamedPromises.{kept_leg, kept_legs, I
 ghost use Rattle.batch_solver.specs.work.Promised.{kept_rider, AreKept};
 
 use arrayvec::ArrayVec;
-use request_book::Rider;
 use pool_base::OutOfMemory;
+use request_book::Rider;
 use std::alloc::Global;
 use stop_orders::{Leg, SettledRider, SettledVehicle};
 

@@ -3,8 +3,8 @@ ghost use Rattle.batch_solver.specs.Promised.{promised_to};
 ghost use Rattle.batch_solver.specs.lemmas.NamedPromises.{is_promised_to};
 
 use arrayvec::ArrayVec;
-use request_book::Rider;
 use pool_base::VehicleId;
+use request_book::Rider;
 
 /// The numbers of the riders whose promise names the vehicle; `None` where they are more than `most`.
 pub(crate) fn riders_promised_to(

@@ -6,8 +6,8 @@ ghost use Rattle.batch_solver.specs.Requests.{IsLegOf};
 ghost use Rattle.batch_solver.specs.lemmas.NamedPromises.{ideal_second};
 ghost use Rattle.batch_solver.specs.work.Requests.{IsPlain, ArePlain, IsBetweenPlaces};
 
-use request_book::{Points, Rider};
 use pool_base::{NodeId, OutOfMemory, Party, Second, Times};
+use request_book::{Points, Rider};
 use rider_limits::Settings;
 use std::alloc::Global;
 use stop_orders::{Leg, SettledRider};

@@ -7,10 +7,11 @@ ghost use Rattle.report_audit.specs.work.Told.{told_in};
 use crate::dispatch_report::{BlockLine, LateText, RowText, TripText};
 use crate::told::BlockTold;
 use arrayvec::ArrayVec;
-use request_book::Vehicle;
 use plan_rules::{Multipliers, Node, Tree};
 use pool_base::{OutOfMemory, RiderId, Sequence, VehicleId};
-use request_book::{Answer, ChosenTrip, LateVehicle, Outcome, Planned, PlannedStop, RowLine};
+use request_book::{
+    Answer, ChosenTrip, LateVehicle, Outcome, Planned, PlannedStop, RowLine, Vehicle,
+};
 use std::alloc::Global;
 
 /// The outcome as which what is told is judged, a batch's vehicles numbered in their order.

@@ -7,9 +7,9 @@ ghost use Rattle.ridepool.specs.work.Reading.{GotInputs, ReadSources};
 
 use crate::reading::{fleet_from, network_from, script_from};
 use crate::status::RunStatus;
-use request_book::Fleet;
 use made_inputs::{MadeInputs, make_inputs};
 use pool_io::Source;
+use request_book::Fleet;
 use rider_limits::{LoadShape, Mode, Settings};
 use road_network::Network;
 use route_drive::is_day;

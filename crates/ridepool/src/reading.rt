@@ -13,9 +13,9 @@ ghost use Rattle.script_rows.specs.Script.{script_of};
 ghost use Rattle.script_rows.specs.Word.{columns_of};
 
 use crate::status::RunStatus;
-use request_book::Fleet;
 use pool_base::Which;
 use pool_io::{Input, ReadAll, RowFault, Rows, Source, read_all, rows};
+use request_book::Fleet;
 use road_network::{Network, NetworkFault, read_network};
 use script_rows::{FleetFault, Script, ScriptFault, ScriptVersion, read_fleet, read_script};
 use std::alloc::Global;

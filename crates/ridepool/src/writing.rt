@@ -16,7 +16,6 @@ use crate::held_day::{HeldDay, write_held};
 use crate::inputs::ReadInputs;
 use crate::status::RunStatus;
 use crate::ways::ways_by;
-use request_book::Fleet;
 use dispatch_engine::{Setup, opened_book, run_round};
 use dispatch_report::{
     DayCounts, ReportFault, write_day_end, write_end, write_head, write_load, write_round,
@@ -25,7 +24,7 @@ use dispatch_report::{
 use plan_drafts::RelaxationDrafter;
 use pool_base::OutOfMemory;
 use pool_io::Sink;
-use request_book::{Book, Notifier, tell_journal};
+use request_book::{Book, Fleet, Notifier, tell_journal};
 use rider_limits::{Mode, Settings};
 use road_network::Network;
 use route_drive::{DayRound, DriveFault, drive_day};

@@ -12,10 +12,9 @@ ghost use Rattle.script_rows.specs.Round.{MayStand};
 
 use crate::course::{Course, NodeAt};
 use crate::places::places_at;
-use request_book::Vehicle;
 use dispatch_engine::Setup;
 use pool_base::{NodeId, OutOfMemory, Second, VehicleId};
-use request_book::{Command, PlannedStop};
+use request_book::{Command, PlannedStop, Vehicle};
 use row_tables::Drafter;
 use script_rows::Round;
 use std::alloc::Global;

@@ -11,10 +11,9 @@ ghost use Rattle.route_drive.specs.Walk.{IsShortestWalk};
 
 use crate::course::{Course, Heading, NodeAt, Stay};
 use crate::walk::{WalkStep, shortest_walk_with};
-use request_book::Vehicle;
 use pool_base::{NodeId, OutOfMemory, Second};
 use rayon::prelude::*;
-use request_book::PlannedStop;
+use request_book::{PlannedStop, Vehicle};
 use rider_limits::Settings;
 use road_network::Network;
 use std::alloc::Global;

@@ -9,9 +9,10 @@ ghost use Rattle.route_drive.specs.Entering.{to_come};
 use crate::course::Course;
 use crate::day::first_seal;
 use arrayvec::ArrayVec;
-use request_book::Vehicle;
 use pool_base::{NodeId, OutOfMemory, RiderId, Second, VehicleId};
-use request_book::{Answer, BookRider, Command, Entry, Planned, PlannedStop, Reply, State};
+use request_book::{
+    Answer, BookRider, Command, Entry, Planned, PlannedStop, Reply, State, Vehicle,
+};
 use script_rows::Round;
 use std::alloc::Global;
 
