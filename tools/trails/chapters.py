@@ -17,7 +17,7 @@ CHAPTERS = (
     ("Bounds", "What no plan can cost less than, and the tree that shows it.",
      "plan_rules", "assignment_search", "bound_checker"),
     ("Outcomes", "What a batch comes to: its lists, its plan, its bound and its moves, and when these are good.",
-     "batch_solver/specs/Matching", "batch_solver/specs/Potentials", "batch_solver/src/matched", "request_book/src/outcome", "batch_solver/specs/Outcome", "batch_solver", "outcome_check"),
+     "batch_solver/specs/Matching", "batch_solver/specs/Potentials", "batch_solver/src/matched", "request_book/src/outcome", "batch_solver/specs/Outcome", "batch_solver", "report_audit/src/verdict", "report_audit/specs/Verdict"),
     ("Steps", "What a command changes of the book, and what it answers.",
      "pool_base/specs/InOrder", "request_book", "script_rows/src/version", "script_rows/specs/Round"),
     ("Runs", "What lanes make of a round, and rounds of a script.",

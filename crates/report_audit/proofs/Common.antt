@@ -1,11 +1,11 @@
 -- The names that the proofs of this crate cite from elsewhere, passed on from one place. Declares nothing.
-pub use Rattle.std.proofs.lemmas.Result.{err_from_is_err_and}
+pub use Rattle.std.proofs.lemmas.Result.{IfOk-weaker, err_from_is_err_and}
 pub use Rattle.std.proofs.lemmas.Bool.{and_from, and_parts, both_ways, cases_eq, cases_lt, cond-true, cond_both, eqb-false}
-pub use Rattle.std.proofs.lemmas.List.{append_cancel_left, at_drop_more, drop_all, drop_more, get_or-map, get_or-replicate, get_or_past, length-map, length-replicate, map-append}
-pub use Rattle.std.proofs.lemmas.List.Elements.{All-append, All-cons, All-contains, All-from_get_or, All-head, All-map, All-tail}
+pub use Rattle.std.proofs.lemmas.List.{append_cancel_left, at_drop_more, drop_all, drop_more, get_or-append_right, get_or-map, get_or-replicate, get_or_append_left, get_or_default, get_or_past, get_or_push, length-map, length-replicate, length_push, map-append, map_push, nil_from_length, take_more, with_items_is}
+pub use Rattle.std.proofs.lemmas.List.Elements.{All-append, All-cons, All-contains, All-from_get_or, All-head, All-map, All-push, All-tail, filter_passes}
 pub use Rattle.std.proofs.lemmas.List.Sums.{position_or_len_is, prefix_len-le-length}
 pub use Rattle.std.proofs.lemmas.Option.{slice_get-get_or, slice_get-map}
-pub use Rattle.std.specs.List.{list_all, position, position_or_len}
+pub use Rattle.std.specs.List.{AllByRecursion, AllZip, list_all, position, position_or_len, range_with_len}
 pub use Rattle.request_book.specs.Batch.{Batch}
 pub use Rattle.request_book.specs.declared.vehicle.Vehicle.{Vehicle}
 pub use Rattle.report_audit.specs.Block.{BeginsWithGood, BeginsWithWrong, MeetsAs, Refuses}
@@ -67,14 +67,13 @@ pub use Rattle.request_book.specs.declared.state.State.{State}
 unfoldable pub use Rattle.request_book.specs.lemmas.Table.{close_step, seal_step, table_step}
 pub use Rattle.request_book.specs.lemmas.Table.{answer, batch_unless, seal_refusal}
 pub use Rattle.rider_limits.specs.declared.settings.Settings.{Settings}
-pub use Rattle.road_network.specs.Roads.{Roads}
+pub use Rattle.road_network.specs.Roads.{Roads, index_in}
 pub use Rattle.script_rows.specs.Round.{IsRound, MayStand, NumberedLanes, lane_at}
 pub use Rattle.dispatch_engine.specs.Locked.{sealed_by, snapshot_before}
 pub use Rattle.report_audit.specs.Judged.{CanBeTold, HasTrips, NamesRow, at_most, judged_outcome, judged_plan, late_of, node_of, number_among, row_of, trip_of}
 pub use Rattle.report_audit.specs.Told.{Told, nothing_told, told_by, with_line}
 pub use Rattle.report_audit.specs.work.Judged.{HoldUpTo, stops_of, verdict_place}
 pub use Rattle.report_audit.specs.work.Told.{told_in}
-pub use Rattle.outcome_check.proofs.lemmas.VerdictLemmas.{HoldBelow}
 pub use Rattle.plan_rules.specs.declared.node.Node.{Node}
 pub use Rattle.report_audit.specs.Order.{follow_on, is_between, kind_place, last_place, may_follow_at}
 pub use Rattle.dispatch_report.specs.Block.{block_line_text, block_lines, late_as_line, lines_of, pair_line, row_as_line, stop_text, tree_line, trip_as_line}
@@ -85,9 +84,9 @@ pub use Rattle.dispatch_report.specs.declared.block_line.RowText.{RowText}
 pub use Rattle.dispatch_report.specs.declared.block_line.TripText.{TripText}
 pub use Rattle.request_book.specs.declared.outcome.RowLine.{RowLine}
 pub use Rattle.request_book.specs.declared.outcome.Answer.{Answer}
-pub use Rattle.batch_solver.specs.Outcome.{AnswersWith, HasGraphsWith, IsGoodOutcome, IsGoodPlan}
+pub use Rattle.batch_solver.specs.Outcome.{AnswersWith, HasGraphsWith, IsGoodOutcome, IsGoodPlan, IsOutcomeWith}
 pub use Rattle.request_book.specs.Kept.{IsKept}
-pub use Rattle.outcome_check.specs.Verdict.{IsVerdictOf, Meets, point_place}
+pub use Rattle.report_audit.specs.Verdict.{IsVerdictOf, Meets, point_place}
 pub use Rattle.request_book.specs.declared.outcome.Planned.{Planned}
 pub use Rattle.batch_solver.specs.declared.point.Point.{Point}
 pub use Rattle.std.proofs.lemmas.Fmt.{decimal_digit, decimal_is_IsNumeral_wide}
@@ -103,3 +102,68 @@ pub use Rattle.report_audit.specs.work.Head.{HasHead, IsShortNumber, LinesThen, 
 pub use Rattle.report_audit.specs.work.Entries.{IsAnswered, IsAnyReply, IsTextOf, IsToldBy, IsToldByAny, fields_of, replies, spaced_reply, told_text, word_replies}
 pub use Rattle.report_audit.specs.work.Lines.{IsOrder, IsVisit, order_text, visit_text}
 pub use Rattle.request_book.specs.declared.outcome.PlannedStop.{PlannedStop}
+pub use Rattle.assignment_search.specs.Found.{IsBestNear, IsClose, IsFair, IsFairNode, IsJustified, ShowsBound}
+unfoldable pub use Rattle.assignment_search.specs.Growth.{choice_count}
+pub use Rattle.assignment_search.specs.Growth.{product_below}
+pub use Rattle.request_book.proofs.lemmas.KeptLemmas.{once_apart}
+pub use Rattle.request_book.specs.lemmas.Kept.{IsOnce, riders_aboard}
+pub use Rattle.batch_solver.proofs.lemmas.LeftLemmas.{kept_few}
+pub use Rattle.batch_solver.proofs.lemmas.MoveLemmas.{has_places, no_moves, none_matched, pairs_within}
+pub use Rattle.batch_solver.proofs.lemmas.TripLemmas.{valid_task, vehicle_read}
+pub use Rattle.batch_solver.specs.Instance.{posed_by}
+pub use Rattle.batch_solver.specs.Moves.{AreMoves, idle_vehicles, is_idle, move_line, origins_of, starts_of}
+pub use Rattle.batch_solver.specs.Points.{GivesPlanWith, Holds, Posed}
+pub use Rattle.batch_solver.specs.Told.{left_riders, rider_id, told_stop}
+pub use Rattle.batch_solver.specs.Trips.{AreLate, AreTrips, IsLate, IsLateOrder, IsTripOf}
+pub use Rattle.batch_solver.specs.lemmas.Named.{told_stops, vehicle_id}
+pub use Rattle.bound_checker.specs.lemmas.Visit.{coming_of}
+pub use Rattle.report_audit.specs.declared.verdict.Verdict.{Verdict}
+pub use Rattle.report_audit.specs.declared.verdict.Verdict.TheVariants.{Fails, Good}
+pub use Rattle.report_audit.specs.work.Moves.{CanPrecede, HaveOwnPlaces, IsPairWithin, TellsMoves, no_move}
+pub use Rattle.report_audit.specs.work.Nodes.{HasMultipliers, IsLimit}
+pub use Rattle.report_audit.specs.work.Orders.{HasNoOrder, HasOwnIds}
+pub use Rattle.report_audit.specs.work.Refusals.{IsRefusal}
+pub use Rattle.report_audit.specs.work.Trips.{GivesTrips, IsLeast, TellsPlan, TellsRow}
+pub use Rattle.plan_rules.proofs.lemmas.GraphLemmas.{between_row, row_between, row_read}
+pub use Rattle.plan_rules.proofs.lemmas.PathLemmas.{coming_entered, coming_start, path_none, path_push}
+pub use Rattle.plan_rules.proofs.lemmas.ReadLemmas.{places_append, places_push, reads_push}
+pub use Rattle.plan_rules.proofs.lemmas.SearchTreeLemmas.{places_are, reads_of_tree, value_is_read}
+pub use Rattle.plan_rules.proofs.lemmas.UsableLemmas.{Agree, agree_back, first_fit_value_agrees, leaf_value_agrees}
+pub use Rattle.plan_rules.specs.GoodGraph.{IsGoodGraph}
+pub use Rattle.plan_rules.specs.Graph.{Graph, IsRowOf, IsStartOf, choice_at, cost_at, no_row, riders_at, row_vehicle}
+pub use Rattle.plan_rules.specs.Multipliers.{Usable, first_fit_value, is_usable_by, leaf_value, usable_of}
+pub use Rattle.plan_rules.specs.Path.{IsPathOf, standing_of}
+pub use Rattle.plan_rules.specs.Plan.{IsLawful, IsPlan, cost_of}
+pub use Rattle.plan_rules.specs.Reading.{IsSoundNode, ReadsTo, coming_after, places_from}
+pub use Rattle.plan_rules.specs.Sums.{count_below}
+pub use Rattle.plan_rules.specs.Tree.{CanBranch, IsTreeOfValue, Place, every_row, rounded_up}
+pub use Rattle.plan_rules.specs.declared.row.TripRow.{TripRow}
+pub use Rattle.plan_rules.specs.lemmas.Graph.{HasNoRow}
+pub use Rattle.plan_rules.specs.lemmas.Tree.{IsWholeTree, places_read}
+pub use Rattle.pool_base.specs.Times.{point_count, travel_time}
+pub use Rattle.batch_solver.proofs.lemmas.Promises.{filter_range_below, filter_range_rises, rising_once}
+pub use Rattle.batch_solver.specs.Settling.{IsPlaced, IsSettled}
+pub use Rattle.batch_solver.specs.Matching.{IsBestMatching, IsMatching, pair_seconds}
+pub use Rattle.request_book.specs.declared.outcome.ChosenTrip.{ChosenTrip}
+pub use Rattle.request_book.specs.declared.outcome.LateVehicle.{LateVehicle}
+pub use Rattle.request_book.specs.declared.outcome.MoveLine.{MoveLine}
+pub use Rattle.std.proofs.lemmas.Bool.Decides.{eqb_tells, nat_tests}
+pub use Rattle.std.proofs.lemmas.List.FromFn.{get_or-range_with_len, length-range_with_len}
+pub use Rattle.std.proofs.lemmas.Slice.Eq.{slice_eq-Decides}
+pub use Rattle.std.specs.List.Sorted.{IsStrictlyIncreasing}
+pub use Rattle.stop_orders.specs.Order.{IsKnown, is_of_rider}
+pub use Rattle.stop_orders.specs.Settled.{IsTrip, no_rider, rider_at, trip_task, vehicle_at}
+pub use Rattle.stop_orders.specs.Sound.{IsSound}
+pub use Rattle.stop_orders.specs.Task.{IsOrderOf, ReachesAll, Serves, order_delay, seconds_of}
+pub use Rattle.stop_orders.specs.declared.settled.Settled.{Settled}
+pub use Rattle.stop_orders.specs.declared.settled_rider.SettledRider.{SettledRider}
+pub use Rattle.stop_orders.specs.declared.settled_vehicle.SettledVehicle.{SettledVehicle}
+pub use Rattle.stop_orders.specs.declared.stop.Stop.{Stop}
+pub use Rattle.stop_orders.specs.declared.stop.Stop.TheVariants.{Alight, Drop, Pick}
+pub use Rattle.stop_orders.specs.declared.task.Task.{Task}
+pub use Rattle.stop_orders.specs.lemmas.Named.{no_vehicle}
+pub use Rattle.travel_times.specs.Table.{AreTravelTimes}
+pub use Rattle.trip_graph.specs.Answer.{HasMoreRows, IsAnswer, IsTripGraphOf}
+pub use Rattle.trip_graph.specs.RrGraph.{IsRrGraph}
+pub use Rattle.trip_graph.specs.RvGraph.{IsRvGraph}
+pub use Rattle.trip_graph.specs.declared.rv_edge.RvEdge.{RvEdge}

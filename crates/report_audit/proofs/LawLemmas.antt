@@ -3,7 +3,7 @@ use Rattle.std.proofs.Common.{◌≢◌, ℕ, ◌<◌, ◌≤◌, true, List, Co
 use Rattle.report_audit.proofs.Common.{cases_lt, All-contains, Batch, point_place, Point, lines_of, BlockLine, Row, Trip, Late, LateText, RowText, TripText, Outcome, Settings, Roads, BeginsWithWrong, CanBeTold, HasTrips, judged_outcome, nothing_told, told_by}
 use Rattle.report_audit.proofs.NumberedLemmas.{vehicle_ids}
 use Rattle.report_audit.proofs.OutcomeLemmas.{judged_few, lines_are}
-use Rattle.outcome_check.proofs.lemmas.VerdictLemmas.{last_place}
+use Rattle.report_audit.proofs.lemmas.VerdictLemmas.{last_place}
 use Rattle.report_audit.proofs.TellingLemmas.{told_below}
 use Rattle.report_audit.proofs.ToldLemmas.{AreShort, IsShort, all_short}
 use Rattle.batch_solver.specs.declared.point.Point.TheVariants as point

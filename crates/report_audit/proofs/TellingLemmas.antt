@@ -1,6 +1,7 @@
 -- What can be told, point by point.
 use Rattle.std.proofs.Common.{ℕ, ◌<◌, refl}
-use Rattle.report_audit.proofs.Common.{point_place, HoldBelow, Point, CanBeTold, Told, HoldUpTo}
+use Rattle.report_audit.proofs.Common.{point_place, Point, CanBeTold, Told, HoldUpTo}
+use Rattle.report_audit.proofs.lemmas.VerdictLemmas.{HoldBelow}
 use Rattle.batch_solver.specs.declared.point.Point.TheVariants as point
 
 module _ (t : Told) where

@@ -3,9 +3,9 @@ use Rattle.request_book.specs.Batch.{Batch}
 use Rattle.batch_solver.specs.Outcome.{IsGoodOutcome}
 use Rattle.dispatch_report.specs.Block.{block_lines}
 use Rattle.dispatch_report.specs.Lines.{lines_text}
-use Rattle.outcome_check.specs.Verdict.{Meets, IsVerdictOf, point_place}
+use Rattle.report_audit.specs.Verdict.{Meets, IsVerdictOf, point_place}
 use Rattle.batch_solver.specs.declared.point.Point.{Point}
-use Rattle.outcome_check.specs.declared.verdict.Verdict.TheVariants.{Fails}
+use Rattle.report_audit.specs.declared.verdict.Verdict.TheVariants.{Fails}
 use Rattle.report_audit.specs.BlockLines.{IsBlock, BlockFails}
 use Rattle.report_audit.specs.declared.block_lines.BlockFault.TheVariants as fault
 use Rattle.dispatch_report.specs.declared.block_line.BlockLine.{BlockLine}

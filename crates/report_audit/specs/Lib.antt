@@ -18,3 +18,4 @@ pub mod Settings
 pub mod Head
 pub mod HeadFault
 pub mod Next
+pub mod Verdict

@@ -7,3 +7,8 @@ pub mod Told
 pub mod Lines
 pub mod Head
 pub mod Entries
+pub mod Orders
+pub mod Trips
+pub mod Moves
+pub mod Refusals
+pub mod Nodes

@@ -8,10 +8,10 @@ ghost use Rattle.report_audit.specs.declared.refusal.BlockRefusal.TheVariants.{O
 
 use crate::block_lines::read_block;
 use crate::judged::outcome_of;
+use crate::judging::judge;
 use crate::refusal::{BlockRefusal, place_of, refusal_of};
 use crate::telling::untold_place;
 use crate::told::told_by;
-use outcome_check::judge;
 use request_book::{Outcome, Snapshot};
 use rider_limits::Settings;
 use road_network::Network;
@@ -34,7 +34,7 @@ pub struct AuditedBlock<'a> {
 ///
 /// `Cut` and `Form` come where the text begins with no block in form, `Wrong` where it does and the block isn't a good
 /// outcome's: point 0 where the batch's number, the riders whose wait ended, or whether there are too many rows is told
-/// wrongly, and points 1 to 8 as `outcome_check` has them. Lines may tell what no outcome can: a row of more than six
+/// wrongly, and points 1 to 8 as `judge` has them. Lines may tell what no outcome can: a row of more than six
 /// riders fails point 1, a late vehicle with more than ten stops point 2, a chosen trip with more than 22 stops point 3,
 /// and point 5 fails where the number in `nodes` isn't that of the tree's lines or a `branch` names no row of its vehicle.
 pub fn audit_block<'a, W: Ways, G: Gate>(

@@ -8,6 +8,12 @@
 //! it. It is found where there is one; else it is said what is wrong: where the text is cut or a line out of form, or the
 //! first point that fails.
 //!
+//! `judge` judges the outcome of a batch, whoever made it: good, or the first point that fails. The batch is settled and its
+//! graphs are grown anew; trips, plan, bound, tree and moves are then judged as they are told, and no plan is searched for.
+//! A batch poses one problem, so the verdict is exact both ways. That it does is said by laws, which are calls without
+//! code. What a search found is judged by four calls: the bound, the tree that shows it, and the plan. Each decides its
+//! question exactly. The search's own tables, guides and drafts are not asked.
+//!
 //! The lines are read from their beginnings, a word or a number at a time: a line is read exactly where it is the line that
 //! the report prints for something. No number is followed by a digit, so the text of each thing ends at one place alone, and
 //! what is read is the only thing that the line can say. Of an entry nothing is kept but its lane: its line is only known
@@ -39,38 +45,59 @@
 //!
 //! Main clauses: `audit`: `accepted`, `refused`, `fault`, `sound`, `only`; `audit_block`: `good`, `lines`, `only`, `none`,
 //! `fault`; the law `a_text_is_refused_in_one_way`; of lines `read_head`: `read`, `only`, `none`, `fault`; `read_block`;
-//! `read_next`; the laws `a_line_says_one_thing`, `a_text_begins_with_one_block` and `a_text_has_one_fault`.
+//! `read_next`; the laws `a_line_says_one_thing`, `a_text_begins_with_one_block` and `a_text_has_one_fault`; of outcomes
+//! `judge`: `points`, `good`; `shows_bound`, `is_close`, `is_fair` and `is_best_near`: of each its one clause;
+//! `a_batch_settles_in_one_way`; `a_batch_has_one_graph_of_each_kind`: `vehicles`, `riders`, `trips`;
+//! `a_batch_has_rows_or_too_many`.
 #![tactic(auto)]
 
+mod best;
 mod block;
 mod block_line;
 mod block_lines;
+mod bound;
+mod choices;
 mod close;
 mod entry;
 mod fault;
+mod graphs;
 mod head;
 mod head_fault;
 mod judged;
+mod judging;
+mod late;
 mod laws;
+mod limit;
 mod line;
 mod line_laws;
 mod lists;
+mod moves;
 mod next;
+mod nodes;
+mod orders;
+mod plan;
+mod problem_laws;
 mod refusal;
 mod report;
 mod round;
 mod setup;
 mod telling;
+mod tight;
 mod told;
+mod trips;
+mod verdict;
 mod words;
 
+pub use best::is_best_near;
 pub use block::{AuditedBlock, audit_block};
 pub use block_line::{read_block_line, read_branch, read_move, read_rider, read_rr, read_rv};
 pub use block_lines::{BlockFault, read_block};
+pub use bound::shows_bound;
 pub use dispatch_report::{BlockLine, LateText, RowText, TripText};
 pub use fault::{AuditFault, Audited};
 pub use head::{SettingsText, read_head, read_settings, read_sizes};
 pub use head_fault::HeadFault;
+pub use judging::judge;
 pub use laws::{
     a_good_block_is_not_refused, a_text_is_refused_in_one_way, long_orders_fail_by_the_late,
     long_rows_fail_by_the_graphs, long_trips_fail_by_the_trips, untold_lines_fail_by_the_bound,
@@ -81,8 +108,15 @@ pub use line_laws::{
 };
 pub use lists::{read_late, read_leaf, read_row, read_trip};
 pub use next::{NextLine, read_next};
+pub use nodes::is_fair;
+pub use problem_laws::{
+    a_batch_has_one_graph_of_each_kind, a_batch_has_rows_or_too_many, a_batch_settles_in_one_way,
+    a_network_has_one_table, a_snapshot_has_one_list_of_points,
+};
 pub use refusal::BlockRefusal;
 pub use report::audit;
+pub use tight::is_close;
+pub use verdict::Verdict;
 pub use words::{
     is_words, line_first, number_first, numbered_first, pair_first, read_numbered, read_signed,
     words_first,

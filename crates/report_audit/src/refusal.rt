@@ -4,8 +4,8 @@ ghost use Rattle.report_audit.specs.work.Block.{refusal_for};
 ghost use Rattle.report_audit.specs.work.Judged.{verdict_place};
 
 use crate::block_lines::BlockFault;
+use crate::verdict::Verdict;
 use batch_solver::Point;
-use outcome_check::Verdict;
 use pool_base::OutOfMemory;
 
 /// Why a text begins with no block of a good outcome.

@@ -3,10 +3,10 @@ use Rattle.std.proofs.Common.{rules, ◌≡◌, ◌≢◌, ℕ, ◌<◌, ◌≤�
 use Rattle.report_audit.proofs.Common.{cases_lt, length-map, Batch, IsKept, IsGoodOutcome, block_lines, Meets, IsVerdictOf, Point, lines_of, BlockLine, Outcome, Settings, Roads, BeginsWithGood, BeginsWithWrong, MeetsAs, Refuses, judged_outcome, CanBeTold, Told, told_by, HoldUpTo, verdict_place}
 use Rattle.std.specs.List.{All}
 use Rattle.dispatch_report.specs.Lines.{lines_text}
-use Rattle.outcome_check.specs.declared.verdict.Verdict.{Verdict}
-use Rattle.outcome_check.specs.declared.verdict.Verdict.TheVariants.{Good, Fails}
-use Rattle.outcome_check.proofs.lemmas.PosedLemmas.{good_meets}
-use Rattle.outcome_check.proofs.lemmas.VerdictLemmas.{last_place}
+use Rattle.report_audit.specs.declared.verdict.Verdict.{Verdict}
+use Rattle.report_audit.specs.declared.verdict.Verdict.TheVariants.{Good, Fails}
+use Rattle.report_audit.proofs.lemmas.PosedLemmas.{good_meets}
+use Rattle.report_audit.proofs.lemmas.VerdictLemmas.{last_place}
 use Rattle.report_audit.specs.BlockLines.{IsBlock, BlockFails}
 use Rattle.dispatch_report.specs.Block.{block_line_text}
 use Rattle.report_audit.specs.BlockLine.{IsBlockLine}

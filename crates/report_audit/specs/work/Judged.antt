@@ -1,10 +1,10 @@
 -- The first point that fails, of two lists of points.
 use Rattle.std.specs.Prelude.{◌≡◌, ℕ, ◌<◌, List}
 use Rattle.arrayvec.specs.ArrayVec.{ArrayVec}
-use Rattle.outcome_check.specs.Verdict.{point_place}
+use Rattle.report_audit.specs.Verdict.{point_place}
 use Rattle.batch_solver.specs.declared.point.Point.{Point}
-use Rattle.outcome_check.specs.declared.verdict.Verdict.{Verdict}
-use Rattle.outcome_check.specs.declared.verdict.Verdict.TheVariants.{Good, Fails}
+use Rattle.report_audit.specs.declared.verdict.Verdict.{Verdict}
+use Rattle.report_audit.specs.declared.verdict.Verdict.TheVariants.{Good, Fails}
 use Rattle.request_book.specs.declared.outcome.PlannedStop.{PlannedStop}
 use Rattle.report_audit.specs.Judged.{at_most}
 

@@ -1,7 +1,7 @@
 use Rattle.std.proofs.Common.{◌≡◌, ◌≢◌, true, List, length, map, min, sym, ap, ◌∙◌, subst, arith}
 use Rattle.report_audit.proofs.Common.{Batch, IsKept, Vehicle, IsGoodOutcome, block_lines, Point, Outcome, BeginsWithGood, CanBeTold, judged_outcome, Told, told_by, told_in, verdict_place}
 use Rattle.report_audit.proofs.lemmas.AuditLemmas.{begins_good, begins_wrong, fails_at_once, fault_no_good, good_is_judged, is_good, line_count, right_up_to, wrong_no_good}
-use Rattle.outcome_check.proofs.lemmas.VerdictLemmas.{last_place}
+use Rattle.report_audit.proofs.lemmas.VerdictLemmas.{last_place}
 use Rattle.report_audit.proofs.NumberedLemmas.{vehicle_ids}
 use Rattle.report_audit.proofs.block.audit_block.Goals as goal
 

@@ -1,6 +1,0 @@
-use Rattle.std.proofs.Common.{rules}
-use Rattle.outcome_check.proofs.Common.{slice_eq-Decides}
-use Rattle.outcome_check.proofs.graphs.are_same_edges.Goals as goal
-
-pub returns : goal.returns
-returns c = slice_eq-Decides (λ a b. search rules) c.args.edges.now c.args.others.now c.eq.result c.eq.ensures

@@ -1,5 +1,0 @@
-use Rattle.outcome_check.proofs.lemmas.TableLemmas.{one_table}
-use Rattle.outcome_check.proofs.laws.a_network_has_one_table.Goals as goal
-
-pub returns : goal.returns
-returns c = λ arcs places times others are also. one_table arcs places times others are.points also.points are.cells also.cells

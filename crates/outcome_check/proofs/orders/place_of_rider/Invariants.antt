@@ -1,7 +1,0 @@
-use Rattle.std.proofs.Common.{◌≡◌, ℕ, ◌<◌}
-use Rattle.std.specs.Prelude.{slice_index}
-use Rattle.batch_solver.specs.Told.{rider_id}
-use Rattle.outcome_check.proofs.orders.place_of_rider.Given as goal
-
-abbrev pub invariant-loop-place : goal.invariant-loop-place
-invariant-loop-place l = (i : ℕ) → i < l.place → rider_id l.settled (slice_index l.riders i) ≡ l.id → ⊥

@@ -1,6 +1,0 @@
-use Rattle.outcome_check.proofs.Common.{travel_time}
-use Rattle.outcome_check.proofs.lemmas.TripLemmas.{IsPlanSoFar}
-use Rattle.outcome_check.proofs.trips.plan_of_trips.Given as goal
-
-abbrev pub invariant-loop-vehicle : goal.invariant-loop-vehicle
-invariant-loop-vehicle l = IsPlanSoFar l.graphs.instance.now.points.now (travel_time l.graphs.instance.now.times.now) l.graphs.instance.now.settled.now l.graphs.graph.now l.trips l.vehicle l.place l.chosen.items

@@ -1,6 +1,0 @@
--- What only the bodies of this crate need.
-pub mod Orders
-pub mod Trips
-pub mod Moves
-pub mod Refusals
-pub mod Nodes

@@ -1,0 +1,34 @@
+//! What is told of the plan.
+ghost use Rattle.std.specs.Prelude.{◌≡◌, ◌↔◌, IfOk, IsTrue, length};
+ghost use Rattle.batch_solver.specs.Told.{left_riders};
+ghost use Rattle.plan_rules.specs.Plan.{IsLawful};
+ghost use Rattle.report_audit.specs.work.Trips.{TellsPlan};
+
+use crate::graphs::are_same_riders;
+use batch_solver::{left_riders, rider_ids};
+use plan_rules::{Plan, TripGraph, cost_of, is_lawful};
+use pool_base::OutOfMemory;
+use request_book::Planned;
+use std::alloc::Global;
+use stop_orders::Settled;
+
+/// Whether the plan is lawful, costs what is told, and leaves out whom it is told to.
+pub(crate) fn tells_plan(
+    alloc: Global,
+    settled: &Settled,
+    graph: &TripGraph,
+    plan: &Plan,
+    planned: &Planned,
+) -> Result<bool, OutOfMemory>
+    requires { graph.now.riders ≡ length settled.now.riders }
+    ensures { IfOk result (λ yes. IsTrue yes ↔ TellsPlan settled.entry.now graph.entry.now plan.entry.now planned.entry.now) }
+{
+    if !is_lawful(graph, plan) {
+        return Ok(false);
+    }
+    if cost_of(graph, plan) != planned.cost {
+        return Ok(false);
+    }
+    let ids = rider_ids(alloc, settled, &left_riders(alloc, graph, plan.chosen())?)?;
+    Ok(are_same_riders(&ids, planned.left.as_slice()))
+}
