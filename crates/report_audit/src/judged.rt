@@ -4,9 +4,9 @@ ghost use Rattle.std.specs.List.{position};
 ghost use Rattle.report_audit.specs.Judged.{at_most, late_of, judged_outcome, node_of, number_among, row_of, trip_of};
 ghost use Rattle.report_audit.specs.work.Told.{told_in};
 
-use crate::dispatch_report::{BlockLine, LateText, RowText, TripText};
 use crate::told::BlockTold;
 use arrayvec::ArrayVec;
+use dispatch_report::{BlockLine, LateText, RowText, TripText};
 use plan_rules::{Multipliers, Node, Tree};
 use pool_base::{OutOfMemory, RiderId, Sequence, VehicleId};
 use request_book::{

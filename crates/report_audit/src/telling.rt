@@ -6,8 +6,8 @@ ghost use Rattle.report_audit.specs.Judged.{CanBeTold, NamesRow};
 ghost use Rattle.report_audit.specs.work.Judged.{HoldUpTo};
 ghost use Rattle.report_audit.specs.work.Told.{told_in};
 
-use crate::dispatch_report::{BlockLine, LateText, RowText, TripText};
 use crate::told::BlockTold;
+use dispatch_report::{BlockLine, LateText, RowText, TripText};
 
 /// The place of the first point of which the lines tell what none can; 9 where there is none.
 pub(crate) fn untold_place(told: &BlockTold) -> u64

@@ -3,7 +3,7 @@ ghost use Rattle.std.specs.Prelude.{◌≡◌, ◌++◌, ◌∷◌, [], IfOk, fo
 ghost use Rattle.report_audit.specs.Told.{nothing_told, told_by, with_line};
 ghost use Rattle.report_audit.specs.work.Told.{told_in};
 
-use crate::dispatch_report::{BlockLine, LateText, RowText, TripText};
+use dispatch_report::{BlockLine, LateText, RowText, TripText};
 use pool_base::{OutOfMemory, RiderId, Sequence, VehicleId};
 use request_book::MoveLine;
 use std::alloc::Global;
