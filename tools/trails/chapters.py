@@ -33,7 +33,7 @@ CHAPTERS = (
      "dispatch_engine/specs/Progress", "dispatch_engine/src/stand",
      "report_audit/specs/BlockLine", "report_audit/specs/Cut", "report_audit/specs/Order", "report_audit/specs/BlockLines", "report_audit/specs/HeadLines", "report_audit/specs/Line",
      "report_audit/specs/Settings", "report_audit/specs/HeadFault", "report_audit/specs/Next", "report_audit", "ridepool/specs/Audit"),
-    ("The made workload", "What is made of a seed, and what a call of `load` answers: `AnswersLoad`.", "made_inputs", "ridepool/specs/Load"),
+    ("The made workload", "What is made of a seed, and what a call of `load` answers: `AnswersLoad`.", "script_rows/src/made", "script_rows/src/made_row", "script_rows/src/draw", "script_rows/specs/MadeRow", "script_rows/specs/Part", "script_rows/specs/Texts", "script_rows/specs/Accepted", "ridepool/specs/Load"),
     ("The call", "What the program answers, by its command. The headline's clause is `Answers`.", "ridepool"),
     ("The live session", "What is read, answered and written while requests come in, and what a call of `live` answers: `AnswersLive`.",
      "script_rows/specs/Lines", "script_rows/src/judge", "script_rows/specs/Rows", "script_rows/src/start", "script_rows/specs/Start", "script_rows/src/lines", "live_dispatch", "ridepool/specs/Live"),

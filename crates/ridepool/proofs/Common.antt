@@ -10,7 +10,7 @@ pub use Rattle.pool_io.specs.Views.{Change, IsUntouched, SinkView, SourceView, s
 pub use Rattle.dispatch_report.specs.Written.{WritesText}
 pub use Rattle.dispatch_report.specs.declared.fault.ReportFault.{ReportFault}
 pub use Rattle.script_rows.specs.Lines.{Streamed, lines_in}
-pub use Rattle.made_inputs.specs.Texts.{texts_of}
+pub use Rattle.script_rows.specs.Texts.{texts_of}
 pub use Rattle.pool_base.specs.declared.which.Which.{Which}
 pub use Rattle.pool_io.specs.Faults.{Rose}
 pub use Rattle.pool_io.specs.Sink.{AppendsPart}

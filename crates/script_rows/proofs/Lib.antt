@@ -8,3 +8,14 @@ pub mod RowLemmas
 pub mod FleetPlaceLemmas
 pub mod FleetRowLemmas
 pub mod FleetLemmas
+pub mod FieldLemmas
+pub mod TextLemmas
+pub mod PartLemmas
+pub mod NetworkLemmas
+pub mod NodeLemmas
+pub mod MadeFleetLemmas
+pub mod MadeScriptLemmas
+pub mod ShapeLemmas
+pub mod ReadLemmas
+pub mod WrittenLemmas
+pub mod RowTextLemmas

@@ -9,3 +9,7 @@ pub mod Rows
 pub mod Start
 pub mod Vehicle
 pub mod Fleet
+pub mod Accepted
+pub mod MadeRow
+pub mod Part
+pub mod Texts

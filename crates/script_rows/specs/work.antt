@@ -5,3 +5,5 @@ pub mod Pieces
 pub mod Steps
 pub mod Place
 pub mod FleetRow
+pub mod Some
+pub mod Written

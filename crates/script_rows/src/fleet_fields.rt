@@ -7,9 +7,9 @@ ghost use Rattle.road_network.specs.Roads.{has_node};
 
 use crate::fleet_fault::FleetFault;
 use arrayvec::ArrayVec;
-use request_book::{Passenger, Vehicle};
 use pool_base::{NodeId, Second, VehicleId, read_number_up_to};
 use pool_io::Rows;
+use request_book::{Passenger, Vehicle};
 use road_network::Network;
 
 /// The number in a column of a row, at most 1,000,000,000. Rows and columns count from 0, in a fault

@@ -2,8 +2,8 @@ ghost use Rattle.std.specs.Prelude.{◌≡◌, true, map, nat_lt, MatchOption};
 ghost use Rattle.std.specs.List.Sorted.{IsStrictlyIncreasing};
 ghost use Rattle.script_rows.specs.work.Place.{has_vehicle, has_id_at, IsPlaceOf};
 
-use request_book::Vehicle;
 use pool_base::VehicleId;
+use request_book::Vehicle;
 
 fn is_lower(vehicle: &Vehicle, id: VehicleId) -> bool
     ensures { result ≡ nat_lt vehicle.now.id id }

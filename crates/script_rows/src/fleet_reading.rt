@@ -5,8 +5,8 @@ ghost use Rattle.script_rows.specs.Fleet.{vehicles_of, IsFleetOf};
 use crate::fleet_fault::FleetFault;
 use crate::fleet_fields::read_vehicle;
 use crate::fleet_place::find_place;
-use request_book::Fleet;
 use pool_io::Rows;
+use request_book::Fleet;
 use road_network::Network;
 use std::alloc::Global;
 

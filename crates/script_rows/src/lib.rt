@@ -9,6 +9,10 @@
 //! carriage return, and is handed out without waiting for what follows. Each is read as the one row of a
 //! script. An accepted row is handed on; a refused one is told to whoever listens, and skipped.
 //!
+//! Inputs are also made from a seed: the three texts of a network, a fleet and a script, and what the readers of files make
+//! of them. They refuse none of any shape. Every number that isn't given by the shape is the remainder of a SplitMix64
+//! generator's next 64-bit output, drawn in the order of the texts, so a shape gives the same texts on every machine.
+//!
 //! Callers:
 //!
 //! ```
@@ -40,10 +44,28 @@
 //! }
 //! ```
 //!
-//! Main clauses: `read_fleet`: `accepted`, `named`, `refused`; `read_script`: `accepted`, `refused`; `read_row`; `RowSource::next`: `row`, `behind`, `fault`;
-//! `read_start`: `started`, `other`, `fault`; `LineStream::next_line`: `line`.
+//! ```
+//! fn answers_with_memory(rt: HostRuntime) -> Result<(), Fail> {
+//!     let shape = LoadShape {
+//!         seed: 1,
+//!         side: 3,
+//!         vehicles: 2,
+//!         riders: 3,
+//!         rounds: 2,
+//!     };
+//!     let made = make_inputs(rt.alloc(), &shape)?;
+//!     assert_eq!(rt; made.network.node_count(), 9);
+//!     assert_eq!(rt; made.fleet.vehicles().len(), 2);
+//!     Ok(())
+//! }
+//! ```
+//!
+//! Main clauses: `read_fleet`: `accepted`, `named`, `refused`; `read_script`: `accepted`, `refused`; `read_row`;
+//! `RowSource::next`: `row`, `behind`, `fault`; `read_start`: `started`, `other`, `fault`; `LineStream::next_line`: `line`;
+//! `make`; `make_inputs`: `read`, `named`; `made_inputs_are_accepted`.
 #![tactic(auto)]
 
+mod draw;
 mod fault;
 mod fields;
 mod fleet_fault;
@@ -53,6 +75,13 @@ mod fleet_reading;
 mod judge;
 mod line;
 mod lines;
+mod made;
+mod made_fleet;
+mod made_law;
+mod made_network;
+mod made_reading;
+mod made_row;
+mod made_script;
 mod reading;
 mod round;
 mod rows;
@@ -61,14 +90,18 @@ mod start;
 mod version;
 mod word;
 
-pub use request_book::Fleet;
 pub use fault::ScriptFault;
 pub use fleet_fault::FleetFault;
 pub use fleet_reading::{FLEET_HEADER, read_fleet};
 pub use judge::{Judged, RowRefusal};
 pub use line::Line;
 pub use lines::{LineFault, LineStream};
+pub use made::{Made, make};
+pub use made_law::made_inputs_are_accepted;
+pub use made_reading::{MadeInputs, make_inputs};
+pub use made_row::Field;
 pub use reading::{read_row, read_script};
+pub use request_book::Fleet;
 pub use round::Round;
 pub use rows::{LiveRows, RefusalListener, RowSource};
 pub use script::Script;

@@ -1,6 +1,6 @@
 -- What the readers of sources and of bytes say.
 use Rattle.std.specs.Prelude.{◌≡◌, ℕ, List, Some, Result, Err, IfErr, MatchResult, ◌⊎◌}
-use Rattle.made_inputs.specs.Texts.{texts_of}
+use Rattle.script_rows.specs.Texts.{texts_of}
 use Rattle.pool_base.specs.declared.which.Which.{Which}
 use Rattle.pool_io.specs.Faults.{Rose}
 use Rattle.pool_io.specs.declared.input.Input.{Input}

@@ -1,6 +1,0 @@
-pub mod Accepted
-pub mod work
-pub mod Row
-pub mod Part
-pub mod Texts
-pub mod lemmas

@@ -1,2 +1,0 @@
-pub mod Some
-pub mod Written
