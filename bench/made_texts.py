@@ -1,4 +1,4 @@
-"""Makes the three texts of a made workload, independently of the crate made_inputs.
+"""Makes the three texts of a made workload, independently of the crate that makes them.
 
 Usage: made_texts.py SEED SIDE VEHICLES RIDERS ROUNDS network|fleet|script
 
