@@ -1,6 +1,6 @@
 //! Sources, sinks and notifiers in memory.
 use pool_base::RiderId;
-use pool_io::{PlainSource, read_all};
+use pool_io::{PlainSink, PlainSource, Sink, read_all};
 use request_book::{MemoryNotifier, Notice, Notifier};
 use std::alloc::{AllocError, Global};
 use std::test::Fail;
@@ -24,9 +24,16 @@ fn is_read(alloc: Global, text: &[u8]) -> bool {
     }
 }
 
+// Whether what is written to a plain sink stands in it.
+fn is_written(alloc: Global) -> bool {
+    let mut sink = PlainSink::new(alloc);
+    matches!(sink.write(b"more bytes"), Ok(10)) && sink.written() == b"more bytes".as_slice()
+}
+
 #[test]
 fn streams_in_memory(rt: HostRuntime) {
     assert!(rt; is_read(rt.alloc(), b"bytes"));
+    assert!(rt; is_written(rt.alloc()));
 }
 
 // A notifier with room for two notices that fails its second call.
