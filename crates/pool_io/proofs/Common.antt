@@ -9,10 +9,10 @@ pub use Rattle.std.specs.Io.KnownBytes.{Appends, Consumes}
 pub use Rattle.std.specs.List.{position_from}
 unfoldable pub use Rattle.csv.specs.Reading.{Reached, records_from}
 pub use Rattle.csv.specs.Reading.{ReadRecord, default_config, strip_bom}
-pub use Rattle.csv.specs.Records.{field_at, fields_of, partial_of}
+pub use Rattle.csv.specs.Records.{field_at, fields_of}
 pub use Rattle.csv.specs.declared.reader.Reader.{Reader}
 pub use Rattle.pool_io.specs.Table.{Table, table_of}
 pub use Rattle.pool_io.specs.declared.records.RowFault.TheVariants.{OutOfMemory, UnequalLength}
 pub use Rattle.pool_io.specs.lemmas.Records.{even_rows, header_fields, is_record, records_of}
-pub use Rattle.pool_io.specs.work.Cutting.{cut_rows}
+pub use Rattle.pool_io.specs.work.Cutting.{AreEnds, cut_fields, cut_rows, start_at}
 pub use Rattle.pool_io.specs.work.Progress.{HasRead}

@@ -1,5 +1,6 @@
 pub mod lemmas
 pub mod CutRows
+pub mod CutFields
 pub mod RecordList
 pub mod Pieces
 pub mod FieldGet

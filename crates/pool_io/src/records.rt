@@ -1,8 +1,9 @@
 ghost use Rattle.std.specs.Prelude.{◌≡◌, ◌≢◌, ◌↔◌, ℕ, ◌+◌, ◌*◌, ◌^◌, ◌<◌, ◌≤◌, ◌==◌, ◌++◌, ◌∷◌, [], List, Ok, Err, IsTrue, length, map, slice_index_or, IfOk, IfErr, OnOk, MatchBool};
 ghost use Rattle.std.specs.List.{slice_split};
-ghost use Rattle.csv.specs.Records.{fields_of, partial_of};
+ghost use Rattle.csv.specs.Records.{fields_of};
 ghost use Rattle.pool_io.specs.Table.{table_of};
 ghost use Rattle.pool_io.specs.lemmas.Records.{header_fields, records_of, even_rows};
+ghost use Rattle.pool_io.specs.work.Cutting.{AreEnds, cut_fields};
 ghost use Rattle.pool_io.specs.work.Progress.{HasRead};
 
 use crate::table::Rows;
@@ -78,22 +79,26 @@ fn is_header(row: &ByteRecord, words: &[&[u8]]) -> bool
     true
 }
 
-// Adds a record's fields to a list of fields.
-fn append_fields(fields: &mut ByteRecord, row: &ByteRecord) -> Result<(), RowFault>
-    requires { partial_of fields.old ≡ [] }
-    ensures added { OnOk result (fields_of fields.new ≡ fields_of fields.old ++ fields_of row.now) }
-    ensures closed { OnOk result (partial_of fields.new ≡ []) }
-    ensures small { OnOk result (length (fields_of fields.new) < 2 ^ 64) }
+// Adds a record's fields to a buffer, and to the list of their ends.
+fn append_fields(
+    bytes: &mut Vec<u8>,
+    ends: &mut Vec<usize>,
+    row: &ByteRecord,
+) -> Result<(), RowFault>
+    requires { AreEnds 0 ends.old.items (length bytes.old.items) }
+    ensures added { OnOk result (cut_fields 0 ends.new.items bytes.new.items ≡ cut_fields 0 ends.old.items bytes.old.items ++ fields_of row.now) }
+    ensures ends { OnOk result (AreEnds 0 ends.new.items (length bytes.new.items)) }
+    ensures small { OnOk result (length ends.new.items < 2 ^ 64) }
     ensures no_memory { IfErr result (λ fault. fault ≡ RowFault.OutOfMemory) }
 {
     for place in 0..row.len() {
         let field = row.get(place).unwrap();
-        if fields.push_field(field).is_err() {
+        if bytes.extend_from_slice(field).is_err() || ends.push(bytes.len()).is_err() {
             return Err(RowFault::OutOfMemory);
         }
     }
     // A length is a `usize`, so the fields can be counted.
-    let _count = fields.len();
+    let _count = ends.len();
     Ok(())
 }
 
@@ -110,16 +115,17 @@ fn rows_after(alloc: Global, reader: &mut Reader<&[u8]>, columns: usize) -> Resu
         × (even_rows columns rows ≡ Err fault)) }
 {
     let mut row = ByteRecord::new(alloc);
-    let mut fields = ByteRecord::new(alloc);
+    let mut bytes = Vec::new(alloc);
+    let mut ends = Vec::new(alloc);
     'records: for count in 0..u64::MAX {
         let found = read_next(reader, &mut row)?;
         if !found {
-            return Ok(Rows::of(columns, count as usize, fields));
+            return Ok(Rows::of(columns, count as usize, bytes, ends));
         }
         if row.len() != columns {
             return Err(RowFault::UnequalLength { row: count + 1 });
         }
-        append_fields(&mut fields, &row)?;
+        append_fields(&mut bytes, &mut ends, &row)?;
     }
     Err(RowFault::OutOfMemory)
 }

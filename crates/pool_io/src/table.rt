@@ -1,9 +1,7 @@
 ghost use Rattle.std.specs.Prelude.{◌≡◌, ◌*◌, ◌^◌, ◌<◌, ◌==◌, length};
-ghost use Rattle.csv.specs.Records.{fields_of};
 ghost use Rattle.pool_io.specs.Table.{record_at, field_at};
-ghost use Rattle.pool_io.specs.work.Cutting.{cut_rows};
+ghost use Rattle.pool_io.specs.work.Cutting.{AreEnds, cut_fields, cut_rows, start_at};
 
-use csv::ByteRecord;
 use std::marker::Model;
 
 /// The rows of a file under its header. All fields lie in one buffer, with the place where each ends.
@@ -11,37 +9,39 @@ use std::marker::Model;
 pub struct Rows {
     columns: usize,
     count: usize,
-    fields: ByteRecord,
+    bytes: Vec<u8>,
+    ends: Vec<usize>,
 }
 
 impl Model for Rows {
     ghost use Rattle.std.specs.Prelude.{◌≡◌, ◌*◌, ◌<◌, ◌^◌, length};
-    ghost use Rattle.csv.specs.Records.{fields_of};
     ghost use Rattle.pool_io.specs.Table.{Table};
-    ghost use Rattle.pool_io.specs.work.Cutting.{cut_rows};
+    ghost use Rattle.pool_io.specs.work.Cutting.{AreEnds, cut_fields, cut_rows};
 
     ghost Value = { Table };
 
     ghost view = { λ a. record {
       columns = a.columns;
-      records = cut_rows a.count a.columns (fields_of a.fields);
+      records = cut_rows a.count a.columns (cut_fields 0 a.ends.items a.bytes.items);
     } };
 
-    ghost invariant = { λ a. (length (fields_of a.fields) ≡ a.count * a.columns)
-        × (a.count * a.columns < 2 ^ 64) };
+    ghost invariant = { λ a. (length a.ends.items ≡ a.count * a.columns) × (a.count * a.columns < 2 ^ 64)
+        × AreEnds 0 a.ends.items (length a.bytes.items) };
 }
 
 impl Rows {
     // The rows whose fields, row by row, are these.
-    pub(crate) fn of(columns: usize, count: usize, fields: ByteRecord) -> Rows
-        requires flat { length (fields_of fields) ≡ count * columns }
+    pub(crate) fn of(columns: usize, count: usize, bytes: Vec<u8>, ends: Vec<usize>) -> Rows
+        requires flat { length ends.items ≡ count * columns }
         requires small { count * columns < 2 ^ 64 }
-        ensures { result ≡ record { columns = columns; records = cut_rows count columns (fields_of fields) } }
+        requires ends { AreEnds 0 ends.items (length bytes.items) }
+        ensures { result ≡ record { columns = columns; records = cut_rows count columns (cut_fields 0 ends.items bytes.items) } }
     {
         Rows {
             columns,
             count,
-            fields,
+            bytes,
+            ends,
         }
     }
 
@@ -65,6 +65,15 @@ impl Rows {
         requires column { column < self.now.columns }
         ensures { result.now ≡ field_at (record_at self.now row) column }
     {
-        self.fields.get(row * self.columns + column).unwrap()
+        let place = row * self.columns + column;
+        &self.bytes[start_of(&self.ends, place)..self.ends[place]]
     }
+}
+
+// Where the field at this place begins.
+fn start_of(ends: &[usize], place: usize) -> usize
+    requires { place < length ends.now }
+    ensures { result ≡ start_at 0 ends.now place }
+{
+    if place == 0 { 0 } else { ends[place - 1] }
 }

@@ -1,7 +1,7 @@
-use Rattle.std.proofs.Common.{◌≡◌, ◌++◌, [], take}
-use Rattle.pool_io.proofs.Common.{fields_of, partial_of}
+use Rattle.std.proofs.Common.{◌≡◌, ◌++◌, take, length}
+use Rattle.pool_io.proofs.Common.{fields_of, AreEnds, cut_fields}
 use Rattle.pool_io.proofs.records.append_fields.Given as goal
 
 abbrev pub invariant-loop-place : goal.invariant-loop-place
 invariant-loop-place l =
-    (fields_of l.fields ≡ fields_of l.fn.fields ++ take l.place (fields_of l.row)) × (partial_of l.fields ≡ [])
+    (cut_fields 0 l.ends.items l.bytes.items ≡ cut_fields 0 l.fn.ends.items l.fn.bytes.items ++ take l.place (fields_of l.row)) × AreEnds 0 l.ends.items (length l.bytes.items)
