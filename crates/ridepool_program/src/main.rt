@@ -91,7 +91,7 @@ const COMMANDS: [&str; 5] = ["run", "live", "drive", "load", "audit"];
 
 const HELP_WORDS: [&str; 2] = ["--help", "-h"];
 
-const VERSION: &str = "ridepool 1.2.10\n";
+const VERSION: &str = "ridepool 1.2.11\n";
 
 fn main(rt: HostRuntime) -> ExitCode {
     let _places = [
