@@ -1,6 +1,5 @@
 //! Which rows of a vehicle have one rider less than a row, or one more.
 
-use crate::whole;
 use row_tables::fixed_point::{item, part, write_over};
 use row_tables::lists::Lists;
 use row_tables::{Made, RowTable};
@@ -19,15 +18,14 @@ pub struct Beside {
 }
 
 impl Beside {
-    pub fn new(alloc: Global, table: &RowTable) -> Made<Self> {
-        let mut beside = Beside {
+    /// No row.
+    pub fn new(alloc: Global) -> Self {
+        Beside {
             without: Lists::new(alloc),
             wider: Lists::new(alloc),
             added: Vec::new(alloc),
             rows: Vec::new(alloc),
-        };
-        let done = beside.fill(alloc, table);
-        whole(beside, done)
+        }
     }
 
     /// Lists for each row and each of its riders the row of the same vehicle without her, or one past the last row. A
@@ -48,7 +46,7 @@ impl Beside {
 
     /// Lists the narrower rows, the wider ones, and who is added: those of a row stand by rising riders, as the rows of
     /// a vehicle do.
-    fn fill(&mut self, alloc: Global, table: &RowTable) -> Made<()> {
+    pub fn fill(&mut self, alloc: Global, table: &RowTable) -> Made<()> {
         self.list_without(alloc, table)?;
         self.wider.transpose(&self.without, table.row_count())?;
         for row in 0..table.row_count() {

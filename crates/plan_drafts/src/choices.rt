@@ -67,10 +67,11 @@ const NO_TURN: Turn = Turn {
 pub struct Choices {
     /// The rows that fit, a vehicle's side by side, by rising regret.
     fits: Vec<Fit>,
-    /// The turns, those with the fewest rows first.
+    /// For each vehicle how many rows fit and where they begin, the fewest rows first, and the turns, in this order.
+    sizes: Vec<(usize, usize)>,
     turns: Vec<Turn>,
     /// For each rider who can be served the last turn that could do it, and her number; and how many there are.
-    closings: Vec<Option<(u32, u32)>>,
+    pub closings: Vec<Option<(u32, u32)>>,
     riders: u32,
     /// The row of each turn, and those of the best choice.
     picks: Vec<u32>,
@@ -80,16 +81,17 @@ pub struct Choices {
 }
 
 impl Choices {
-    pub fn new(alloc: Global, riders: usize) -> Made<Self> {
-        Ok(Choices {
-            closings: vec![in alloc; None; riders]?,
+    pub fn new(alloc: Global) -> Self {
+        Choices {
             fits: Vec::new(alloc),
+            sizes: Vec::new(alloc),
             turns: Vec::new(alloc),
+            closings: Vec::new(alloc),
             riders: 0,
             picks: Vec::new(alloc),
             best: Vec::new(alloc),
             work: 0,
-        })
+        }
     }
 
     /// Gives these vehicles the best rows that it finds, with none better than the present ones. What that
@@ -117,21 +119,24 @@ impl Choices {
     /// Lists the rows of each vehicle whose riders nobody serves, and puts the shorter lists first.
     fn find_turns(&mut self, regrets: &Regrets, present: &Present, vehicles: &[u32]) -> Made<()> {
         self.fits.clear();
-        self.turns.clear();
+        self.sizes.clear();
         self.work = 0;
         for vehicle in vehicles {
             let first = self.fits.len();
             self.add_fits(regrets, present, *vehicle as usize)?;
-            let end = self.fits.len();
+            let size = self.fits.len().saturating_sub(first);
+            self.sizes.push((size, first))?;
+        }
+        self.sizes.as_mut_slice().sort_unstable();
+        self.turns.clear();
+        for (size, first) in &self.sizes {
             self.turns.push(Turn {
-                first,
-                end,
-                next: first,
+                first: *first,
+                end: first.saturating_add(*size),
+                next: *first,
                 ..NO_TURN
             })?;
         }
-        let turns = self.turns.as_mut_slice();
-        turns.sort_unstable_by_key(|turn| (turn.end.saturating_sub(turn.first), turn.first));
         Ok(())
     }
 
@@ -157,11 +162,6 @@ impl Choices {
         item(&self.turns, number, NO_TURN)
     }
 
-    #[inline]
-    fn fit(&self, place: usize) -> Fit {
-        item(&self.fits, place, NO_FIT)
-    }
-
     /// Finds for each turn, the last first, the least regret from it on, and the riders whom no later one could serve.
     /// What it costs to leave out all riders whom one could serve.
     fn look_ahead(&mut self, regrets: &Regrets) -> i64 {
@@ -172,7 +172,7 @@ impl Choices {
         for number in (0..self.turns.len()).rev() {
             let turn = self.turn(number);
             if turn.first < turn.end {
-                least = least.saturating_add(self.fit(turn.first).above);
+                least = least.saturating_add(item(&self.fits, turn.first, NO_FIT).above);
             }
             let left = self.close_riders(regrets, turn, short(number));
             left_of_all = left_of_all.saturating_add(left);
@@ -195,7 +195,7 @@ impl Choices {
 
     /// The same for the riders of a row.
     fn close_row(&mut self, regrets: &Regrets, place: usize, number: u32) -> i64 {
-        let mut fit = self.fit(place);
+        let mut fit = item(&self.fits, place, NO_FIT);
         let mut left: i64 = 0;
         for rider in regrets.table.riders_of(fit.row as usize) {
             let regret = regrets.left(*rider);
@@ -265,7 +265,7 @@ impl Choices {
         let room = limit.saturating_sub(turn.sum).saturating_sub(rest);
         for place in turn.next..turn.end {
             self.work = self.work.saturating_add(A_ROW);
-            let fit = self.fit(place);
+            let fit = item(&self.fits, place, NO_FIT);
             if fit.above >= room {
                 return None;
             }
