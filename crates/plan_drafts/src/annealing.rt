@@ -111,10 +111,10 @@ impl Annealing<'_> {
             let cooled = (WARM - COOL).saturating_mul(part) >> 10;
             self.attempt((WARM * 1024).saturating_sub(cooled))?;
         }
-        if self.least >= 0 {
-            write_over(&mut self.found, &self.present.rows)?;
+        if self.least < 0 {
+            return Ok(());
         }
-        Ok(())
+        write_over(&mut self.found, &self.present.rows)
     }
 
     /// Tries one move at this temperature, in 1/1024 second. Most aren't made, since they are sure to cost too much.

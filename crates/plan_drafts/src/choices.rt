@@ -7,7 +7,7 @@
 use crate::present::Present;
 use crate::regrets::Regrets;
 use row_tables::Made;
-use row_tables::fixed_point::{item, part, set_at};
+use row_tables::fixed_point::{at, item, set_at};
 use row_tables::lists::short;
 use std::alloc::Global;
 
@@ -198,7 +198,7 @@ impl Choices {
         let mut fit = item(&self.fits, place, NO_FIT);
         let mut left: i64 = 0;
         for rider in regrets.table.riders_of(fit.row as usize) {
-            let regret = regrets.left(*rider);
+            let regret = at(&regrets.left, *rider as usize);
             let known = item(&self.closings, *rider as usize, None);
             let (turn, mark) = known.unwrap_or((number, self.riders));
             if known.is_none() {
@@ -306,7 +306,7 @@ impl Choices {
     /// Counts it to the turns so many times what it costs to leave out the row's riders.
     fn count_left(&mut self, regrets: &Regrets, row: u32, times: i64) {
         for rider in regrets.table.riders_of(row as usize) {
-            let change = regrets.left(*rider).wrapping_mul(times);
+            let change = at(&regrets.left, *rider as usize).wrapping_mul(times);
             if let Some((closing, _)) = item(&self.closings, *rider as usize, None) {
                 if let Some(turn) = self.turns.get_mut(closing as usize) {
                     turn.left = turn.left.wrapping_add(change);
@@ -320,7 +320,7 @@ impl Choices {
 fn regret_of(regrets: &Regrets, row: u32) -> i64 {
     let mut regret = regrets.above(row);
     for rider in regrets.table.riders_of(row as usize) {
-        regret = regret.saturating_sub(regrets.left(*rider));
+        regret = regret.saturating_sub(at(&regrets.left, *rider as usize));
     }
     regret
 }

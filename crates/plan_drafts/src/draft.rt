@@ -179,13 +179,14 @@ impl<'a> Drafting<'a> {
         self.relaxation.find_shares(table, i64::MAX)?;
         self.plans.round(&self.regrets, &self.relaxation.shares)?;
         self.better()?;
-        if self.tree.is_open() && !self.relaxation.is_tired() {
-            if let Some(plan) = self.dive()? {
-                self.plans.adopt(&self.regrets, &plan)?;
-                self.better()?;
-            }
+        if !self.tree.is_open() || self.relaxation.is_tired() {
+            return Ok(());
         }
-        Ok(())
+        let Some(plan) = self.dive()? else {
+            return Ok(());
+        };
+        self.plans.adopt(&self.regrets, &plan)?;
+        self.better()
     }
 
     /// A plan by a dive from the solution, if it comes to one.

@@ -22,7 +22,7 @@ pub struct Regrets<'a> {
     /// For each row its regret.
     above: Vec<i64>,
     /// For each rider what it costs to leave her out above her multiplier.
-    left: Vec<i64>,
+    pub left: Vec<i64>,
     /// For each vehicle its rows that are looked at, and for each rider those that have her, by rising regret.
     pub rows: Lists,
     pub with: Lists,
@@ -149,11 +149,5 @@ impl<'a> Regrets<'a> {
     #[inline]
     pub fn above(&self, row: u32) -> i64 {
         at(&self.above, row as usize)
-    }
-
-    /// The regret of leaving this rider out.
-    #[inline]
-    pub fn left(&self, rider: u32) -> i64 {
-        at(&self.left, rider as usize)
     }
 }

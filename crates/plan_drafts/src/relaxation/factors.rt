@@ -118,14 +118,14 @@ impl Factors {
     /// Has a column of ones be the next of the triangles, of which no column before changes anything. Where a column
     /// came in before is placed.
     pub fn add_ones(&mut self, place: usize, places: &[u32], placed: &[u32]) -> Made<()> {
-        if places.len() > 1 {
-            for other in places {
-                self.part(place, *other as usize, ONE, placed)?;
-            }
-            self.above.end()?;
-            self.end(place, ONE)?;
+        if places.len() <= 1 {
+            return Ok(());
         }
-        Ok(())
+        for other in places {
+            self.part(place, *other as usize, ONE, placed)?;
+        }
+        self.above.end()?;
+        self.end(place, ONE)
     }
 
     /// Has a reduced column be the next of the triangles.

@@ -41,14 +41,14 @@ impl Pool {
 
     /// Takes in a column, where it isn't in yet.
     pub fn add(&mut self, table: &RowTable, column: usize, cost: i64) -> Made<()> {
-        if !item(&self.is_in, column, true) {
-            set_at(&mut self.is_in, column, true);
-            self.is_listed = false;
-            self.columns.push(short(column))?;
-            self.costs.push(cost)?;
-            self.conditions.push_list(table.conditions_of(column))?;
+        if item(&self.is_in, column, true) {
+            return Ok(());
         }
-        Ok(())
+        set_at(&mut self.is_in, column, true);
+        self.is_listed = false;
+        self.columns.push(short(column))?;
+        self.costs.push(cost)?;
+        self.conditions.push_list(table.conditions_of(column))
     }
 
     /// Presses the columns together that are in.
