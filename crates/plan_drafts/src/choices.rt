@@ -7,7 +7,7 @@
 use crate::present::Present;
 use crate::regrets::Regrets;
 use row_tables::Made;
-use row_tables::fixed_point::{at, item, set_at};
+use row_tables::fixed_point::{at, item, set_at, write_over};
 use row_tables::lists::short;
 use std::alloc::Global;
 
@@ -296,8 +296,7 @@ impl Choices {
             self.count_left(regrets, fit.row, -1);
         } else {
             *limit = sum;
-            self.best.clear();
-            self.best.extend_from_slice(&self.picks)?;
+            write_over(&mut self.best, &self.picks)?;
             self.picks.pop();
         }
         Ok(true)

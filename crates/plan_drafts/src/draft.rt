@@ -245,7 +245,7 @@ impl<'a> Drafting<'a> {
 
     /// Has many scouts look for plans, of whom most anneal, as long as a better plan is found each time.
     fn scout_often<R: Threads + Sync>(&mut self, rt: &R, beside: &mut Beside) -> Made<()> {
-        beside.fill(self.alloc, self.regrets.table)?;
+        beside.fill(self.regrets.table)?;
         for time in 0..MOST_TIMES {
             let cost = self.tree.draft.cost;
             let first = MANY_SCOUTS.saturating_mul(time);

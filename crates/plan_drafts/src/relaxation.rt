@@ -150,7 +150,9 @@ impl Relaxation {
         self.make_space(table)?;
         self.set_costs_left(table, &[], i64::MAX);
         for rider in 0..table.rider_count() {
-            self.add(table, table.row_count().saturating_add(rider))?;
+            let column = table.row_count().saturating_add(rider);
+            let cost = at(&self.costs, column);
+            self.pool.add(table, column, cost)?;
         }
         self.add_all(table, columns)
     }
@@ -242,14 +244,10 @@ impl Relaxation {
         Ok(())
     }
 
-    fn add(&mut self, table: &RowTable, column: usize) -> Made<()> {
-        let cost = at(&self.costs, column);
-        self.pool.add(table, column, cost)
-    }
-
     fn add_all(&mut self, table: &RowTable, columns: &[u32]) -> Made<()> {
         for column in columns {
-            self.add(table, *column as usize)?;
+            let cost = at(&self.costs, *column as usize);
+            self.pool.add(table, *column as usize, cost)?;
         }
         Ok(())
     }
