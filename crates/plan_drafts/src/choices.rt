@@ -134,7 +134,10 @@ impl Choices {
                 first: *first,
                 end: first.saturating_add(*size),
                 next: *first,
-                ..NO_TURN
+                sum: 0,
+                served: 0,
+                least: 0,
+                left: 0,
             })?;
         }
         Ok(())
@@ -149,7 +152,8 @@ impl Choices {
                 self.fits.push(Fit {
                     row: *row,
                     above: regrets.above(*row),
-                    ..NO_FIT
+                    last: 0,
+                    marks: 0,
                 })?;
             }
         }

@@ -34,32 +34,32 @@ pub fn dive(
 ) -> Made<Option<Plan>> {
     relaxation.is_held = false;
     relaxation.go_to(table, basis)?;
-    let mut ranks: Vec<Share> = Vec::new(alloc);
-    let plan = descend(alloc, table, relaxation, number, &mut ranks);
-    drop(ranks);
+    let mut open: Vec<Share> = Vec::new(alloc);
+    let plan = descend(alloc, table, relaxation, number, &mut open);
+    drop(open);
     plan
 }
 
-/// The same from where the relaxation stands. The ranks are work space.
+/// The same from where the relaxation stands. The open rows are work space.
 fn descend(
     alloc: Global,
     table: &RowTable,
     relaxation: &mut Relaxation,
     number: u64,
-    ranks: &mut Vec<Share>,
+    open: &mut Vec<Share>,
 ) -> Made<Option<Plan>> {
     let mut draws = Draws::new(number);
     for _ in 0..table.vehicle_count().saturating_mul(2) {
         relaxation.solve(table, i64::MAX, MOST_ROWS, MOST_PASSES)?;
         relaxation.find_shares(table, i64::MAX)?;
-        if relaxation.is_tired() || !list_open(table, relaxation, ranks)? {
+        if relaxation.is_tired() || !list_open(table, relaxation, open)? {
             break;
         }
         if are_whole(&relaxation.shares) {
             return Ok(Some(whole_plan(alloc, table, &relaxation.shares)?));
         }
         let skips = number > 0 && draws.below(4) == 0;
-        take_first(table, relaxation, ranks, skips);
+        take_first(table, relaxation, open, skips);
     }
     Ok(None)
 }
@@ -73,15 +73,15 @@ fn are_whole(shares: &[Share]) -> bool {
 }
 
 /// Lists the rows whose vehicles have another choice. False where a forbidden row is chosen.
-fn list_open(table: &RowTable, relaxation: &Relaxation, ranks: &mut Vec<Share>) -> Made<bool> {
-    ranks.clear();
+fn list_open(table: &RowTable, relaxation: &Relaxation, open: &mut Vec<Share>) -> Made<bool> {
+    open.clear();
     for share in &relaxation.shares {
         let row = share.1 as usize;
         if relaxation.is_forbidden(row) {
             return Ok(false);
         }
         if relaxation.has_choice(table, row) {
-            ranks.push(*share)?;
+            open.push(*share)?;
         }
     }
     Ok(true)
@@ -100,10 +100,10 @@ pub fn whole_plan(alloc: Global, table: &RowTable, shares: &[Share]) -> Made<Pla
 }
 
 /// Takes the first rows that are still allowed, the very first one not where it is skipped.
-fn take_first(table: &RowTable, relaxation: &mut Relaxation, ranks: &[Share], skips: bool) {
+fn take_first(table: &RowTable, relaxation: &mut Relaxation, open: &[Share], skips: bool) {
     let mut skips = skips;
     let mut count: u32 = 0;
-    for (Reverse(part), row) in ranks {
+    for (Reverse(part), row) in open {
         let is_sure = *part > WHOLE;
         if !is_sure && count > 0 && (*part < NEARLY_WHOLE || count >= MOST_AT_ONCE) {
             return;

@@ -135,8 +135,8 @@ impl Relaxation {
         }
     }
 
-    /// Begins at the solution where each vehicle has this row, with the columns of all riders and these in the pool: each
-    /// vehicle with rows has one, and no two of them have a rider in common.
+    /// Begins at the solution where each vehicle has this row, with the columns of all riders and these in the pool:
+    /// each vehicle with rows has one, and no two of them have a rider in common.
     pub fn begin(
         &mut self,
         table: &RowTable,
@@ -173,8 +173,8 @@ impl Relaxation {
         reset(&mut self.tried, table.rider_count(), 0)
     }
 
-    /// Has it cost as much to leave out a rider as the table says, but no more than her multiplier, in 1/1024 second, and
-    /// these seconds.
+    /// Has it cost as much to leave out a rider as the table says, but no more than her multiplier, in 1/1024 second,
+    /// and these seconds.
     pub fn set_costs_left(&mut self, table: &RowTable, multipliers: &[i64], seconds: i64) {
         for rider in 0..table.rider_count() {
             let boxed = (at(multipliers, rider) / 1024).saturating_add(seconds);

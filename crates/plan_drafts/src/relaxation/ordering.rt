@@ -66,8 +66,8 @@ pub struct Ordering {
     columns: Side,
     conditions: Side,
     queue: Vec<u32>,
-    /// The columns with a single condition left and the numbers of these, of which there are so many, and behind them the
-    /// conditions with a single column left and the numbers of these.
+    /// The columns with a single condition left and the numbers of these, of which there are so many, and behind them
+    /// the conditions with a single column left and the numbers of these.
     pairs: Vec<(u32, u32)>,
     split: usize,
     /// How many conditions of each column of the rest are left, and its number.
