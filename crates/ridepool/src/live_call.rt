@@ -217,6 +217,7 @@ fn live_in<
                 rows,
                 &setup,
             );
+            drop(ways);
             LiveEnd {
                 script: rows.into_source(),
                 out: sink,
@@ -224,7 +225,10 @@ fn live_in<
                 status: end_status(ended),
             }
         }
-        Err(status) => session.ended(status),
+        Err(status) => {
+            drop(ways);
+            session.ended(status)
+        }
     }
 }
 

@@ -71,7 +71,7 @@ pub(crate) fn write_report<K: Sink, G: Gate>(
         settings,
         gate,
     };
-    write_by(
+    let written = write_by(
         rt,
         alloc,
         out,
@@ -79,7 +79,9 @@ pub(crate) fn write_report<K: Sink, G: Gate>(
         &inputs.script,
         &setup,
         notifiers,
-    )
+    );
+    drop(ways);
+    written
 }
 
 /// The same, with what its rounds share together.

@@ -34,5 +34,5 @@ returns-in-Ok-start_live g c =
     c.behind-rows.ensures.version c.behind-rows.ensures.last c.in-Ok-start_live.ensures.started.2 c.start_live.ensures.never_falls c.start_live.ensures.reads_never_fall
     c.dispatch-sink.ensures.run c.dispatch-sink.ensures.write_fault (λ is. omega (arith, c.dispatch-sink.ensures.read_fault is, c.into_source.ensures)) (ap (λ (s : Streamed). s.faults) c.behind-rows.ensures.lines)
 
-pub returns : goal.returns
-returns g c = let kept = c.ended-in-Err.ensures.kept in rw (c.ended-in-Err.ensures.reads, kept.0, kept.1, kept.2) (c.in-Err.ensures.stopped _)
+pub returns-in-Err : goal.returns-in-Err
+returns-in-Err g c = let kept = c.ended-in-Err.ensures.kept in rw (c.ended-in-Err.ensures.reads, kept.0, kept.1, kept.2) (c.in-Err.ensures.stopped _)
