@@ -40,7 +40,7 @@ pub(crate) fn put_phrase(text: &mut Vec<u8>, phrase: Phrase) -> Result<(), OutOf
 }
 
 #[tactic(auto, unfolding(dispatch_report::specs::Words::numbered))]
-pub(crate) fn put_at(text: &mut Vec<u8>, words: &[u8], number: u64) -> Result<(), OutOfMemory>
+fn put_at(text: &mut Vec<u8>, words: &[u8], number: u64) -> Result<(), OutOfMemory>
     ensures { OnOk result (text.new.items ≡ text.old.items ++ numbered words.now number) }
 {
     put_bytes(text, words)?;
