@@ -146,14 +146,8 @@ fn page_of(words: &[String]) -> Option<&'static str> {
         return Some(VERSION);
     }
     let asked = match words.get(1) {
-        Some(second) => {
-            if COMMANDS.contains(&first) {
-                second.as_str()
-            } else {
-                first
-            }
-        }
-        None => first,
+        Some(second) if COMMANDS.contains(&first) => second.as_str(),
+        _ => first,
     };
     if HELP_WORDS.contains(&asked) {
         Some(HELP)
@@ -240,14 +234,11 @@ fn run_live(
     threads: &(impl Threads + Wait + Sync),
     words: &[String],
 ) -> RunStatus {
-    let Ok(whole) = words_of_run(rt.alloc(), words) else {
-        return RunStatus::OutOfMemory;
+    let passes = match words_of_run(rt.alloc(), words) {
+        Ok(whole) => read_words(&whole).is_ok(),
+        Err(OutOfMemory) => return RunStatus::OutOfMemory,
     };
-    let named: &[String] = if read_words(&whole).is_ok() {
-        words
-    } else {
-        &[]
-    };
+    let named: &[String] = if passes { words } else { &[] };
     match value_of(named, "script") {
         Some(_) => live_from(rt, threads, words, named, source_of(rt, named, "script")),
         None => live_from(rt, threads, words, named, StdSource::over(rt.stdin())),
