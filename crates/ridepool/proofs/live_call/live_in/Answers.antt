@@ -11,7 +11,7 @@ start_live-requires-clause-named g c κs within = c.requires.named
 
 pub dispatch-sink-requires-clause-ready : goal.dispatch-sink-requires-clause-ready
 dispatch-sink-requires-clause-ready g c κs within =
-    ready-live (record { settings = c.args.inputs.now.0; roads = c.args.inputs.now.1; vehicles = c.args.inputs.now.2 }) c.in-Ok-start_live.book c.in-Ok-start_live.ensures.started.0
+    ready-live (record { settings = c.args.inputs.now.settings; roads = c.args.inputs.now.network; vehicles = c.args.inputs.now.fleet }) c.in-Ok-start_live.book c.in-Ok-start_live.ensures.started.0
 
 pub dispatch-sink-requires-clause-empty : goal.dispatch-sink-requires-clause-empty
 dispatch-sink-requires-clause-empty g c κs within = ap (λ (b : BookView). b.entries) c.in-Ok-start_live.ensures.started.0
