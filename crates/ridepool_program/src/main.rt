@@ -105,14 +105,8 @@ fn answer(rt: &HostRuntime, threads: &(impl Threads + Wait + Sync), words: &[Str
         return print_page(rt, page);
     }
     match words.first() {
-        Some(word) => {
-            if word.as_str() == "live" {
-                run_live(rt, threads, words)
-            } else {
-                run(rt, threads, words)
-            }
-        }
-        None => run(rt, threads, words),
+        Some(word) if word.as_str() == "live" => run_live(rt, threads, words),
+        _ => run(rt, threads, words),
     }
 }
 
