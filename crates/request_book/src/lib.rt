@@ -18,7 +18,7 @@
 //! ```
 //!
 //! Notices tell riders who is promised which vehicle and when, and who is in no trip. Those of a journal
-//! are read off by a replay, those of a close off the book before it. The caller lends notifiers, of one
+//! are read off as its commands are run again, those of a close off the book before it. The caller lends notifiers, of one
 //! type or in boxes; each is told the notices in order, and one that fails is dropped while the others go
 //! on.
 //!
@@ -39,14 +39,12 @@ mod noting;
 mod outcome;
 mod refusals;
 mod register;
-mod replay;
 mod reply;
 mod rider;
 mod riding;
 mod running;
 mod sealing;
 mod state;
-mod statuses;
 mod telling;
 
 pub use book::Book;
@@ -63,7 +61,6 @@ pub use noting::{notices_of, notices_of_close};
 pub use outcome::{
     Answer, ChosenTrip, LateVehicle, MoveLine, Outcome, Planned, PlannedStop, RowLine,
 };
-pub use replay::Replay;
 pub use reply::{BookRefusal, Reply};
 pub use rider::{BookRider, Status};
 pub use state::State;
