@@ -1,5 +1,5 @@
 //! Travel times from labels.
-ghost use Rattle.std.specs.Prelude.{◌≡◌, ℕ, ◌+◌, ◌*◌, ◌<◌, ◌≤◌, All, IfOk, length};
+ghost use Rattle.std.specs.Prelude.{◌≡◌, ◌+◌, ◌*◌, ◌<◌, ◌≤◌, All, IfOk, length};
 ghost use Rattle.road_network.specs.Roads.{Roads};
 ghost use Rattle.travel_times.specs.Labels.{AreLabelsOf};
 ghost use Rattle.travel_times.specs.work.Cells.{AreCells};

@@ -1,4 +1,4 @@
-ghost use Rattle.std.specs.Prelude.{◌≡◌, ℕ, ◌+◌, ◌<◌, ◌≤◌, true, false, All, IfOk, IfSome, IfNone, OnOk, length, replicate, slice_index};
+ghost use Rattle.std.specs.Prelude.{◌≡◌, ℕ, ◌+◌, ◌<◌, ◌≤◌, true, false, All, IfSome, IfNone, OnOk, length, replicate, slice_index};
 ghost use Rattle.pool_base.specs.TravelTime.{longest};
 ghost use Rattle.travel_times.specs.Near.{AreTimesUpTo, reach};
 ghost use Rattle.travel_times.specs.Search.{IsNextTaken, RelaxesHops, waits};
@@ -111,13 +111,23 @@ pub fn next_near(ring: &mut Ring, waiting: &mut [bool], seconds: &[u32], most: u
     while let Some(node) = ring.pop() {
         let node = node as usize;
         if node < waiting.len() && waiting[node] && seconds[node] <= most {
-            waiting[node] = false;
+            take(waiting, node);
             return Some(node);
         }
     }
     let node = first_near(waiting, seconds, most)?;
-    waiting[node] = false;
+    take(waiting, node);
     Some(node)
+}
+
+/// Takes a node that waits: it waits no longer.
+#[inline]
+pub(crate) fn take(waiting: &mut [bool], node: usize)
+    requires within { node < length waiting.old }
+    requires waits { waits waiting.old node ≡ true }
+    ensures { IsNextTaken waiting.old waiting.new node }
+{
+    waiting[node] = false;
 }
 
 /// The first node that waits and has at most so many seconds.

@@ -1,5 +1,5 @@
 //! The work space of pruned searches.
-ghost use Rattle.std.specs.Prelude.{◌≡◌, ℕ, ◌<◌, ◌≤◌, All, IfOk, OnOk, length};
+ghost use Rattle.std.specs.Prelude.{◌≡◌, ◌<◌, ◌≤◌, All, IfOk, OnOk, length};
 ghost use Rattle.road_network.specs.Roads.{IsArcAmong};
 ghost use Rattle.travel_times.specs.work.Adding.{AddsHub, IsClean};
 ghost use Rattle.travel_times.specs.work.Hops.{AreNodeHops};
