@@ -25,20 +25,22 @@ pub(crate) fn all_levels<R: Threads + Sync, G: Gate>(
     ensures { IfOk result (λ answer. MatchOption answer (HasMoreRows (tau_of growth.now) (batch_of growth.now) most room)
         (λ levels. AreLevels (tau_of growth.now) (batch_of growth.now) (most + 1) levels.items × (level_total levels.items ≤ room))) }
 {
-    let first = first_level(alloc, growth)?;
-    if first.total > room {
+    let mut first = Vec::new(alloc);
+    let mut total = first_level(alloc, growth, &mut first)?;
+    if total > room {
         return Ok(None);
     }
-    let mut total = first.total;
     let mut levels = Vec::with_capacity(alloc, usize::from(most) + 1)?;
-    levels.push(Sequence::of(first.lists))?;
+    levels.push(Sequence::of(first))?;
     for size in 0..most {
+        let mut next = Vec::new(alloc);
         let below = levels[usize::from(size)].as_slice();
-        let Some(next) = next_level(alloc, workers, growth, size, below, room - total)? else {
+        let left = room - total;
+        let Some(more) = next_level(alloc, workers, growth, size, below, left, &mut next)? else {
             return Ok(None);
         };
-        total += next.total;
-        levels.push(Sequence::of(next.lists))?;
+        total += more;
+        levels.push(Sequence::of(next))?;
     }
     Ok(Some(levels))
 }
