@@ -29,7 +29,6 @@ pub(crate) fn first_level(
     ensures few { IfOk result (λ total. total ≤ 500) }
 {
     let count = growth.settled.vehicles.as_slice().len();
-    lists.reserve(count)?;
     let mut total = 0;
     for vehicle in 0..count {
         let trips = empty_piece(alloc, growth, vehicle)?;
@@ -59,7 +58,6 @@ pub(crate) fn next_level<R: Threads + Sync, G: Gate>(
         (λ total. AreLevelsUpTo (tau_of growth.now) (batch_of growth.now) (size + 1) (length (batch_of growth.now).vehicles) lists.new.items
         × (total ≡ row_total lists.new.items) × (total ≤ room))) }
 {
-    lists.reserve(below.len())?;
     let mut total = 0;
     'runs: while lists.len() < below.len() {
         let next = next_run(below, lists.len());
