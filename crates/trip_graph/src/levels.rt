@@ -24,9 +24,8 @@ pub(crate) fn first_level(
 ) -> Result<u64, OutOfMemory>
     requires can { CanGrowBatch growth.now }
     requires none { lists.old.items ≡ [] }
-    ensures level { OnOk result (AreLevelsUpTo (tau_of growth.now) (batch_of growth.now) 0 (length (batch_of growth.now).vehicles) lists.new.items) }
-    ensures total { IfOk result (λ total. total ≡ row_total lists.new.items) }
-    ensures few { IfOk result (λ total. total ≤ 500) }
+    ensures { IfOk result (λ total. AreLevelsUpTo (tau_of growth.now) (batch_of growth.now) 0 (length (batch_of growth.now).vehicles) lists.new.items
+        × (total ≡ row_total lists.new.items) × (total ≤ 500)) }
 {
     let count = growth.settled.vehicles.as_slice().len();
     let mut total = 0;

@@ -13,7 +13,7 @@ pub returns-then-total-room : goal.returns-then-total-room
 returns-then-total-room g c =
     let tau = travel_time c.args.growth.now.times.now in
     let first = c.in_ok-total.ensures in
-    step.more_of_first tau c.args.growth.now.settled.now c.args.most c.args.room c.first_level.new.lists.items c.requires.most first.level (let a = c.if-total-room.true in let b = first.total in omega arith)
+    step.more_of_first tau c.args.growth.now.settled.now c.args.most c.args.room c.first_level.new.lists.items c.requires.most first.0 (let a = c.if-total-room.true in let b = first.1 in omega arith)
 
 pub loop-size-init : goal.loop-size-init
 loop-size-init g c =
@@ -23,8 +23,8 @@ loop-size-init g c =
     let fits = c.if-total-room.false in
     let items : c.push.new.self.items ≡ lists ∷ [] = rw (c.in_ok-push.ensures.items, c.in_ok-levels.ensures.items, c.of.ensures) refl in
     record {
-      levels = rw items (step.levels_one tau c.args.growth.now.settled.now lists first.level);
-      counted = rw items (let t = first.total in omega arith);
+      levels = rw items (step.levels_one tau c.args.growth.now.settled.now lists first.0);
+      counted = rw items (let t = first.1 in omega arith);
       fits = omega arith;
     }
 
