@@ -126,3 +126,20 @@ returns-in_err-push c = failed c.from_residual-in_err-push.result _ c.from_resid
 
 pub returns-in_err-skip_to-2 : goal.returns-in_err-skip_to-2
 returns-in_err-skip_to-2 c = failed c.from_residual-in_err-skip_to-2.result _ c.from_residual-in_err-skip_to-2.ensures.0
+
+pub bounds-run-number : goal.bounds-run-number
+bounds-run-number c =
+    let run = c.args.run.now in
+    let inv = c.loop-level.invariant in
+    let gives = c.into_iter-level-iterator.ensures.into_iter_gives in
+    let t = YieldsList-turn (YieldsList-from_vec {s = c.into_iter-level-iterator.result} c.args.levels.items gives.0 (gives.1 ∙ c.args.levels.ok.0)) c.loop-level.yielded c.loop-level.level-iterator c.loop-level.yielded_by c.next.result c.next.new.self c.in-Some.level c.in-Some.is c.next.ensures.steps in
+    omega (arith, t.0, c.requires.levels.count, inv.number)
+
+pub skip_to-requires-clause-within : goal.skip_to-requires-clause-within
+skip_to-requires-clause-within c =
+    let run = c.args.run.now in
+    let inv = c.loop-level.invariant in
+    let gives = c.into_iter-level-iterator.ensures.into_iter_gives in
+    let t = YieldsList-turn (YieldsList-from_vec {s = c.into_iter-level-iterator.result} c.args.levels.items gives.0 (gives.1 ∙ c.args.levels.ok.0)) c.loop-level.yielded c.loop-level.level-iterator c.loop-level.yielded_by c.next.result c.next.new.self c.in-Some.level c.in-Some.is c.next.ensures.steps in
+    let known = c.requires.vehicles c.loop-level.number (omega (arith, t.0, c.requires.levels.count, inv.number)) in
+    omega (arith, known)

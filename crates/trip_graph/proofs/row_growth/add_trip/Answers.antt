@@ -95,3 +95,6 @@ returns-in_err-push-clause-answer g c = failed c.from_residual-in_err-push.resul
 
 pub returns-in_err-push-clause-task : goal.returns-in_err-push-clause-task
 returns-in_err-push-clause-task g c = failed c.from_residual-in_err-push.result _ c.from_residual-in_err-push.ensures.0
+
+pub offset_bounds-as_slice-rider : goal.offset_bounds-as_slice-rider
+offset_bounds-as_slice-rider g c = record { fits = omega (arith, last_rider _ _ _ c.requires.trip, ap length c.as_slice.ensures, c.as_slice.type_inv.1) }
