@@ -1,4 +1,4 @@
-ghost use Rattle.std.specs.Prelude.{◌≡◌, ℕ, ◌+◌, ◌<◌, ◌≤◌, true, false, All, IfSome, IfNone, OnOk, length, replicate, slice_index};
+ghost use Rattle.std.specs.Prelude.{◌≡◌, ℕ, ◌+◌, ◌<◌, ◌≤◌, true, false, All, IfOk, IfSome, IfNone, OnOk, length, replicate, slice_index};
 ghost use Rattle.pool_base.specs.TravelTime.{longest};
 ghost use Rattle.travel_times.specs.Near.{AreTimesUpTo, reach};
 ghost use Rattle.travel_times.specs.Search.{IsNextTaken, RelaxesHops, waits};
@@ -46,8 +46,8 @@ impl Search {
             self.waiting.fill(false);
             return Ok(());
         }
-        self.seconds = vec![in self.alloc; Times::NEVER; nodes]?;
-        self.waiting = vec![in self.alloc; false; nodes]?;
+        self.seconds = no_ways(self.alloc, nodes)?;
+        self.waiting = none_waiting(self.alloc, nodes)?;
         Ok(())
     }
 
@@ -86,6 +86,20 @@ impl Search {
         }
         Ok(())
     }
+}
+
+/// As many numbers of seconds that tell of no way.
+pub(crate) fn no_ways(alloc: Global, count: usize) -> Result<Vec<u32>, OutOfMemory>
+    ensures { IfOk result (λ seconds. seconds.items ≡ replicate count u32.MAX) }
+{
+    Ok(vec![in alloc; Times::NEVER; count]?)
+}
+
+/// As many nodes of which none waits.
+pub(crate) fn none_waiting(alloc: Global, nodes: usize) -> Result<Vec<bool>, OutOfMemory>
+    ensures { IfOk result (λ waiting. waiting.items ≡ replicate nodes false) }
+{
+    Ok(vec![in alloc; false; nodes]?)
 }
 
 /// How far a search goes: as far as its goal, if there is one.

@@ -1,4 +1,4 @@
-ghost use Rattle.std.specs.Prelude.{◌≡◌, ℕ, ◌+◌, ◌<◌, ◌≤◌, IfOk, MatchOption, Contains, length};
+ghost use Rattle.std.specs.Prelude.{◌+◌, ◌<◌, ◌≤◌, IfOk, MatchOption};
 ghost use Rattle.trip_graph.specs.work.Growth.{CanGrowBatch, batch_of, tau_of};
 ghost use Rattle.trip_graph.specs.work.Levels.{AreLevels, level_total};
 ghost use Rattle.trip_graph.specs.Answer.{HasMoreRows};

@@ -1,4 +1,4 @@
-ghost use Rattle.std.specs.Prelude.{◌≡◌, ℕ, ◌+◌, ◌-◌, ◌<◌, ◌≤◌, [], IfOk, MatchOption, OnOk, length};
+ghost use Rattle.std.specs.Prelude.{◌≡◌, ◌+◌, ◌-◌, ◌<◌, ◌≤◌, [], IfOk, MatchOption, OnOk, length};
 ghost use Rattle.trip_graph.specs.work.Growth.{CanGrowBatch, CanGrowLevel, batch_of, tau_of};
 ghost use Rattle.trip_graph.specs.work.Levels.{AreLevelsUpTo, HasMoreOfSize, row_total};
 ghost use Rattle.trip_graph.specs.work.Runs.{AreEmpty, AreLevelsOf, AreNext, AreWithin};
