@@ -53,9 +53,10 @@ pub fn grow_graph<G: Gate>(
         gate,
     };
     let room = u64::from(settings.pairs);
-    let Some(levels) = all_levels(alloc, &workers, &growth, settings.trip, room)? else {
+    let mut levels = Vec::new(alloc);
+    if !all_levels(alloc, &workers, &growth, settings.trip, room, &mut levels)? {
         return Ok(GraphAnswer::Overflow);
-    };
+    }
     let rv = edges_of(alloc, levels[1].as_slice())?;
     let graph = graph_of(alloc, settled, times, settings, &levels)?;
     Ok(GraphAnswer::Graph {

@@ -22,7 +22,7 @@ loop-size-init g c =
     let lists = c.first_level.new.lists.items in
     let first = c.in_ok-total.ensures in
     let fits = c.if-total-room.false in
-    let items : c.push.new.self.items ≡ lists ∷ [] = rw (c.in_ok-push.ensures.items, c.in_ok-levels.ensures.items, c.of.ensures) refl in
+    let items : c.push.new.self.items ≡ lists ∷ [] = rw (c.in_ok-push.ensures.items, c.requires.none, c.of.ensures) refl in
     record {
       levels = rw items (step.levels_one tau c.args.growth.now.settled.now lists first.0);
       counted = rw items (let t = first.1 in omega arith);
@@ -31,8 +31,8 @@ loop-size-init g c =
 
 pub next_level-requires-clause-below : goal.next_level-requires-clause-below
 next_level-requires-clause-below g c κs within =
-    rw c.as_slice-below.ensures (read_level (travel_time c.args.growth.now.times.now) c.args.growth.now.settled.now (c.loop-size.size + 1) c.loop-size.size c.from-in-loop-size.result c.loop-size.levels.items c.index.result.now
-    c.loop-size.invariant.levels (omega arith) c.from-in-loop-size.ensures c.index.ensures)
+    rw c.as_slice-below.ensures (read_level (travel_time c.args.growth.now.times.now) c.args.growth.now.settled.now (c.loop-size.size + 1) c.loop-size.size c.from.result c.loop-size.levels.items c.index.result.now
+    c.loop-size.invariant.levels (omega arith) c.from.ensures c.index.ensures)
 
 pub returns-in_default : goal.returns-in_default
 returns-in_default g c =
@@ -60,9 +60,6 @@ loop-size-preserved g c =
 
 pub returns-in_err-total : goal.returns-in_err-total
 returns-in_err-total g c = failed c.from_residual.result _ c.from_residual.ensures.0
-
-pub returns-in_err-levels : goal.returns-in_err-levels
-returns-in_err-levels g c = failed c.from_residual-in_err-levels.result _ c.from_residual-in_err-levels.ensures.0
 
 pub returns-in_err-push : goal.returns-in_err-push
 returns-in_err-push g c = failed c.from_residual-in_err-push.result _ c.from_residual-in_err-push.ensures.0
