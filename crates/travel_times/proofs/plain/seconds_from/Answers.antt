@@ -62,3 +62,16 @@ relax-requires-clause-short c =
     let some = rw c.deref.ensures.value at c.in-Some.ensures.some in
     let within : c.in-Some.node < length c.loop-node.seconds.items = omega (arith, some.0, inv.seconds_length, inv.waiting_length) in
     rw (get_or_read c.loop-node.seconds.items node c.index-here.result.now within c.index-here.ensures 0) (inv.reached node some.1)
+
+pub loop-node-smaller : goal.loop-node-smaller
+loop-node-smaller c =
+    let s = c.loop-node.seconds in
+    let w = c.loop-node.waiting in
+    let node = c.in-Some.node in
+    let some = rw c.deref.ensures.value at c.in-Some.ensures.some in
+    let taken : IsNextTaken w.items (set w.items node false) node = IsNextTaken-set w.items node some.0 some.1 in
+    let less = rw (c.deref_mut.ensures.value, c.deref_mut-in-Some.ensures.value) at c.relax.ensures.less in
+    let seconds_length : length c.relax.new.seconds ≡ s.len = omega (arith, c.relax.ensures.seconds_length, ap length c.deref_mut.ensures.value, s.ok.0) in
+    let waiting_length : length c.relax.new.waiting ≡ w.len = omega (arith, c.relax.ensures.waiting_length, ap length c.deref_mut-in-Some.ensures.value, taken.same_length, w.ok.0) in
+    rw (with_items_is s c.relax.new.seconds seconds_length, with_items_is (with_item w node false) c.relax.new.waiting waiting_length)
+    (omega (arith, less, taken.fewer))

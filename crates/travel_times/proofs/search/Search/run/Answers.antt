@@ -74,3 +74,15 @@ relax-requires-clause-short c =
     let taken : IsNextTaken s.waiting.items c.next_near.new.waiting node = rw c.deref_mut.ensures.value at c.in-Some.ensures.some in
     let within : c.in-Some.node < length c.loop-node.self.seconds.items = omega (arith, taken.within, inv.seconds_length, inv.waiting_length) in
     rw (get_or_read s.seconds.items node c.index-here.result.now within c.index-here.ensures 0) (inv.reached node taken.waited)
+
+pub loop-node-smaller : goal.loop-node-smaller
+loop-node-smaller c =
+    let s = c.loop-node.self in
+    let taken : IsNextTaken s.waiting.items c.next_near.new.waiting c.in-Some.node = rw c.deref_mut.ensures.value at c.in-Some.ensures.some in
+    let waiting_length : length c.next_near.new.waiting ≡ s.waiting.len = omega (arith, taken.same_length, s.waiting.ok.0) in
+    let waiting_is : c.deref_mut-in-Some-2.result.now ≡ c.next_near.new.waiting = c.deref_mut-in-Some-2.ensures.value ∙ with_items_is s.waiting c.next_near.new.waiting waiting_length in
+    let less = rw (c.deref_mut-in-Some.ensures.value, waiting_is) at c.in_ok-relax.ensures.relaxes.less in
+    let seconds_length : length c.relax.new.seconds ≡ s.seconds.len = omega (arith, c.in_ok-relax.ensures.seconds_length, ap length c.deref_mut-in-Some.ensures.value, s.seconds.ok.0) in
+    let waiting_length' : length c.relax.new.waiting ≡ s.waiting.len = omega (arith, c.in_ok-relax.ensures.waiting_length, ap length waiting_is, waiting_length) in
+    rw (with_items_is s.seconds c.relax.new.seconds seconds_length, with_items_is (with_items s.waiting c.next_near.new.waiting) c.relax.new.waiting waiting_length')
+    (omega (arith, less, taken.fewer))
