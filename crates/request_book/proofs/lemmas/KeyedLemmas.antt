@@ -122,6 +122,9 @@ module _ {X : Type 0} (key : X → ℕ) where
   pub look_up-push_there : (k : ℕ) (x : X) (xs : List X) → (key x ≡ k → ⊥) → look_up key k (xs ++ x ∷ []) ≡ look_up key k xs
   look_up-push_there k x xs ne = grind (arith, look_up-push k x xs, look_up-there k x [] ne, look_up-nil k)
 
+  pub look_up-push_found : (k : ℕ) (x y : X) (xs : List X) → look_up key k xs ≡ Some y → look_up key k (xs ++ x ∷ []) ≡ Some y
+  look_up-push_found k x y xs found = grind (arith, look_up-push k x xs)
+
   pub KeysDiffer-push : (x : X) (xs : List X) → KeysDiffer key xs → look_up key (key x) xs ≡ None → KeysDiffer key (xs ++ x ∷ [])
   unfolding KeysDiffer look_up
   KeysDiffer-push x [] d none = (refl, tt)

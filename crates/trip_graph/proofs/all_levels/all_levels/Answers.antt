@@ -1,7 +1,6 @@
 use Rattle.std.proofs.Common.{◌≡◌, ℕ, ◌+◌, ◌-◌, ◌<◌, List, [], ◌∷◌, ◌++◌, length, get_or, refl, sym, ap, ◌∙◌, subst, arith}
 use Rattle.trip_graph.proofs.Common.{travel_time, get_or_default, Settled, TripOf, AreLevelsUpTo, AreLevels}
 use Rattle.trip_graph.proofs.LevelSteps as step
-use Rattle.trip_graph.proofs.Lists.{failed}
 use Rattle.trip_graph.proofs.all_levels.all_levels.Goals as goal
 
 read_level : (tau : ℕ → ℕ → ℕ) (settled : Settled) (sizes k at : ℕ) (levels : List (List (List TripOf))) (lists : List (List TripOf)) → AreLevels tau settled sizes levels → k < sizes → at ≡ k
@@ -57,15 +56,3 @@ loop-size-preserved g c =
       counted = rw items (let t = step.total_level levels lists in let h = inv.counted in let g = went.1 in omega arith);
       fits = omega arith;
     }
-
-pub returns-in_err-total : goal.returns-in_err-total
-returns-in_err-total g c = failed c.from_residual.result _ c.from_residual.ensures.0
-
-pub returns-in_err-push : goal.returns-in_err-push
-returns-in_err-push g c = failed c.from_residual-in_err-push.result _ c.from_residual-in_err-push.ensures.0
-
-pub returns-in_err-more : goal.returns-in_err-more
-returns-in_err-more g c = failed c.from_residual-in_err-more.result _ c.from_residual-in_err-more.ensures.0
-
-pub returns-in_err-push-2 : goal.returns-in_err-push-2
-returns-in_err-push-2 g c = failed c.from_residual-in_err-push-2.result _ c.from_residual-in_err-push-2.ensures.0

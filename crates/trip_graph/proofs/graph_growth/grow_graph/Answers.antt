@@ -1,7 +1,6 @@
 use Rattle.std.proofs.Common.{◌≡◌, ℕ, ◌+◌, ◌<◌, List, [], length, get_or, sym, ◌∙◌, subst, arith, rules}
 use Rattle.trip_graph.proofs.Common.{get_or_default, point_count, travel_time, IsRvGraph, RvEdge, Settled, TripOf, AreLevels, AreLevelsUpTo}
 use Rattle.trip_graph.proofs.SingleEdges.{have_one, rv_of_singles}
-use Rattle.trip_graph.proofs.Lists.{failed}
 use Rattle.trip_graph.proofs.graph_growth.grow_graph.Goals as goal
 
 -- the level of one rider, as it is read
@@ -38,15 +37,3 @@ returns g c =
     (singles_of tau settled (c.args.settings.now.trip + 1) c.all_levels.new.levels.items c.index.result.now c.as_slice.result.now
     (let least = c.args.settings.now.in_range.trip_range.0 in omega arith) levels c.index.ensures c.as_slice.ensures) in
     (c.in_ok-graph.ensures, subst (λ (l : List RvEdge). IsRvGraph tau settled l) (sym c.in_ok-rv.ensures ∙ sym c.of.ensures) rv, c.in_ok-rr.ensures)
-
-pub returns-in_err-rr : goal.returns-in_err-rr
-returns-in_err-rr g c = failed c.from_residual.result _ c.from_residual.ensures.0
-
-pub returns-in_err-all_levels : goal.returns-in_err-all_levels
-returns-in_err-all_levels g c = failed c.from_residual-in_err-all_levels.result _ c.from_residual-in_err-all_levels.ensures.0
-
-pub returns-in_err-rv : goal.returns-in_err-rv
-returns-in_err-rv g c = failed c.from_residual-in_err-rv.result _ c.from_residual-in_err-rv.ensures.0
-
-pub returns-in_err-graph : goal.returns-in_err-graph
-returns-in_err-graph g c = failed c.from_residual-in_err-graph.result _ c.from_residual-in_err-graph.ensures.0

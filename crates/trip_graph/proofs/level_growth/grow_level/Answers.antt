@@ -2,7 +2,6 @@ use Rattle.std.proofs.Common.{◌-◌}
 use Rattle.trip_graph.proofs.Common.{point_count, travel_time}
 use Rattle.trip_graph.proofs.AllRows.{below_of_rows, more_of_level}
 use Rattle.trip_graph.proofs.Rule.{rule_of, edge_of}
-use Rattle.trip_graph.proofs.Lists.{failed}
 use Rattle.trip_graph.proofs.level_growth.grow_level.Goals as goal
 
 pub grow_size-requires-clause-can : goal.grow_size-requires-clause-can
@@ -22,6 +21,3 @@ grow_size-requires-clause-below g c =
 pub returns-clause-level : goal.returns-clause-level
 returns-clause-level g c =
     more_of_level (travel_time c.args.times.now) c.args.settled.now c.args.vehicle c.args.level c.args.room (rw c.if-all.false at c.in_ok-all.ensures.answer)
-
-pub returns-in_err-all-clause-level : goal.returns-in_err-all-clause-level
-returns-in_err-all-clause-level g c = failed c.from_residual.result _ c.from_residual.ensures.0

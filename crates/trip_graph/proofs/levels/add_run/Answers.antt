@@ -4,7 +4,6 @@ use Rattle.std.proofs.lemmas.Iterator.Adapters.{YieldsList-from_vec}
 use Rattle.std.proofs.lemmas.Iterator.Consumers.{YieldsList-turn, YieldsList-end}
 use Rattle.trip_graph.proofs.Runs.{IsFirst, next_end, next_first, next_last}
 use Rattle.trip_graph.proofs.LevelSteps as step
-use Rattle.trip_graph.proofs.Lists.{failed}
 use Rattle.trip_graph.proofs.levels.add_run.Goals as goal
 
 pub skip_to-requires-clause-on : goal.skip_to-requires-clause-on
@@ -117,15 +116,6 @@ skip_to-requires-2-clause-empty c =
     let gives = c.into_iter-level-iterator.ensures.into_iter_gives in
     let e = YieldsList-end (YieldsList-from_vec {s = c.into_iter-level-iterator.result} c.args.levels.items gives.0 (gives.1 ∙ c.args.levels.ok.0)) c.loop-level.yielded c.loop-level.level-iterator c.loop-level.yielded_by c.next.result c.next.new.self c.in-None.is c.next.ensures.steps in
     next_last run.below.now (length c.loop-level.lists.items) c.loop-level.number run.vehicles.now c.args.end inv.next (omega (arith, e.1, c.requires.levels.count, inv.number))
-
-pub returns-in_err-skip_to : goal.returns-in_err-skip_to
-returns-in_err-skip_to c = failed c.from_residual.result _ c.from_residual.ensures.0
-
-pub returns-in_err-push : goal.returns-in_err-push
-returns-in_err-push c = failed c.from_residual-in_err-push.result _ c.from_residual-in_err-push.ensures.0
-
-pub returns-in_err-skip_to-2 : goal.returns-in_err-skip_to-2
-returns-in_err-skip_to-2 c = failed c.from_residual-in_err-skip_to-2.result _ c.from_residual-in_err-skip_to-2.ensures.0
 
 pub bounds-run-number : goal.bounds-run-number
 bounds-run-number c =

@@ -1,6 +1,5 @@
 use Rattle.std.proofs.Common.{ℕ, ◌<◌, List, length, get_or, sym, subst, arith}
 use Rattle.trip_graph.proofs.Runs.{next_within}
-use Rattle.trip_graph.proofs.Lists.{failed}
 use Rattle.trip_graph.proofs.levels.next_level.Goals as goal
 
 pub grow_run-requires-clause-vehicles : goal.grow_run-requires-clause-vehicles
@@ -14,9 +13,3 @@ add_run-requires-clause-vehicles g c =
     let next = c.next_run-next in
     subst (λ (vs : List ℕ). (k : ℕ) → k < length vs → get_or vs k 0 < length c.args.below.now) (sym c.as_slice.ensures.value)
     (λ k lt. let below = next_within c.args.below.now _ next.result.vehicles.items next.result.end next.ensures.next k lt in omega (arith, next.ensures.end))
-
-pub returns-in_err-levels : goal.returns-in_err-levels
-returns-in_err-levels g c = failed c.from_residual.result _ c.from_residual.ensures.0
-
-pub returns-in_err-found : goal.returns-in_err-found
-returns-in_err-found g c = failed c.from_residual-in_err-found.result _ c.from_residual-in_err-found.ensures.0

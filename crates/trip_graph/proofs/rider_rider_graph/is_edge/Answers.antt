@@ -4,7 +4,6 @@ use Rattle.std.specs.Bool.{MatchBool}
 use Rattle.std.specs.Result.{IfOk}
 use Rattle.std.proofs.lemmas.Result.{IfOk-weaker}
 use Rattle.trip_graph.proofs.PairTasks.{rider_read, pair_needs_seats, pair_valid, origins_within, no_edge_from, rr_answer}
-use Rattle.trip_graph.proofs.Lists.{failed}
 use Rattle.trip_graph.proofs.rider_rider_graph.is_edge.Goals as goal
 
 pub returns-then-settled-smaller_party-clause-edge : goal.returns-then-settled-smaller_party-clause-edge
@@ -51,9 +50,3 @@ returns-clause-edge g c =
     IfOk-weaker c.starts_at-2.result (λ serves. MatchBool serves (IsServable tau (pair_task settled (rider_at settled b).leg.origin a b)) (IsServable tau (pair_task settled (rider_at settled b).leg.origin a b) → ⊥))
     (λ edge. MatchBool edge (IsRrEdge tau settled a b) (IsRrEdge tau settled a b → ⊥))
     (λ answer h. rr_answer tau settled a b answer c.requires.below c.requires.within never h) found
-
-pub returns-in_err-starts_at-clause-edge : goal.returns-in_err-starts_at-clause-edge
-returns-in_err-starts_at-clause-edge g c = failed c.from_residual.result _ c.from_residual.ensures.0
-
-pub returns-in_err-starts_at-clause-task : goal.returns-in_err-starts_at-clause-task
-returns-in_err-starts_at-clause-task g c = failed c.from_residual.result _ c.from_residual.ensures.0

@@ -3,7 +3,6 @@ use Rattle.trip_graph.proofs.Common.{serves, costs, rider_count, IsLevelUpTo}
 use Rattle.std.proofs.lemmas.Bool.Decides.{nat_tests}
 use Rattle.trip_graph.proofs.GrownLevels.{first_begun, ended}
 use Rattle.trip_graph.proofs.RowGrowth.{none_first, at_least_once, one_alone}
-use Rattle.trip_graph.proofs.Lists.{failed}
 use Rattle.trip_graph.proofs.row_growth.grow_first.Goals as goal
 
 pub returns-then-is_empty-clause-answer : goal.returns-then-is_empty-clause-answer
@@ -49,6 +48,3 @@ returns-clause-steps g c =
 
 pub add_trip-requires-clause-trip : goal.add_trip-requires-clause-trip
 add_trip-requires-clause-trip g c = one_alone (rider_count c.args.growth.now) c.loop-rider.rider (omega (arith, ap length c.as_slice-rider-end.ensures))
-
-pub returns-in_err-add_trip-clause-answer : goal.returns-in_err-add_trip-clause-answer
-returns-in_err-add_trip-clause-answer g c = failed c.from_residual.result _ c.from_residual.ensures.0

@@ -1,7 +1,6 @@
 use Rattle.std.proofs.Common.{arith}
 use Rattle.trip_graph.proofs.Common.{serves, costs, rider_count}
 use Rattle.trip_graph.proofs.RowGrowth.{begun_at, ended_at}
-use Rattle.trip_graph.proofs.Lists.{failed}
 use Rattle.trip_graph.proofs.row_growth.grow_rows.Goals as goal
 
 pub loop-row-init : goal.loop-row-init
@@ -19,6 +18,3 @@ returns-clause-answer g c =
       ended_at (rider_count growth) (serves growth) (costs growth) c.requires.can.rule c.args.size c.args.rows.now c.requires.below c.loop-row.growing.found.items c.loop-row.row (omega arith) c.loop-row.invariant.upto,
       c.loop-row.invariant.room,
     )
-
-pub returns-in_err-grow_row-clause-answer : goal.returns-in_err-grow_row-clause-answer
-returns-in_err-grow_row-clause-answer g c = failed c.from_residual.result _ c.from_residual.ensures.0

@@ -4,7 +4,6 @@ use Rattle.std.proofs.lemmas.List.{length-append}
 use Rattle.trip_graph.proofs.AllRows.{level_of_rows, level_of_more, more_within}
 use Rattle.trip_graph.proofs.Joined.{smaller_none, smaller_joined, more_joined}
 use Rattle.trip_graph.proofs.StepBound.{at_most_one, steps_so_far, more_steps, rows_of_all}
-use Rattle.trip_graph.proofs.Lists.{failed}
 use Rattle.trip_graph.proofs.vehicle_growth.grow.Goals as goal
 
 pub loop-size-init : goal.loop-size-init
@@ -98,15 +97,3 @@ returns-then-rows-room-clause-grown g c =
       some = record { right = some.right; sized = λ k d h. (let sized = some.sized k d h in omega arith); rising = some.rising };
       more = omega (arith, ap length c.rows.ensures);
     }
-
-pub returns-in_err-below-clause-grown : goal.returns-in_err-below-clause-grown
-returns-in_err-below-clause-grown g c = failed c.from_residual.result _ c.from_residual.ensures.0
-
-pub returns-in_err-next-clause-grown : goal.returns-in_err-next-clause-grown
-returns-in_err-next-clause-grown g c = failed c.from_residual-in_err-next.result _ c.from_residual-in_err-next.ensures.0
-
-pub returns-in_err-append-clause-grown : goal.returns-in_err-append-clause-grown
-returns-in_err-append-clause-grown g c = failed c.from_residual-in_err-append.result _ c.from_residual-in_err-append.ensures.0
-
-pub returns-in_err-append-2-clause-grown : goal.returns-in_err-append-2-clause-grown
-returns-in_err-append-2-clause-grown g c = failed c.from_residual-in_err-append-2.result _ c.from_residual-in_err-append-2.ensures.0
