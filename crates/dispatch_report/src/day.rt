@@ -6,7 +6,7 @@ ghost use Rattle.dispatch_report.specs.Written.{WritesText};
 
 use crate::block::write_number;
 use crate::fault::ReportFault;
-use crate::lines::{Line, write_item, write_rest};
+use crate::lines::{Line, Page, write_item, write_rest};
 use crate::words::put_numbered;
 use pool_base::OutOfMemory;
 use pool_io::Sink;
@@ -34,10 +34,13 @@ pub fn write_day_end<K: Sink>(
     ensures { WritesText (sink_seen K.written K.faults sink.old sink.new) (day_end_text counts.now entries) result }
 {
     let mut piece = Vec::new(alloc);
-    let mut so_far = Ok(());
-    write_item(sink, &mut piece, &mut so_far, &Day, counts);
-    write_number(sink, &mut piece, &mut so_far, b"done ", entries);
-    write_rest(sink, &mut piece, so_far)
+    let mut page = Page {
+        piece: &mut piece,
+        so_far: Ok(()),
+    };
+    write_item(sink, &mut page, &Day, counts);
+    write_number(sink, &mut page, b"done ", entries);
+    write_rest(sink, page)
 }
 
 #[derive(Drop)]

@@ -7,7 +7,7 @@ ghost use Rattle.dispatch_report.specs.work.Lines.{WritesLines};
 
 use crate::block::{write_number, write_words};
 use crate::fault::ReportFault;
-use crate::lines::{Line, write_item, write_rest};
+use crate::lines::{Line, Page, write_item, write_rest};
 use crate::words::put_numbered;
 use batch_snapshot::Fleet;
 use pool_base::{OutOfMemory, put_bytes};
@@ -30,24 +30,22 @@ pub fn write_head<K: Sink>(
     ensures { WritesText (sink_seen K.written K.faults sink.old sink.new) (head_text settings.now network.now (length fleet.now)) result }
 {
     let mut piece = Vec::new(alloc);
-    let mut so_far = Ok(());
-    write_words(sink, &mut piece, &mut so_far, b"ridepool report 1");
-    write_item(sink, &mut piece, &mut so_far, &RunSettings, settings);
-    write_item(sink, &mut piece, &mut so_far, &NetworkSizes, network);
-    write_fleet(sink, &mut piece, &mut so_far, fleet);
-    write_rest(sink, &mut piece, so_far)
+    let mut page = Page {
+        piece: &mut piece,
+        so_far: Ok(()),
+    };
+    write_words(sink, &mut page, b"ridepool report 1");
+    write_item(sink, &mut page, &RunSettings, settings);
+    write_item(sink, &mut page, &NetworkSizes, network);
+    write_fleet(sink, &mut page, fleet);
+    write_rest(sink, page)
 }
 
-fn write_fleet<K: Sink>(
-    sink: &mut K,
-    piece: &mut Vec<u8>,
-    so_far: &mut Result<(), ReportFault>,
-    fleet: &Fleet,
-)
-    ensures { WritesLines (sink_seen K.written K.faults sink.old sink.new) piece.old.items piece.new.items so_far.old so_far.new (numbered (codes "fleet vehicles=") (length fleet.now) ∷ []) }
+fn write_fleet<K: Sink>(sink: &mut K, page: &mut Page<'_>, fleet: &Fleet)
+    ensures { WritesLines (sink_seen K.written K.faults sink.old sink.new) page.old.piece.now.items page.new.piece.now.items page.old.so_far page.new.so_far (numbered (codes "fleet vehicles=") (length fleet.now) ∷ []) }
 {
     let vehicles = fleet.vehicles().len() as u64;
-    write_number(sink, piece, so_far, b"fleet vehicles=", vehicles);
+    write_number(sink, page, b"fleet vehicles=", vehicles);
 }
 
 #[derive(Drop)]
