@@ -10,7 +10,7 @@ ghost use Rattle.request_book.specs.declared.outcome.Answer.TheVariants.{Planned
 
 use crate::fault::ReportFault;
 use crate::lines::{Line, Page, write_item, write_lines, write_list};
-use crate::words::{put_multipliers, put_numbered, put_riders, put_signed, put_spaced};
+use crate::words::{put_fields, put_multipliers, put_numbered, put_riders, put_signed, put_spaced};
 use plan_rules::{Node, Tree};
 use pool_base::{OutOfMemory, RiderId, VehicleId, put_bytes};
 use pool_io::Sink;
@@ -186,8 +186,13 @@ impl Line for Rv {
     ghost text = { λ _ edge. block_line_text (Alone edge) };
 
     fn put(&self, line: &mut Vec<u8>, edge: &(VehicleId, RiderId)) -> Result<(), OutOfMemory> {
-        put_numbered(line, b"rv ", u64::from(edge.0.get()))?;
-        put_spaced(line, u64::from(edge.1.get()))
+        put_fields(
+            line,
+            &[
+                (b"rv ", u64::from(edge.0.get())),
+                (b" ", u64::from(edge.1.get())),
+            ],
+        )
     }
 }
 
@@ -200,8 +205,13 @@ impl Line for Rr {
     ghost text = { λ _ edge. block_line_text (Shared edge) };
 
     fn put(&self, line: &mut Vec<u8>, edge: &(RiderId, RiderId)) -> Result<(), OutOfMemory> {
-        put_numbered(line, b"rr ", u64::from(edge.0.get()))?;
-        put_spaced(line, u64::from(edge.1.get()))
+        put_fields(
+            line,
+            &[
+                (b"rr ", u64::from(edge.0.get())),
+                (b" ", u64::from(edge.1.get())),
+            ],
+        )
     }
 }
 
@@ -244,9 +254,14 @@ impl Line for Move {
     ghost text = { λ _ m. block_line_text (Moved m) };
 
     fn put(&self, line: &mut Vec<u8>, item: &MoveLine) -> Result<(), OutOfMemory> {
-        put_numbered(line, b"move ", u64::from(item.vehicle.get()))?;
-        put_spaced(line, u64::from(item.rider.get()))?;
-        put_spaced(line, u64::from(item.seconds))
+        put_fields(
+            line,
+            &[
+                (b"move ", u64::from(item.vehicle.get())),
+                (b" ", u64::from(item.rider.get())),
+                (b" ", u64::from(item.seconds)),
+            ],
+        )
     }
 }
 
@@ -298,7 +313,12 @@ fn put_stop(line: &mut Vec<u8>, stop: &PlannedStop) -> Result<(), OutOfMemory>
     ensures { OnOk result (line.new.items ≡ line.old.items ++ stop_text stop.now) }
 {
     let words: &[u8] = if stop.pick { b" pick:" } else { b" drop:" };
-    put_numbered(line, words, u64::from(stop.rider.get()))?;
-    put_numbered(line, b"@", u64::from(stop.node.get()))?;
-    put_numbered(line, b":", stop.second)
+    put_fields(
+        line,
+        &[
+            (words, u64::from(stop.rider.get())),
+            (b"@", u64::from(stop.node.get())),
+            (b":", stop.second),
+        ],
+    )
 }

@@ -7,7 +7,7 @@ ghost use Rattle.dispatch_report.specs.Written.{WritesText};
 use crate::block::write_number;
 use crate::fault::ReportFault;
 use crate::lines::{Line, Page, write_item, write_rest};
-use crate::words::put_numbered;
+use crate::words::put_fields;
 use pool_base::OutOfMemory;
 use pool_io::Sink;
 use std::alloc::Global;
@@ -52,21 +52,14 @@ impl Line for Day {
     ghost text = { λ _ counts. day_line counts };
 
     fn put(&self, line: &mut Vec<u8>, counts: &DayCounts) -> Result<(), OutOfMemory> {
-        put_riders_served(line, counts)?;
-        put_worst(line, counts)
+        put_fields(
+            line,
+            &[
+                (b"day picked ", counts.picked),
+                (b" dropped ", counts.dropped),
+                (b" worst-wait ", counts.worst_wait),
+                (b" worst-delay ", counts.worst_delay),
+            ],
+        )
     }
-}
-
-fn put_riders_served(line: &mut Vec<u8>, counts: &DayCounts) -> Result<(), OutOfMemory>
-    ensures { OnOk result (line.new.items ≡ line.old.items ++ (numbered (codes "day picked ") counts.now.picked ++ numbered (codes " dropped ") counts.now.dropped)) }
-{
-    put_numbered(line, b"day picked ", counts.picked)?;
-    put_numbered(line, b" dropped ", counts.dropped)
-}
-
-fn put_worst(line: &mut Vec<u8>, counts: &DayCounts) -> Result<(), OutOfMemory>
-    ensures { OnOk result (line.new.items ≡ line.old.items ++ (numbered (codes " worst-wait ") counts.now.worst_wait ++ numbered (codes " worst-delay ") counts.now.worst_delay)) }
-{
-    put_numbered(line, b" worst-wait ", counts.worst_wait)?;
-    put_numbered(line, b" worst-delay ", counts.worst_delay)
 }

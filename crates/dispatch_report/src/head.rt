@@ -8,7 +8,7 @@ ghost use Rattle.dispatch_report.specs.work.Lines.{WritesLines};
 use crate::block::{write_number, write_words};
 use crate::fault::ReportFault;
 use crate::lines::{Line, Page, write_item, write_rest};
-use crate::words::put_numbered;
+use crate::words::{put_fields, put_numbered};
 use batch_snapshot::Fleet;
 use pool_base::{OutOfMemory, put_bytes};
 use pool_io::Sink;
@@ -70,27 +70,27 @@ impl Line for RunSettings {
     ghost text = { λ _ settings. settings_line settings };
 
     fn put(&self, line: &mut Vec<u8>, settings: &Settings) -> Result<(), OutOfMemory> {
-        put_limits(line, settings)?;
-        put_search(line, settings)?;
+        put_numbers(line, settings)?;
         put_proof(line, settings.proof)?;
         put_dwell(line, settings.dwell)
     }
 }
 
-fn put_limits(line: &mut Vec<u8>, settings: &Settings) -> Result<(), OutOfMemory>
-    ensures { OnOk result (line.new.items ≡ line.old.items ++ (numbered (codes "settings wait=") settings.now.wait ++ numbered (codes " delay=") settings.now.delay ++ numbered (codes " trip=") settings.now.trip)) }
+fn put_numbers(line: &mut Vec<u8>, settings: &Settings) -> Result<(), OutOfMemory>
+    ensures { OnOk result (line.new.items ≡ line.old.items ++ ((numbered (codes "settings wait=") settings.now.wait ++ numbered (codes " delay=") settings.now.delay ++ numbered (codes " trip=") settings.now.trip)
+        ++ (numbered (codes " penalty=") settings.now.penalty ++ numbered (codes " budget=") settings.now.budget ++ numbered (codes " pairs=") settings.now.pairs))) }
 {
-    put_numbered(line, b"settings wait=", u64::from(settings.wait))?;
-    put_numbered(line, b" delay=", u64::from(settings.delay))?;
-    put_numbered(line, b" trip=", u64::from(settings.trip))
-}
-
-fn put_search(line: &mut Vec<u8>, settings: &Settings) -> Result<(), OutOfMemory>
-    ensures { OnOk result (line.new.items ≡ line.old.items ++ (numbered (codes " penalty=") settings.now.penalty ++ numbered (codes " budget=") settings.now.budget ++ numbered (codes " pairs=") settings.now.pairs)) }
-{
-    put_numbered(line, b" penalty=", u64::from(settings.penalty))?;
-    put_numbered(line, b" budget=", u64::from(settings.budget))?;
-    put_numbered(line, b" pairs=", u64::from(settings.pairs))
+    put_fields(
+        line,
+        &[
+            (b"settings wait=", u64::from(settings.wait)),
+            (b" delay=", u64::from(settings.delay)),
+            (b" trip=", u64::from(settings.trip)),
+            (b" penalty=", u64::from(settings.penalty)),
+            (b" budget=", u64::from(settings.budget)),
+            (b" pairs=", u64::from(settings.pairs)),
+        ],
+    )
 }
 
 fn put_proof(line: &mut Vec<u8>, proof: bool) -> Result<(), OutOfMemory>

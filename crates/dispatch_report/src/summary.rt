@@ -9,7 +9,7 @@ ghost use Rattle.dispatch_report.specs.work.Lines.{WritesLines};
 
 use crate::fault::ReportFault;
 use crate::lines::{Line, Page, write_item, write_rest};
-use crate::words::{put_numbered, put_signed};
+use crate::words::{put_fields, put_numbered, put_signed};
 use pool_base::{OutOfMemory, RiderId, Sequence, put_bytes};
 use pool_io::Sink;
 use request_book::{Answer, ChosenTrip, Command, Entry, Journal, Outcome, Planned, Reply, RowLine};
@@ -118,24 +118,17 @@ impl Line for Shape {
     ghost text = { λ _ shape. (numbered (codes "load seed=") shape.seed ++ numbered (codes " side=") shape.side) ++ (numbered (codes " vehicles=") shape.vehicles ++ numbered (codes " riders=") shape.riders ++ numbered (codes " rounds=") shape.rounds) };
 
     fn put(&self, line: &mut Vec<u8>, shape: &LoadShape) -> Result<(), OutOfMemory> {
-        put_square(line, shape)?;
-        put_sizes(line, shape)
+        put_fields(
+            line,
+            &[
+                (b"load seed=", shape.seed),
+                (b" side=", u64::from(shape.side)),
+                (b" vehicles=", u64::from(shape.vehicles)),
+                (b" riders=", u64::from(shape.riders)),
+                (b" rounds=", u64::from(shape.rounds)),
+            ],
+        )
     }
-}
-
-fn put_square(line: &mut Vec<u8>, shape: &LoadShape) -> Result<(), OutOfMemory>
-    ensures { OnOk result (line.new.items ≡ line.old.items ++ (numbered (codes "load seed=") shape.now.seed ++ numbered (codes " side=") shape.now.side)) }
-{
-    put_numbered(line, b"load seed=", shape.seed)?;
-    put_numbered(line, b" side=", u64::from(shape.side))
-}
-
-fn put_sizes(line: &mut Vec<u8>, shape: &LoadShape) -> Result<(), OutOfMemory>
-    ensures { OnOk result (line.new.items ≡ line.old.items ++ (numbered (codes " vehicles=") shape.now.vehicles ++ numbered (codes " riders=") shape.now.riders ++ numbered (codes " rounds=") shape.now.rounds)) }
-{
-    put_numbered(line, b" vehicles=", u64::from(shape.vehicles))?;
-    put_numbered(line, b" riders=", u64::from(shape.riders))?;
-    put_numbered(line, b" rounds=", u64::from(shape.rounds))
 }
 
 fn put_answer(line: &mut Vec<u8>, answer: &Answer) -> Result<(), OutOfMemory>
@@ -150,29 +143,16 @@ fn put_answer(line: &mut Vec<u8>, answer: &Answer) -> Result<(), OutOfMemory>
 fn put_plan(line: &mut Vec<u8>, plan: &Planned) -> Result<(), OutOfMemory>
     ensures { OnOk result (line.new.items ≡ line.old.items ++ ((numbered (codes " served ") (sum_by pickups plan.now.chosen) ++ numbered (codes " out ") (length plan.now.left)) ++ (numbered (codes " rows ") (length plan.now.rows) ++ numbered (codes " trips ") (count_by (λ trip. list_any (λ stop. stop.pick) trip.stops.items) plan.now.chosen)) ++ (numbered (codes " cost ") plan.now.cost ++ signed (codes " bound ") plan.now.bound))) }
 {
-    put_served(line, plan)?;
-    put_trips(line, plan)?;
-    put_cost(line, plan)
-}
-
-fn put_served(line: &mut Vec<u8>, plan: &Planned) -> Result<(), OutOfMemory>
-    ensures { OnOk result (line.new.items ≡ line.old.items ++ (numbered (codes " served ") (sum_by pickups plan.now.chosen) ++ numbered (codes " out ") (length plan.now.left))) }
-{
-    put_numbered(line, b" served ", served(&plan.chosen))?;
-    put_numbered(line, b" out ", left_count(&plan.left))
-}
-
-fn put_trips(line: &mut Vec<u8>, plan: &Planned) -> Result<(), OutOfMemory>
-    ensures { OnOk result (line.new.items ≡ line.old.items ++ (numbered (codes " rows ") (length plan.now.rows) ++ numbered (codes " trips ") (count_by (λ trip. list_any (λ stop. stop.pick) trip.stops.items) plan.now.chosen))) }
-{
-    put_numbered(line, b" rows ", row_count(&plan.rows))?;
-    put_numbered(line, b" trips ", trips_with_riders(&plan.chosen))
-}
-
-fn put_cost(line: &mut Vec<u8>, plan: &Planned) -> Result<(), OutOfMemory>
-    ensures { OnOk result (line.new.items ≡ line.old.items ++ (numbered (codes " cost ") plan.now.cost ++ signed (codes " bound ") plan.now.bound)) }
-{
-    put_numbered(line, b" cost ", plan.cost)?;
+    put_fields(
+        line,
+        &[
+            (b" served ", served(&plan.chosen)),
+            (b" out ", left_count(&plan.left)),
+            (b" rows ", row_count(&plan.rows)),
+            (b" trips ", trips_with_riders(&plan.chosen)),
+            (b" cost ", plan.cost),
+        ],
+    )?;
     put_signed(line, b" bound ", &plan.bound)
 }
 
