@@ -6,7 +6,9 @@ ghost use Rattle.plan_rules.specs.Tree.{every_row, rounded_up};
 ghost use Rattle.plan_rules.specs.GoodGraph.{IsGoodGraph};
 ghost use Rattle.assignment_search.specs.work.Lookups.{AreLookupsOf};
 ghost use Rattle.assignment_search.specs.Found.{IsSearchAnswer};
+ghost use Rattle.assignment_search.specs.work.Found.{IsTreeSoFar};
 ghost use Rattle.assignment_search.specs.work.Growth.{IsGoodLeaf};
+ghost use Rattle.assignment_search.specs.work.OpenLeaves.{AreOpen};
 
 use crate::child::{Judged, root_leaf};
 use crate::exchange::exchange;
@@ -16,10 +18,11 @@ use crate::growth::{Growing, bound_at};
 use crate::guide::Guide;
 use crate::lookups::Lookups;
 use crate::step::{Outcome, next};
-use plan_rules::{Node, Plan, Tree, TripGraph, cost_of};
+use plan_rules::{Plan, Tree, TripGraph, cost_of};
 use pool_base::OutOfMemory;
 use row_tables::Drafter;
 use std::alloc::Global;
+use std::mem::replace;
 use std::thread::Threads;
 
 /// A lawful plan and a bound on every lawful plan's cost, with a tree of at most `budget` nodes that shows it.
@@ -85,40 +88,63 @@ fn branch(
     requires leaf { IsGoodLeaf graph.now (rounded_up root.value) every_row root.multipliers root.value }
     ensures { IfOk result (IsSearchAnswer graph.now budget) }
 {
+    let mut tree = Growing::new(alloc, budget as usize, root)?;
+    let found = grow(alloc, graph, lookups, guide, &mut tree, first);
+    drop(tree);
+    found
+}
+
+/// Grows the tree with this plan to begin with, and takes its nodes out of it.
+fn grow(
+    alloc: Global,
+    graph: &TripGraph,
+    lookups: &Lookups,
+    guide: &mut Guide,
+    tree: &mut Growing,
+    first: Plan,
+) -> Result<Found, OutOfMemory>
+    requires good { IsGoodGraph graph.now }
+    requires lookups { AreLookupsOf graph.now lookups.now }
+    requires lawful { IsLawful graph.now first }
+    requires held { cost_of graph.now first ≤ cost_of graph.now graph.now.held }
+    requires greedy { (chosen : List (Option ℕ)) → IsGreedy graph.now chosen → IsLawful graph.now chosen → cost_of graph.now first ≤ cost_of graph.now chosen }
+    requires tree { IsTreeSoFar graph.now tree.old.budget (cost_of graph.now first) tree.old.nodes.items tree.old.values.items }
+    requires leaves { AreOpen tree.old tree.old.nodes.items tree.old.values.items }
+    ensures { IfOk result (IsSearchAnswer graph.now tree.old.budget) }
+{
     let mut plan = first;
     let mut limit = cost_of(graph, &plan);
-    let mut tree = Growing::new(alloc, budget as usize, root)?;
     loop {
         let place = tree.first();
-        let bound = bound_at(&tree, place);
-        match next(alloc, graph, lookups, &tree, place, limit, guide)? {
+        let bound = bound_at(tree, place);
+        match next(alloc, graph, lookups, tree, place, limit, guide)? {
             Outcome::Parted(ends) => tree.grow(alloc, place, ends)?,
             Outcome::Better(better) => {
                 limit = cost_of(graph, &better);
                 plan = better;
             }
-            Outcome::Met => return Ok(found_of(graph, plan, bound, tree.nodes)),
-            Outcome::Fixed(best) => return Ok(found_of(graph, best, bound, tree.nodes)),
+            Outcome::Met => return Ok(found_of(alloc, graph, plan, bound, tree)),
+            Outcome::Fixed(best) => return Ok(found_of(alloc, graph, best, bound, tree)),
             Outcome::Full => {
                 let best = exchange(alloc, graph, plan)?;
-                return Ok(found_of(graph, best, bound, tree.nodes));
+                return Ok(found_of(alloc, graph, best, bound, tree));
             }
         }
     }
 }
 
-/// What is found: a plan with its cost, and these nodes with their bound.
-fn found_of(graph: &TripGraph, plan: Plan, bound: i128, nodes: Vec<Node>) -> Found
+/// What is found: a plan with its cost, and this tree's nodes with their bound.
+fn found_of(alloc: Global, graph: &TripGraph, plan: Plan, bound: i128, tree: &mut Growing) -> Found
     requires { IsLawful graph.now plan }
     ensures plan { result.plan ≡ plan }
     ensures cost { result.cost ≡ cost_of graph.now plan }
     ensures bound { result.bound ≡ bound }
-    ensures tree { result.tree ≡ nodes.items }
+    ensures tree { result.tree ≡ tree.old.nodes.items }
 {
     Found {
         cost: cost_of(graph, &plan),
         plan,
         bound,
-        tree: Tree::of(nodes),
+        tree: Tree::of(replace(&mut tree.nodes, Vec::new(alloc))),
     }
 }

@@ -16,20 +16,12 @@ lane-run settings roads commands old new fresh ran =
     record { run = both.0; closes = both.1 }
 
 module _ (book : LockValue BookView) (passes : List BookPass) (all : AreAllPasses book passes) where
-  pub rest-ready : All IsNew passes → book.lanes ≤ 16 → All (IsToWork book) (map at_rest passes)
-  rest-ready new few = All-map (IsToWork book) at_rest passes (λ k d lt. record {
+  pub rest-ready : All IsNew passes → book.lanes ≤ 16 → All (λ pass. IsToWork book (at_rest pass)) passes
+  rest-ready new few k d lt = record {
     own = all.own k d lt;
     fresh = (new k d lt).0;
     lane = omega (arith, all.lanes k d lt, all.len, lt, few);
-  })
-
-  pub rest-in_order : AreInOrder (map at_rest passes)
-  rest-in_order k d lt =
-      let here : k < length passes = omega (arith, length-map passes at_rest) in
-      rw (get_or-map at_rest passes k d.pass d here) (all.lanes k d.pass here)
-
-  pub rest-len : length (map at_rest passes) ≡ book.lanes
-  rest-len = length-map passes at_rest ∙ all.len
+  }
 
 module _ (settings : Settings) (roads : Roads) (round : NumberedLanes) (book : LockValue BookView) (crew : List LaneWork) (worked : All (HasWorked settings roads round book) crew) (order : AreInOrder crew) where
   of-crew : (k : ℕ) → k < length (map (λ w. w.pass) crew) → k < length crew

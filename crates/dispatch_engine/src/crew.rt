@@ -1,5 +1,6 @@
 //! The lanes of a round at work, each on a thread of its own.
-ghost use Rattle.std.specs.Prelude.{◌≡◌, ◌<◌, true, All, IfOk, IsTrue, map, vec_len};
+ghost use Rattle.std.specs.Prelude.{◌≡◌, true, All, IfOk, IsTrue, map, vec_len};
+ghost use Rattle.worker_gate.specs.Values.{AreAllPasses};
 ghost use Rattle.dispatch_engine.specs.work.Crew.{AreInOrder, HasWorked, IsToWork, at_rest};
 
 use crate::lane::run_lane;
@@ -22,42 +23,30 @@ pub(crate) struct LaneWork {
     pub(crate) done: bool,
 }
 
-pub(crate) fn crew_of(alloc: Global, passes: Vec<Pass>) -> Result<Vec<LaneWork>, OutOfMemory>
-    ensures { IfOk result (λ crew. crew.items ≡ map at_rest passes.items) }
-{
-    let crew = passes
-        .into_iter()
-        .map(|pass| LaneWork { pass, done: false })
-        .collect(alloc)?;
-    Ok(crew)
-}
-
 /// Each lane runs its commands on a thread of its own, or on the caller's where no thread can be made.
 pub(crate) fn work_all<W: Ways, D: Drafter, G: Gate>(
     rt: &(impl Threads + Wait + Sync),
     alloc: Global,
     book: &SharedBook,
     round: &Round,
-    crew: &mut Vec<LaneWork>,
+    passes: Vec<Pass>,
     setup: &Setup<'_, W, D, G>,
-)
+) -> Result<Vec<LaneWork>, OutOfMemory>
     requires nodes { book.now.start.nodes ≡ setup.now.network.now.nodes }
-    requires some { 0 < vec_len crew.old }
-    requires fresh { All (IsToWork book.now) crew.old.items }
-    requires order { AreInOrder crew.old.items }
-    ensures len { vec_len crew.new ≡ vec_len crew.old }
-    ensures order { AreInOrder crew.new.items }
-    ensures worked { All (HasWorked setup.now.settings.now setup.now.network.now round.now book.now) crew.new.items }
+    requires passes { AreAllPasses book.now passes.items }
+    requires fresh { All (λ pass. IsToWork book.now (at_rest pass)) passes.items }
+    ensures len { IfOk result (λ crew. vec_len crew ≡ vec_len passes) }
+    ensures order { IfOk result (λ crew. AreInOrder crew.items) }
+    ensures worked { IfOk result (λ crew. All (HasWorked setup.now.settings.now setup.now.network.now round.now book.now) crew.items) }
 {
-    let threads = crew.len();
-    thread::for_each_mut(
+    let crew = thread::map_vec(
         rt,
-        crew.as_mut_slice(),
-        threads,
-        &|_: usize, lane: &mut LaneWork|
-            requires { (book.now.start.nodes ≡ setup.now.network.now.nodes) × IsToWork book.now lane.now }
-        { work(rt, alloc, book, round, lane, setup) },
-    );
+        passes,
+        &|pass: Pass| -> LaneWork
+            requires { (book.now.start.nodes ≡ setup.now.network.now.nodes) × IsToWork book.now (at_rest pass) }
+        { work(rt, alloc, book, round, pass, setup) },
+    )?;
+    Ok(crew)
 }
 
 fn work<W: Ways, D: Drafter, G: Gate>(
@@ -65,24 +54,30 @@ fn work<W: Ways, D: Drafter, G: Gate>(
     alloc: Global,
     book: &SharedBook,
     round: &Round,
-    lane: &mut LaneWork,
+    mut pass: Pass,
     setup: &Setup<'_, W, D, G>,
-)
+) -> LaneWork
     requires nodes { book.now.start.nodes ≡ setup.now.network.now.nodes }
-    requires fresh { IsToWork book.now lane.old }
-    ensures worked { HasWorked setup.now.settings.now setup.now.network.now round.now book.now lane.new }
-    ensures lane { lane.new.pass.lane ≡ lane.old.pass.lane }
+    requires fresh { IsToWork book.now (at_rest pass) }
+    ensures worked { HasWorked setup.now.settings.now setup.now.network.now round.now book.now result }
+    ensures lane { result.pass.lane ≡ pass.lane }
 {
-    let commands = round.lane(usize::from(lane.pass.lane()));
-    let ran = run_lane(rt, alloc, book, &mut lane.pass, commands, setup);
-    lane.done = ran.is_ok();
+    let commands = round.lane(usize::from(pass.lane()));
+    let ran = run_lane(rt, alloc, book, &mut pass, commands, setup);
+    let done = ran.is_ok();
+    LaneWork { pass, done }
 }
 
 /// Whether every lane's commands are all taken.
 pub(crate) fn are_done(crew: &[LaneWork]) -> bool
     ensures { IsTrue result → All (λ lane. lane.done ≡ true) crew.now }
 {
-    crew.iter().all(|lane| lane.done)
+    for lane in crew {
+        if !lane.done {
+            return false;
+        }
+    }
+    true
 }
 
 pub(crate) fn passes_of(alloc: Global, crew: Vec<LaneWork>) -> Result<Vec<Pass>, OutOfMemory>

@@ -1,5 +1,8 @@
 //! A lane's commands, called by its pass, with the batches that it seals.
-ghost use Rattle.std.specs.Prelude.{◌≡◌, ◌∷◌, [], All, OnErr, OnOk};
+ghost use Rattle.std.specs.Prelude.{◌≡◌, ◌∷◌, [], All, Contains, OnErr, OnOk};
+ghost use Rattle.request_book.specs.Points.{named_nodes};
+ghost use Rattle.batch_solver.specs.Outcome.{IsGoodOutcome};
+ghost use Rattle.request_book.specs.declared.outcome.Outcome.{Outcome as OneOutcome};
 ghost use Rattle.script_rows.specs.Round.{MayStand};
 ghost use Rattle.worker_gate.specs.Values.{IsPassOf};
 ghost use Rattle.dispatch_engine.specs.Shared.{IsSamePass};
@@ -10,7 +13,7 @@ use crate::setup::Setup;
 use crate::shared::{Pass, SealReceipt, SharedBook};
 use batch_solver::solve_batch;
 use pool_base::{OutOfMemory, Second};
-use request_book::Command;
+use request_book::{Command, Snapshot};
 use row_tables::Drafter;
 use std::alloc::Global;
 use std::sync::Wait;
@@ -67,7 +70,7 @@ fn run_command<W: Ways, D: Drafter, G: Gate>(
     }
 }
 
-/// Seals a batch and, where one was put up, solves it outside the lock and closes it.
+/// Seals a batch and, where one was put up, closes it.
 fn run_seal<W: Ways, D: Drafter, G: Gate>(
     rt: &(impl Threads + Wait + Sync),
     alloc: Global,
@@ -90,10 +93,28 @@ fn run_seal<W: Ways, D: Drafter, G: Gate>(
     let Some(snapshot) = snapshot else {
         return Ok(());
     };
+    close_batch(rt, alloc, book, pass, &snapshot, setup)
+}
+
+/// Solves a sealed batch outside the lock, and closes it.
+fn close_batch<W: Ways, D: Drafter, G: Gate>(
+    rt: &(impl Threads + Wait + Sync),
+    alloc: Global,
+    book: &SharedBook,
+    pass: &mut Pass,
+    snapshot: &Snapshot,
+    setup: &Setup<'_, W, D, G>,
+) -> Result<(), OutOfMemory>
+    requires own { IsPassOf book.now pass.old }
+    requires known { All (λ node. Contains setup.now.network.now.nodes node) (named_nodes snapshot.now) }
+    ensures pass { IsPassOf book.now pass.new × (pass.new.lane ≡ pass.old.lane) }
+    ensures closed { OnOk result ((outcome : OneOutcome) × IsGoodOutcome setup.now.settings.now setup.now.network.now snapshot.entry.now outcome × HasTaken book.now.start.nodes pass.old (Command.Close snapshot.entry.now.number outcome) pass.new) }
+    ensures refused { OnErr result (IsSamePass pass.old pass.new) }
+{
     let outcome = solve_batch(
         rt,
         alloc,
-        &snapshot,
+        snapshot,
         setup.network,
         setup.ways,
         setup.drafter,

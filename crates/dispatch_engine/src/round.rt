@@ -5,7 +5,7 @@ ghost use Rattle.worker_gate.specs.Values.{AreAllPasses, IsNew};
 ghost use Rattle.dispatch_engine.specs.work.Crew.{HaveRunLanes, IsSharedBy};
 ghost use Rattle.dispatch_engine.specs.Run.{IsReady, IsRoundRun, IsSameRun, journal_of};
 
-use crate::crew::{are_done, crew_of, passes_of, work_all};
+use crate::crew::{are_done, passes_of, work_all};
 use crate::setup::Setup;
 use crate::shared::{Pass, SharedBook};
 use pool_base::OutOfMemory;
@@ -111,8 +111,7 @@ fn run_passes<W: Ways, D: Drafter, G: Gate>(
     ensures passes { IfOk result (λ passes. AreAllPasses book.now passes.items) }
     ensures run { IfOk result (λ passes. HaveRunLanes setup.now.settings.now setup.now.network.now round.now passes.items) }
 {
-    let mut crew = crew_of(alloc, passes)?;
-    work_all(rt, alloc, book, round, &mut crew, setup);
+    let crew = work_all(rt, alloc, book, round, passes, setup)?;
     if are_done(crew.as_slice()) {
         passes_of(alloc, crew)
     } else {

@@ -148,19 +148,19 @@ pub then : {a b c : SinkView} {p q t : List ℕ} {x y z : Result (Unit {0}) Repo
 then {a} {b} {c} {p} {q} {t} {x} {y} {z} {xs} {ys} first next = then_of a b c p q t x y z xs ys first next
 
 -- lines whose last piece is written, as a text, where no byte waited
-as_text_of : (a b c : SinkView) (p q rest : List ℕ) (lines : List (List ℕ)) (r e : Result (Unit {0}) ReportFault) → p ≡ [] → WritesBytes (record { before = a; after = b }) p q (lines_text lines) r
-    → MatchResult r (λ _. WritesBytes (record { before = b; after = c }) q rest [] e × OnOk e (rest ≡ [])) (λ fault. IsSame (record { before = b; after = c }) q rest × (e ≡ Err fault))
+as_text_of : (a b c : SinkView) (p q : List ℕ) (lines : List (List ℕ)) (r e : Result (Unit {0}) ReportFault) → p ≡ [] → WritesBytes (record { before = a; after = b }) p q (lines_text lines) r
+    → MatchResult r (λ _. (rest : List ℕ) × WritesBytes (record { before = b; after = c }) q rest [] e × OnOk e (rest ≡ [])) (λ fault. IsSame (record { before = b; after = c }) q q × (e ≡ Err fault))
     → WritesText (record { before = a; after = c }) (lines_text lines) e
-as_text_of a b c p q rest lines (Ok u) (Ok v) none first last =
-    let w = bytes_then a b c p q rest (lines_text lines) [] (Ok v) first last.0 in
+as_text_of a b c p q lines (Ok u) (Ok v) none first last =
+    let w = bytes_then a b c p q last.0 (lines_text lines) [] (Ok v) first last.1 in
     let out : w.bytes.0 ≡ lines_text lines =
-    sym (append-nil w.bytes.0) ∙ ap (λ l. w.bytes.0 ++ l) (sym last.1) ∙ w.bytes.2 ∙ ap (λ l. l ++ (lines_text lines ++ [])) none ∙ append-nil (lines_text lines) in
+    sym (append-nil w.bytes.0) ∙ ap (λ l. w.bytes.0 ++ l) (sym last.2) ∙ w.bytes.2 ∙ ap (λ l. l ++ (lines_text lines ++ [])) none ∙ append-nil (lines_text lines) in
     record { bytes = subst (λ t. Appends a.written c.written t) out w.bytes.1; fault = w.fault; never_falls = w.never_falls }
-as_text_of a b c p q rest lines (Ok u) (Err e) none first last =
-    let w = bytes_then a b c p q rest (lines_text lines) [] (Err e) first last.0 in
+as_text_of a b c p q lines (Ok u) (Err e) none first last =
+    let w = bytes_then a b c p q last.0 (lines_text lines) [] (Err e) first last.1 in
     let P : List ℕ → Type 0 = λ bytes. AppendsPart a.written c.written bytes in
     record { bytes = subst P (ap (λ l. l ++ (lines_text lines ++ [])) none ∙ append-nil (lines_text lines)) w.bytes; fault = w.fault; never_falls = w.never_falls }
-as_text_of a b c p q rest lines (Err f) e none first last =
+as_text_of a b c p q lines (Err f) e none first last =
     let P : List ℕ → Type 0 = λ bytes. AppendsPart a.written b.written bytes in
     let failed : WritesText (record { before = a; after = b }) (lines_text lines) (Err f) =
     record { bytes = subst P (ap (λ l. l ++ lines_text lines) none) first.bytes; fault = first.fault; never_falls = first.never_falls } in
@@ -168,10 +168,10 @@ as_text_of a b c p q rest lines (Err f) e none first last =
     subst (λ s. WritesText (record { before = a; after = s }) (lines_text lines) (Err f)) (sym last.0.seen) failed in
     subst (λ r. WritesText (record { before = a; after = c }) (lines_text lines) r) (sym last.1) there
 
-pub as_text : {a b c : SinkView} {p q : List ℕ} {lines : List (List ℕ)} {r e : Result (Unit {0}) ReportFault} (rest : List ℕ) → p ≡ [] → WritesLines (record { before = a; after = b }) p q (Ok tt) r lines
-    → MatchResult r (λ _. WritesBytes (record { before = b; after = c }) q rest [] e × OnOk e (rest ≡ [])) (λ fault. IsSame (record { before = b; after = c }) q rest × (e ≡ Err fault))
+pub as_text : {a b c : SinkView} {p q : List ℕ} {lines : List (List ℕ)} {r e : Result (Unit {0}) ReportFault} → p ≡ [] → WritesLines (record { before = a; after = b }) p q (Ok tt) r lines
+    → MatchResult r (λ _. (rest : List ℕ) × WritesBytes (record { before = b; after = c }) q rest [] e × OnOk e (rest ≡ [])) (λ fault. IsSame (record { before = b; after = c }) q q × (e ≡ Err fault))
     → WritesText (record { before = a; after = c }) (lines_text lines) e
-as_text {a} {b} {c} {p} {q} {lines} {r} {e} rest none first last = as_text_of a b c p q rest lines r e none first.text last
+as_text {a} {b} {c} {p} {q} {lines} {r} {e} none first last = as_text_of a b c p q lines r e none first.text last
 
 -- the same lines
 pub same_lines : {s : Change SinkView} {p q : List ℕ} {r e : Result (Unit {0}) ReportFault} (xs ys : List (List ℕ)) → xs ≡ ys → WritesLines s p q r e xs → WritesLines s p q r e ys
@@ -209,6 +209,11 @@ flat_map-next f xs i x within is =
     ∙ ap (λ ys. flat_map f (take i xs) ++ ys) (sym (append-nil (f (get_or xs i x))))
     ∙ sym (flat_map-append f (take i xs) (get_or xs i x ∷ []))
     ∙ ap (λ ys. flat_map f ys) (sym (rw add-one (take-suc xs i x within)))
+
+-- what was put of a list up to an item, and that item
+pub put-next : {X : Type 0} (f : X → List ℕ) (xs : List X) (i : ℕ) (x : X) (old mid new : List ℕ) → i < length xs → x ≡ get_or xs i x → mid ≡ old ++ flat_map f (take i xs) → new ≡ mid ++ f x → new ≡ old ++ flat_map f (take (i + 1) xs)
+put-next f xs i x old mid new within is before next =
+    next ∙ ap (λ l. l ++ f x) before ∙ append_assoc old (flat_map f (take i xs)) (f x) ∙ ap (λ l. old ++ l) (flat_map-next f xs i x within is)
 
 pub map-next : {X : Type 0} (f : X → List ℕ) (xs : List X) (i : ℕ) (x : X) → i < length xs → x ≡ get_or xs i x → map f (take i xs) ++ f x ∷ [] ≡ map f (take (i + 1) xs)
 map-next f xs i x within is =

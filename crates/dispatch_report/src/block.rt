@@ -9,8 +9,8 @@ ghost use Rattle.dispatch_report.specs.work.Lines.{WritesLines};
 ghost use Rattle.request_book.specs.declared.outcome.Answer.TheVariants.{Planned as Plan};
 
 use crate::fault::ReportFault;
-use crate::lines::{Line, write_item, write_lines, write_list};
-use crate::words::{put_multipliers, put_numbered, put_riders, put_signed, put_spaced};
+use crate::lines::{Line, Page, write_item, write_lines, write_list};
+use crate::words::{put_fields, put_multipliers, put_numbered, put_riders, put_signed, put_spaced};
 use plan_rules::{Node, Tree};
 use pool_base::{OutOfMemory, RiderId, VehicleId, put_bytes};
 use pool_io::Sink;
@@ -21,114 +21,73 @@ use request_book::{
 /// Writes the block of a closed batch.
 pub(crate) fn write_block<K: Sink>(
     sink: &mut K,
-    piece: &mut Vec<u8>,
-    so_far: &mut Result<(), ReportFault>,
+    page: &mut Page<'_>,
     batch: u64,
     outcome: &Outcome,
     proof: bool,
 )
-    ensures { WritesLines (sink_seen K.written K.faults sink.old sink.new) piece.old.items piece.new.items so_far.old so_far.new (block_lines proof batch outcome.now) }
+    ensures { WritesLines (sink_seen K.written K.faults sink.old sink.new) page.old.piece.now.items page.new.piece.now.items page.old.so_far page.new.so_far (block_lines proof batch outcome.now) }
 {
-    write_number(sink, piece, so_far, b"batch ", batch);
+    write_number(sink, page, b"batch ", batch);
     let expired = Riders { words: b"expired " };
-    write_list(sink, piece, so_far, &expired, &outcome.expired);
-    write_answer(sink, piece, so_far, &outcome.answer, proof);
-    write_words(sink, piece, so_far, b"end");
+    write_list(sink, page, &expired, &outcome.expired);
+    write_answer(sink, page, &outcome.answer, proof);
+    write_words(sink, page, b"end");
 }
 
-fn write_answer<K: Sink>(
-    sink: &mut K,
-    piece: &mut Vec<u8>,
-    so_far: &mut Result<(), ReportFault>,
-    answer: &Answer,
-    proof: bool,
-)
-    ensures { WritesLines (sink_seen K.written K.faults sink.old sink.new) piece.old.items piece.new.items so_far.old so_far.new (map block_line_text (lines_of_answer proof answer.now)) }
+fn write_answer<K: Sink>(sink: &mut K, page: &mut Page<'_>, answer: &Answer, proof: bool)
+    ensures { WritesLines (sink_seen K.written K.faults sink.old sink.new) page.old.piece.now.items page.new.piece.now.items page.old.so_far page.new.so_far (map block_line_text (lines_of_answer proof answer.now)) }
 {
     match answer {
-        Answer::Overflow => write_words(sink, piece, so_far, b"overflow"),
-        Answer::Planned(plan) => write_plan(sink, piece, so_far, plan, proof),
+        Answer::Overflow => write_words(sink, page, b"overflow"),
+        Answer::Planned(plan) => write_plan(sink, page, plan, proof),
     }
 }
 
-fn write_plan<K: Sink>(
-    sink: &mut K,
-    piece: &mut Vec<u8>,
-    so_far: &mut Result<(), ReportFault>,
-    plan: &Planned,
-    proof: bool,
-)
-    ensures { WritesLines (sink_seen K.written K.faults sink.old sink.new) piece.old.items piece.new.items so_far.old so_far.new (map block_line_text (lines_of_answer proof (Plan plan.now))) }
+fn write_plan<K: Sink>(sink: &mut K, page: &mut Page<'_>, plan: &Planned, proof: bool)
+    ensures { WritesLines (sink_seen K.written K.faults sink.old sink.new) page.old.piece.now.items page.new.piece.now.items page.old.so_far page.new.so_far (map block_line_text (lines_of_answer proof (Plan plan.now))) }
 {
-    write_list(
-        sink,
-        piece,
-        so_far,
-        &Riders { words: b"lapsed " },
-        &plan.lapsed,
-    );
-    write_list(sink, piece, so_far, &Late, &plan.late);
-    write_list(sink, piece, so_far, &Rv, &plan.rv);
-    write_list(sink, piece, so_far, &Rr, &plan.rr);
-    write_list(sink, piece, so_far, &Row, &plan.rows);
-    write_list(sink, piece, so_far, &Trip, &plan.chosen);
-    write_list(sink, piece, so_far, &Riders { words: b"out " }, &plan.left);
-    write_list(sink, piece, so_far, &Move, &plan.moves);
-    write_number(sink, piece, so_far, b"cost ", plan.cost);
-    write_item(sink, piece, so_far, &Bound, &plan.bound);
-    write_nodes(sink, piece, so_far, &plan.tree);
-    write_tree(sink, piece, so_far, plan, proof);
+    write_list(sink, page, &Riders { words: b"lapsed " }, &plan.lapsed);
+    write_list(sink, page, &Late, &plan.late);
+    write_list(sink, page, &Rv, &plan.rv);
+    write_list(sink, page, &Rr, &plan.rr);
+    write_list(sink, page, &Row, &plan.rows);
+    write_list(sink, page, &Trip, &plan.chosen);
+    write_list(sink, page, &Riders { words: b"out " }, &plan.left);
+    write_list(sink, page, &Move, &plan.moves);
+    write_number(sink, page, b"cost ", plan.cost);
+    write_item(sink, page, &Bound, &plan.bound);
+    write_nodes(sink, page, &plan.tree);
+    write_tree(sink, page, plan, proof);
 }
 
-fn write_nodes<K: Sink>(
-    sink: &mut K,
-    piece: &mut Vec<u8>,
-    so_far: &mut Result<(), ReportFault>,
-    tree: &Tree,
-)
-    ensures { WritesLines (sink_seen K.written K.faults sink.old sink.new) piece.old.items piece.new.items so_far.old so_far.new (numbered (codes "nodes ") (length tree.now) ∷ []) }
+fn write_nodes<K: Sink>(sink: &mut K, page: &mut Page<'_>, tree: &Tree)
+    ensures { WritesLines (sink_seen K.written K.faults sink.old sink.new) page.old.piece.now.items page.new.piece.now.items page.old.so_far page.new.so_far (numbered (codes "nodes ") (length tree.now) ∷ []) }
 {
-    write_number(sink, piece, so_far, b"nodes ", tree.nodes().len() as u64);
+    write_number(sink, page, b"nodes ", tree.nodes().len() as u64);
 }
 
-fn write_tree<K: Sink>(
-    sink: &mut K,
-    piece: &mut Vec<u8>,
-    so_far: &mut Result<(), ReportFault>,
-    plan: &Planned,
-    proof: bool,
-)
-    ensures { WritesLines (sink_seen K.written K.faults sink.old sink.new) piece.old.items piece.new.items so_far.old so_far.new (if proof then map (λ node. block_line_text (tree_line plan.now.rows node)) plan.now.tree else []) }
+fn write_tree<K: Sink>(sink: &mut K, page: &mut Page<'_>, plan: &Planned, proof: bool)
+    ensures { WritesLines (sink_seen K.written K.faults sink.old sink.new) page.old.piece.now.items page.new.piece.now.items page.old.so_far page.new.so_far (if proof then map (λ node. block_line_text (tree_line plan.now.rows node)) plan.now.tree else []) }
 {
     if proof {
         let rows = plan.rows.as_slice();
-        write_lines(sink, piece, so_far, &TreeNode { rows }, plan.tree.nodes());
+        write_lines(sink, page, &TreeNode { rows }, plan.tree.nodes());
     }
 }
 
 /// Writes a line of these words.
-pub(crate) fn write_words<K: Sink>(
-    sink: &mut K,
-    piece: &mut Vec<u8>,
-    so_far: &mut Result<(), ReportFault>,
-    words: &[u8],
-)
-    ensures { WritesLines (sink_seen K.written K.faults sink.old sink.new) piece.old.items piece.new.items so_far.old so_far.new (words.now ∷ []) }
+pub(crate) fn write_words<K: Sink>(sink: &mut K, page: &mut Page<'_>, words: &[u8])
+    ensures { WritesLines (sink_seen K.written K.faults sink.old sink.new) page.old.piece.now.items page.new.piece.now.items page.old.so_far page.new.so_far (words.now ∷ []) }
 {
-    write_item(sink, piece, so_far, &Words { words }, &());
+    write_item(sink, page, &Words { words }, &());
 }
 
 /// Writes a line of words and a number.
-pub(crate) fn write_number<K: Sink>(
-    sink: &mut K,
-    piece: &mut Vec<u8>,
-    so_far: &mut Result<(), ReportFault>,
-    words: &[u8],
-    number: u64,
-)
-    ensures { WritesLines (sink_seen K.written K.faults sink.old sink.new) piece.old.items piece.new.items so_far.old so_far.new (numbered words.now number ∷ []) }
+pub(crate) fn write_number<K: Sink>(sink: &mut K, page: &mut Page<'_>, words: &[u8], number: u64)
+    ensures { WritesLines (sink_seen K.written K.faults sink.old sink.new) page.old.piece.now.items page.new.piece.now.items page.old.so_far page.new.so_far (numbered words.now number ∷ []) }
 {
-    write_item(sink, piece, so_far, &Number { words }, &number);
+    write_item(sink, page, &Number { words }, &number);
 }
 
 /// Words alone.
@@ -227,8 +186,13 @@ impl Line for Rv {
     ghost text = { λ _ edge. block_line_text (Alone edge) };
 
     fn put(&self, line: &mut Vec<u8>, edge: &(VehicleId, RiderId)) -> Result<(), OutOfMemory> {
-        put_numbered(line, b"rv ", u64::from(edge.0.get()))?;
-        put_spaced(line, u64::from(edge.1.get()))
+        put_fields(
+            line,
+            &[
+                (b"rv ", u64::from(edge.0.get())),
+                (b" ", u64::from(edge.1.get())),
+            ],
+        )
     }
 }
 
@@ -241,8 +205,13 @@ impl Line for Rr {
     ghost text = { λ _ edge. block_line_text (Shared edge) };
 
     fn put(&self, line: &mut Vec<u8>, edge: &(RiderId, RiderId)) -> Result<(), OutOfMemory> {
-        put_numbered(line, b"rr ", u64::from(edge.0.get()))?;
-        put_spaced(line, u64::from(edge.1.get()))
+        put_fields(
+            line,
+            &[
+                (b"rr ", u64::from(edge.0.get())),
+                (b" ", u64::from(edge.1.get())),
+            ],
+        )
     }
 }
 
@@ -285,9 +254,14 @@ impl Line for Move {
     ghost text = { λ _ m. block_line_text (Moved m) };
 
     fn put(&self, line: &mut Vec<u8>, item: &MoveLine) -> Result<(), OutOfMemory> {
-        put_numbered(line, b"move ", u64::from(item.vehicle.get()))?;
-        put_spaced(line, u64::from(item.rider.get()))?;
-        put_spaced(line, u64::from(item.seconds))
+        put_fields(
+            line,
+            &[
+                (b"move ", u64::from(item.vehicle.get())),
+                (b" ", u64::from(item.rider.get())),
+                (b" ", u64::from(item.seconds)),
+            ],
+        )
     }
 }
 
@@ -339,7 +313,12 @@ fn put_stop(line: &mut Vec<u8>, stop: &PlannedStop) -> Result<(), OutOfMemory>
     ensures { OnOk result (line.new.items ≡ line.old.items ++ stop_text stop.now) }
 {
     let words: &[u8] = if stop.pick { b" pick:" } else { b" drop:" };
-    put_numbered(line, words, u64::from(stop.rider.get()))?;
-    put_numbered(line, b"@", u64::from(stop.node.get()))?;
-    put_numbered(line, b":", stop.second)
+    put_fields(
+        line,
+        &[
+            (words, u64::from(stop.rider.get())),
+            (b"@", u64::from(stop.node.get())),
+            (b":", stop.second),
+        ],
+    )
 }

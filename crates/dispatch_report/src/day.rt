@@ -6,8 +6,8 @@ ghost use Rattle.dispatch_report.specs.Written.{WritesText};
 
 use crate::block::write_number;
 use crate::fault::ReportFault;
-use crate::lines::{Line, write_item, write_rest};
-use crate::words::put_numbered;
+use crate::lines::{Line, Page, write_item, write_rest};
+use crate::words::put_fields;
 use pool_base::OutOfMemory;
 use pool_io::Sink;
 use std::alloc::Global;
@@ -34,10 +34,13 @@ pub fn write_day_end<K: Sink>(
     ensures { WritesText (sink_seen K.written K.faults sink.old sink.new) (day_end_text counts.now entries) result }
 {
     let mut piece = Vec::new(alloc);
-    let mut so_far = Ok(());
-    write_item(sink, &mut piece, &mut so_far, &Day, counts);
-    write_number(sink, &mut piece, &mut so_far, b"done ", entries);
-    write_rest(sink, &mut piece, so_far)
+    let mut page = Page {
+        piece: &mut piece,
+        so_far: Ok(()),
+    };
+    write_item(sink, &mut page, &Day, counts);
+    write_number(sink, &mut page, b"done ", entries);
+    write_rest(sink, page)
 }
 
 #[derive(Drop)]
@@ -49,21 +52,14 @@ impl Line for Day {
     ghost text = { λ _ counts. day_line counts };
 
     fn put(&self, line: &mut Vec<u8>, counts: &DayCounts) -> Result<(), OutOfMemory> {
-        put_riders_served(line, counts)?;
-        put_worst(line, counts)
+        put_fields(
+            line,
+            &[
+                (b"day picked ", counts.picked),
+                (b" dropped ", counts.dropped),
+                (b" worst-wait ", counts.worst_wait),
+                (b" worst-delay ", counts.worst_delay),
+            ],
+        )
     }
-}
-
-fn put_riders_served(line: &mut Vec<u8>, counts: &DayCounts) -> Result<(), OutOfMemory>
-    ensures { OnOk result (line.new.items ≡ line.old.items ++ (numbered (codes "day picked ") counts.now.picked ++ numbered (codes " dropped ") counts.now.dropped)) }
-{
-    put_numbered(line, b"day picked ", counts.picked)?;
-    put_numbered(line, b" dropped ", counts.dropped)
-}
-
-fn put_worst(line: &mut Vec<u8>, counts: &DayCounts) -> Result<(), OutOfMemory>
-    ensures { OnOk result (line.new.items ≡ line.old.items ++ (numbered (codes " worst-wait ") counts.now.worst_wait ++ numbered (codes " worst-delay ") counts.now.worst_delay)) }
-{
-    put_numbered(line, b" worst-wait ", counts.worst_wait)?;
-    put_numbered(line, b" worst-delay ", counts.worst_delay)
 }

@@ -5,7 +5,7 @@ ghost use Rattle.dispatch_report.specs.Words.{numbered, spaced};
 ghost use Rattle.request_book.specs.declared.command.Command.TheVariants.{Submit};
 
 use crate::reply::put_reply;
-use crate::words::{put_numbered, put_spaced};
+use crate::words::{put_fields, put_numbered, put_spaced};
 use pool_base::{NodeId, OutOfMemory, Party, RiderId, Second, put_bytes, put_number};
 use request_book::{Command, Entry};
 
@@ -74,10 +74,15 @@ fn put_submit(
     ensures printed { OnOk result (line.new.items ≡ line.old.items ++ (numbered (codes "submit ") rider ++ spaced origin ++ spaced destination ++ spaced time ++ (if party == 1 then [] else spaced party))) }
     ensures fits { OnOk result (IsCommand (Submit rider origin destination time party)) }
 {
-    put_numbered(line, b"submit ", u64::from(rider.get()))?;
-    put_spaced(line, u64::from(origin.get()))?;
-    put_spaced(line, u64::from(destination.get()))?;
-    put_spaced(line, u64::from(time.get()))?;
+    put_fields(
+        line,
+        &[
+            (b"submit ", u64::from(rider.get())),
+            (b" ", u64::from(origin.get())),
+            (b" ", u64::from(destination.get())),
+            (b" ", u64::from(time.get())),
+        ],
+    )?;
     put_party(line, party.get())
 }
 
@@ -90,9 +95,14 @@ fn put_three(
 ) -> Result<(), OutOfMemory>
     ensures { OnOk result (line.new.items ≡ line.old.items ++ (numbered words.now first ++ spaced second ++ spaced third)) }
 {
-    put_numbered(line, words, u64::from(first))?;
-    put_spaced(line, u64::from(second))?;
-    put_spaced(line, u64::from(third))
+    put_fields(
+        line,
+        &[
+            (words, u64::from(first)),
+            (b" ", u64::from(second)),
+            (b" ", u64::from(third)),
+        ],
+    )
 }
 
 fn put_party(line: &mut Vec<u8>, persons: u8) -> Result<(), OutOfMemory>

@@ -7,8 +7,8 @@ ghost use Rattle.dispatch_report.specs.work.Lines.{WritesLines};
 
 use crate::block::{write_number, write_words};
 use crate::fault::ReportFault;
-use crate::lines::{Line, write_item, write_rest};
-use crate::words::put_numbered;
+use crate::lines::{Line, Page, write_item, write_rest};
+use crate::words::{put_fields, put_numbered};
 use pool_base::{OutOfMemory, put_bytes};
 use pool_io::Sink;
 use request_book::Fleet;
@@ -30,24 +30,22 @@ pub fn write_head<K: Sink>(
     ensures { WritesText (sink_seen K.written K.faults sink.old sink.new) (head_text settings.now network.now (length fleet.now)) result }
 {
     let mut piece = Vec::new(alloc);
-    let mut so_far = Ok(());
-    write_words(sink, &mut piece, &mut so_far, b"ridepool report 1");
-    write_item(sink, &mut piece, &mut so_far, &RunSettings, settings);
-    write_item(sink, &mut piece, &mut so_far, &NetworkSizes, network);
-    write_fleet(sink, &mut piece, &mut so_far, fleet);
-    write_rest(sink, &mut piece, so_far)
+    let mut page = Page {
+        piece: &mut piece,
+        so_far: Ok(()),
+    };
+    write_words(sink, &mut page, b"ridepool report 1");
+    write_item(sink, &mut page, &RunSettings, settings);
+    write_item(sink, &mut page, &NetworkSizes, network);
+    write_fleet(sink, &mut page, fleet);
+    write_rest(sink, page)
 }
 
-fn write_fleet<K: Sink>(
-    sink: &mut K,
-    piece: &mut Vec<u8>,
-    so_far: &mut Result<(), ReportFault>,
-    fleet: &Fleet,
-)
-    ensures { WritesLines (sink_seen K.written K.faults sink.old sink.new) piece.old.items piece.new.items so_far.old so_far.new (numbered (codes "fleet vehicles=") (length fleet.now) ∷ []) }
+fn write_fleet<K: Sink>(sink: &mut K, page: &mut Page<'_>, fleet: &Fleet)
+    ensures { WritesLines (sink_seen K.written K.faults sink.old sink.new) page.old.piece.now.items page.new.piece.now.items page.old.so_far page.new.so_far (numbered (codes "fleet vehicles=") (length fleet.now) ∷ []) }
 {
     let vehicles = fleet.vehicles().len() as u64;
-    write_number(sink, piece, so_far, b"fleet vehicles=", vehicles);
+    write_number(sink, page, b"fleet vehicles=", vehicles);
 }
 
 #[derive(Drop)]
@@ -72,27 +70,27 @@ impl Line for RunSettings {
     ghost text = { λ _ settings. settings_line settings };
 
     fn put(&self, line: &mut Vec<u8>, settings: &Settings) -> Result<(), OutOfMemory> {
-        put_limits(line, settings)?;
-        put_search(line, settings)?;
+        put_numbers(line, settings)?;
         put_proof(line, settings.proof)?;
         put_dwell(line, settings.dwell)
     }
 }
 
-fn put_limits(line: &mut Vec<u8>, settings: &Settings) -> Result<(), OutOfMemory>
-    ensures { OnOk result (line.new.items ≡ line.old.items ++ (numbered (codes "settings wait=") settings.now.wait ++ numbered (codes " delay=") settings.now.delay ++ numbered (codes " trip=") settings.now.trip)) }
+fn put_numbers(line: &mut Vec<u8>, settings: &Settings) -> Result<(), OutOfMemory>
+    ensures { OnOk result (line.new.items ≡ line.old.items ++ ((numbered (codes "settings wait=") settings.now.wait ++ numbered (codes " delay=") settings.now.delay ++ numbered (codes " trip=") settings.now.trip)
+        ++ (numbered (codes " penalty=") settings.now.penalty ++ numbered (codes " budget=") settings.now.budget ++ numbered (codes " pairs=") settings.now.pairs))) }
 {
-    put_numbered(line, b"settings wait=", u64::from(settings.wait))?;
-    put_numbered(line, b" delay=", u64::from(settings.delay))?;
-    put_numbered(line, b" trip=", u64::from(settings.trip))
-}
-
-fn put_search(line: &mut Vec<u8>, settings: &Settings) -> Result<(), OutOfMemory>
-    ensures { OnOk result (line.new.items ≡ line.old.items ++ (numbered (codes " penalty=") settings.now.penalty ++ numbered (codes " budget=") settings.now.budget ++ numbered (codes " pairs=") settings.now.pairs)) }
-{
-    put_numbered(line, b" penalty=", u64::from(settings.penalty))?;
-    put_numbered(line, b" budget=", u64::from(settings.budget))?;
-    put_numbered(line, b" pairs=", u64::from(settings.pairs))
+    put_fields(
+        line,
+        &[
+            (b"settings wait=", u64::from(settings.wait)),
+            (b" delay=", u64::from(settings.delay)),
+            (b" trip=", u64::from(settings.trip)),
+            (b" penalty=", u64::from(settings.penalty)),
+            (b" budget=", u64::from(settings.budget)),
+            (b" pairs=", u64::from(settings.pairs)),
+        ],
+    )
 }
 
 fn put_proof(line: &mut Vec<u8>, proof: bool) -> Result<(), OutOfMemory>

@@ -20,18 +20,24 @@ pub(crate) trait Line {
 /// A piece is written as soon as it has so many bytes. No line has as many, so a piece stays below 64 KB.
 const FULL: usize = 32_768;
 
-/// Writes the line of an item. `so_far` tells what came of the lines before it: behind a fault nothing is written.
+/// What waits for a sink, and what came of the lines so far: behind a fault nothing is written.
+#[derive(Drop)]
+pub(crate) struct Page<'a> {
+    pub(crate) piece: &'a mut Vec<u8>,
+    pub(crate) so_far: Result<(), ReportFault>,
+}
+
+/// Writes the line of an item.
 pub(crate) fn write_item<K: Sink, L: Line>(
     sink: &mut K,
-    piece: &mut Vec<u8>,
-    so_far: &mut Result<(), ReportFault>,
+    page: &mut Page<'_>,
     kind: &L,
     item: &L::Item,
 )
-    ensures { WritesLines (sink_seen K.written K.faults sink.old sink.new) piece.old.items piece.new.items so_far.old so_far.new (L.text kind.now item.now ∷ []) }
+    ensures { WritesLines (sink_seen K.written K.faults sink.old sink.new) page.old.piece.now.items page.new.piece.now.items page.old.so_far page.new.so_far (L.text kind.now item.now ∷ []) }
 {
-    if let Ok(()) = *so_far {
-        *so_far = put_item(sink, piece, kind, item);
+    if let Ok(()) = page.so_far {
+        page.so_far = put_item(sink, page.piece, kind, item);
     }
 }
 
@@ -62,17 +68,13 @@ fn write_piece<K: Sink>(sink: &mut K, piece: &mut Vec<u8>) -> Result<(), ReportF
 }
 
 /// Writes the last piece.
-pub(crate) fn write_rest<K: Sink>(
-    sink: &mut K,
-    piece: &mut Vec<u8>,
-    so_far: Result<(), ReportFault>,
-) -> Result<(), ReportFault>
-    ensures { MatchResult so_far
-        (λ _. WritesBytes (sink_seen K.written K.faults sink.old sink.new) piece.old.items piece.new.items [] result × OnOk result (piece.new.items ≡ []))
-        (λ fault. IsSame (sink_seen K.written K.faults sink.old sink.new) piece.old.items piece.new.items × (result ≡ Err fault)) }
+pub(crate) fn write_rest<K: Sink>(sink: &mut K, page: Page<'_>) -> Result<(), ReportFault>
+    ensures { MatchResult page.entry.so_far
+        (λ _. (rest : List ℕ) × WritesBytes (sink_seen K.written K.faults sink.old sink.new) page.entry.piece.now.items rest [] result × OnOk result (rest ≡ []))
+        (λ fault. IsSame (sink_seen K.written K.faults sink.old sink.new) page.entry.piece.now.items page.entry.piece.now.items × (result ≡ Err fault)) }
 {
-    match so_far {
-        Ok(()) => write_piece(sink, piece),
+    match page.so_far {
+        Ok(()) => write_piece(sink, page.piece),
         Err(fault) => Err(fault),
     }
 }
@@ -80,27 +82,25 @@ pub(crate) fn write_rest<K: Sink>(
 /// Writes the line of each item.
 pub(crate) fn write_lines<K: Sink, L: Line>(
     sink: &mut K,
-    piece: &mut Vec<u8>,
-    so_far: &mut Result<(), ReportFault>,
+    page: &mut Page<'_>,
     kind: &L,
     items: &[L::Item],
 )
-    ensures { WritesLines (sink_seen K.written K.faults sink.old sink.new) piece.old.items piece.new.items so_far.old so_far.new (map (L.text kind.now) items.now) }
+    ensures { WritesLines (sink_seen K.written K.faults sink.old sink.new) page.old.piece.now.items page.new.piece.now.items page.old.so_far page.new.so_far (map (L.text kind.now) items.now) }
 {
     'items: for item in items {
-        write_item(sink, piece, so_far, kind, item);
+        write_item(sink, page, kind, item);
     }
 }
 
 /// The same for a list.
 pub(crate) fn write_list<K: Sink, L: Line>(
     sink: &mut K,
-    piece: &mut Vec<u8>,
-    so_far: &mut Result<(), ReportFault>,
+    page: &mut Page<'_>,
     kind: &L,
     items: &Sequence<L::Item>,
 )
-    ensures { WritesLines (sink_seen K.written K.faults sink.old sink.new) piece.old.items piece.new.items so_far.old so_far.new (map (L.text kind.now) items.now) }
+    ensures { WritesLines (sink_seen K.written K.faults sink.old sink.new) page.old.piece.now.items page.new.piece.now.items page.old.so_far page.new.so_far (map (L.text kind.now) items.now) }
 {
-    write_lines(sink, piece, so_far, kind, items.as_slice());
+    write_lines(sink, page, kind, items.as_slice());
 }

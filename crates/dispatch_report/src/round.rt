@@ -9,7 +9,7 @@ ghost use Rattle.dispatch_report.specs.work.Lines.{WritesLines};
 use crate::block::{write_block, write_number};
 use crate::entry::put_entry;
 use crate::fault::ReportFault;
-use crate::lines::{Line, write_item, write_rest};
+use crate::lines::{Line, Page, write_item, write_rest};
 use pool_base::OutOfMemory;
 use pool_io::Sink;
 use request_book::{Command, Entry, Journal, Outcome, Reply};
@@ -30,11 +30,14 @@ pub fn write_round<K: Sink>(
     ensures { WritesText (sink_seen K.written K.faults sink.old sink.new) (round_text number proof journal.now) result }
 {
     let mut piece = Vec::new(alloc);
-    let mut so_far = Ok(());
+    let mut page = Page {
+        piece: &mut piece,
+        so_far: Ok(()),
+    };
     let entries = journal.entries.as_slice();
-    write_round_line(sink, &mut piece, &mut so_far, number);
-    write_entries(sink, &mut piece, &mut so_far, journal.first, entries, proof);
-    write_rest(sink, &mut piece, so_far)
+    write_round_line(sink, &mut page, number);
+    write_entries(sink, &mut page, journal.first, entries, proof);
+    write_rest(sink, page)
 }
 
 /// Writes the last line of a report.
@@ -45,65 +48,55 @@ pub fn write_end<K: Sink>(alloc: Global, sink: &mut K, entries: u64) -> Result<(
     ensures { WritesText (sink_seen K.written K.faults sink.old sink.new) (end_text entries) result }
 {
     let mut piece = Vec::new(alloc);
-    let mut so_far = Ok(());
-    write_number(sink, &mut piece, &mut so_far, b"done ", entries);
-    write_rest(sink, &mut piece, so_far)
+    let mut page = Page {
+        piece: &mut piece,
+        so_far: Ok(()),
+    };
+    write_number(sink, &mut page, b"done ", entries);
+    write_rest(sink, page)
 }
 
-pub(crate) fn write_round_line<K: Sink>(
-    sink: &mut K,
-    piece: &mut Vec<u8>,
-    so_far: &mut Result<(), ReportFault>,
-    number: u32,
-)
-    ensures { WritesLines (sink_seen K.written K.faults sink.old sink.new) piece.old.items piece.new.items so_far.old so_far.new (numbered (codes "round ") number ∷ []) }
+pub(crate) fn write_round_line<K: Sink>(sink: &mut K, page: &mut Page<'_>, number: u32)
+    ensures { WritesLines (sink_seen K.written K.faults sink.old sink.new) page.old.piece.now.items page.new.piece.now.items page.old.so_far page.new.so_far (numbered (codes "round ") number ∷ []) }
 {
-    write_number(sink, piece, so_far, b"round ", u64::from(number));
+    write_number(sink, page, b"round ", u64::from(number));
 }
 
 fn write_entries<K: Sink>(
     sink: &mut K,
-    piece: &mut Vec<u8>,
-    so_far: &mut Result<(), ReportFault>,
+    page: &mut Page<'_>,
     first: u64,
     entries: &[Entry],
     proof: bool,
 )
-    ensures { WritesLines (sink_seen K.written K.faults sink.old sink.new) piece.old.items piece.new.items so_far.old so_far.new (entries_lines proof first entries.now) }
+    ensures { WritesLines (sink_seen K.written K.faults sink.old sink.new) page.old.piece.now.items page.new.piece.now.items page.old.so_far page.new.so_far (entries_lines proof first entries.now) }
 {
     let mut position = first;
     for entry in entries {
-        write_entry(sink, piece, so_far, position, entry, proof);
+        write_entry(sink, page, position, entry, proof);
         position = position.saturating_add(1);
     }
 }
 
 pub(crate) fn write_entry<K: Sink>(
     sink: &mut K,
-    piece: &mut Vec<u8>,
-    so_far: &mut Result<(), ReportFault>,
+    page: &mut Page<'_>,
     position: u64,
     entry: &Entry,
     proof: bool,
 )
-    ensures { WritesLines (sink_seen K.written K.faults sink.old sink.new) piece.old.items piece.new.items so_far.old so_far.new ((entry_line position entry.now ∷ []) ++ entry_block proof entry.now.command entry.now.reply) }
+    ensures { WritesLines (sink_seen K.written K.faults sink.old sink.new) page.old.piece.now.items page.new.piece.now.items page.old.so_far page.new.so_far ((entry_line position entry.now ∷ []) ++ entry_block proof entry.now.command entry.now.reply) }
 {
-    write_item(sink, piece, so_far, &EntryAt { position }, entry);
-    write_entry_block(sink, piece, so_far, entry, proof);
+    write_item(sink, page, &EntryAt { position }, entry);
+    write_entry_block(sink, page, entry, proof);
 }
 
-fn write_entry_block<K: Sink>(
-    sink: &mut K,
-    piece: &mut Vec<u8>,
-    so_far: &mut Result<(), ReportFault>,
-    entry: &Entry,
-    proof: bool,
-)
-    ensures { WritesLines (sink_seen K.written K.faults sink.old sink.new) piece.old.items piece.new.items so_far.old so_far.new (entry_block proof entry.now.command entry.now.reply) }
+fn write_entry_block<K: Sink>(sink: &mut K, page: &mut Page<'_>, entry: &Entry, proof: bool)
+    ensures { WritesLines (sink_seen K.written K.faults sink.old sink.new) page.old.piece.now.items page.new.piece.now.items page.old.so_far page.new.so_far (entry_block proof entry.now.command entry.now.reply) }
 {
     match &entry.command {
         Command::Close { batch, outcome } => {
-            write_closed(sink, piece, so_far, *batch, outcome, entry.reply, proof);
+            write_closed(sink, page, *batch, outcome, entry.reply, proof);
         }
         _ => {}
     }
@@ -111,17 +104,16 @@ fn write_entry_block<K: Sink>(
 
 fn write_closed<K: Sink>(
     sink: &mut K,
-    piece: &mut Vec<u8>,
-    so_far: &mut Result<(), ReportFault>,
+    page: &mut Page<'_>,
     batch: u64,
     outcome: &Outcome,
     reply: Reply,
     proof: bool,
 )
-    ensures { WritesLines (sink_seen K.written K.faults sink.old sink.new) piece.old.items piece.new.items so_far.old so_far.new (entry_block proof (Command.Close batch outcome.now) reply) }
+    ensures { WritesLines (sink_seen K.written K.faults sink.old sink.new) page.old.piece.now.items page.new.piece.now.items page.old.so_far page.new.so_far (entry_block proof (Command.Close batch outcome.now) reply) }
 {
     match reply {
-        Reply::Closed => write_block(sink, piece, so_far, batch, outcome, proof),
+        Reply::Closed => write_block(sink, page, batch, outcome, proof),
         _ => {}
     }
 }

@@ -4,7 +4,7 @@ ghost use Rattle.pool_io.specs.Views.{sink_seen};
 ghost use Rattle.dispatch_report.specs.Written.{WritesText};
 
 use crate::fault::ReportFault;
-use crate::lines::write_rest;
+use crate::lines::{Page, write_rest};
 use crate::round::{write_entry, write_round_line};
 use pool_io::Sink;
 use request_book::Entry;
@@ -20,9 +20,12 @@ pub fn write_round_start<K: Sink>(
     ensures { WritesText (sink_seen K.written K.faults sink.old sink.new) (round_line number) result }
 {
     piece.clear();
-    let mut so_far = Ok(());
-    write_round_line(sink, piece, &mut so_far, number);
-    write_rest(sink, piece, so_far)
+    let mut page = Page {
+        piece,
+        so_far: Ok(()),
+    };
+    write_round_line(sink, &mut page, number);
+    write_rest(sink, page)
 }
 
 /// Writes the line of an entry, and after a close the block of its batch, with the search tree where `proof` is
@@ -39,7 +42,10 @@ pub fn write_step<K: Sink>(
     ensures { WritesText (sink_seen K.written K.faults sink.old sink.new) (entry_text proof position entry.now) result }
 {
     piece.clear();
-    let mut so_far = Ok(());
-    write_entry(sink, piece, &mut so_far, position, entry, proof);
-    write_rest(sink, piece, so_far)
+    let mut page = Page {
+        piece,
+        so_far: Ok(()),
+    };
+    write_entry(sink, &mut page, position, entry, proof);
+    write_rest(sink, page)
 }

@@ -8,8 +8,8 @@ ghost use Rattle.dispatch_report.specs.Written.{WritesText};
 ghost use Rattle.dispatch_report.specs.work.Lines.{WritesLines};
 
 use crate::fault::ReportFault;
-use crate::lines::{Line, write_item, write_rest};
-use crate::words::{put_numbered, put_signed};
+use crate::lines::{Line, Page, write_item, write_rest};
+use crate::words::{put_fields, put_numbered, put_signed};
 use pool_base::{OutOfMemory, RiderId, Sequence, put_bytes};
 use pool_io::Sink;
 use request_book::{Answer, ChosenTrip, Command, Entry, Journal, Outcome, Planned, Reply, RowLine};
@@ -28,9 +28,12 @@ pub fn write_load<K: Sink>(
     ensures { WritesText (sink_seen K.written K.faults sink.old sink.new) (load_text shape.now) result }
 {
     let mut piece = Vec::new(alloc);
-    let mut so_far = Ok(());
-    write_item(sink, &mut piece, &mut so_far, &Shape, shape);
-    write_rest(sink, &mut piece, so_far)
+    let mut page = Page {
+        piece: &mut piece,
+        so_far: Ok(()),
+    };
+    write_item(sink, &mut page, &Shape, shape);
+    write_rest(sink, page)
 }
 
 /// Writes what a round adds to a made workload's text: for each close that was answered `closed` a line
@@ -47,35 +50,28 @@ pub fn write_summary<K: Sink>(
     ensures { WritesText (sink_seen K.written K.faults sink.old sink.new) (summary_text journal.now) result }
 {
     let mut piece = Vec::new(alloc);
-    let mut so_far = Ok(());
-    write_batches(sink, &mut piece, &mut so_far, journal.entries.as_slice());
-    write_rest(sink, &mut piece, so_far)
+    let mut page = Page {
+        piece: &mut piece,
+        so_far: Ok(()),
+    };
+    write_batches(sink, &mut page, journal.entries.as_slice());
+    write_rest(sink, page)
 }
 
-fn write_batches<K: Sink>(
-    sink: &mut K,
-    piece: &mut Vec<u8>,
-    so_far: &mut Result<(), ReportFault>,
-    entries: &[Entry],
-)
-    ensures { WritesLines (sink_seen K.written K.faults sink.old sink.new) piece.old.items piece.new.items so_far.old so_far.new (flat_map (λ e. batch_lines e.command e.reply) entries.now) }
+fn write_batches<K: Sink>(sink: &mut K, page: &mut Page<'_>, entries: &[Entry])
+    ensures { WritesLines (sink_seen K.written K.faults sink.old sink.new) page.old.piece.now.items page.new.piece.now.items page.old.so_far page.new.so_far (flat_map (λ e. batch_lines e.command e.reply) entries.now) }
 {
     for entry in entries {
-        write_entry_summary(sink, piece, so_far, entry);
+        write_entry_summary(sink, page, entry);
     }
 }
 
-fn write_entry_summary<K: Sink>(
-    sink: &mut K,
-    piece: &mut Vec<u8>,
-    so_far: &mut Result<(), ReportFault>,
-    entry: &Entry,
-)
-    ensures { WritesLines (sink_seen K.written K.faults sink.old sink.new) piece.old.items piece.new.items so_far.old so_far.new (batch_lines entry.now.command entry.now.reply) }
+fn write_entry_summary<K: Sink>(sink: &mut K, page: &mut Page<'_>, entry: &Entry)
+    ensures { WritesLines (sink_seen K.written K.faults sink.old sink.new) page.old.piece.now.items page.new.piece.now.items page.old.so_far page.new.so_far (batch_lines entry.now.command entry.now.reply) }
 {
     match &entry.command {
         Command::Close { batch, outcome } => {
-            write_closed(sink, piece, so_far, *batch, outcome, entry.reply);
+            write_closed(sink, page, *batch, outcome, entry.reply);
         }
         _ => {}
     }
@@ -83,16 +79,15 @@ fn write_entry_summary<K: Sink>(
 
 fn write_closed<K: Sink>(
     sink: &mut K,
-    piece: &mut Vec<u8>,
-    so_far: &mut Result<(), ReportFault>,
+    page: &mut Page<'_>,
     batch: u64,
     outcome: &Outcome,
     reply: Reply,
 )
-    ensures { WritesLines (sink_seen K.written K.faults sink.old sink.new) piece.old.items piece.new.items so_far.old so_far.new (batch_lines (Command.Close batch outcome.now) reply) }
+    ensures { WritesLines (sink_seen K.written K.faults sink.old sink.new) page.old.piece.now.items page.new.piece.now.items page.old.so_far page.new.so_far (batch_lines (Command.Close batch outcome.now) reply) }
 {
     match reply {
-        Reply::Closed => write_item(sink, piece, so_far, &Closed { batch }, &outcome.answer),
+        Reply::Closed => write_item(sink, page, &Closed { batch }, &outcome.answer),
         _ => {}
     }
 }
@@ -123,24 +118,17 @@ impl Line for Shape {
     ghost text = { λ _ shape. (numbered (codes "load seed=") shape.seed ++ numbered (codes " side=") shape.side) ++ (numbered (codes " vehicles=") shape.vehicles ++ numbered (codes " riders=") shape.riders ++ numbered (codes " rounds=") shape.rounds) };
 
     fn put(&self, line: &mut Vec<u8>, shape: &LoadShape) -> Result<(), OutOfMemory> {
-        put_square(line, shape)?;
-        put_sizes(line, shape)
+        put_fields(
+            line,
+            &[
+                (b"load seed=", shape.seed),
+                (b" side=", u64::from(shape.side)),
+                (b" vehicles=", u64::from(shape.vehicles)),
+                (b" riders=", u64::from(shape.riders)),
+                (b" rounds=", u64::from(shape.rounds)),
+            ],
+        )
     }
-}
-
-fn put_square(line: &mut Vec<u8>, shape: &LoadShape) -> Result<(), OutOfMemory>
-    ensures { OnOk result (line.new.items ≡ line.old.items ++ (numbered (codes "load seed=") shape.now.seed ++ numbered (codes " side=") shape.now.side)) }
-{
-    put_numbered(line, b"load seed=", shape.seed)?;
-    put_numbered(line, b" side=", u64::from(shape.side))
-}
-
-fn put_sizes(line: &mut Vec<u8>, shape: &LoadShape) -> Result<(), OutOfMemory>
-    ensures { OnOk result (line.new.items ≡ line.old.items ++ (numbered (codes " vehicles=") shape.now.vehicles ++ numbered (codes " riders=") shape.now.riders ++ numbered (codes " rounds=") shape.now.rounds)) }
-{
-    put_numbered(line, b" vehicles=", u64::from(shape.vehicles))?;
-    put_numbered(line, b" riders=", u64::from(shape.riders))?;
-    put_numbered(line, b" rounds=", u64::from(shape.rounds))
 }
 
 fn put_answer(line: &mut Vec<u8>, answer: &Answer) -> Result<(), OutOfMemory>
@@ -155,29 +143,16 @@ fn put_answer(line: &mut Vec<u8>, answer: &Answer) -> Result<(), OutOfMemory>
 fn put_plan(line: &mut Vec<u8>, plan: &Planned) -> Result<(), OutOfMemory>
     ensures { OnOk result (line.new.items ≡ line.old.items ++ ((numbered (codes " served ") (sum_by pickups plan.now.chosen) ++ numbered (codes " out ") (length plan.now.left)) ++ (numbered (codes " rows ") (length plan.now.rows) ++ numbered (codes " trips ") (count_by (λ trip. list_any (λ stop. stop.pick) trip.stops.items) plan.now.chosen)) ++ (numbered (codes " cost ") plan.now.cost ++ signed (codes " bound ") plan.now.bound))) }
 {
-    put_served(line, plan)?;
-    put_trips(line, plan)?;
-    put_cost(line, plan)
-}
-
-fn put_served(line: &mut Vec<u8>, plan: &Planned) -> Result<(), OutOfMemory>
-    ensures { OnOk result (line.new.items ≡ line.old.items ++ (numbered (codes " served ") (sum_by pickups plan.now.chosen) ++ numbered (codes " out ") (length plan.now.left))) }
-{
-    put_numbered(line, b" served ", served(&plan.chosen))?;
-    put_numbered(line, b" out ", left_count(&plan.left))
-}
-
-fn put_trips(line: &mut Vec<u8>, plan: &Planned) -> Result<(), OutOfMemory>
-    ensures { OnOk result (line.new.items ≡ line.old.items ++ (numbered (codes " rows ") (length plan.now.rows) ++ numbered (codes " trips ") (count_by (λ trip. list_any (λ stop. stop.pick) trip.stops.items) plan.now.chosen))) }
-{
-    put_numbered(line, b" rows ", row_count(&plan.rows))?;
-    put_numbered(line, b" trips ", trips_with_riders(&plan.chosen))
-}
-
-fn put_cost(line: &mut Vec<u8>, plan: &Planned) -> Result<(), OutOfMemory>
-    ensures { OnOk result (line.new.items ≡ line.old.items ++ (numbered (codes " cost ") plan.now.cost ++ signed (codes " bound ") plan.now.bound)) }
-{
-    put_numbered(line, b" cost ", plan.cost)?;
+    put_fields(
+        line,
+        &[
+            (b" served ", served(&plan.chosen)),
+            (b" out ", left_count(&plan.left)),
+            (b" rows ", row_count(&plan.rows)),
+            (b" trips ", trips_with_riders(&plan.chosen)),
+            (b" cost ", plan.cost),
+        ],
+    )?;
     put_signed(line, b" bound ", &plan.bound)
 }
 

@@ -22,6 +22,16 @@ pub(crate) fn put_signed(line: &mut Vec<u8>, words: &[u8], n: &i128) -> Result<(
     put_signed_number(line, *n)
 }
 
+/// Appends words and a number each.
+pub(crate) fn put_fields(line: &mut Vec<u8>, fields: &[(&[u8], u64)]) -> Result<(), OutOfMemory>
+    ensures { OnOk result (line.new.items ≡ line.old.items ++ flat_map (λ f. numbered f.0.now f.1) fields.now) }
+{
+    for field in fields {
+        put_numbered(line, field.0, field.1)?;
+    }
+    Ok(())
+}
+
 /// Appends a space and a number.
 pub(crate) fn put_spaced(line: &mut Vec<u8>, n: u64) -> Result<(), OutOfMemory>
     ensures { OnOk result (line.new.items ≡ line.old.items ++ spaced n) }

@@ -1,6 +1,5 @@
 -- A run of the rounds of rows, with some more rows of one round and the entries that they gave.
-use Rattle.std.proofs.lemmas.Bool.Decides.{nat_tests}
-use Rattle.std.proofs.Common.{rules, arith, ◌≡◌, ℕ, ◌<◌, ◌^◌, Bool, List, [], ◌∷◌, ◌++◌, Option, None, codes, refl, sym, ap, subst, ◌∙◌, append_assoc, append-nil}
+use Rattle.std.proofs.Common.{◌≡◌, ℕ, ◌<◌, ◌^◌, Bool, List, [], ◌∷◌, ◌++◌, Option, None, codes, refl, sym, ap, subst, ◌∙◌, append_assoc, append-nil, map}
 use Rattle.live_dispatch.proofs.Common.{begun-next, run-append, map-append, filter-append, of_lane, IsLaneRun, IsLaneBeginning, ClosesAreGood, IsRoundRun, IsRun, position_after_run, state_after_run, position-more, state-more, lines_text, entries_lines, round_line, round_text, numbered, next_position, state_after, RepliesAreSteps, step, Entry, Journal, State, Settings, notices_from, Notice, Roads, NumberedLanes, lane_at, round_of, Line, rounds_of, ButLast, IsBegunRun, IsRoundBeginning, journals_notices, journals_text, EndsIn, in_lane, start_text, entries-append, lines-append, next-append, next-low, notices-append, state-append}
 use Rattle.std.proofs.lemmas.Grind.{flat_map-append}
 use Rattle.live_dispatch.proofs.RowLemmas.{AreLinesOf, RoundsGrow, lane-grows}
@@ -234,17 +233,21 @@ module _ (settings : Settings) (roads : Roads) where
         → rounds_of lines ≡ front ++ round_of lines number ∷ [] → rounds_of (lines ++ rows) ≡ front ++ round_of (lines ++ rows) number ∷ []
         → RepliesAreSteps roads.nodes settings.wait (after s journals) es → ClosesAreGood settings roads (after s journals) es
         → HasGrown s p round lines rows number journals es
-    grown-joins front journals last starts was rounds replies closes = search (rules, grown-last)
+    grown-joins front journals last starts was rounds replies closes =
+        let Grown : List Journal → Type 0 = λ js. RepliesAreSteps roads.nodes settings.wait (after s js) es → ClosesAreGood settings roads (after s js) es → HasGrown s p round lines rows number js es in
+        subst Grown (sym last.are) (grown-last front last.front last.journal last.run last.base last.first last.is starts was rounds) replies closes
 
     pub has-grown : (journals : List Journal) → IsRun settings roads s p (rounds_of lines) journals → RoundsGrow round lines rows number
         → RepliesAreSteps roads.nodes settings.wait (after s journals) es → ClosesAreGood settings roads (after s journals) es
         → HasGrown s p round lines rows number journals es
-    has-grown journals run (RoundsGrow.joins front starts was rounds) replies closes = grind (arith, nat_tests, (grown-joins front journals), run-last)
+    has-grown journals run (RoundsGrow.joins front starts was rounds) replies closes =
+        grown-joins front journals (run-last s p front (round_of lines number) journals (subst (λ rs. IsRun settings roads s p rs journals) was run)) starts was rounds replies closes
     has-grown journals run (RoundsGrow.begins starts rounds none) replies closes = grown-new journals run starts rounds none replies closes
 
   -- a run of a round is a beginning of one
   round-begun : (r : NumberedLanes) (j : Journal) → IsRoundRun settings roads r j → IsRoundBeginning settings roads r j
-  round-begun r j run = search (rules, append-nil)
+  round-begun r j run =
+      record { replies = run.replies; closes = run.closes; lanes = λ lane. ([], subst (IsLaneRun (lane_at r lane)) (sym (append-nil (of_lane lane j.entries))) (run.lanes lane)) }
 
   last-begun : (s : State) (p : ℕ) (rs : List NumberedLanes) (r : NumberedLanes) (js : List Journal) → LastOf s p rs r js → IsBegunRun settings roads s p (rs ++ r ∷ []) js
   last-begun s p rs r js last = subst (IsBegunRun settings roads s p (rs ++ r ∷ [])) (sym last.are)
@@ -256,5 +259,9 @@ module _ (settings : Settings) (roads : Roads) where
 
   -- a run of the rounds of rows is a begun one
   pub run-begins : (s : State) (p : ℕ) (round : Option ℕ) (lines : List Line) (js : List Journal) → EndsIn lines round → IsRun settings roads s p (rounds_of lines) js → IsBegunRun settings roads s p (rounds_of lines) js
-  run-begins s p _ lines js (EndsIn.in_none empty) run = search (rules, none-begun)
-  run-begins s p _ lines js (EndsIn.in_round front last ends low) run = search (rules, map-append, last-begun, run-last)
+  run-begins s p _ lines js (EndsIn.in_none empty) run =
+      subst (λ ls. IsRun settings roads s p (rounds_of ls) js → IsBegunRun settings roads s p (rounds_of ls) js) (sym empty) (none-begun s p js) run
+  run-begins s p _ lines js (EndsIn.in_round front last ends low) run =
+      let is : rounds_of lines ≡ map (round_of lines) front ++ round_of lines last ∷ [] = ap (map (round_of lines)) ends.ends ∙ map-append (round_of lines) front (last ∷ []) in
+      subst (λ rs. IsRun settings roads s p rs js → IsBegunRun settings roads s p rs js) (sym is)
+      (λ ran. last-begun s p (map (round_of lines) front) (round_of lines last) js (run-last s p (map (round_of lines) front) (round_of lines last) js ran)) run

@@ -3,27 +3,10 @@
 /// Work that may still be done, in numbers gone through: so a graph alone decides where work ends, and no clock does.
 #[derive(Clone, Copy)]
 pub struct Allowance {
-    rest: u64,
+    pub rest: u64,
 }
 
 impl Allowance {
-    /// So many numbers.
-    pub fn new(numbers: u64) -> Self {
-        Allowance { rest: numbers }
-    }
-
-    /// How many numbers are left.
-    #[inline]
-    pub fn rest(self) -> u64 {
-        self.rest
-    }
-
-    /// Whether nothing is left.
-    #[inline]
-    pub fn is_gone(self) -> bool {
-        self.rest == 0
-    }
-
     /// Takes so many numbers away, as far as they are left.
     #[inline]
     pub fn spend(&mut self, numbers: u64) {
@@ -32,16 +15,13 @@ impl Allowance {
 
     /// So many hundredths of it, for one part of the work or for each of some that go side by side.
     pub fn share(self, hundredths: u64) -> Self {
-        Allowance::new((self.rest / 100).saturating_mul(hundredths))
+        Allowance {
+            rest: (self.rest / 100).saturating_mul(hundredths),
+        }
     }
 
     /// Takes away what was done of a share, of which this is left.
     pub fn settle(&mut self, share: Allowance, left: Allowance) {
         self.spend(share.rest.saturating_sub(left.rest));
-    }
-
-    /// The lesser of two.
-    pub fn least(self, other: Allowance) -> Self {
-        Allowance::new(self.rest.min(other.rest))
     }
 }

@@ -73,7 +73,7 @@ pub fn anneal<'a>(
         regrets,
         beside,
         draws: Draws::new(seed.wrapping_add(SEED)),
-        present: Present::new(alloc, regrets.table)?,
+        present: Present::new(alloc),
         marks: Vec::new(alloc),
         open: 0,
         steps: Vec::new(alloc),
@@ -90,6 +90,7 @@ pub fn anneal<'a>(
 impl Annealing<'_> {
     /// Makes all moves from these rows while it cools.
     fn run(&mut self, rows: &[Option<u32>], allowance: &mut Allowance) -> Made<()> {
+        self.present.begin(self.regrets.table)?;
         reset(&mut self.marks, self.regrets.table.vehicle_count(), 0)?;
         for row in rows {
             if let Some(row) = row {
@@ -100,7 +101,7 @@ impl Annealing<'_> {
         let most = (self.regrets.table.row_count() as u64).saturating_mul(MOVES_A_ROW);
         let vehicles = self.regrets.table.vehicle_count() as u64;
         let each = vehicles.saturating_add(A_MOVE);
-        let dear = allowance.rest().checked_div(each).unwrap_or(0);
+        let dear = allowance.rest.checked_div(each).unwrap_or(0);
         let moves = MOVES.min(most).min(dear);
         let stages = moves / MOVES_EACH;
         allowance.spend(moves.saturating_mul(each));
@@ -110,10 +111,10 @@ impl Annealing<'_> {
             let cooled = (WARM - COOL).saturating_mul(part) >> 10;
             self.attempt((WARM * 1024).saturating_sub(cooled))?;
         }
-        if self.least >= 0 {
-            write_over(&mut self.found, &self.present.rows)?;
+        if self.least < 0 {
+            return Ok(());
         }
-        Ok(())
+        write_over(&mut self.found, &self.present.rows)
     }
 
     /// Tries one move at this temperature, in 1/1024 second. Most aren't made, since they are sure to cost too much.
@@ -341,11 +342,11 @@ impl Annealing<'_> {
     fn accept(&mut self) -> Made<()> {
         self.note_open();
         self.above = self.above.saturating_add(self.change);
-        if self.above < self.least {
-            self.least = self.above;
-            write_over(&mut self.found, &self.present.rows)?;
+        if self.above >= self.least {
+            return Ok(());
         }
-        Ok(())
+        self.least = self.above;
+        write_over(&mut self.found, &self.present.rows)
     }
 
     /// Notes who can be added to a row.

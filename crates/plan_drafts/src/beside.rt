@@ -1,6 +1,5 @@
 //! Which rows of a vehicle have one rider less than a row, or one more.
 
-use crate::whole;
 use row_tables::fixed_point::{item, part, write_over};
 use row_tables::lists::Lists;
 use row_tables::{Made, RowTable};
@@ -16,30 +15,32 @@ pub struct Beside {
     added: Vec<u32>,
     /// For each row what it costs, less what it costs to leave out its riders, and 64 marks of those who can be added.
     rows: Vec<(i64, u64)>,
+    /// The riders of a row but for one.
+    trip: Vec<u32>,
 }
 
 impl Beside {
-    pub fn new(alloc: Global, table: &RowTable) -> Made<Self> {
-        let mut beside = Beside {
+    /// No row.
+    pub fn new(alloc: Global) -> Self {
+        Beside {
             without: Lists::new(alloc),
             wider: Lists::new(alloc),
             added: Vec::new(alloc),
             rows: Vec::new(alloc),
-        };
-        let done = beside.fill(alloc, table);
-        whole(beside, done)
+            trip: Vec::new(alloc),
+        }
     }
 
     /// Lists for each row and each of its riders the row of the same vehicle without her, or one past the last row. A
     /// vehicle's rows stand by size, then riders.
-    fn list_without(&mut self, alloc: Global, table: &RowTable) -> Made<()> {
-        let mut trip: Vec<u32> = Vec::new(alloc);
+    fn list_without(&mut self, table: &RowTable) -> Made<()> {
         for row in 0..table.row_count() {
             let riders = table.riders_of(row);
             for skipped in 0..riders.len() {
-                write_over(&mut trip, part(riders, 0, skipped))?;
-                trip.extend_from_slice(part(riders, skipped.saturating_add(1), riders.len()))?;
-                self.without.push(find(table, row, &trip))?;
+                let rest = part(riders, skipped.saturating_add(1), riders.len());
+                write_over(&mut self.trip, part(riders, 0, skipped))?;
+                self.trip.extend_from_slice(rest)?;
+                self.without.push(find(table, row, &self.trip))?;
             }
             self.without.end()?;
         }
@@ -48,8 +49,8 @@ impl Beside {
 
     /// Lists the narrower rows, the wider ones, and who is added: those of a row stand by rising riders, as the rows of
     /// a vehicle do.
-    fn fill(&mut self, alloc: Global, table: &RowTable) -> Made<()> {
-        self.list_without(alloc, table)?;
+    pub fn fill(&mut self, table: &RowTable) -> Made<()> {
+        self.list_without(table)?;
         self.wider.transpose(&self.without, table.row_count())?;
         for row in 0..table.row_count() {
             let mut marks = 0;

@@ -3,10 +3,9 @@
 //! Of the rows that the relaxation chooses most nearly by half some are tried: the dual simplex takes some columns in
 //! with the row taken and with the row forbidden, over the rows at hand, and the greatest product of the two rises
 //! wins.
-use crate::decided::Decided;
-use crate::relaxation::{Ended, MANY_CONDITIONS, Saved};
+use crate::relaxation::{Ended, MANY_CONDITIONS, Relaxation, Saved, Share, in_prices};
 use row_tables::fixed_point::{ONE, item};
-use row_tables::{Decision, Made, RowTable, Share};
+use row_tables::{Decision, Made, RowTable};
 use std::alloc::Global;
 
 /// What each rider of a row counts toward being tried.
@@ -51,21 +50,21 @@ impl Branching {
     pub fn choose(
         &mut self,
         table: &RowTable,
-        decided: &mut Decided,
+        relaxation: &mut Relaxation,
         shares: &[Share],
         limit: i64,
         tries: bool,
     ) -> Made<Option<usize>> {
-        let limit = decided.relaxation.in_prices(limit);
-        let rest = limit.saturating_sub(decided.relaxation.cost());
-        decided.relaxation.save(&mut self.saved)?;
+        let limit = in_prices(limit, relaxation.scale);
+        let rest = limit.saturating_sub(relaxation.cost());
+        relaxation.save(&mut self.saved)?;
         self.rank(table, shares)?;
         if self.ranks.is_empty() {
-            return Ok(any_open_row(table, decided));
+            return Ok(any_open_row(table, relaxation));
         }
         let mut best = 0;
         if tries && self.ranks.len() > 1 {
-            best = self.try_rows(table, decided, rest.saturating_add(rest / 5))?;
+            best = self.try_rows(table, relaxation, rest.saturating_add(rest / 5))?;
         }
         Ok(Some(item(&self.ranks, best, (0, 0)).1 as usize))
     }
@@ -74,10 +73,10 @@ impl Branching {
     fn rank(&mut self, table: &RowTable, shares: &[Share]) -> Made<()> {
         self.ranks.clear();
         for share in shares {
-            let distance = share.part.wrapping_sub(ONE / 2).saturating_abs();
-            let riders = table.riders_of(share.row as usize).len().min(6) as i64;
+            let distance = share.0.0.wrapping_sub(ONE / 2).saturating_abs();
+            let riders = table.riders_of(share.1 as usize).len().min(6) as i64;
             let rank = distance.wrapping_sub(A_RIDER.wrapping_mul(riders));
-            self.ranks.push((rank, share.row))?;
+            self.ranks.push((rank, share.1))?;
         }
         self.ranks.as_mut_slice().sort_unstable();
         self.ranks.truncate(self.candidates);
@@ -86,7 +85,12 @@ impl Branching {
 
     /// Tries one row after the other, until some in a row are no better. The place of the best one. A row that can't be
     /// the best any more, however much the cost rises where it is taken, isn't tried for that.
-    fn try_rows(&mut self, table: &RowTable, decided: &mut Decided, most: i64) -> Made<usize> {
+    fn try_rows(
+        &mut self,
+        table: &RowTable,
+        relaxation: &mut Relaxation,
+        most: i64,
+    ) -> Made<usize> {
         let mut best: usize = 0;
         let mut most_score = -1;
         for place in 0..self.ranks.len() {
@@ -94,12 +98,12 @@ impl Branching {
                 break;
             }
             let row = item(&self.ranks, place, (0, 0)).1 as usize;
-            let left = self.rise(table, decided, decision(0, row, false), most)?;
+            let left = self.rise(table, relaxation, decision(0, row, false), most)?;
             let left = score_of(left, most);
             if left.wrapping_mul(score_of(most, most)) <= most_score {
                 continue;
             }
-            let taken = self.rise(table, decided, decision(0, row, true), most)?;
+            let taken = self.rise(table, relaxation, decision(0, row, true), most)?;
             let score = left.wrapping_mul(score_of(taken, most));
             if score > most_score {
                 most_score = score;
@@ -113,16 +117,15 @@ impl Branching {
     fn rise(
         &mut self,
         table: &RowTable,
-        decided: &mut Decided,
+        relaxation: &mut Relaxation,
         decision: Decision,
         most: i64,
     ) -> Made<i64> {
-        let count = decided.len();
-        decided.decide(table, decision)?;
-        let relaxation = &mut decided.relaxation;
+        let count = relaxation.forbidden_count;
+        relaxation.decide(table, decision);
         let (ended, rise) = relaxation.pivot_dual(table, self.pivots, most)?;
         relaxation.go_back(&self.saved)?;
-        decided.go_back(count);
+        relaxation.allow_after(count);
         Ok(if ended == Ended::Failed { most } else { rise })
     }
 }
@@ -142,11 +145,11 @@ pub fn decision(parent: usize, row: usize, is_taken: bool) -> Decision {
 }
 
 /// A row of the basis whose vehicle has another one.
-fn any_open_row(table: &RowTable, decided: &Decided) -> Option<usize> {
-    for column in decided.relaxation.columns() {
+fn any_open_row(table: &RowTable, relaxation: &Relaxation) -> Option<usize> {
+    for column in &relaxation.basis.columns {
         let row = *column as usize;
-        let is_open = row < table.row_count() && !decided.relaxation.is_forbidden(row);
-        if is_open && decided.has_choice(table, row) {
+        let is_open = row < table.row_count() && !relaxation.is_forbidden(row);
+        if is_open && relaxation.has_choice(table, row) {
             return Some(row);
         }
     }

@@ -7,7 +7,7 @@
 use crate::present::Present;
 use crate::regrets::Regrets;
 use row_tables::Made;
-use row_tables::fixed_point::{item, part, set_at};
+use row_tables::fixed_point::{at, item, set_at, write_over};
 use row_tables::lists::short;
 use std::alloc::Global;
 
@@ -67,10 +67,11 @@ const NO_TURN: Turn = Turn {
 pub struct Choices {
     /// The rows that fit, a vehicle's side by side, by rising regret.
     fits: Vec<Fit>,
-    /// The turns, those with the fewest rows first.
+    /// For each vehicle how many rows fit and where they begin, the fewest rows first, and the turns, in this order.
+    sizes: Vec<(usize, usize)>,
     turns: Vec<Turn>,
     /// For each rider who can be served the last turn that could do it, and her number; and how many there are.
-    closings: Vec<Option<(u32, u32)>>,
+    pub closings: Vec<Option<(u32, u32)>>,
     riders: u32,
     /// The row of each turn, and those of the best choice.
     picks: Vec<u32>,
@@ -80,16 +81,17 @@ pub struct Choices {
 }
 
 impl Choices {
-    pub fn new(alloc: Global, riders: usize) -> Made<Self> {
-        Ok(Choices {
-            closings: vec![in alloc; None; riders]?,
+    pub fn new(alloc: Global) -> Self {
+        Choices {
             fits: Vec::new(alloc),
+            sizes: Vec::new(alloc),
             turns: Vec::new(alloc),
+            closings: Vec::new(alloc),
             riders: 0,
             picks: Vec::new(alloc),
             best: Vec::new(alloc),
             work: 0,
-        })
+        }
     }
 
     /// Gives these vehicles the best rows that it finds, with none better than the present ones. What that
@@ -117,21 +119,27 @@ impl Choices {
     /// Lists the rows of each vehicle whose riders nobody serves, and puts the shorter lists first.
     fn find_turns(&mut self, regrets: &Regrets, present: &Present, vehicles: &[u32]) -> Made<()> {
         self.fits.clear();
-        self.turns.clear();
+        self.sizes.clear();
         self.work = 0;
         for vehicle in vehicles {
             let first = self.fits.len();
             self.add_fits(regrets, present, *vehicle as usize)?;
-            let end = self.fits.len();
+            let size = self.fits.len().saturating_sub(first);
+            self.sizes.push((size, first))?;
+        }
+        self.sizes.as_mut_slice().sort_unstable();
+        self.turns.clear();
+        for (size, first) in &self.sizes {
             self.turns.push(Turn {
-                first,
-                end,
-                next: first,
-                ..NO_TURN
+                first: *first,
+                end: first.saturating_add(*size),
+                next: *first,
+                sum: 0,
+                served: 0,
+                least: 0,
+                left: 0,
             })?;
         }
-        let turns = self.turns.as_mut_slice();
-        turns.sort_unstable_by_key(|turn| (turn.end.saturating_sub(turn.first), turn.first));
         Ok(())
     }
 
@@ -144,7 +152,8 @@ impl Choices {
                 self.fits.push(Fit {
                     row: *row,
                     above: regrets.above(*row),
-                    ..NO_FIT
+                    last: 0,
+                    marks: 0,
                 })?;
             }
         }
@@ -157,11 +166,6 @@ impl Choices {
         item(&self.turns, number, NO_TURN)
     }
 
-    #[inline]
-    fn fit(&self, place: usize) -> Fit {
-        item(&self.fits, place, NO_FIT)
-    }
-
     /// Finds for each turn, the last first, the least regret from it on, and the riders whom no later one could serve.
     /// What it costs to leave out all riders whom one could serve.
     fn look_ahead(&mut self, regrets: &Regrets) -> i64 {
@@ -172,7 +176,7 @@ impl Choices {
         for number in (0..self.turns.len()).rev() {
             let turn = self.turn(number);
             if turn.first < turn.end {
-                least = least.saturating_add(self.fit(turn.first).above);
+                least = least.saturating_add(item(&self.fits, turn.first, NO_FIT).above);
             }
             let left = self.close_riders(regrets, turn, short(number));
             left_of_all = left_of_all.saturating_add(left);
@@ -195,10 +199,10 @@ impl Choices {
 
     /// The same for the riders of a row.
     fn close_row(&mut self, regrets: &Regrets, place: usize, number: u32) -> i64 {
-        let mut fit = self.fit(place);
+        let mut fit = item(&self.fits, place, NO_FIT);
         let mut left: i64 = 0;
         for rider in regrets.table.riders_of(fit.row as usize) {
-            let regret = regrets.left(*rider);
+            let regret = at(&regrets.left, *rider as usize);
             let known = item(&self.closings, *rider as usize, None);
             let (turn, mark) = known.unwrap_or((number, self.riders));
             if known.is_none() {
@@ -265,7 +269,7 @@ impl Choices {
         let room = limit.saturating_sub(turn.sum).saturating_sub(rest);
         for place in turn.next..turn.end {
             self.work = self.work.saturating_add(A_ROW);
-            let fit = self.fit(place);
+            let fit = item(&self.fits, place, NO_FIT);
             if fit.above >= room {
                 return None;
             }
@@ -296,8 +300,7 @@ impl Choices {
             self.count_left(regrets, fit.row, -1);
         } else {
             *limit = sum;
-            self.best.clear();
-            self.best.extend_from_slice(&self.picks)?;
+            write_over(&mut self.best, &self.picks)?;
             self.picks.pop();
         }
         Ok(true)
@@ -306,7 +309,7 @@ impl Choices {
     /// Counts it to the turns so many times what it costs to leave out the row's riders.
     fn count_left(&mut self, regrets: &Regrets, row: u32, times: i64) {
         for rider in regrets.table.riders_of(row as usize) {
-            let change = regrets.left(*rider).wrapping_mul(times);
+            let change = at(&regrets.left, *rider as usize).wrapping_mul(times);
             if let Some((closing, _)) = item(&self.closings, *rider as usize, None) {
                 if let Some(turn) = self.turns.get_mut(closing as usize) {
                     turn.left = turn.left.wrapping_add(change);
@@ -320,7 +323,7 @@ impl Choices {
 fn regret_of(regrets: &Regrets, row: u32) -> i64 {
     let mut regret = regrets.above(row);
     for rider in regrets.table.riders_of(row as usize) {
-        regret = regret.saturating_sub(regrets.left(*rider));
+        regret = regret.saturating_sub(at(&regrets.left, *rider as usize));
     }
     regret
 }

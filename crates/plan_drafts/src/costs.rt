@@ -1,7 +1,5 @@
 //! What plans cost.
-use crate::present::Present;
-use row_tables::fixed_point::item;
-use row_tables::lists::short;
+use row_tables::fixed_point::{item, set_at};
 use row_tables::{Made, RowTable};
 use std::alloc::Global;
 
@@ -10,27 +8,37 @@ pub const UNLAWFUL: i64 = i64::MAX / 4096;
 
 /// What a plan costs, in seconds; very much where it isn't lawful.
 pub fn plan_cost(alloc: Global, table: &RowTable, plan: &[Option<u32>]) -> Made<i64> {
-    let mut present = Present::new(alloc, table)?;
+    let mut is_served = vec![in alloc; false; table.rider_count()]?;
     let mut cost: i64 = 0;
     for vehicle in 0..table.vehicle_count() {
-        match item(plan, vehicle, None) {
-            Some(row) if present.is_free(table, row) => {
-                present.give(table, row);
-                cost = cost.saturating_add(table.cost(row as usize));
-            }
-            None if table.rows_of(vehicle).is_empty() => {}
-            _ => return Ok(UNLAWFUL),
-        }
+        let more = match item(plan, vehicle, None) {
+            Some(row) => cost_of_row(table, row as usize, &mut is_served),
+            None if table.rows_of(vehicle).is_empty() => 0,
+            None => UNLAWFUL,
+        };
+        cost = cost.saturating_add(more);
     }
-    let left = cost_of_left(table, &present);
+    let left = cost_of_left(table, &is_served);
     Ok(cost.saturating_add(left).min(UNLAWFUL))
 }
 
+/// What a row costs, of which nobody may be served yet. Its riders are served then.
+fn cost_of_row(table: &RowTable, row: usize, is_served: &mut [bool]) -> i64 {
+    let mut cost = table.cost(row);
+    for rider in table.riders_of(row) {
+        if item(is_served, *rider as usize, false) {
+            cost = UNLAWFUL;
+        }
+        set_at(is_served, *rider as usize, true);
+    }
+    cost
+}
+
 /// What it costs to leave out whom nobody serves.
-fn cost_of_left(table: &RowTable, present: &Present) -> i64 {
+fn cost_of_left(table: &RowTable, is_served: &[bool]) -> i64 {
     let mut cost: i64 = 0;
-    for rider in 0..table.rider_count() {
-        if present.server(short(rider)).is_none() {
+    for (rider, is_served) in is_served.iter().enumerate() {
+        if !*is_served {
             let must = table.must(rider);
             cost = cost.saturating_add(if must { UNLAWFUL } else { table.penalty() });
         }

@@ -1,8 +1,8 @@
 //! A plan from the relaxation: rows that it chooses nearly whole are taken, and it is solved again.
 use crate::Plan;
-use crate::decided::Decided;
+use crate::relaxation::{Relaxation, Share};
 use row_tables::fixed_point::set_at;
-use row_tables::{Draws, Made, RowTable, Share};
+use row_tables::{Draws, Made, RowTable};
 use std::alloc::Global;
 use std::cmp::Reverse;
 
@@ -23,67 +23,67 @@ const MOST_ROWS: usize = 10;
 
 const MOST_PASSES: u32 = 3;
 
-/// What stands in order as rows do by falling share: share and row.
-type Rank = (Reverse<i64>, u32);
-
 /// A plan that starts at this basis, if it comes to one. But for number 0 the first row is left out now and then, as is
 /// drawn from the number.
 pub fn dive(
     alloc: Global,
     table: &RowTable,
-    decided: &mut Decided,
+    relaxation: &mut Relaxation,
     basis: &[u32],
     number: u64,
 ) -> Made<Option<Plan>> {
-    decided.relaxation.hold(false);
-    decided.relaxation.go_to(table, basis)?;
+    relaxation.is_held = false;
+    relaxation.go_to(table, basis)?;
+    let mut open: Vec<Share> = Vec::new(alloc);
+    let plan = descend(alloc, table, relaxation, number, &mut open);
+    drop(open);
+    plan
+}
+
+/// The same from where the relaxation stands. The open rows are work space.
+fn descend(
+    alloc: Global,
+    table: &RowTable,
+    relaxation: &mut Relaxation,
+    number: u64,
+    open: &mut Vec<Share>,
+) -> Made<Option<Plan>> {
     let mut draws = Draws::new(number);
-    let mut shares: Vec<Share> = Vec::new(alloc);
-    let mut ranks: Vec<Rank> = Vec::new(alloc);
     for _ in 0..table.vehicle_count().saturating_mul(2) {
-        let relaxation = &mut decided.relaxation;
         relaxation.solve(table, i64::MAX, MOST_ROWS, MOST_PASSES)?;
-        relaxation.find_shares(table, &mut shares)?;
-        if decided.relaxation.is_tired() || !rank_open(table, decided, &shares, &mut ranks)? {
-            return Ok(None);
+        relaxation.find_shares(table, i64::MAX)?;
+        if relaxation.is_tired() || !list_open(table, relaxation, open)? {
+            break;
         }
-        if are_whole(&shares) {
-            return Ok(Some(whole_plan(alloc, table, &shares)?));
+        if are_whole(&relaxation.shares) {
+            return Ok(Some(whole_plan(alloc, table, &relaxation.shares)?));
         }
         let skips = number > 0 && draws.below(4) == 0;
-        take_first(table, decided, &ranks, skips)?;
+        take_first(table, relaxation, open, skips);
     }
     Ok(None)
 }
 
 /// Whether all rows are chosen whole.
 fn are_whole(shares: &[Share]) -> bool {
-    for share in shares {
-        if share.part < WHOLE {
-            return false;
-        }
+    match shares.last() {
+        None => true,
+        Some(share) => share.0.0 >= WHOLE,
     }
-    true
 }
 
-/// Ranks the rows whose vehicles have another choice by falling share. False where a forbidden row is chosen.
-fn rank_open(
-    table: &RowTable,
-    decided: &Decided,
-    shares: &[Share],
-    ranks: &mut Vec<Rank>,
-) -> Made<bool> {
-    ranks.clear();
-    for share in shares {
-        let row = share.row as usize;
-        if decided.relaxation.is_forbidden(row) {
+/// Lists the rows whose vehicles have another choice. False where a forbidden row is chosen.
+fn list_open(table: &RowTable, relaxation: &Relaxation, open: &mut Vec<Share>) -> Made<bool> {
+    open.clear();
+    for share in &relaxation.shares {
+        let row = share.1 as usize;
+        if relaxation.is_forbidden(row) {
             return Ok(false);
         }
-        if decided.has_choice(table, row) {
-            ranks.push((Reverse(share.part), share.row))?;
+        if relaxation.has_choice(table, row) {
+            open.push(*share)?;
         }
     }
-    ranks.as_mut_slice().sort_unstable();
     Ok(true)
 }
 
@@ -91,29 +91,28 @@ fn rank_open(
 pub fn whole_plan(alloc: Global, table: &RowTable, shares: &[Share]) -> Made<Plan> {
     let mut plan: Vec<Option<u32>> = vec![in alloc; None; table.vehicle_count()]?;
     for share in shares {
-        if share.part > HALF {
-            let vehicle = table.vehicle(share.row as usize);
-            set_at(&mut plan, vehicle, Some(share.row));
+        if share.0.0 > HALF {
+            let vehicle = table.vehicle(share.1 as usize);
+            set_at(&mut plan, vehicle, Some(share.1));
         }
     }
     Ok(plan)
 }
 
 /// Takes the first rows that are still allowed, the very first one not where it is skipped.
-fn take_first(table: &RowTable, decided: &mut Decided, ranks: &[Rank], skips: bool) -> Made<()> {
+fn take_first(table: &RowTable, relaxation: &mut Relaxation, open: &[Share], skips: bool) {
     let mut skips = skips;
     let mut count: u32 = 0;
-    for (Reverse(part), row) in ranks {
+    for (Reverse(part), row) in open {
         let is_sure = *part > WHOLE;
         if !is_sure && count > 0 && (*part < NEARLY_WHOLE || count >= MOST_AT_ONCE) {
-            return Ok(());
+            return;
         }
         if !is_sure && skips {
             skips = false;
-        } else if !decided.relaxation.is_forbidden(*row as usize) {
-            decided.take(table, *row as usize)?;
+        } else if !relaxation.is_forbidden(*row as usize) {
+            relaxation.take(table, *row as usize);
             count = count.saturating_add(u32::from(!is_sure));
         }
     }
-    Ok(())
 }

@@ -1,8 +1,8 @@
 //! A draft: the relaxation of all rows, plans made from it, and a tree where they leave a gap.
+use crate::Plan;
 use crate::allowance::Allowance;
 use crate::beside::Beside;
 use crate::branching::FEW_CONDITIONS;
-use crate::decided::Decided;
 use crate::diving::dive;
 use crate::merge::{Merge, renumbered};
 use crate::plans::Plans;
@@ -10,9 +10,8 @@ use crate::regrets::Regrets;
 use crate::relaxation::Relaxation;
 use crate::scout::{Scout, Start};
 use crate::tree::DraftTree;
-use crate::{Plan, whole};
 use pool_base::OutOfMemory;
-use row_tables::{Draft, Drafter, Made, RowTable, Share, ascend, first_multipliers};
+use row_tables::{Draft, Drafter, Made, RowTable, ascend, first_multipliers};
 use std::alloc::Global;
 use std::mem::replace;
 use std::ops::Range;
@@ -102,11 +101,11 @@ impl Drafter for RelaxationDrafter {
         budget: usize,
         workers: u8,
     ) -> Made<Draft> {
-        let mut allowance = Allowance::new(MOST_WORK);
+        let mut allowance = Allowance { rest: MOST_WORK };
         let rows = (table.row_count() as u64).saturating_mul(A_ROW);
         allowance.spend(rows.saturating_mul(budget.min(MERGE_NODES) as u64));
-        let mut drafting = Drafting::new(alloc, table, held, workers, allowance)?;
-        let draft = drafting.make(rt, budget);
+        let mut drafting = Drafting::new(alloc, table, workers, allowance);
+        let draft = drafting.make(rt, held, budget);
         drop(drafting);
         draft
     }
@@ -119,47 +118,44 @@ struct Drafting<'a> {
     workers: u8,
     /// The rows, with their regrets under the multipliers that are the best for all of them.
     regrets: Regrets<'a>,
-    decided: Decided,
+    relaxation: Relaxation,
     tree: DraftTree,
     plans: Plans,
 }
 
 impl<'a> Drafting<'a> {
-    /// Solves the relaxation.
-    fn new(
-        alloc: Global,
-        table: &'a RowTable,
-        held: &[Option<u32>],
-        workers: u8,
-        allowance: Allowance,
-    ) -> Made<Self> {
-        let share = allowance.share(FIRST_SHARE);
-        let plans = Plans::new(alloc, table, 0)?;
-        let relaxation = Relaxation::new(alloc, table, held, share)?;
-        let mut drafting = Drafting {
+    /// No draft.
+    fn new(alloc: Global, table: &'a RowTable, workers: u8, allowance: Allowance) -> Self {
+        Drafting {
             alloc,
             workers,
             regrets: Regrets::new(alloc, table),
-            decided: Decided::new(alloc, relaxation),
+            relaxation: Relaxation::new(alloc),
             tree: DraftTree::new(alloc, allowance),
-            plans,
-        };
-        let done = drafting.begin(share);
-        whole(drafting, done)
+            plans: Plans::new(alloc, 0),
+        }
     }
 
-    /// Solves the relaxation with this share, begins the tree there, and finds the regrets.
-    fn begin(&mut self, share: Allowance) -> Made<()> {
+    /// Solves the relaxation from this lawful plan on, begins the tree there, and finds the regrets.
+    fn begin(&mut self, held: &[Option<u32>]) -> Made<()> {
         let table = self.regrets.table;
-        let relaxation = &mut self.decided.relaxation;
+        let share = self.tree.allowance.share(FIRST_SHARE);
+        let relaxation = &mut self.relaxation;
+        relaxation.begin(table, held, &[], share)?;
         solve(self.alloc, table, relaxation)?;
-        self.tree.root(self.alloc, table, relaxation)?;
+        self.tree.root(table, relaxation)?;
         self.tree.allowance.settle(share, relaxation.allowance());
-        self.regrets.fill(self.alloc, self.tree.multipliers(0))
+        self.regrets.fill(self.tree.multipliers(0))
     }
 
-    /// Makes the draft, with a tree of so many nodes at most, and hands it out.
-    fn make<R: Threads + Sync>(&mut self, rt: &R, budget: usize) -> Made<Draft> {
+    /// Makes the draft from this lawful plan on, with a tree of so many nodes at most, and hands it out.
+    fn make<R: Threads + Sync>(
+        &mut self,
+        rt: &R,
+        held: &[Option<u32>],
+        budget: usize,
+    ) -> Made<Draft> {
+        self.begin(held)?;
         self.make_plans()?;
         let first = self.tree.draft.bound;
         self.grow(rt, budget.min(PROBE))?;
@@ -180,29 +176,28 @@ impl<'a> Drafting<'a> {
     /// Makes a plan from the solution and one by a dive.
     fn make_plans(&mut self) -> Made<()> {
         let table = self.regrets.table;
-        let mut shares: Vec<Share> = Vec::new(self.alloc);
-        self.decided.relaxation.find_shares(table, &mut shares)?;
-        self.plans.round(&self.regrets, &shares)?;
-        drop(shares);
+        self.relaxation.find_shares(table, i64::MAX)?;
+        self.plans.round(&self.regrets, &self.relaxation.shares)?;
         self.better()?;
-        if self.tree.is_open() && !self.decided.relaxation.is_tired() {
-            if let Some(plan) = self.dive()? {
-                self.plans.adopt(&self.regrets, &plan)?;
-                self.better()?;
-            }
+        if !self.tree.is_open() || self.relaxation.is_tired() {
+            return Ok(());
         }
-        Ok(())
+        let Some(plan) = self.dive()? else {
+            return Ok(());
+        };
+        self.plans.adopt(&self.regrets, &plan)?;
+        self.better()
     }
 
     /// A plan by a dive from the solution, if it comes to one.
     fn dive(&mut self) -> Made<Option<Plan>> {
         let share = self.tree.allowance.share(DIVE_SHARE);
-        self.decided.relaxation.allow_work(share);
-        let decided = &mut self.decided;
+        self.relaxation.allowance = share;
+        let relaxation = &mut self.relaxation;
         let basis = self.tree.root_basis();
-        let plan = dive(self.alloc, self.regrets.table, decided, basis, 0)?;
-        self.decided.go_back(0);
-        let left = self.decided.relaxation.allowance();
+        let plan = dive(self.alloc, self.regrets.table, relaxation, basis, 0)?;
+        self.relaxation.allow_after(0);
+        let left = self.relaxation.allowance();
         self.tree.allowance.settle(share, left);
         Ok(plan)
     }
@@ -211,7 +206,7 @@ impl<'a> Drafting<'a> {
     fn better(&mut self) -> Made<()> {
         let (bound, plans) = (self.tree.draft.bound, &mut self.plans);
         plans.better(&self.regrets, bound, IDLE, STEPS, &mut self.tree.allowance)?;
-        self.tree.offer(self.alloc, plans.rows(), plans.cost)
+        self.tree.offer(&plans.present.rows, plans.cost)
     }
 
     /// Grows the tree to so many nodes, at first without the rows whose reduced cost exceeds a part of the gap.
@@ -224,10 +219,9 @@ impl<'a> Drafting<'a> {
         let gap = cost.saturating_sub(self.tree.value(0));
         let is_small = table.condition_count() <= FEW_CONDITIONS;
         let part = if is_small { LARGER_PART } else { POOL_PART };
-        let relaxation = &mut self.decided.relaxation;
+        let relaxation = &mut self.relaxation;
         relaxation.shrink_pool(table, self.tree.multipliers(0), gap / part)?;
-        self.tree
-            .grow(rt, self.alloc, table, relaxation, budget, self.workers)
+        self.tree.grow(rt, table, relaxation, budget, self.workers)
     }
 
     /// Whether the gap is a small part of the cost.
@@ -243,14 +237,15 @@ impl<'a> Drafting<'a> {
             let count = if self.is_near() { FEW_SCOUTS } else { SCOUTS };
             return self.scout(rt, None, 0..count);
         }
-        let beside = Beside::new(self.alloc, self.regrets.table)?;
-        let made = self.scout_often(rt, &beside);
+        let mut beside = Beside::new(self.alloc);
+        let made = self.scout_often(rt, &mut beside);
         drop(beside);
         made
     }
 
     /// Has many scouts look for plans, of whom most anneal, as long as a better plan is found each time.
-    fn scout_often<R: Threads + Sync>(&mut self, rt: &R, beside: &Beside) -> Made<()> {
+    fn scout_often<R: Threads + Sync>(&mut self, rt: &R, beside: &mut Beside) -> Made<()> {
+        beside.fill(self.regrets.table)?;
         for time in 0..MOST_TIMES {
             let cost = self.tree.draft.cost;
             let first = MANY_SCOUTS.saturating_mul(time);
@@ -272,7 +267,7 @@ impl<'a> Drafting<'a> {
         let share = self.tree.allowance.share(SCOUT_SHARE);
         let start = Start {
             regrets: &self.regrets,
-            relaxation: &self.decided.relaxation,
+            relaxation: &self.relaxation,
             tree: &self.tree,
             beside,
             share,
@@ -283,11 +278,11 @@ impl<'a> Drafting<'a> {
             if !scout.is_done {
                 return Err(OutOfMemory);
             }
-            left = left.least(scout.left);
+            left.rest = left.rest.min(scout.left.rest);
             self.tree
-                .offer(self.alloc, scout.plans.rows(), scout.plans.cost)?;
+                .offer(&scout.plans.present.rows, scout.plans.cost)?;
         }
-        let work = share.rest().saturating_sub(left.rest());
+        let work = share.rest.saturating_sub(left.rest);
         let times = scouts.len().div_ceil(SCOUTS as usize) as u64;
         self.tree.allowance.spend(work.saturating_mul(times));
         self.merge(rt, &scouts)
@@ -297,7 +292,7 @@ impl<'a> Drafting<'a> {
     fn merge<R: Threads + Sync>(&mut self, rt: &R, scouts: &[Scout]) -> Made<()> {
         let merge = Merge::new(self.alloc, &self.regrets, &self.tree.draft.plan, scouts)?;
         let share = self.tree.allowance.share(MERGE_SHARE);
-        let mut part = Drafting::new(self.alloc, &merge.part, &merge.plan, self.workers, share)?;
+        let mut part = Drafting::new(self.alloc, &merge.part, self.workers, share);
         let taken = self.take(rt, &mut part, &merge);
         drop(part);
         drop(merge);
@@ -307,14 +302,14 @@ impl<'a> Drafting<'a> {
     /// Takes the best plan of a merge, if it is better, as a draft of its rows finds it.
     fn take<R: Threads + Sync>(&mut self, rt: &R, part: &mut Drafting, merge: &Merge) -> Made<()> {
         let share = self.tree.allowance.share(MERGE_SHARE);
-        part.tree
-            .offer(self.alloc, &merge.plan, self.tree.draft.cost)?;
+        part.begin(&merge.plan)?;
+        part.tree.offer(&merge.plan, self.tree.draft.cost)?;
         part.make_plans()?;
         part.grow(rt, MERGE_NODES)?;
         self.tree.allowance.settle(share, part.tree.allowance);
         let draft = &part.tree.draft;
         let plan = renumbered(self.alloc, &draft.plan, &merge.wholes)?;
-        self.tree.offer(self.alloc, &plan, draft.cost)
+        self.tree.offer(&plan, draft.cost)
     }
 }
 
@@ -328,10 +323,10 @@ fn send_scouts<R: Threads + Sync>(
 ) -> Made<Vec<Scout>> {
     let mut scouts: Vec<Scout> = Vec::new(alloc);
     for number in numbers {
-        scouts.push(Scout::new(alloc, start, number)?)?;
+        scouts.push(Scout::new(alloc, number))?;
     }
     let workers = usize::from(workers).max(1);
-    let look = |_: usize, scout: &mut Scout| scout.look(alloc, start);
+    let look = |_: usize, scout: &mut Scout| scout.is_done = scout.look(alloc, start).is_ok();
     thread::for_each_mut(rt, &mut scouts, workers, &look);
     Ok(scouts)
 }
@@ -346,22 +341,22 @@ fn solve(alloc: Global, table: &RowTable, relaxation: &mut Relaxation) -> Made<(
     let first = first_multipliers(alloc, table, turns)?;
     relaxation.count_looks(rows.saturating_mul(turns as usize));
     relaxation.fill_pool(table, &first, MOST_ROWS)?;
-    relaxation.set_boxed_costs(table, &first, BOX);
+    relaxation.set_costs_left(table, &first, BOX);
     relaxation.pivot_on(table)?;
-    relaxation.set_true_costs(table);
+    relaxation.set_costs_left(table, &[], i64::MAX);
     relaxation.solve(table, i64::MAX, MOST_ROWS, u32::MAX)?;
     if relaxation.is_tired() {
         try_multipliers(table, relaxation, &first)?;
-        ascend_on(alloc, table, relaxation)?;
+        return ascend_on(alloc, table, relaxation);
     }
     Ok(())
 }
 
 /// Goes on from a relaxation's multipliers by an ascent.
 fn ascend_on(alloc: Global, table: &RowTable, relaxation: &mut Relaxation) -> Made<()> {
-    let start = relaxation.multipliers(alloc, table.rider_count())?;
+    let start = Vec::from_slice(alloc, &relaxation.multipliers)?;
     let more = table.penalty().saturating_mul(1024 * ABOVE);
-    let target = relaxation.value().saturating_add(more);
+    let target = relaxation.value.saturating_add(more);
     let turns = MOST_LOOKS.checked_div(table.row_count()).unwrap_or(0);
     let turns = turns.min(MOST_TURNS) as u32;
     let multipliers = ascend(alloc, table, start, target, turns)?;

@@ -27,7 +27,6 @@ mod beside;
 mod branching;
 mod choices;
 mod costs;
-mod decided;
 mod diving;
 mod draft;
 mod merge;

@@ -52,7 +52,7 @@ impl Merge {
         reset(&mut self.parts, table.row_count(), None)?;
         mark(plan, &mut self.parts);
         for scout in scouts {
-            mark(scout.plans.rows(), &mut self.parts);
+            mark(&scout.plans.present.rows, &mut self.parts);
         }
         for vehicle in 0..table.vehicle_count() {
             self.put_vehicle(regrets, vehicle)?;

@@ -6,7 +6,7 @@
 use crate::choices::Choices;
 use crate::present::Present;
 use crate::regrets::Regrets;
-use row_tables::fixed_point::{item, set_at};
+use row_tables::fixed_point::{item, reset, set_at};
 use row_tables::lists::short;
 use row_tables::{Draws, Made, RowTable};
 use std::alloc::Global;
@@ -23,15 +23,21 @@ pub struct Neighbourhood {
 }
 
 impl Neighbourhood {
-    /// Walks over the rows of this table. What is drawn follows from the seed.
-    pub fn new(alloc: Global, table: &RowTable, seed: u64) -> Made<Self> {
-        Ok(Neighbourhood {
-            is_in: vec![in alloc; false; table.vehicle_count()]?,
-            choices: Choices::new(alloc, table.rider_count())?,
+    /// No walk. What is drawn follows from the seed.
+    pub fn new(alloc: Global, seed: u64) -> Self {
+        Neighbourhood {
             vehicles: Vec::new(alloc),
+            is_in: Vec::new(alloc),
             frontier: Vec::new(alloc),
             draws: Draws::new(seed),
-        })
+            choices: Choices::new(alloc),
+        }
+    }
+
+    /// Makes room for walks over the rows of this table.
+    pub fn begin(&mut self, table: &RowTable) -> Made<()> {
+        reset(&mut self.is_in, table.vehicle_count(), false)?;
+        reset(&mut self.choices.closings, table.rider_count(), None)
     }
 
     /// Chooses the rows of so many vehicles near each other anew, if there are enough. What that saves, in 1/1024

@@ -8,9 +8,9 @@ use crate::costs::{UNLAWFUL, plan_cost};
 use crate::neighbourhood::Neighbourhood;
 use crate::present::Present;
 use crate::regrets::Regrets;
-use row_tables::{Made, RowTable, Share};
+use crate::relaxation::Share;
+use row_tables::Made;
 use std::alloc::Global;
-use std::cmp::Reverse;
 
 /// How many neighbourhoods are tried at most in one call.
 const MOST_ATTEMPTS: usize = 10_000_000;
@@ -19,7 +19,7 @@ const MOST_ATTEMPTS: usize = 10_000_000;
 #[derive(Drop)]
 pub struct Plans {
     alloc: Global,
-    present: Present,
+    pub present: Present,
     neighbourhood: Neighbourhood,
     /// What the present plan costs, in seconds; very much where it isn't lawful.
     pub cost: i64,
@@ -27,31 +27,21 @@ pub struct Plans {
 
 impl Plans {
     /// A plan without rows. What is drawn follows from the number.
-    pub fn new(alloc: Global, table: &RowTable, number: u64) -> Made<Plans> {
-        Ok(Plans {
+    pub fn new(alloc: Global, number: u64) -> Plans {
+        Plans {
             alloc,
-            present: Present::new(alloc, table)?,
-            neighbourhood: Neighbourhood::new(alloc, table, number.wrapping_add(4242))?,
+            present: Present::new(alloc),
+            neighbourhood: Neighbourhood::new(alloc, number.wrapping_add(4242)),
             cost: UNLAWFUL,
-        })
+        }
     }
 
-    /// The rows of the present plan.
-    pub fn rows(&self) -> &[Option<u32>] {
-        &self.present.rows
-    }
-
-    /// Makes a plan of the relaxation's shares: the rows by falling share, then those of each vehicle by rising regret,
+    /// Makes a plan of the relaxation's shares: the rows in their order, then those of each vehicle by rising regret,
     /// where they still fit.
     pub fn round(&mut self, regrets: &Regrets, shares: &[Share]) -> Made<()> {
-        let mut ranks = Vec::new(self.alloc);
+        self.present.begin(regrets.table)?;
         for share in shares {
-            ranks.push((Reverse(share.part), share.row))?;
-        }
-        ranks.as_mut_slice().sort_unstable();
-        self.present.clear();
-        for rank in &ranks {
-            self.present.offer(regrets.table, rank.1);
+            self.present.offer(regrets.table, share.1);
         }
         for vehicle in 0..regrets.table.vehicle_count() {
             for row in regrets.rows.list(vehicle) {
@@ -63,7 +53,12 @@ impl Plans {
 
     /// Takes this plan as the present one.
     pub fn adopt(&mut self, regrets: &Regrets, rows: &[Option<u32>]) -> Made<()> {
-        self.present.adopt(regrets.table, rows);
+        self.present.begin(regrets.table)?;
+        for row in rows {
+            if let Some(row) = row {
+                self.present.give(regrets.table, *row);
+            }
+        }
         self.count(regrets)
     }
 
@@ -77,9 +72,10 @@ impl Plans {
         most_steps: u32,
         allowance: &mut Allowance,
     ) -> Made<()> {
+        self.neighbourhood.begin(regrets.table)?;
         let mut idle: u32 = 0;
         for attempt in 0..MOST_ATTEMPTS {
-            if self.cost <= bound || idle > most_idle || allowance.is_gone() {
+            if self.cost <= bound || idle > most_idle || allowance.rest == 0 {
                 break;
             }
             let size = 3 + attempt / 32 % 8;

@@ -1,5 +1,5 @@
 //! A plan that changes.
-use row_tables::fixed_point::{item, set_at};
+use row_tables::fixed_point::{item, reset, set_at};
 use row_tables::lists::short;
 use row_tables::{Made, RowTable};
 use std::alloc::Global;
@@ -12,28 +12,18 @@ pub struct Present {
 }
 
 impl Present {
-    /// No vehicle has a row.
-    pub fn new(alloc: Global, table: &RowTable) -> Made<Self> {
-        Ok(Present {
-            rows: vec![in alloc; None; table.vehicle_count()]?,
-            servers: vec![in alloc; None; table.rider_count()]?,
-        })
-    }
-
-    /// Takes all rows away.
-    pub fn clear(&mut self) {
-        self.rows.as_mut_slice().fill(None);
-        self.servers.as_mut_slice().fill(None);
-    }
-
-    /// Takes these rows, of which no two have a rider in common.
-    pub fn adopt(&mut self, table: &RowTable, rows: &[Option<u32>]) {
-        self.clear();
-        for row in rows {
-            if let Some(row) = row {
-                self.give(table, *row);
-            }
+    /// No vehicle.
+    pub fn new(alloc: Global) -> Self {
+        Present {
+            rows: Vec::new(alloc),
+            servers: Vec::new(alloc),
         }
+    }
+
+    /// Begins with the vehicles of a table, none of which has a row.
+    pub fn begin(&mut self, table: &RowTable) -> Made<()> {
+        reset(&mut self.rows, table.vehicle_count(), None)?;
+        reset(&mut self.servers, table.rider_count(), None)
     }
 
     /// The vehicle's row.

@@ -4,7 +4,7 @@
 //! cost of its row lies above the vehicle's least, and for each rider who is left out what that costs above
 //! her multiplier. Of each vehicle's rows only those of least regret are looked at.
 
-use row_tables::fixed_point::{at, item, set_at};
+use row_tables::fixed_point::{at, item, reset, set_at};
 use row_tables::lists::{Lists, short};
 use row_tables::{Made, RowTable};
 use std::alloc::Global;
@@ -22,10 +22,14 @@ pub struct Regrets<'a> {
     /// For each row its regret.
     above: Vec<i64>,
     /// For each rider what it costs to leave her out above her multiplier.
-    left: Vec<i64>,
+    pub left: Vec<i64>,
     /// For each vehicle its rows that are looked at, and for each rider those that have her, by rising regret.
     pub rows: Lists,
     pub with: Lists,
+    /// What each rider is worth, which rows are looked at, and those of a vehicle or a rider by rising regret.
+    prices: Vec<i64>,
+    is_listed: Vec<bool>,
+    ranks: Vec<Rank>,
 }
 
 impl<'a> Regrets<'a> {
@@ -37,88 +41,90 @@ impl<'a> Regrets<'a> {
             left: Vec::new(alloc),
             rows: Lists::new(alloc),
             with: Lists::new(alloc),
+            prices: Vec::new(alloc),
+            is_listed: Vec::new(alloc),
+            ranks: Vec::new(alloc),
         }
     }
 
     /// Finds the regrets under these multipliers, in 1/1024 second.
-    pub fn fill(&mut self, alloc: Global, multipliers: &[i64]) -> Made<()> {
-        let prices = self.price_riders(alloc, multipliers)?;
+    pub fn fill(&mut self, multipliers: &[i64]) -> Made<()> {
+        self.price_riders(multipliers)?;
         for vehicle in 0..self.table.vehicle_count() {
-            self.reduce(&prices, vehicle)?;
+            self.reduce(vehicle)?;
         }
-        self.list(alloc)
+        self.list()
     }
 
     /// What each rider is worth: her multiplier, and at most what it costs to leave her out.
-    fn price_riders(&mut self, alloc: Global, multipliers: &[i64]) -> Made<Vec<i64>> {
-        let mut prices = Vec::new(alloc);
+    fn price_riders(&mut self, multipliers: &[i64]) -> Made<()> {
         for rider in 0..self.table.rider_count() {
             let cost = self.table.cost_left(rider).saturating_mul(1024);
             let price = at(multipliers, rider).min(cost);
-            prices.push(price)?;
+            self.prices.push(price)?;
             self.left.push(cost.saturating_sub(price))?;
         }
-        Ok(prices)
+        Ok(())
     }
 
     /// Notes the regrets of a vehicle's rows.
-    fn reduce(&mut self, prices: &[i64], vehicle: usize) -> Made<()> {
-        let least = self.least_cost(prices, vehicle);
+    fn reduce(&mut self, vehicle: usize) -> Made<()> {
+        let least = self.least_cost(vehicle);
         for row in self.table.rows_of(vehicle) {
-            let cost = self.table.reduced_cost(prices, row);
+            let cost = self.table.reduced_cost(&self.prices, row);
             self.above.push(cost.saturating_sub(least))?;
         }
         Ok(())
     }
 
     /// The least reduced cost of a vehicle's rows.
-    fn least_cost(&self, prices: &[i64], vehicle: usize) -> i64 {
+    fn least_cost(&self, vehicle: usize) -> i64 {
         let mut least = i64::MAX;
         for row in self.table.rows_of(vehicle) {
-            least = least.min(self.table.reduced_cost(prices, row));
+            least = least.min(self.table.reduced_cost(&self.prices, row));
         }
         least
     }
 
     /// Lists the rows that are looked at.
-    fn list(&mut self, alloc: Global) -> Made<()> {
-        let mut is_listed = vec![in alloc; false; self.table.row_count()]?;
-        let mut ranks = Vec::new(alloc);
+    fn list(&mut self) -> Made<()> {
+        reset(&mut self.is_listed, self.table.row_count(), false)?;
         for vehicle in 0..self.table.vehicle_count() {
-            self.rank_vehicle(vehicle, &mut ranks)?;
-            self.list_vehicle(vehicle, &ranks, &mut is_listed)?;
+            self.rank_vehicle(vehicle)?;
+            self.list_vehicle(vehicle)?;
         }
-        self.list_riders(&is_listed, &mut ranks)
+        self.list_riders()
     }
 
     /// All rows of the vehicle by rising regret.
-    fn rank_vehicle(&self, vehicle: usize, ranks: &mut Vec<Rank>) -> Made<()> {
-        ranks.clear();
+    fn rank_vehicle(&mut self, vehicle: usize) -> Made<()> {
+        self.ranks.clear();
         for row in self.table.rows_of(vehicle) {
-            ranks.push((self.above(short(row)), short(row)))?;
+            let rank = (self.above(short(row)), short(row));
+            self.ranks.push(rank)?;
         }
-        ranks.as_mut_slice().sort_unstable();
+        self.ranks.as_mut_slice().sort_unstable();
         Ok(())
     }
 
     /// Lists the vehicle's rows of least regret and its first one, and marks them.
-    fn list_vehicle(&mut self, vehicle: usize, ranks: &[Rank], is_listed: &mut [bool]) -> Made<()> {
+    fn list_vehicle(&mut self, vehicle: usize) -> Made<()> {
         let first = self.table.rows_of(vehicle).start;
-        for (place, rank) in ranks.iter().enumerate() {
+        for (place, rank) in self.ranks.iter().enumerate() {
             let row = rank.1 as usize;
             if place < MOST_ROWS || row == first {
                 self.rows.push(row)?;
-                set_at(is_listed, row, true);
+                set_at(&mut self.is_listed, row, true);
             }
         }
         self.rows.end()
     }
 
     /// Lists for each rider the marked rows that have her.
-    fn list_riders(&mut self, is_listed: &[bool], ranks: &mut Vec<Rank>) -> Made<()> {
+    fn list_riders(&mut self) -> Made<()> {
         for rider in 0..self.table.rider_count() {
-            self.rank_rider(rider, is_listed, ranks)?;
-            for rank in ranks.iter() {
+            self.rank_rider(rider)?;
+            for rank in &self.ranks {
                 self.with.push(rank.1 as usize)?;
             }
             self.with.end()?;
@@ -127,14 +133,15 @@ impl<'a> Regrets<'a> {
     }
 
     /// The marked rows that have the rider, by rising regret.
-    fn rank_rider(&self, rider: usize, is_listed: &[bool], ranks: &mut Vec<Rank>) -> Made<()> {
-        ranks.clear();
+    fn rank_rider(&mut self, rider: usize) -> Made<()> {
+        self.ranks.clear();
         for row in self.table.rows_with(rider) {
-            if item(is_listed, *row as usize, false) {
-                ranks.push((self.above(*row), *row))?;
+            if item(&self.is_listed, *row as usize, false) {
+                let rank = (self.above(*row), *row);
+                self.ranks.push(rank)?;
             }
         }
-        ranks.as_mut_slice().sort_unstable();
+        self.ranks.as_mut_slice().sort_unstable();
         Ok(())
     }
 
@@ -142,11 +149,5 @@ impl<'a> Regrets<'a> {
     #[inline]
     pub fn above(&self, row: u32) -> i64 {
         at(&self.above, row as usize)
-    }
-
-    /// The regret of leaving this rider out.
-    #[inline]
-    pub fn left(&self, rider: u32) -> i64 {
-        at(&self.left, rider as usize)
     }
 }

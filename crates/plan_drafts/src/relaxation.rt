@@ -4,9 +4,9 @@
 //! which a pass over all rows adds those that better the solution (column generation; Gilmore and Gomory,
 //! 1961). There is a condition for each rider, then one for each vehicle. Nothing is proved of how good a
 //! solution is: a leaf value judges any multipliers.
-ghost use Rattle.std.specs.Prelude.{◌≡◌, IfOk, length};
 
 mod basis;
+mod decisions;
 mod dual;
 mod factors;
 mod ordering;
@@ -22,9 +22,10 @@ use crate::relaxation::pool::Pool;
 use crate::relaxation::sparse::Sparse;
 pub use basis::MANY_CONDITIONS;
 pub use dual::Ended;
-use row_tables::fixed_point::{at, copy, item, reset, set_at, write_over};
+use row_tables::fixed_point::{at, copy, reset, set_at, write_over};
 use row_tables::{Made, RowTable};
 use std::alloc::Global;
+use std::cmp::Reverse;
 use std::mem::replace;
 
 /// No column costs more, in units of 2^scale seconds.
@@ -41,6 +42,9 @@ const MOST_DUAL_PIVOTS: u64 = 20;
 
 /// How many numbers a look at a row or a column counts as.
 const A_LOOK: u64 = 2;
+
+/// How much of a row is chosen, in units of 2^-32, and the row: what is chosen more stands first.
+pub type Share = (Reverse<i64>, u32);
 
 /// A basis with its factors and prices, to come back to.
 #[derive(Drop)]
@@ -65,16 +69,19 @@ impl Saved {
 /// of a vehicle without rows.
 #[derive(Drop)]
 pub struct Relaxation {
-    basis: Basis,
-    pool: Pool,
+    pub basis: Basis,
+    pub pool: Pool,
     is_forbidden: Vec<bool>,
+    /// The forbidden rows, in order, and how many there are.
+    forbidden: Vec<u32>,
+    pub forbidden_count: usize,
     /// Whether forbidden rows are held at 0, at their own cost, in place of costing so much that they leave.
-    is_held: bool,
+    pub is_held: bool,
     /// What each column costs, in the units of prices.
     costs: Vec<i64>,
     /// The prices of the conditions, in units of 2^-32 of 2^scale seconds.
     prices: Vec<i64>,
-    scale: u32,
+    pub scale: u32,
     /// How much each place costs, or how much of it is chosen.
     parts: Vec<i64>,
     /// A row of the basis's inverse over the conditions, and its products with the rows of the pool.
@@ -84,89 +91,77 @@ pub struct Relaxation {
     /// still good.
     candidates: Vec<(i64, u32)>,
     turns: u32,
-    pivots: u64,
+    /// How many columns came in so far.
+    pub pivots: u64,
     /// How many numbers it may still go through. Once they are gone it takes no more columns in: then any solution must
     /// do.
-    allowance: Allowance,
-    /// The best multipliers of the last solution and their value, in 1/1024 second.
-    multipliers: Vec<i64>,
-    value: i64,
+    pub allowance: Allowance,
+    /// The best multipliers of the last solution and their value over the rows that aren't forbidden, in 1/1024 second.
+    pub multipliers: Vec<i64>,
+    pub value: i64,
     /// The multipliers at hand.
     tried: Vec<i64>,
     /// The reduced costs of a vehicle's least rows, and these.
     offers: Vec<(i64, u32)>,
+    /// The rows that were found to be chosen in part, in order.
+    pub shares: Vec<Share>,
 }
 
 impl Relaxation {
-    /// The solution where each vehicle has this row: each vehicle with rows has one, and no two of them have
-    /// a rider in common.
-    pub fn new(
-        alloc: Global,
-        table: &RowTable,
-        start: &[Option<u32>],
-        allowance: Allowance,
-    ) -> Made<Self> {
-        Relaxation::over(alloc, table, start, &[], allowance)
-    }
-
-    /// The same with these columns in the pool too.
-    fn over(
-        alloc: Global,
-        table: &RowTable,
-        start: &[Option<u32>],
-        columns: &[u32],
-        allowance: Allowance,
-    ) -> Made<Self> {
-        let mut relaxation = Relaxation {
+    /// No solution yet.
+    pub fn new(alloc: Global) -> Self {
+        Relaxation {
             basis: Basis::new(alloc),
             pool: Pool::new(alloc),
             is_forbidden: Vec::new(alloc),
+            forbidden: Vec::new(alloc),
+            forbidden_count: 0,
             is_held: false,
             costs: Vec::new(alloc),
             prices: Vec::new(alloc),
-            scale: scale_of(table),
+            scale: 0,
             parts: Vec::new(alloc),
             row: Sparse::new(alloc),
             products: Vec::new(alloc),
             candidates: Vec::new(alloc),
             turns: 0,
             pivots: 0,
-            allowance,
+            allowance: Allowance { rest: 0 },
             multipliers: Vec::new(alloc),
             value: i64::MIN,
             tried: Vec::new(alloc),
             offers: Vec::new(alloc),
-        };
-        relaxation.begin(table, start, columns)?;
-        Ok(relaxation)
-    }
-
-    /// Begins at this plan, with the columns of all riders and these in the pool.
-    fn begin(&mut self, table: &RowTable, start: &[Option<u32>], columns: &[u32]) -> Made<()> {
-        self.basis.begin(table, start)?;
-        self.make_space(table)?;
-        self.set_true_costs(table);
-        for rider in 0..table.rider_count() {
-            self.add(table, table.row_count().saturating_add(rider))?;
+            shares: Vec::new(alloc),
         }
-        self.add_all(table, columns)
     }
 
-    /// Another one over the same pool, which starts at this plan, as the first one does.
-    pub fn beside(
-        &self,
-        alloc: Global,
+    /// Begins at the solution where each vehicle has this row, with the columns of all riders and these in the pool:
+    /// each vehicle with rows has one, and no two of them have a rider in common.
+    pub fn begin(
+        &mut self,
         table: &RowTable,
         start: &[Option<u32>],
+        columns: &[u32],
         allowance: Allowance,
-    ) -> Made<Self> {
-        Relaxation::over(alloc, table, start, &self.pool.columns, allowance)
+    ) -> Made<()> {
+        self.allowance = allowance;
+        self.scale = scale_of(table);
+        self.basis.begin(table, start)?;
+        self.make_space(table)?;
+        self.set_costs_left(table, &[], i64::MAX);
+        for rider in 0..table.rider_count() {
+            let column = table.row_count().saturating_add(rider);
+            let cost = at(&self.costs, column);
+            self.pool.add(table, column, cost)?;
+        }
+        self.add_all(table, columns)
     }
 
     fn make_space(&mut self, table: &RowTable) -> Made<()> {
         let conditions = table.condition_count();
         reset(&mut self.pool.is_in, table.column_count(), false)?;
         reset(&mut self.is_forbidden, table.row_count(), false)?;
+        reset(&mut self.forbidden, table.row_count(), 0)?;
         reset(&mut self.costs, table.column_count(), 0)?;
         for row in 0..table.row_count() {
             set_at(&mut self.costs, row, in_prices(table.cost(row), self.scale));
@@ -178,26 +173,19 @@ impl Relaxation {
         reset(&mut self.tried, table.rider_count(), 0)
     }
 
-    /// Has it cost as much to leave out a rider as the table says.
-    pub fn set_true_costs(&mut self, table: &RowTable) {
-        for rider in 0..table.rider_count() {
-            self.set_cost_left(table, rider, table.cost_left(rider));
-        }
-    }
-
-    /// Has it cost no more to leave out a rider than her multiplier, in 1/1024 second, and these seconds.
-    pub fn set_boxed_costs(&mut self, table: &RowTable, multipliers: &[i64], seconds: i64) {
+    /// Has it cost as much to leave out a rider as the table says, but no more than her multiplier, in 1/1024 second,
+    /// and these seconds.
+    pub fn set_costs_left(&mut self, table: &RowTable, multipliers: &[i64], seconds: i64) {
         for rider in 0..table.rider_count() {
             let boxed = (at(multipliers, rider) / 1024).saturating_add(seconds);
-            self.set_cost_left(table, rider, boxed.min(table.cost_left(rider)));
+            let cost = in_prices(boxed.min(table.cost_left(rider)), self.scale);
+            set_at(
+                &mut self.costs,
+                table.row_count().saturating_add(rider),
+                cost,
+            );
+            set_at(&mut self.pool.costs, rider, cost);
         }
-    }
-
-    fn set_cost_left(&mut self, table: &RowTable, rider: usize, seconds: i64) {
-        let cost = in_prices(seconds, self.scale);
-        let column = table.row_count().saturating_add(rider);
-        set_at(&mut self.costs, column, cost);
-        self.pool.set_cost(rider, cost);
     }
 
     /// Goes on to a solution over the rows that aren't forbidden, by passes over all of them that put up to
@@ -256,14 +244,10 @@ impl Relaxation {
         Ok(())
     }
 
-    fn add(&mut self, table: &RowTable, column: usize) -> Made<()> {
-        let cost = at(&self.costs, column);
-        self.pool.add(table, column, cost)
-    }
-
     fn add_all(&mut self, table: &RowTable, columns: &[u32]) -> Made<()> {
         for column in columns {
-            self.add(table, *column as usize)?;
+            let cost = at(&self.costs, *column as usize);
+            self.pool.add(table, *column as usize, cost)?;
         }
         Ok(())
     }
@@ -284,29 +268,9 @@ impl Relaxation {
         self.pool.press(table)
     }
 
-    /// The best multipliers of the last solution for so many riders, in 1/1024 second; 0 for one whom it
-    /// doesn't know.
-    pub fn multipliers(&self, alloc: Global, riders: usize) -> Made<Vec<i64>>
-        ensures { IfOk result (λ ms. length ms.items ≡ riders) }
-    {
-        let mut multipliers = vec![in alloc; 0; riders]?;
-        copy(&self.multipliers, &mut multipliers);
-        Ok(multipliers)
-    }
-
-    /// Their value over the rows that aren't forbidden, in 1/1024 second.
-    pub fn value(&self) -> i64 {
-        self.value
-    }
-
     /// Counts looks at so many rows or columns.
     pub fn count_looks(&mut self, count: usize) {
         self.allowance.spend((count as u64).saturating_mul(A_LOOK));
-    }
-
-    /// Has it go on with this allowance.
-    pub fn allow_work(&mut self, allowance: Allowance) {
-        self.allowance = allowance;
     }
 
     /// What is left of its allowance.
@@ -318,39 +282,7 @@ impl Relaxation {
 
     /// Whether it takes no more columns in.
     pub fn is_tired(&mut self) -> bool {
-        self.allowance().is_gone()
-    }
-
-    /// How many columns came in so far.
-    pub fn pivots(&self) -> u64 {
-        self.pivots
-    }
-
-    /// Whether the row is forbidden.
-    pub fn is_forbidden(&self, row: usize) -> bool {
-        item(&self.is_forbidden, row, false)
-    }
-
-    /// Has forbidden rows held at 0, or else cost so much that they leave.
-    pub fn hold(&mut self, is_held: bool) {
-        self.is_held = is_held;
-    }
-
-    /// Forbids a row, which may stay in the basis. Whether it wasn't forbidden.
-    pub fn forbid(&mut self, row: usize) -> bool {
-        let is_new = !item(&self.is_forbidden, row, true);
-        set_at(&mut self.is_forbidden, row, true);
-        is_new
-    }
-
-    /// Allows a row that was forbidden.
-    pub fn allow(&mut self, row: usize) {
-        set_at(&mut self.is_forbidden, row, false);
-    }
-
-    /// The columns of the basis.
-    pub fn columns(&self) -> &[u32] {
-        &self.basis.columns
+        self.allowance().rest == 0
     }
 
     /// Goes to a basis that was one before.
@@ -370,11 +302,6 @@ impl Relaxation {
     pub fn go_back(&mut self, saved: &Saved) -> Made<()> {
         copy(&saved.prices, &mut self.prices);
         self.basis.copy_from(&saved.basis)
-    }
-
-    /// A number of seconds in the units of costs.
-    pub fn in_prices(&self, seconds: i64) -> i64 {
-        in_prices(seconds, self.scale)
     }
 
     /// A price in 1/1024 second.
@@ -399,7 +326,7 @@ fn scale_of(table: &RowTable) -> u32 {
 }
 
 /// Seconds in units of 2^-32 of 2^scale seconds. What costs very much costs the most.
-fn in_prices(seconds: i64, scale: u32) -> i64 {
+pub fn in_prices(seconds: i64, scale: u32) -> i64 {
     let units = seconds.clamp(-(1 << 40), 1 << 40) * 256 >> scale.min(20);
     units.clamp(-MOST_COST * 256, MOST_COST * 256) * (1 << 24)
 }

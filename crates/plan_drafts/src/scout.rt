@@ -3,7 +3,6 @@
 use crate::allowance::Allowance;
 use crate::annealing::anneal;
 use crate::beside::Beside;
-use crate::decided::Decided;
 use crate::diving::dive;
 use crate::plans::Plans;
 use crate::regrets::Regrets;
@@ -37,7 +36,7 @@ pub struct Start<'a> {
 #[derive(Drop)]
 pub struct Scout {
     number: u64,
-    decided: Decided,
+    relaxation: Relaxation,
     pub plans: Plans,
     /// What is left of its share.
     pub left: Allowance,
@@ -46,28 +45,20 @@ pub struct Scout {
 }
 
 impl Scout {
-    /// The scout of this number, with the best plan so far.
-    pub fn new(alloc: Global, start: Start, number: u64) -> Made<Self> {
-        let table = start.regrets.table;
-        let plan = start.tree.draft.plan.as_slice();
-        let plans = Plans::new(alloc, table, number)?;
-        let relaxation = start.relaxation.beside(alloc, table, plan, start.share)?;
-        Ok(Scout {
+    /// The scout of this number.
+    pub fn new(alloc: Global, number: u64) -> Self {
+        Scout {
             number,
-            decided: Decided::new(alloc, relaxation),
-            plans,
-            left: start.share,
+            relaxation: Relaxation::new(alloc),
+            plans: Plans::new(alloc, number),
+            left: Allowance { rest: 0 },
             is_done: false,
-        })
-    }
-
-    /// Looks for a plan.
-    pub fn look(&mut self, alloc: Global, start: Start) {
-        self.is_done = self.find(alloc, start).is_ok();
+        }
     }
 
     /// Goes on from the best plan by annealing, or to another by a dive, and betters it.
-    fn find(&mut self, alloc: Global, start: Start) -> Made<()> {
+    pub fn look(&mut self, alloc: Global, start: Start) -> Made<()> {
+        self.left = start.share;
         let best = start.tree.draft.plan.as_slice();
         self.plans.adopt(start.regrets, best)?;
         let plan = match start.beside {
@@ -76,10 +67,12 @@ impl Scout {
                 Some(anneal(alloc, start.regrets, beside, best, self.number, left)?)
             }
             _ => {
+                let (table, relaxation) = (start.regrets.table, &mut self.relaxation);
+                let columns = &start.relaxation.pool.columns;
+                relaxation.begin(table, best, columns, start.share)?;
                 let basis = start.tree.root_basis();
-                let decided = &mut self.decided;
-                let plan = dive(alloc, start.regrets.table, decided, basis, self.number)?;
-                self.left = self.decided.relaxation.allowance();
+                let plan = dive(alloc, table, relaxation, basis, self.number)?;
+                self.left = self.relaxation.allowance();
                 plan
             }
         };

@@ -2,21 +2,15 @@
 //! to branch on and multipliers, which are judged where they are used.
 use crate::allowance::Allowance;
 use crate::costs::{UNLAWFUL, plan_cost};
-use crate::parter::{MOST_AT_ONCE, Parter};
-use crate::relaxation::Relaxation;
+use crate::parter::{End, MOST_AT_ONCE, Parter};
+use crate::relaxation::{Relaxation, Share};
+use crate::whole;
 use pool_base::OutOfMemory;
-use row_tables::lists::short;
-use row_tables::{Decision, Draft, DraftNode, Made, RowTable, Share};
+use row_tables::fixed_point::write_over;
+use row_tables::{Draft, Made, RowTable};
 use std::alloc::Global;
-use std::collections::BinaryHeap;
-use std::mem::replace;
 use std::thread;
 use std::thread::Threads;
-
-/// More and less of a row than counts as chosen in part, in units of 2^-32.
-const LEAST_PART: i64 = (1 << 32) / 100;
-
-const MOST_PART: i64 = (1 << 32) / 100 * 99;
 
 /// How many hundredths of what is left a tree's growth takes at most.
 const SHARE: u64 = 40;
@@ -29,6 +23,8 @@ const NEAR_PART: i64 = 8;
 pub struct Standing {
     /// In 1/1024 second.
     pub value: i64,
+    /// Whether the node may still be branched.
+    pub is_open: bool,
     pub basis: Vec<u32>,
     /// The rows that are chosen in part, until the node is branched.
     pub shares: Vec<Share>,
@@ -37,12 +33,13 @@ pub struct Standing {
 /// A tree that grows.
 #[derive(Drop)]
 pub struct DraftTree {
+    alloc: Global,
     /// The best plan known, and the nodes so far.
     pub draft: Draft,
     /// Of each node where it stands.
-    standings: Vec<Standing>,
-    /// The open nodes, least value first.
-    open: BinaryHeap<(i64, u32)>,
+    pub standings: Vec<Standing>,
+    /// How many nodes are open.
+    open: usize,
     /// What work may still be done for the draft.
     pub allowance: Allowance,
 }
@@ -51,6 +48,7 @@ impl DraftTree {
     /// A tree without nodes and plan.
     pub fn new(alloc: Global, allowance: Allowance) -> Self {
         DraftTree {
+            alloc,
             draft: Draft {
                 plan: Vec::new(alloc),
                 cost: UNLAWFUL,
@@ -58,49 +56,34 @@ impl DraftTree {
                 nodes: Vec::new(alloc),
             },
             standings: Vec::new(alloc),
-            open: BinaryHeap::new(alloc),
+            open: 0,
             allowance,
         }
     }
 
     /// Puts in the root, where the relaxation stands.
-    pub fn root(
-        &mut self,
-        alloc: Global,
-        table: &RowTable,
-        relaxation: &mut Relaxation,
-    ) -> Made<()> {
-        self.draft.bound = seconds_of(relaxation.value());
-        let multipliers = relaxation.multipliers(alloc, table.rider_count())?;
-        let standing = standing_of(alloc, table, relaxation)?;
-        self.put(None, multipliers, standing)
+    pub fn root(&mut self, table: &RowTable, relaxation: &mut Relaxation) -> Made<()> {
+        self.draft.bound = seconds_of(relaxation.value);
+        let mut end = End::new(self.alloc, None);
+        let done = end.note(table, relaxation);
+        self.put(whole(end, done)?)
     }
 
     /// Puts in a node, which is open.
-    fn put(
-        &mut self,
-        decision: Option<Decision>,
-        multipliers: Vec<i64>,
-        standing: Standing,
-    ) -> Made<()> {
-        let rank = (standing.value.wrapping_neg(), short(self.standings.len()));
-        self.standings.push(standing)?;
-        self.draft.nodes.push(DraftNode {
-            decision,
-            branch: None,
-            multipliers,
-        })?;
-        self.open.push(rank)?;
+    fn put(&mut self, end: End) -> Made<()> {
+        self.open = self.open.saturating_add(1);
+        self.standings.push(end.standing)?;
+        self.draft.nodes.push(end.node)?;
         Ok(())
     }
 
     /// Takes a plan of this cost where it is the best.
-    pub fn offer(&mut self, alloc: Global, plan: &[Option<u32>], cost: i64) -> Made<()> {
-        if cost < self.draft.cost {
-            self.draft.cost = cost;
-            self.draft.plan = Vec::from_slice(alloc, plan)?;
+    pub fn offer(&mut self, plan: &[Option<u32>], cost: i64) -> Made<()> {
+        if cost >= self.draft.cost {
+            return Ok(());
         }
-        Ok(())
+        self.draft.cost = cost;
+        write_over(&mut self.draft.plan, plan)
     }
 
     /// Whether a plan might cost less than the best one.
@@ -113,14 +96,9 @@ impl DraftTree {
         self.draft.cost.saturating_sub(bound)
     }
 
-    /// Where the relaxation stands at a node, if there is such a one.
-    pub fn standing(&self, number: usize) -> Option<&Standing> {
-        self.standings.get(number)
-    }
-
     /// The basis of the first solution.
     pub fn root_basis(&self) -> &[u32] {
-        match self.standing(0) {
+        match self.standings.first() {
             None => &[],
             Some(standing) => &standing.basis,
         }
@@ -128,7 +106,7 @@ impl DraftTree {
 
     /// The relaxation's value at a node, in 1/1024 second; very little where there is none.
     pub fn value(&self, number: usize) -> i64 {
-        match self.standing(number) {
+        match self.standings.get(number) {
             None => i64::MIN,
             Some(standing) => standing.value,
         }
@@ -146,7 +124,6 @@ impl DraftTree {
     pub fn grow<R: Threads + Sync>(
         &mut self,
         rt: &R,
-        alloc: Global,
         table: &RowTable,
         relaxation: &Relaxation,
         budget: usize,
@@ -154,19 +131,20 @@ impl DraftTree {
     ) -> Made<()> {
         let share = self.allowance.share(SHARE);
         let mut left = share;
-        let mut team: Vec<Parter> = Vec::new(alloc);
+        let mut team: Vec<Parter> = Vec::new(self.alloc);
         for _ in 0..budget {
-            for _ in team.len()..self.open.len().min(MOST_AT_ONCE) {
-                let plan = &self.draft.plan;
-                team.push(Parter::beside(alloc, table, relaxation, plan, left)?)?;
+            for _ in team.len()..self.open.min(MOST_AT_ONCE) {
+                let mut parter = Parter::new(self.alloc, table);
+                let done = parter.begin(table, relaxation, &self.draft.plan, left);
+                team.push(whole(parter, done)?)?;
             }
-            if left.is_gone() || !self.hand_out(&mut team, budget, left) {
+            if left.rest == 0 || !self.hand_out(&mut team, budget, left) {
                 break;
             }
             self.part_all(rt, table, workers, &mut team);
             for parter in team.iter_mut() {
-                left = left.least(parter.decided.relaxation.allowance());
-                self.take_in(alloc, table, parter)?;
+                left.rest = left.rest.min(parter.relaxation.allowance().rest);
+                self.take_in(table, parter)?;
             }
         }
         self.allowance.settle(share, left);
@@ -177,15 +155,15 @@ impl DraftTree {
     /// of least value to these, one each, and so much to go through. Whether there was one: not where the bound meets
     /// the cost, or there is no room.
     fn hand_out(&mut self, team: &mut [Parter], budget: usize, allowance: Allowance) -> bool {
-        let bound = match self.open.peek() {
+        let bound = match self.least_open() {
             None => self.draft.cost,
-            Some((value, _)) => seconds_of(value.wrapping_neg()).min(self.draft.cost),
+            Some(number) => seconds_of(self.value(number)).min(self.draft.cost),
         };
         self.draft.bound = self.draft.bound.max(bound);
         let mut room = budget.saturating_sub(self.standings.len()) / 2;
         let mut is_any = false;
         for parter in team.iter_mut() {
-            parter.decided.relaxation.allow_work(allowance);
+            parter.relaxation.allowance = allowance;
             parter.node = if room > 0 { self.take_near() } else { None };
             is_any = is_any || parter.node.is_some();
             room = room.saturating_sub(1);
@@ -207,18 +185,20 @@ impl DraftTree {
     }
 
     /// Takes in what one made of its node: the next two nodes are its ends.
-    fn take_in(&mut self, alloc: Global, table: &RowTable, parter: &mut Parter) -> Made<()> {
+    fn take_in(&mut self, table: &RowTable, parter: &mut Parter) -> Made<()> {
         if !parter.is_done {
             return Err(OutOfMemory);
         }
         if let (Some(number), Some(row)) = (parter.node, parter.branch) {
-            self.note_branch(alloc, number, row);
+            self.note_branch(number, row);
         }
-        for end in replace(&mut parter.ends, Vec::new(alloc)) {
-            self.put(Some(end.decision), end.multipliers, end.standing)?;
-            if let Some(plan) = end.plan {
-                let cost = plan_cost(alloc, table, &plan)?;
-                self.offer(alloc, &plan, cost)?;
+        for _ in 0..parter.ends.len() {
+            if let Some(end) = parter.ends.pop() {
+                if let Some(plan) = &end.plan {
+                    let cost = plan_cost(self.alloc, table, plan)?;
+                    self.offer(plan, cost)?;
+                }
+                self.put(end)?;
             }
         }
         Ok(())
@@ -227,43 +207,42 @@ impl DraftTree {
     /// Takes out the open node of least value, where that lies above the bound by no more than a part of the gap:
     /// another may never have to be parted.
     fn take_near(&mut self) -> Option<usize> {
-        let (value, _) = *self.open.peek()?;
-        let above = seconds_of(value.wrapping_neg()).saturating_sub(self.draft.bound);
+        let number = self.least_open()?;
+        let above = seconds_of(self.value(number)).saturating_sub(self.draft.bound);
         if !self.is_open() || above > self.gap(self.draft.bound) / NEAR_PART {
             return None;
         }
-        let (_, number) = self.open.pop()?;
-        Some(number as usize)
+        if let Some(standing) = self.standings.get_mut(number) {
+            standing.is_open = false;
+            self.open = self.open.saturating_sub(1);
+        }
+        Some(number)
+    }
+
+    /// The last of the open nodes of least value, if one is open.
+    fn least_open(&self) -> Option<usize> {
+        let mut best = None;
+        let mut least = i64::MAX;
+        for (number, standing) in self.standings.iter().enumerate() {
+            if standing.is_open && standing.value <= least {
+                best = Some(number);
+                least = standing.value;
+            }
+        }
+        best
     }
 
     /// Notes that a node is branched on a row, and that the next two nodes are its ends. It doesn't need the rows any
     /// more that it chooses in part.
-    fn note_branch(&mut self, alloc: Global, number: usize, row: usize) {
+    fn note_branch(&mut self, number: usize, row: usize) {
         let first = self.draft.nodes.len();
         if let Some(node) = self.draft.nodes.get_mut(number) {
             node.branch = Some((row, first));
         }
         if let Some(standing) = self.standings.get_mut(number) {
-            standing.shares = Vec::new(alloc);
+            standing.shares = Vec::new(self.alloc);
         }
     }
-}
-
-/// Where the relaxation stands.
-pub fn standing_of(alloc: Global, table: &RowTable, relaxation: &mut Relaxation) -> Made<Standing> {
-    let mut shares = Vec::new(alloc);
-    relaxation.find_shares(table, &mut shares)?;
-    let mut parts = Vec::new(alloc);
-    for share in &shares {
-        if LEAST_PART < share.part && share.part < MOST_PART {
-            parts.push(*share)?;
-        }
-    }
-    Ok(Standing {
-        value: relaxation.value(),
-        basis: Vec::from_slice(alloc, relaxation.columns())?,
-        shares: parts,
-    })
 }
 
 /// A value in 1/1024 second, in seconds, rounded up.

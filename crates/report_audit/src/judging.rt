@@ -4,6 +4,7 @@ ghost use Rattle.request_book.specs.Points.{named_nodes};
 ghost use Rattle.batch_solver.specs.Instance.{AreExact, HasSoundLimits, posed_by};
 ghost use Rattle.batch_solver.specs.Outcome.{AnswersWith, IsGoodOutcome};
 ghost use Rattle.batch_solver.specs.Points.{Holds};
+ghost use Rattle.batch_solver.specs.Told.{left_riders};
 ghost use Rattle.batch_solver.specs.declared.point.Point.{Point as OnePoint};
 ghost use Rattle.pool_base.specs.Times.{travel_time};
 ghost use Rattle.assignment_search.specs.Found.{ShowsBound, IsClose, IsFair};
@@ -119,25 +120,31 @@ fn judge_plan(
     }
     match plan_of_trips(alloc, graphs, planned.chosen.as_slice())? {
         None => Ok(Verdict::Fails(Point::Trips)),
-        Some(plan) => judge_chosen(alloc, graphs, &plan, planned),
+        Some(plan) => {
+            let left = left_riders(alloc, graphs.graph, plan.chosen())?;
+            judge_chosen(alloc, graphs, &plan, &left, planned)
+        }
     }
 }
 
-/// The same from the fifth point on, with the plan that the trips give.
+/// The same from the fifth point on, with the plan that the trips give, and the riders whom it leaves out.
 fn judge_chosen(
     alloc: Global,
     graphs: &Graphs<'_, '_>,
     plan: &Plan,
+    left: &[usize],
     planned: &Planned,
 ) -> Result<Verdict, OutOfMemory>
     requires exact { AreExact graphs.now }
     requires gives { GivesTrips graphs.now.instance.now.points.now (travel_time graphs.now.instance.now.times.now) graphs.now.instance.now.settled.now graphs.now.graph.now plan.now planned.now.chosen }
+    requires left { left.now ≡ left_riders graphs.now.graph.now plan.now }
+    requires within { All (λ r. r < graphs.now.graph.now.riders) left.now }
     requires before { (q : OnePoint) → point_place q < 4 → Holds graphs.now.instance.now.settings.now q planned.now (posed_by graphs.now) }
     ensures { IfOk result (IsVerdictOf (λ q. Holds graphs.now.instance.now.settings.now q planned.now (posed_by graphs.now))) }
 {
     let graph = graphs.graph;
     let budget = graphs.instance.settings.budget;
-    if !tells_plan(alloc, graphs.instance.settled, graph, plan, planned)? {
+    if !tells_plan(alloc, graphs.instance.settled, graph, plan, left, planned)? {
         return Ok(Verdict::Fails(Point::Plan));
     }
     if !shows_bound(alloc, graph, budget, &planned.bound, &planned.tree)? {
@@ -149,9 +156,8 @@ fn judge_chosen(
     if !is_best_near(alloc, graph, plan)? {
         return Ok(Verdict::Fails(Point::Best));
     }
-    let left = left_riders(alloc, graph, plan.chosen())?;
     let moves = planned.moves.as_slice();
-    if !are_moves(alloc, graphs, plan.chosen(), &left, moves)? {
+    if !are_moves(alloc, graphs, plan.chosen(), left, moves)? {
         return Ok(Verdict::Fails(Point::Moves));
     }
     Ok(Verdict::Good)

@@ -1,11 +1,12 @@
 //! Moves of idle vehicles.
 ghost use Rattle.std.specs.Prelude.{◌≡◌, ◌↔◌, ◌<◌, ◌≤◌, ℕ, All, IfOk, IsTrue, List, MatchOption, length, slice_index, sum_by};
 ghost use Rattle.batch_solver.specs.Instance.{AreExact};
-ghost use Rattle.batch_solver.specs.Moves.{AreMoves, idle_vehicles, move_line};
+ghost use Rattle.batch_solver.specs.Moves.{AreMoves, idle_vehicles, move_line, origins_of, starts_of};
 ghost use Rattle.batch_solver.specs.Told.{left_riders};
 ghost use Rattle.batch_solver.specs.lemmas.Named.{vehicle_id};
 ghost use Rattle.plan_rules.specs.Plan.{IsPlan};
 ghost use Rattle.pool_base.specs.Times.{point_count, travel_time};
+ghost use Rattle.batch_solver.specs.Matching.{IsBestMatching, pair_seconds};
 ghost use Rattle.report_audit.specs.work.Moves.{CanPrecede, HaveOwnPlaces, IsPairWithin, TellsMoves};
 
 use crate::orders::place_of_rider;
@@ -50,47 +51,59 @@ fn are_best(
     requires few_riders { length left.now ≤ 1000 }
     ensures { IfOk result (λ yes. IsTrue yes ↔ AreMoves (travel_time times.entry.now) settled.entry.now idle.entry.now left.entry.now moves.entry.now) }
 {
-    let Some(pairs) = pairs_of(alloc, times, settled, idle, left, moves)? else {
-        return Ok(false);
-    };
-    let best = rebalance(
-        alloc,
-        &starts_of(alloc, settled, idle)?,
-        &origins_of(alloc, settled, left)?,
-        times,
-    )?;
-    if pairs.len() != best.pairs.as_slice().len() {
+    if !tell_pairs(alloc, times, settled, idle, left, moves)? {
         return Ok(false);
     }
-    let total = total_of(moves);
-    Ok(total == best.total)
+    let (count, least) = best_moves(alloc, times, settled, idle, left)?;
+    if moves.len() != count {
+        return Ok(false);
+    }
+    Ok(total_of(moves) == least)
 }
 
-/// The pairs of a matching by rising first place of which the moves tell; `None` where they tell of none.
-fn pairs_of(
+/// How many pairs a best matching of the vehicles' places to the riders' origins has, and its seconds.
+fn best_moves(
+    alloc: Global,
+    times: &Times,
+    settled: &Settled,
+    idle: &[usize],
+    left: &[usize],
+) -> Result<(usize, u64), OutOfMemory>
+    requires places { HaveOwnPlaces (point_count times.now) settled.now idle.now left.now }
+    requires few_vehicles { length idle.now ≤ 500 }
+    requires few_riders { length left.now ≤ 1000 }
+    ensures { IfOk result (λ best. (pairs : List (ℕ × ℕ)) × IsBestMatching (travel_time times.entry.now) (starts_of settled.entry.now idle.entry.now) (origins_of settled.entry.now left.entry.now) pairs
+        × (best.0 ≡ length pairs) × (best.1 ≡ sum_by (pair_seconds (travel_time times.entry.now) (starts_of settled.entry.now idle.entry.now) (origins_of settled.entry.now left.entry.now)) pairs)) }
+{
+    let starts = starts_of(alloc, settled, idle)?;
+    let origins = origins_of(alloc, settled, left)?;
+    let best = rebalance(alloc, &starts, &origins, times)?;
+    Ok((best.pairs.as_slice().len(), best.total))
+}
+
+/// Whether the moves tell of the pairs of a matching by rising first place.
+fn tell_pairs(
     alloc: Global,
     times: &Times,
     settled: &Settled,
     idle: &[usize],
     left: &[usize],
     moves: &[MoveLine],
-) -> Result<Option<Vec<(usize, usize)>>, OutOfMemory>
+) -> Result<bool, OutOfMemory>
     requires places { HaveOwnPlaces (point_count times.now) settled.now idle.now left.now }
-    ensures { IfOk result (λ found. MatchOption found
-        ((pairs : List (ℕ × ℕ)) → TellsMoves (travel_time times.entry.now) settled.entry.now idle.entry.now left.entry.now moves.entry.now (length moves.entry.now) pairs → ⊥)
-        (λ pairs. TellsMoves (travel_time times.entry.now) settled.entry.now idle.entry.now left.entry.now moves.entry.now (length moves.entry.now) pairs.items)) }
+    ensures { IfOk result (λ yes. IsTrue yes ↔ ((pairs : List (ℕ × ℕ)) × TellsMoves (travel_time times.entry.now) settled.entry.now idle.entry.now left.entry.now moves.entry.now (length moves.entry.now) pairs)) }
 {
     let mut pairs = Vec::with_capacity(alloc, moves.len())?;
     for step in moves {
         let Some(pair) = pair_of(times, settled, idle, left, step) else {
-            return Ok(None);
+            return Ok(false);
         };
         if step.seconds >= Times::NEVER || !may_follow(&pairs, pair) {
-            return Ok(None);
+            return Ok(false);
         }
         pairs.push(pair)?;
     }
-    Ok(Some(pairs))
+    Ok(true)
 }
 
 /// Whether all these pairs have a lower first place, and another second one.

@@ -1,11 +1,10 @@
 //! What is told of the plan.
-ghost use Rattle.std.specs.Prelude.{◌≡◌, ◌↔◌, IfOk, IsTrue, length};
+ghost use Rattle.std.specs.Prelude.{◌≡◌, ◌↔◌, ◌<◌, All, IfOk, IsTrue, length};
 ghost use Rattle.batch_solver.specs.Told.{left_riders};
-ghost use Rattle.plan_rules.specs.Plan.{IsLawful};
 ghost use Rattle.report_audit.specs.work.Trips.{TellsPlan};
 
 use crate::graphs::are_same_riders;
-use batch_solver::{left_riders, rider_ids};
+use batch_solver::rider_ids;
 use plan_rules::{Plan, TripGraph, cost_of, is_lawful};
 use pool_base::OutOfMemory;
 use request_book::Planned;
@@ -18,9 +17,12 @@ pub(crate) fn tells_plan(
     settled: &Settled,
     graph: &TripGraph,
     plan: &Plan,
+    left: &[usize],
     planned: &Planned,
 ) -> Result<bool, OutOfMemory>
-    requires { graph.now.riders ≡ length settled.now.riders }
+    requires riders { graph.now.riders ≡ length settled.now.riders }
+    requires left { left.now ≡ left_riders graph.now plan.now }
+    requires within { All (λ r. r < graph.now.riders) left.now }
     ensures { IfOk result (λ yes. IsTrue yes ↔ TellsPlan settled.entry.now graph.entry.now plan.entry.now planned.entry.now) }
 {
     if !is_lawful(graph, plan) {
@@ -29,6 +31,6 @@ pub(crate) fn tells_plan(
     if cost_of(graph, plan) != planned.cost {
         return Ok(false);
     }
-    let ids = rider_ids(alloc, settled, &left_riders(alloc, graph, plan.chosen())?)?;
+    let ids = rider_ids(alloc, settled, left)?;
     Ok(are_same_riders(&ids, planned.left.as_slice()))
 }

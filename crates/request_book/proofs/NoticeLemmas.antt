@@ -41,13 +41,13 @@ notices-more nodes wait s es i e within is =
     at_drop_more (notices_from nodes wait s) es i e within
     ∙ ap (λ x. entry_notices s x.command x.reply ++ notices_from nodes wait (step nodes wait s x.command).0 (drop (i + 1) es)) (sym is)
 
--- the notices of the entries so far, with those of one more; a replay of these nodes and this wait runs it
-pub told-next : (nodes : List ℕ) (wait : ℕ) (replayed : List ℕ) (waited : ℕ) (s next : State) (reply : Reply) (es : List Entry) (i : ℕ) (e : Entry) (told more all : List Notice)
-    → replayed ≡ nodes → waited ≡ wait → i < length es → e ≡ get_or es i e → more ≡ told ++ entry_notices s e.command e.reply
-    → (next, reply) ≡ step replayed waited s e.command → told ++ notices_from nodes wait s (drop i es) ≡ all
+-- the notices of the entries so far, with those of one more
+pub told-next : (nodes : List ℕ) (wait : ℕ) (s next : State) (reply : Reply) (es : List Entry) (i : ℕ) (e : Entry) (told more all : List Notice)
+    → i < length es → e ≡ get_or es i e → more ≡ told ++ entry_notices s e.command e.reply
+    → (next, reply) ≡ step nodes wait s e.command → told ++ notices_from nodes wait s (drop i es) ≡ all
     → more ++ notices_from nodes wait next (drop (i + 1) es) ≡ all
-told-next nodes wait replayed waited s next reply es i e told more all ns w within is adds stepped h =
-    let stepped_to : next ≡ (step nodes wait s e.command).0 = rw (ns, w) at (ap (λ p. p.0) stepped) in
+told-next nodes wait s next reply es i e told more all within is adds stepped h =
+    let stepped_to : next ≡ (step nodes wait s e.command).0 = ap (λ p. p.0) stepped in
     rw (adds, append_assoc, stepped_to, ← notices-more nodes wait s es i e within is) h
 
 pub told-end : (nodes : List ℕ) (wait : ℕ) (s : State) (es : List Entry) (i : ℕ) (told all : List Notice) → length es ≤ i → told ++ notices_from nodes wait s (drop i es) ≡ all → told ≡ all

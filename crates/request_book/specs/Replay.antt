@@ -3,12 +3,6 @@ use Rattle.request_book.specs.declared.journal.Entry.{Entry}
 use Rattle.request_book.specs.declared.state.State.{State}
 use Rattle.request_book.specs.Step.{step}
 
--- what a replay tells: the nodes of the network, the longest wait in seconds, and the state it came to
-pub record ReplayView : Type 0 where
-  pub nodes : List ℕ
-  pub wait : ℕ
-  pub state : State
-
 -- the state after the commands of these entries
 unfoldable pub state_after : List ℕ → ℕ → State → List Entry → State
 state_after nodes wait s [] = s

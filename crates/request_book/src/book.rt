@@ -1,4 +1,4 @@
-ghost use Rattle.std.specs.Prelude.{◌≡◌, ◌==◌, ◌+◌, ◌<◌, ◌≤◌, ◌++◌, ◌∷◌, [], All, false, option_map, IfOk, OnOk, OnErr, IsFalse, IsOk, IsTrue, vec_len, vec_capacity};
+ghost use Rattle.std.specs.Prelude.{◌≡◌, ◌==◌, ◌+◌, ◌<◌, ◌≤◌, ◌++◌, ◌∷◌, [], All, option_map, IfOk, OnOk, OnErr, IsFalse, IsOk, IsTrue, vec_len, vec_capacity};
 ghost use Rattle.request_book.specs.Book.{opening, next_position, would_seal, IsApplied, IsBook, IsSameBook, is_light};
 ghost use Rattle.request_book.specs.Consistent.{IsConsistent, IsNode};
 ghost use Rattle.request_book.specs.State.{find_rider};
@@ -12,7 +12,7 @@ use crate::rider::{BookRider, Status};
 use crate::snapshot::{Snapshot, copied_vehicles};
 use crate::state::State;
 use crate::vehicle::Vehicle;
-use pool_base::{NodeId, Numbering, OutOfMemory, RiderId, Second, Sequence};
+use pool_base::{Numbering, OutOfMemory, RiderId, Second, Sequence};
 use road_network::Network;
 use std::alloc::Global;
 use std::marker::Model;
@@ -31,7 +31,7 @@ pub struct Book {
     first: u64,
     base: State,
     entries: Vec<Entry>,
-    register: Register,
+    pub(crate) register: Register,
     /// How many commands other than a seal are sure to need no memory.
     reserved: u64,
 }
@@ -60,7 +60,8 @@ impl Book {
         requires { All (λ v. IsNode network.now.nodes v.node) fleet }
         ensures { IfOk result (λ book. book ≡ record { nodes = network.now.nodes; wait = wait; first = 0; base = opening fleet; entries = []; state = opening fleet; spare = 0 }) }
     {
-        let nodes = listed_nodes(alloc, network)?;
+        let mut nodes = Numbering::new(alloc);
+        number_nodes(&mut nodes, network)?;
         Book::over(alloc, nodes, fleet, wait)
     }
 
@@ -210,13 +211,6 @@ impl Book {
         self.register.state(self.alloc)
     }
 
-    /// The batch that is sealed and not closed.
-    pub fn sealed(&self) -> Option<&Snapshot>
-        ensures { option_map (λ batch. batch.now) result ≡ self.now.state.sealed }
-    {
-        self.register.sealed.as_ref()
-    }
-
     /// The entries since the last `take_round`.
     pub fn entries(&self) -> &[Entry]
         ensures entries { result.now ≡ self.now.entries }
@@ -294,15 +288,15 @@ fn opening(alloc: Global, vehicles: Vec<Vehicle>) -> State
     }
 }
 
-/// The network's nodes, in its order.
-pub(crate) fn listed_nodes(alloc: Global, network: &Network) -> Result<Numbering, OutOfMemory>
-    ensures { IfOk result (λ nodes. nodes.names ≡ network.now.nodes) }
+/// Numbers the network's nodes, in its order.
+pub(crate) fn number_nodes(nodes: &mut Numbering, network: &Network) -> Result<(), OutOfMemory>
+    requires { nodes.old.names ≡ [] }
+    ensures { OnOk result (nodes.new.names ≡ network.now.nodes) }
 {
     let count = network.node_count();
-    let mut nodes = Numbering::new(alloc);
     nodes.reserve(count)?;
     for index in 0..count {
         nodes.number(network.node_at(index).get())?;
     }
-    Ok(nodes)
+    Ok(())
 }

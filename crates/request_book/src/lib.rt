@@ -32,7 +32,7 @@
 //! ```
 //!
 //! Notices tell riders who is promised which vehicle and when, and who is in no trip. Those of a journal
-//! are read off by a replay, those of a close off the book before it. The caller lends notifiers, of one
+//! are read off as its commands are run again, those of a close off the book before it. The caller lends notifiers, of one
 //! type or in boxes; each is told the notices in order, and one that fails is dropped while the others go
 //! on.
 //!
@@ -58,7 +58,6 @@ mod points;
 mod promise;
 mod refusals;
 mod register;
-mod replay;
 mod reply;
 mod rider;
 mod riding;
@@ -66,7 +65,6 @@ mod running;
 mod sealing;
 mod snapshot;
 mod state;
-mod statuses;
 mod telling;
 mod vehicle;
 
@@ -89,7 +87,6 @@ pub use outcome::{
 pub use passenger::Passenger;
 pub use points::Points;
 pub use promise::Promise;
-pub use replay::Replay;
 pub use reply::{BookRefusal, Reply};
 pub use rider::{BookRider, Status};
 pub use snapshot::{Snapshot, copied_vehicles};

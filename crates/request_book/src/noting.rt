@@ -1,22 +1,22 @@
-ghost use Rattle.std.specs.Prelude.{◌≡◌, ◌++◌, ◌∷◌, [], true, false, IfOk, OnOk, if◌then◌else◌};
+ghost use Rattle.std.specs.Prelude.{◌≡◌, ◌++◌, ◌∷◌, [], false, true, IfOk, OnOk, if◌then◌else◌};
 ghost use Rattle.std.specs.Option.{option_map_or};
 ghost use Rattle.request_book.specs.Consistent.{IsConsistent};
 ghost use Rattle.request_book.specs.Rider.{is_active};
 ghost use Rattle.request_book.specs.State.{find_rider};
 ghost use Rattle.request_book.specs.declared.reply.Reply.TheVariants.{Closed};
+ghost use Rattle.request_book.specs.work.Register.{state_of, IsIndexed};
 ghost use Rattle.request_book.specs.Notices.{notices, notices_from, entry_notices, batch_notices, notice_of, trip_notice, stop_second};
 
-use crate::book::Book;
+use crate::book::{Book, number_nodes};
 use crate::command::Command;
 use crate::journal::{Entry, Journal};
 use crate::notice::Notice;
 use crate::outcome::{Answer, ChosenTrip, PlannedStop};
-use crate::replay::Replay;
+use crate::register::Register;
 use crate::reply::Reply;
-use crate::rider::Status;
+use crate::rider::is_active;
 use crate::snapshot::Snapshot;
-use crate::statuses::Statuses;
-use pool_base::{OutOfMemory, RiderId};
+use pool_base::{Numbering, OutOfMemory, RiderId};
 use road_network::Network;
 use std::alloc::Global;
 
@@ -48,11 +48,11 @@ pub fn notices_of_close(
     ensures { IfOk result (λ told. told.items ≡ entry_notices book.now.state command.now Closed) }
 {
     let mut told = Vec::new(alloc);
-    note_step(&mut told, book, command, &Reply::Closed)?;
+    note_step(&mut told, &book.register, command, &Reply::Closed)?;
     Ok(told)
 }
 
-/// Notes what a journal tells.
+/// Notes what a journal tells: its commands are run again from the state that it begins with.
 fn note_journal(
     alloc: Global,
     told: &mut Vec<Notice>,
@@ -63,36 +63,54 @@ fn note_journal(
     requires { IsConsistent journal.now.base }
     ensures { OnOk result (told.new.items ≡ told.old.items ++ notices network.now.nodes wait journal.now) }
 {
-    let mut replay = Replay::of(alloc, network, wait, &journal.base)?;
-    note_entries(told, &mut replay, journal.entries.as_slice())
+    let mut nodes = Numbering::new(alloc);
+    number_nodes(&mut nodes, network)?;
+    let mut register = Register::holding(alloc, &journal.base)?;
+    let noted = note_entries(
+        alloc,
+        told,
+        &mut register,
+        &nodes,
+        wait,
+        journal.entries.as_slice(),
+    );
+    drop(register);
+    noted
 }
 
-/// Notes what entries tell, as a replay runs them from where it stands.
+/// Notes what entries tell, as a register runs them from where it stands.
 fn note_entries(
+    alloc: Global,
     told: &mut Vec<Notice>,
-    replay: &mut Replay,
+    register: &mut Register,
+    nodes: &Numbering,
+    wait: u32,
     entries: &[Entry],
 ) -> Result<(), OutOfMemory>
-    ensures { OnOk result (told.new.items ≡ told.old.items ++ notices_from replay.old.nodes replay.old.wait replay.old.state entries.now) }
+    requires indexed { IsIndexed register.old }
+    requires consistent { IsConsistent (state_of register.old) }
+    ensures { OnOk result (told.new.items ≡ told.old.items ++ notices_from nodes.now.names wait (state_of register.old) entries.now) }
 {
     for entry in entries {
-        note_step(told, replay, &entry.command, &entry.reply)?;
-        replay.run(&entry.command)?;
+        note_step(told, register, &entry.command, &entry.reply)?;
+        register.reserve(1)?;
+        register.run(alloc, nodes, wait, &entry.command)?;
     }
     Ok(())
 }
 
 /// Notes what a command that was answered so tells, in the state before it.
-fn note_step<S: Statuses>(
+fn note_step(
     told: &mut Vec<Notice>,
-    before: &S,
+    before: &Register,
     command: &Command,
     reply: &Reply,
 ) -> Result<(), OutOfMemory>
-    ensures { OnOk result (told.new.items ≡ told.old.items ++ entry_notices (S.state before.now) command.now reply.now) }
+    requires { IsIndexed before.now }
+    ensures { OnOk result (told.new.items ≡ told.old.items ++ entry_notices (state_of before.now) command.now reply.now) }
 {
     match (command, reply) {
-        (Command::Close { outcome, .. }, Reply::Closed) => match before.sealed() {
+        (Command::Close { outcome, .. }, Reply::Closed) => match &before.sealed {
             Some(batch) => note_batch(told, before, batch, &outcome.answer),
             None => Ok(()),
         },
@@ -101,13 +119,14 @@ fn note_step<S: Statuses>(
 }
 
 /// Notes what an answer tells the riders of its batch.
-fn note_batch<S: Statuses>(
+fn note_batch(
     told: &mut Vec<Notice>,
-    before: &S,
+    before: &Register,
     batch: &Snapshot,
     answer: &Answer,
 ) -> Result<(), OutOfMemory>
-    ensures { OnOk result (told.new.items ≡ told.old.items ++ batch_notices (S.state before.now) batch.entry.now answer.now) }
+    requires { IsIndexed before.now }
+    ensures { OnOk result (told.new.items ≡ told.old.items ++ batch_notices (state_of before.now) batch.entry.now answer.now) }
 {
     match answer {
         Answer::Overflow => Ok(()),
@@ -122,14 +141,15 @@ fn note_batch<S: Statuses>(
 }
 
 /// Notes the notice of a rider who waits or has a promise.
-fn note_rider<S: Statuses>(
+fn note_rider(
     told: &mut Vec<Notice>,
-    before: &S,
+    before: &Register,
     batch: u64,
     chosen: &[ChosenTrip],
     rider: RiderId,
 ) -> Result<(), OutOfMemory>
-    ensures { OnOk result (told.new.items ≡ told.old.items ++ (if option_map_or (λ known. is_active known.status) (find_rider rider (S.state before.now).riders) false then notice_of batch chosen.now rider ∷ [] else [])) }
+    requires { IsIndexed before.now }
+    ensures { OnOk result (told.new.items ≡ told.old.items ++ (if option_map_or (λ known. is_active known.status) (find_rider rider before.now.riders.items) false then notice_of batch chosen.now rider ∷ [] else [])) }
 {
     if is_asking(before, rider) {
         told.push(notice_of(batch, chosen, rider))?;
@@ -138,12 +158,13 @@ fn note_rider<S: Statuses>(
 }
 
 /// Whether a rider waits or has a promise.
-fn is_asking<S: Statuses>(state: &S, rider: RiderId) -> bool
-    ensures { result ≡ option_map_or (λ known. is_active known.status) (find_rider rider (S.state state.now).riders) false }
+fn is_asking(register: &Register, rider: RiderId) -> bool
+    requires { IsIndexed register.now }
+    ensures { result ≡ option_map_or (λ known. is_active known.status) (find_rider rider register.now.riders.items) false }
 {
-    match state.status_of(rider) {
-        Some(Status::Waiting | Status::Promised(_)) => true,
-        _ => false,
+    match register.rider(rider) {
+        Some(known) => is_active(known.status),
+        None => false,
     }
 }
 
@@ -164,8 +185,8 @@ fn trip_notice(batch: u64, trip: &ChosenTrip, rider: RiderId) -> Option<Notice>
     ensures { result ≡ trip_notice batch trip.now rider }
 {
     let stops = trip.stops.as_slice();
-    let pickup = pickup_second(stops, rider)?;
-    let dropoff = dropoff_second(stops, rider).unwrap_or(pickup);
+    let pickup = stop_second(true, rider, stops)?;
+    let dropoff = stop_second(false, rider, stops).unwrap_or(pickup);
     Some(Notice::Promised {
         batch,
         rider,
@@ -175,22 +196,14 @@ fn trip_notice(batch: u64, trip: &ChosenTrip, rider: RiderId) -> Option<Notice>
     })
 }
 
-/// The second of the first stop that picks the rider up.
-fn pickup_second(stops: &[PlannedStop], rider: RiderId) -> Option<u64>
-    ensures { result ≡ stop_second true rider stops.now }
+/// The second of the first stop that picks the rider up, or of the first that drops them.
+fn stop_second(pick: bool, rider: RiderId, stops: &[PlannedStop]) -> Option<u64>
+    ensures { result ≡ stop_second pick rider stops.now }
 {
-    stops
-        .iter()
-        .find(|stop| stop.pick && stop.rider == rider)
-        .map(|stop| stop.second)
-}
-
-/// The second of the first stop that drops the rider.
-fn dropoff_second(stops: &[PlannedStop], rider: RiderId) -> Option<u64>
-    ensures { result ≡ stop_second false rider stops.now }
-{
-    stops
-        .iter()
-        .find(|stop| !stop.pick && stop.rider == rider)
-        .map(|stop| stop.second)
+    for stop in stops {
+        if stop.pick == pick && stop.rider == rider {
+            return Some(stop.second);
+        }
+    }
+    None
 }

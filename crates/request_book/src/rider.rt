@@ -1,3 +1,6 @@
+ghost use Rattle.std.specs.Prelude.{◌≡◌};
+ghost use Rattle.request_book.specs.Rider.{is_active};
+
 use crate::promise::Promise;
 use pool_base::{NodeId, Party, RiderId, Second, VehicleId};
 
@@ -22,4 +25,11 @@ pub struct BookRider {
     pub time: Second,
     pub party: Party,
     pub status: Status,
+}
+
+/// Whether the rider waits or has a promise.
+pub(crate) fn is_active(status: Status) -> bool
+    ensures { result ≡ is_active status }
+{
+    matches!(status, Status::Waiting | Status::Promised(_))
 }

@@ -1,16 +1,12 @@
 //! What riders and vehicles do: the commands that change one rider and one vehicle.
 
-ghost use Rattle.std.specs.Prelude.{◌≡◌, ◌==◌, ◌+◌, ◌<◌, ◌≤◌, ◌++◌, ◌∷◌, [], ℕ, Some, None, true, false, length, option_and_then, MatchOption, All, slice_index_or, vec_len, vec_capacity};
-ghost use Rattle.std.specs.List.{list_any};
+ghost use Rattle.std.specs.Prelude.{◌≡◌, ◌==◌, ◌+◌, ◌<◌, ℕ, Some, None, length, MatchOption, All, slice_index_or};
 ghost use Rattle.request_book.specs.Vehicle.{HasSeats};
-ghost use Rattle.request_book.specs.Keyed.{look_up, changed_at, placed, KeysRise, KeysDiffer};
-ghost use Rattle.request_book.specs.lemmas.Keyed.{without};
+ghost use Rattle.request_book.specs.Keyed.{KeysDiffer};
 ghost use Rattle.request_book.specs.work.Register.{state_of, IsIndexed, HasRoom};
-ghost use Rattle.request_book.specs.Rider.{is_active};
-ghost use Rattle.request_book.specs.State.{find_rider, find_passenger};
-ghost use Rattle.request_book.specs.lemmas.Named.{pool_count, stands_at, takes_in, lets_out};
+ghost use Rattle.request_book.specs.State.{find_passenger};
+ghost use Rattle.request_book.specs.lemmas.Named.{stands_at, takes_in, lets_out};
 ghost use Rattle.request_book.specs.Consistent.{IsConsistent};
-ghost use Rattle.request_book.specs.Step.{rider_becomes};
 ghost use Rattle.request_book.specs.lemmas.Table.{submit_refusal, submit_step, cancel_step, report_step, pickup_step, dropoff_step};
 
 use crate::passenger::Passenger;
@@ -18,7 +14,7 @@ use crate::refusals::{
     book_full, duplicate_rider, first_of, has_ended, is_aboard, not_aboard, not_promised,
     pool_full, same_place, time_back, unknown_node, vehicle_full,
 };
-use crate::register::{Register, add, change_status};
+use crate::register::Register;
 use crate::reply::{BookRefusal, Reply};
 use crate::rider::{BookRider, Status};
 use crate::vehicle::Vehicle;
@@ -30,7 +26,6 @@ impl Register {
         requires indexed { IsIndexed self.old }
         requires consistent { IsConsistent (state_of self.old) }
         requires room { HasRoom 1 self.old }
-        requires waits { new.now.status ≡ Status.Waiting }
         ensures stepped { (state_of self.new, result) ≡ submit_step nodes.now.names (state_of self.old) new.now }
         ensures indexed { IsIndexed self.new }
         ensures room { (n : ℕ) → HasRoom (n + 1) self.old → HasRoom n self.new }
@@ -38,9 +33,7 @@ impl Register {
         match self.submit_refusal(nodes, new) {
             Some(refusal) => Reply::Refused(refusal),
             None => {
-                add(&mut self.riders, new);
-                number(&mut self.ids, new.id);
-                join(&mut self.pool, new.id);
+                self.place(new);
                 Reply::Accepted
             }
         }
@@ -76,8 +69,7 @@ impl Register {
         match first_of(&refusals) {
             Some(refusal) => Reply::Refused(refusal),
             None => {
-                change_status(&mut self.riders, &self.ids, rider, Status::Cancelled);
-                leave(&mut self.pool, rider);
+                self.retire(rider, Status::Cancelled);
                 Reply::Cancelled
             }
         }
@@ -137,10 +129,8 @@ impl Register {
         match first_of(&refusals) {
             Some(refusal) => Reply::Refused(refusal),
             None => {
-                let aboard = Status::Aboard(vehicle);
-                change_status(&mut self.riders, &self.ids, found.id, aboard);
-                leave(&mut self.pool, found.id);
-                take_in(&mut self.vehicles[at], found, time);
+                take_in(&mut self.vehicles[at], &found, time);
+                self.retire(found.id, Status::Aboard(vehicle));
                 Reply::Picked
             }
         }
@@ -167,9 +157,8 @@ impl Register {
         match first_of(&refusals) {
             Some(refusal) => Reply::Refused(refusal),
             None => {
-                change_status(&mut self.riders, &self.ids, found.id, Status::Delivered);
-                leave(&mut self.pool, found.id);
-                let_out(&mut self.vehicles[at], found, time);
+                let_out(&mut self.vehicles[at], &found, time);
+                self.retire(found.id, Status::Delivered);
                 Reply::Dropped
             }
         }
@@ -185,9 +174,9 @@ fn stand(vehicle: &mut Vehicle, node: NodeId, time: Second)
 }
 
 /// Makes a rider the vehicle's last passenger, at the rider's origin.
-fn take_in(vehicle: &mut Vehicle, rider: BookRider, time: Second)
+fn take_in(vehicle: &mut Vehicle, rider: &BookRider, time: Second)
     requires { length vehicle.old.aboard.items < 10 }
-    ensures { vehicle.new ≡ takes_in rider time vehicle.old }
+    ensures { vehicle.new ≡ takes_in rider.now time vehicle.old }
 {
     vehicle.aboard.push(Passenger {
         rider: rider.id,
@@ -202,9 +191,9 @@ fn take_in(vehicle: &mut Vehicle, rider: BookRider, time: Second)
 
 /// Takes a rider out of the vehicle's passengers, at the rider's destination; the others keep their
 /// order.
-fn let_out(vehicle: &mut Vehicle, rider: BookRider, time: Second)
+fn let_out(vehicle: &mut Vehicle, rider: &BookRider, time: Second)
     requires { KeysDiffer (λ p. p.rider) vehicle.old.aboard.items }
-    ensures { vehicle.new ≡ lets_out rider time vehicle.old }
+    ensures { vehicle.new ≡ lets_out rider.now time vehicle.old }
 {
     let seat = seat_of(vehicle.aboard.as_slice(), rider.id);
     if let Some(seat) = seat {
@@ -223,40 +212,4 @@ fn seat_of(aboard: &[Passenger], rider: RiderId) -> Option<usize>
         }
     }
     None
-}
-
-/// Gives a rider the next number.
-fn number(ids: &mut Numbering, rider: RiderId)
-    requires new { list_any (λ id. id == rider) ids.old.names ≡ false }
-    requires room { 0 < ids.old.spare }
-    ensures names { ids.new.names ≡ ids.old.names ++ rider ∷ [] }
-    ensures room { ids.old.spare ≤ ids.new.spare + 1 }
-{
-    let _ = ids.number(rider.get());
-}
-
-/// Puts an id into the pool, in its place.
-fn join(pool: &mut Vec<RiderId>, rider: RiderId)
-    requires rise { KeysRise (λ id. id) pool.old.items }
-    requires new { look_up (λ id. id) rider pool.old.items ≡ None }
-    requires room { vec_len pool.old < vec_capacity pool.old }
-    ensures items { pool.new.items ≡ placed (λ id. id) rider pool.old.items }
-    ensures room { vec_capacity pool.old ≤ vec_capacity pool.new }
-{
-    let place = match pool.binary_search(&rider) {
-        Ok(place) => place,
-        Err(place) => place,
-    };
-    let _ = pool.insert(place, rider);
-}
-
-/// Takes an id out of the pool.
-fn leave(pool: &mut Vec<RiderId>, rider: RiderId)
-    requires { KeysRise (λ id. id) pool.old.items }
-    ensures items { pool.new.items ≡ without (λ id. id) rider pool.old.items }
-    ensures room { vec_capacity pool.new ≡ vec_capacity pool.old }
-{
-    if let Ok(place) = pool.binary_search(&rider) {
-        pool.remove(place);
-    }
 }

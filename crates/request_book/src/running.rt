@@ -1,12 +1,11 @@
 //! The register at work: how it begins, and one command of any kind.
 
-ghost use Rattle.std.specs.Prelude.{◌≡◌, ◌==◌, ◌+◌, ◌≤◌, ◌++◌, ◌∷◌, [], ℕ, None, false, map, IfOk, OnOk, OnErr, IsOk, IsTrue, vec_capacity, option_and_then, if◌then◌else◌};
+ghost use Rattle.std.specs.Prelude.{◌≡◌, ◌+◌, ◌≤◌, [], ℕ, None, map, IfOk, OnOk, OnErr, IsOk, IsTrue};
 ghost use Rattle.request_book.specs.Book.{opening, is_light};
 ghost use Rattle.request_book.specs.Consistent.{IsConsistent};
-ghost use Rattle.request_book.specs.Keyed.{look_up, placed, KeysRise, KeysDiffer};
-ghost use Rattle.request_book.specs.Rider.{is_active};
-ghost use Rattle.request_book.specs.State.{find_rider};
-ghost use Rattle.request_book.specs.work.Register.{state_of, pool_id, IsIndexed, HasRoom};
+ghost use Rattle.request_book.specs.Keyed.{KeysRise, KeysDiffer};
+ghost use Rattle.request_book.specs.lemmas.Named.{pool_count};
+ghost use Rattle.request_book.specs.work.Register.{state_of, IsIndexed, HasRoom};
 ghost use Rattle.request_book.specs.Step.{step};
 
 use crate::command::Command;
@@ -17,7 +16,7 @@ use crate::rider::{BookRider, Status};
 use crate::snapshot::{Snapshot, copied_vehicles};
 use crate::state::State;
 use crate::vehicle::Vehicle;
-use pool_base::{NodeId, Numbering, OutOfMemory, RiderId, Sequence, VehicleId};
+use pool_base::{Numbering, OutOfMemory, Sequence};
 use std::alloc::Global;
 
 impl Register {
@@ -28,7 +27,7 @@ impl Register {
         ensures indexed { IfOk result IsIndexed }
     {
         let mut register = unnumbered(alloc, vehicles);
-        match register.number(alloc) {
+        match register.number() {
             Ok(()) => Ok(register),
             Err(fault) => {
                 drop(register);
@@ -38,15 +37,17 @@ impl Register {
     }
 
     /// Numbers the vehicles of a register without riders, and makes room for the pool.
-    fn number(&mut self, alloc: Global) -> Result<(), OutOfMemory>
+    fn number(&mut self) -> Result<(), OutOfMemory>
         requires rise { KeysRise (λ v. v.id) self.old.vehicles.items }
         requires riders { self.old.riders.items ≡ [] }
         requires ids { self.old.ids.names ≡ [] }
+        requires vehicle_ids { self.old.vehicle_ids.names ≡ [] }
+        requires pool { self.old.pool.items ≡ [] }
         ensures state { OnOk result (state_of self.new ≡ state_of self.old) }
         ensures indexed { OnOk result (IsIndexed self.new) }
     {
-        self.pool = Vec::with_capacity(alloc, POOL)?;
-        self.vehicle_ids = listed_vehicles(alloc, &self.vehicles)?;
+        self.pool.reserve(POOL)?;
+        number_vehicles(&mut self.vehicle_ids, &self.vehicles)?;
         Ok(())
     }
 
@@ -57,7 +58,7 @@ impl Register {
         ensures indexed { IfOk result IsIndexed }
     {
         let vehicles = copied_vehicles(alloc, state.vehicles.as_slice())?;
-        let mut register = unnumbered(alloc, vehicles);
+        let mut register = Register::of(alloc, vehicles)?;
         match register.hold(alloc, state) {
             Ok(()) => Ok(register),
             Err(fault) => {
@@ -67,21 +68,35 @@ impl Register {
         }
     }
 
-    /// Takes over a state whose vehicles the register has. It fills a register that is there, since a literal
-    /// would drop, where one part fails, all parts before it.
+    /// Takes over a state whose vehicles the register has, with no rider yet.
     fn hold(&mut self, alloc: Global, state: &State) -> Result<(), OutOfMemory>
+        requires indexed { IsIndexed self.old }
+        requires riders { self.old.riders.items ≡ [] }
         requires consistent { IsConsistent state.now }
         requires vehicles { self.old.vehicles.items ≡ state.now.vehicles }
         ensures state { OnOk result (state_of self.new ≡ state.now) }
         ensures indexed { OnOk result (IsIndexed self.new) }
     {
-        self.riders = Vec::from_slice(alloc, state.riders.as_slice())?;
-        self.ids = listed_riders(alloc, &self.riders)?;
-        self.pool = listed_pool(alloc, &self.riders)?;
-        self.vehicle_ids = listed_vehicles(alloc, &self.vehicles)?;
+        self.place_all(state.riders.as_slice())?;
         self.sealed = copied_snapshot(alloc, &state.sealed)?;
         self.last_seal = state.last_seal;
         self.batches = state.batches;
+        Ok(())
+    }
+
+    /// Adds riders to a register that has none.
+    fn place_all(&mut self, riders: &[BookRider]) -> Result<(), OutOfMemory>
+        requires indexed { IsIndexed self.old }
+        requires none { self.old.riders.items ≡ [] }
+        requires differ { KeysDiffer (λ r. r.id) riders.now }
+        requires pool { pool_count riders.now ≤ 1000 }
+        ensures state { OnOk result (state_of self.new ≡ record (state_of self.old) { riders = riders.now }) }
+        ensures indexed { OnOk result (IsIndexed self.new) }
+    {
+        self.reserve(riders.len())?;
+        for rider in riders {
+            self.place(rider);
+        }
         Ok(())
     }
 
@@ -177,6 +192,8 @@ impl Register {
 fn unnumbered(alloc: Global, vehicles: Vec<Vehicle>) -> Register
     ensures state { state_of result ≡ opening vehicles.items }
     ensures ids { result.ids.names ≡ [] }
+    ensures vehicle_ids { result.vehicle_ids.names ≡ [] }
+    ensures pool { result.pool.items ≡ [] }
 {
     Register {
         riders: Vec::new(alloc),
@@ -190,71 +207,16 @@ fn unnumbered(alloc: Global, vehicles: Vec<Vehicle>) -> Register
     }
 }
 
-/// The vehicles' ids, in their order.
-fn listed_vehicles(alloc: Global, vehicles: &[Vehicle]) -> Result<Numbering, OutOfMemory>
-    requires { KeysDiffer (λ v. v.id) vehicles.now }
-    ensures { IfOk result (λ ids. ids.names ≡ map (λ v. v.id) vehicles.now) }
+/// Numbers the vehicles' ids, in their order.
+fn number_vehicles(ids: &mut Numbering, vehicles: &[Vehicle]) -> Result<(), OutOfMemory>
+    requires differ { KeysDiffer (λ v. v.id) vehicles.now }
+    requires none { ids.old.names ≡ [] }
+    ensures { OnOk result (ids.new.names ≡ map (λ v. v.id) vehicles.now) }
 {
-    let mut ids = Numbering::new(alloc);
     ids.reserve(vehicles.len())?;
     for vehicle in vehicles {
         ids.number(vehicle.id.get())?;
     }
-    Ok(ids)
-}
-
-/// The riders' ids, in their order.
-fn listed_riders(alloc: Global, riders: &[BookRider]) -> Result<Numbering, OutOfMemory>
-    requires { KeysDiffer (λ r. r.id) riders.now }
-    ensures { IfOk result (λ ids. ids.names ≡ map (λ r. r.id) riders.now) }
-{
-    let mut ids = Numbering::new(alloc);
-    ids.reserve(riders.len())?;
-    for rider in riders {
-        ids.number(rider.id.get())?;
-    }
-    Ok(ids)
-}
-
-/// The ids of the riders who wait or have a promise, by rising id, with room for all that may.
-fn listed_pool(alloc: Global, riders: &[BookRider]) -> Result<Vec<RiderId>, OutOfMemory>
-    requires { KeysDiffer (λ r. r.id) riders.now }
-    ensures rise { IfOk result (λ pool. KeysRise (λ id. id) pool.items) }
-    ensures listed { IfOk result (λ pool. (id : ℕ) → look_up (λ id. id) id pool.items ≡ option_and_then pool_id (find_rider id riders.now)) }
-    ensures room { IfOk result (λ pool. 1000 ≤ vec_capacity pool) }
-{
-    let mut pool = Vec::with_capacity(alloc, POOL)?;
-    for rider in riders {
-        join_if_active(&mut pool, rider)?;
-    }
-    Ok(pool)
-}
-
-/// Puts the id of a rider who waits or has a promise into the pool.
-fn join_if_active(pool: &mut Vec<RiderId>, rider: &BookRider) -> Result<(), OutOfMemory>
-    requires rise { KeysRise (λ id. id) pool.old.items }
-    requires new { look_up (λ id. id) rider.now.id pool.old.items ≡ None }
-    ensures items { OnOk result (pool.new.items ≡ (if is_active rider.now.status then placed (λ id. id) rider.now.id pool.old.items else pool.old.items)) }
-    ensures room { vec_capacity pool.old ≤ vec_capacity pool.new }
-{
-    match rider.status {
-        Status::Waiting | Status::Promised(_) => join_pool(pool, rider.id),
-        _ => Ok(()),
-    }
-}
-
-/// Puts an id into the pool, in its place.
-fn join_pool(pool: &mut Vec<RiderId>, rider: RiderId) -> Result<(), OutOfMemory>
-    requires rise { KeysRise (λ id. id) pool.old.items }
-    requires new { look_up (λ id. id) rider pool.old.items ≡ None }
-    ensures items { OnOk result (pool.new.items ≡ placed (λ id. id) rider pool.old.items) }
-    ensures room { vec_capacity pool.old ≤ vec_capacity pool.new }
-{
-    let place = match pool.binary_search(&rider) {
-        Ok(place) => place,
-        Err(place) => place,
-    };
-    pool.insert(place, rider)?;
     Ok(())
 }
 

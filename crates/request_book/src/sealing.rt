@@ -1,11 +1,10 @@
 //! Seals: whose wait is over expires, and the others go into the batch's snapshot.
 
-ghost use Rattle.std.specs.Prelude.{◌≡◌, ◌+◌, ◌-◌, ◌^◌, ◌<◌, ◌≤◌, ℕ, min, map, ◌++◌, option_and_then, IfOk, OnOk, OnErr, vec_len, vec_capacity};
+ghost use Rattle.std.specs.Prelude.{◌≡◌, ◌+◌, ◌-◌, ◌<◌, ℕ, [], ◌++◌, option_and_then, IfOk, OnOk, OnErr};
 ghost use Rattle.std.specs.List.{filter_map};
 ghost use Rattle.std.specs.Option.{option_to_list};
-ghost use Rattle.request_book.specs.Keyed.{KeysDiffer};
 ghost use Rattle.request_book.specs.work.Keyed.{changed_in_turn};
-ghost use Rattle.request_book.specs.work.Register.{state_of, pool_id, IsIndexed, HasRoom};
+ghost use Rattle.request_book.specs.work.Register.{state_of, IsIndexed, HasRoom};
 ghost use Rattle.request_book.specs.Rider.{with_status, pool_promise};
 ghost use Rattle.request_book.specs.State.{find_rider};
 ghost use Rattle.request_book.specs.Consistent.{IsConsistent};
@@ -17,12 +16,12 @@ ghost use Rattle.request_book.specs.lemmas.Table.{seal_refusal, seal_step};
 
 use crate::batch_rider::Rider;
 use crate::promise::Promise;
-use crate::refusals::{POOL, batch_open, clock_back, first_of};
-use crate::register::{Register, change_status};
+use crate::refusals::{batch_open, clock_back, first_of};
+use crate::register::Register;
 use crate::reply::{BookRefusal, Reply};
-use crate::rider::{BookRider, Status};
+use crate::rider::{BookRider, Status, is_active};
 use crate::snapshot::{Snapshot, copied_vehicles};
-use pool_base::{Numbering, OutOfMemory, RiderId, Second, Sequence};
+use pool_base::{OutOfMemory, RiderId, Second, Sequence};
 use std::alloc::Global;
 
 impl Register {
@@ -45,8 +44,9 @@ impl Register {
         requires consistent { IsConsistent (state_of self.now) }
         ensures { IfOk result (λ s. s ≡ batch_of wait (state_of self.now) second) }
     {
-        let expired = self.over(alloc, wait, second)?;
-        let riders = self.asking(alloc, wait, second)?;
+        let mut expired = Vec::new(alloc);
+        let mut riders = Vec::new(alloc);
+        self.part(&mut expired, &mut riders, wait, second)?;
         let vehicles = copied_vehicles(alloc, &self.vehicles)?;
         Ok(Snapshot {
             batch: one_more(self.batches),
@@ -57,41 +57,26 @@ impl Register {
         })
     }
 
-    /// Whose wait is over.
-    fn over(&self, alloc: Global, wait: u32, second: Second) -> Result<Vec<RiderId>, OutOfMemory>
-        requires { IsIndexed self.now }
-        ensures { IfOk result (λ v. v.items ≡ filter_map (λ id. option_and_then (over_id wait second) (find_rider id self.now.riders.items)) self.now.pool.items) }
+    /// Lists whose wait is over, and who stays in the pool and asked by this second, as the snapshot shows them.
+    fn part(
+        &self,
+        expired: &mut Vec<RiderId>,
+        shown: &mut Vec<Rider>,
+        wait: u32,
+        second: Second,
+    ) -> Result<(), OutOfMemory>
+        requires indexed { IsIndexed self.now }
+        requires no_expired { expired.old.items ≡ [] }
+        requires no_shown { shown.old.items ≡ [] }
+        ensures over { OnOk result (expired.new.items ≡ filter_map (λ id. option_and_then (over_id wait second) (find_rider id self.now.riders.items)) self.now.pool.items) }
+        ensures asking { OnOk result (shown.new.items ≡ filter_map (λ id. option_and_then (λ r. asking second (after_seal wait second r)) (find_rider id self.now.riders.items)) self.now.pool.items) }
     {
-        let mut over = Vec::new(alloc);
         for id in &self.pool {
-            push_some(&mut over, if_over(self.rider(*id), wait, second))?;
+            let rider = self.rider(*id);
+            push_some(expired, if_over(&rider, wait, second))?;
+            push_some(shown, if_asking(&rider, wait, second))?;
         }
-        Ok(over)
-    }
-
-    /// Who stays in the pool and asked by this second, as the snapshot shows them.
-    fn asking(&self, alloc: Global, wait: u32, second: Second) -> Result<Vec<Rider>, OutOfMemory>
-        requires { IsIndexed self.now }
-        ensures { IfOk result (λ v. v.items ≡ filter_map (λ id. option_and_then (λ r. asking second (after_seal wait second r)) (find_rider id self.now.riders.items)) self.now.pool.items) }
-    {
-        let mut riders = Vec::new(alloc);
-        for id in &self.pool {
-            show(&mut riders, self.rider(*id), wait, second)?;
-        }
-        Ok(riders)
-    }
-
-    /// Who stays in the pool, with room for all that may be in it.
-    fn staying(&self, alloc: Global, wait: u32, second: Second) -> Result<Vec<RiderId>, OutOfMemory>
-        requires { IsIndexed self.now }
-        ensures ids { IfOk result (λ v. v.items ≡ filter_map (λ id. option_and_then (λ r. pool_id (after_seal wait second r)) (find_rider id self.now.riders.items)) self.now.pool.items) }
-        ensures room { IfOk result (λ v. 1000 ≤ vec_capacity v) }
-    {
-        let mut pool = Vec::with_capacity(alloc, POOL)?;
-        for id in &self.pool {
-            push_some(&mut pool, if_staying(self.rider(*id), wait, second))?;
-        }
-        Ok(pool)
+        Ok(())
     }
 
     /// Seals a batch. After an error nothing has changed.
@@ -111,15 +96,25 @@ impl Register {
         if let Some(refusal) = self.seal_refusal(second) {
             return Ok(Reply::Refused(refusal));
         }
-        let pool = self.staying(alloc, wait, second)?;
         let snapshot = self.snapshot(alloc, wait, second)?;
         let batch = snapshot.batch;
-        expire(&mut self.riders, &self.ids, snapshot.expired.as_slice());
-        self.pool = pool;
+        self.expire(snapshot.expired.as_slice());
         self.last_seal = Some(second);
         self.batches = batch;
         self.sealed = Some(snapshot);
         Ok(Reply::Sealed { batch })
+    }
+
+    /// Lets riders expire.
+    fn expire(&mut self, expired: &[RiderId])
+        requires { IsIndexed self.old }
+        ensures state { state_of self.new ≡ record (state_of self.old) { riders = changed_in_turn (λ r. r.id) (with_status Status.Expired) expired.now self.old.riders.items } }
+        ensures indexed { IsIndexed self.new }
+        ensures room { (n : ℕ) → HasRoom n self.old → HasRoom n self.new }
+    {
+        for rider in expired {
+            self.retire(*rider, Status::Expired);
+        }
     }
 }
 
@@ -133,88 +128,43 @@ fn one_more(n: u64) -> u64
 fn is_over(rider: &BookRider, wait: u32, second: Second) -> bool
     ensures { result ≡ is_over wait second rider.now }
 {
-    match rider.status {
-        Status::Waiting | Status::Promised(_) => {
-            u64::from(rider.time.get()) + u64::from(wait) < u64::from(second.get())
-        }
-        _ => false,
-    }
+    let end = u64::from(rider.time.get()) + u64::from(wait);
+    is_active(rider.status) && end < u64::from(second.get())
 }
 
-fn if_over(rider: Option<BookRider>, wait: u32, second: Second) -> Option<RiderId>
-    ensures { result ≡ option_and_then (over_id wait second) rider }
+fn if_over(rider: &Option<BookRider>, wait: u32, second: Second) -> Option<RiderId>
+    ensures { result ≡ option_and_then (over_id wait second) rider.now }
 {
     match rider {
-        Some(rider) => {
-            if is_over(&rider, wait, second) {
-                Some(rider.id)
-            } else {
-                None
-            }
-        }
-        None => None,
+        Some(rider) if is_over(rider, wait, second) => Some(rider.id),
+        _ => None,
     }
 }
 
-fn if_staying(rider: Option<BookRider>, wait: u32, second: Second) -> Option<RiderId>
-    ensures { result ≡ option_and_then (λ r. pool_id (after_seal wait second r)) rider }
+/// A rider of the batch, as the snapshot shows them.
+fn if_asking(rider: &Option<BookRider>, wait: u32, second: Second) -> Option<Rider>
+    ensures { result ≡ option_and_then (λ r. asking second (after_seal wait second r)) rider.now }
 {
-    match rider {
-        Some(rider) => {
-            if is_over(&rider, wait, second) {
-                None
-            } else {
-                match rider.status {
-                    Status::Waiting | Status::Promised(_) => Some(rider.id),
-                    _ => None,
-                }
-            }
-        }
-        None => None,
+    let rider = rider.as_ref()?;
+    if rider.time > second || is_over(rider, wait, second) {
+        return None;
     }
+    let promise = pool_promise(&rider.status)?;
+    Some(Rider {
+        id: rider.id,
+        origin: rider.origin,
+        destination: rider.destination,
+        time: rider.time,
+        party: rider.party,
+        promise,
+    })
 }
 
-fn push_some(list: &mut Vec<RiderId>, id: Option<RiderId>) -> Result<(), OutOfMemory>
-    ensures ok { OnOk result (list.new.items ≡ list.old.items ++ option_to_list id) }
-    ensures capacity { vec_capacity list.old ≤ vec_capacity list.new }
+fn push_some<T: Copy>(list: &mut Vec<T>, item: Option<T>) -> Result<(), OutOfMemory>
+    ensures { OnOk result (list.new.items ≡ list.old.items ++ option_to_list item) }
 {
-    if let Some(id) = id {
-        list.push(id)?;
-    }
-    Ok(())
-}
-
-/// Puts a rider of the batch last, as the snapshot shows them.
-fn show(
-    list: &mut Vec<Rider>,
-    rider: Option<BookRider>,
-    wait: u32,
-    second: Second,
-) -> Result<(), OutOfMemory>
-    ensures { OnOk result (list.new.items ≡ list.old.items ++ option_to_list (option_and_then (λ r. asking second (after_seal wait second r)) rider)) }
-{
-    if let Some(rider) = rider {
-        if !is_over(&rider, wait, second) {
-            show_asking(list, &rider, second)?;
-        }
-    }
-    Ok(())
-}
-
-fn show_asking(list: &mut Vec<Rider>, rider: &BookRider, second: Second) -> Result<(), OutOfMemory>
-    ensures { OnOk result (list.new.items ≡ list.old.items ++ option_to_list (asking second rider.now)) }
-{
-    if rider.time <= second {
-        if let Some(promise) = pool_promise(&rider.status) {
-            list.push(Rider {
-                id: rider.id,
-                origin: rider.origin,
-                destination: rider.destination,
-                time: rider.time,
-                party: rider.party,
-                promise,
-            })?;
-        }
+    if let Some(item) = item {
+        list.push(item)?;
     }
     Ok(())
 }
@@ -226,18 +176,5 @@ fn pool_promise(status: &Status) -> Option<Option<Promise>>
         Status::Waiting => Some(None),
         Status::Promised(promise) => Some(Some(*promise)),
         _ => None,
-    }
-}
-
-/// Lets riders expire.
-fn expire(riders: &mut Vec<BookRider>, ids: &Numbering, expired: &[RiderId])
-    requires ids { ids.now.names ≡ map (λ r. r.id) riders.old.items }
-    requires differ { KeysDiffer (λ r. r.id) riders.old.items }
-    ensures changed { riders.new.items ≡ changed_in_turn (λ r. r.id) (with_status Status.Expired) expired.now riders.old.items }
-    ensures len { vec_len riders.new ≡ vec_len riders.old }
-    ensures capacity { vec_capacity riders.new ≡ vec_capacity riders.old }
-{
-    for rider in expired {
-        change_status(riders, ids, *rider, Status::Expired);
     }
 }

@@ -5,4 +5,5 @@ pub mod Held
 pub mod Auditing
 pub mod Ended
 pub mod NoticeText
+pub mod Phrase
 pub mod Live

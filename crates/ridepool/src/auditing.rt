@@ -9,9 +9,9 @@ ghost use Rattle.ridepool.specs.work.Reading.{inputs_got};
 ghost use Rattle.ridepool.specs.work.Writing.{IsTextFault};
 
 use crate::inputs::ReadInputs;
+use crate::phrase::{Phrase, put_phrase};
 use crate::reading::read_input;
 use crate::status::RunStatus;
-use crate::text::put_at;
 use pool_base::{OutOfMemory, Which, put_bytes};
 use pool_io::{Sink, Source, WriteAll, write_all};
 use report_audit::{AuditFault, Audited, audit};
@@ -99,8 +99,13 @@ fn yes_line(alloc: Global, audited: &Audited) -> Result<Vec<u8>, OutOfMemory>
     ensures { IfOk result (λ line. line.items ≡ yes_text audited.now) }
 {
     let mut line = Vec::new(alloc);
-    put_at(&mut line, b"audit ok entries ", audited.entries)?;
-    put_at(&mut line, b" batches ", audited.batches)?;
+    let counts = Phrase::Both(
+        b"audit ok entries ",
+        audited.entries,
+        b" batches ",
+        audited.batches,
+    );
+    put_phrase(&mut line, counts)?;
     put_bytes(&mut line, b"\n")?;
     Ok(line)
 }

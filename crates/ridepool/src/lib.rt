@@ -28,6 +28,7 @@ mod held_day;
 mod inputs;
 mod line_notifier;
 mod live_call;
+mod phrase;
 mod reading;
 mod run;
 mod status;

@@ -1,7 +1,7 @@
 ghost use Rattle.std.specs.Prelude.{◌≡◌, ◌++◌, ℕ, None, OnOk};
 ghost use Rattle.ridepool.specs.work.NoticeText.{notice_text};
 
-use crate::text::put_at;
+use crate::phrase::{Phrase, put_phrase};
 use pool_base::{OutOfMemory, put_bytes};
 use pool_io::Failed;
 use request_book::{Notice, Notifier};
@@ -89,17 +89,20 @@ fn put_notice(line: &mut Vec<u8>, notice: &Notice) -> Result<(), OutOfMemory>
             pickup,
             dropoff,
         } => {
-            put_at(line, b"batch ", *batch)?;
-            put_at(line, b" rider ", u64::from(rider.get()))?;
-            put_at(line, b" vehicle ", u64::from(vehicle.get()))?;
-            put_at(line, b" pickup ", *pickup)?;
-            put_at(line, b" dropoff ", *dropoff)?;
+            let rider = u64::from(rider.get());
+            let vehicle = u64::from(vehicle.get());
+            put_phrase(line, Phrase::Both(b"batch ", *batch, b" rider ", rider))?;
+            put_phrase(
+                line,
+                Phrase::Both(b" vehicle ", vehicle, b" pickup ", *pickup),
+            )?;
+            put_phrase(line, Phrase::Within(b" dropoff ", *dropoff, b"\n"))
         }
         Notice::Unserved { batch, rider } => {
-            put_at(line, b"batch ", *batch)?;
-            put_at(line, b" rider ", u64::from(rider.get()))?;
+            let rider = u64::from(rider.get());
+            put_phrase(line, Phrase::Both(b"batch ", *batch, b" rider ", rider))?;
             put_bytes(line, b" unserved")?;
+            put_bytes(line, b"\n")
         }
     }
-    put_bytes(line, b"\n")
 }

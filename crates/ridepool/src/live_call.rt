@@ -45,6 +45,14 @@ pub struct LiveEnd<S: Source, K: Sink, N: Notifier> {
     pub status: RunStatus,
 }
 
+/// What a call is given before its rows.
+#[derive(Drop)]
+struct Given {
+    settings: Settings,
+    network: Network,
+    fleet: Fleet,
+}
+
 /// What a call reads, writes and tells while it runs.
 #[derive(Drop)]
 struct Session<S: Source, K: Sink, N: Notifier, L: RefusalListener> {
@@ -137,16 +145,16 @@ fn live_inputs<R: Source, F: Source>(
     words: &[String],
     network: &mut R,
     fleet: &mut F,
-) -> Result<(Settings, Network, Fleet), RunStatus>
+) -> Result<Given, RunStatus>
     ensures got { (rest : LiveSeen) → let call : LiveCall = (record {
       words = map string_bytes words.now;
       network = source_seen R.left R.taken R.faults network.old network.new;
       fleet = source_seen F.left F.taken F.faults fleet.old fleet.new;
       rest = rest;
     }) in MatchResult result
-        (λ got. AreLiveInputs call (record { settings = got.0; roads = got.1; vehicles = got.2 }))
+        (λ got. AreLiveInputs call (record { settings = got.settings; roads = got.network; vehicles = got.fleet }))
         (λ status. IsSilentCall rest → ExplainsLive call status) }
-    ensures named { IfOk result (λ got. All (λ vehicle. IsNode got.1.nodes vehicle.node) got.2) }
+    ensures named { IfOk result (λ got. All (λ vehicle. IsNode got.network.nodes vehicle.node) got.fleet) }
     ensures limited { let network_seen = source_seen R.left R.taken R.faults network.old network.new in
         let fleet_seen = source_seen F.left F.taken F.faults fleet.old fleet.new in
         MatchResult result (λ _. IsWithin file.Network network_seen × IsWithin file.Fleet fleet_seen) (AreLimited network_seen fleet_seen) }
@@ -161,7 +169,11 @@ fn live_inputs<R: Source, F: Source>(
         Err(status) => return Err(status),
     };
     match fleet_from(alloc, fleet, &network) {
-        Ok(fleet) => Ok((settings, network, fleet)),
+        Ok(fleet) => Ok(Given {
+            settings,
+            network,
+            fleet,
+        }),
         Err(status) => {
             drop(network);
             Err(status)
@@ -179,16 +191,20 @@ fn live_in<
 >(
     rt: &(impl Threads + Wait + Sync),
     alloc: Global,
-    inputs: &(Settings, Network, Fleet),
+    inputs: &Given,
     mut session: Session<S, K, N, L>,
     gate: &G,
 ) -> LiveEnd<S, K, N>
-    requires named { All (λ vehicle. IsNode inputs.now.1.nodes vehicle.node) inputs.now.2 }
-    ensures { EndsLive (record { settings = inputs.now.0; roads = inputs.now.1; vehicles = inputs.now.2 })
+    requires named { All (λ vehicle. IsNode inputs.now.network.nodes vehicle.node) inputs.now.fleet }
+    ensures { EndsLive (record { settings = inputs.now.settings; roads = inputs.now.network; vehicles = inputs.now.fleet })
         (live_seen session.lines.to_come session.lines.faults (S.faults result.script) (sink_seen K.written K.faults session.out result.out)
         (notifiers_seen N.told N.faults N.steady session.notifiers.items) (notifiers_seen N.told N.faults N.steady result.notifiers.items)) result.status }
 {
-    let (settings, network, fleet) = inputs;
+    let Given {
+        settings,
+        network,
+        fleet,
+    } = inputs;
     let Ok(ways) = ways_by(alloc, network, settings, gate) else {
         return session.ended(RunStatus::OutOfMemory);
     };
@@ -216,6 +232,7 @@ fn live_in<
                 rows,
                 &setup,
             );
+            drop(ways);
             LiveEnd {
                 script: rows.into_source(),
                 out: sink,
@@ -223,7 +240,10 @@ fn live_in<
                 status: end_status(ended),
             }
         }
-        Err(status) => session.ended(status),
+        Err(status) => {
+            drop(ways);
+            session.ended(status)
+        }
     }
 }
 

@@ -89,11 +89,15 @@ fn accept_network(alloc: Global, bytes: &[u8]) -> Result<Network, RunStatus>
     match rows(alloc, bytes, b"from,to,seconds") {
         Err(RowFault::OutOfMemory) => Err(RunStatus::OutOfMemory),
         Err(fault) => Err(RunStatus::Network(Input::Rows(fault))),
-        Ok(table) => match read_network(alloc, &table) {
-            Ok(network) => Ok(network),
-            Err(NetworkFault::OutOfMemory) => Err(RunStatus::OutOfMemory),
-            Err(fault) => Err(RunStatus::Network(Input::Own(fault))),
-        },
+        Ok(table) => {
+            let read = read_network(alloc, &table);
+            drop(table);
+            match read {
+                Ok(network) => Ok(network),
+                Err(NetworkFault::OutOfMemory) => Err(RunStatus::OutOfMemory),
+                Err(fault) => Err(RunStatus::Network(Input::Own(fault))),
+            }
+        }
     }
 }
 
@@ -107,11 +111,15 @@ fn accept_fleet(alloc: Global, bytes: &[u8], network: &Network) -> Result<Fleet,
     match rows(alloc, bytes, b"vehicle,seats,node,second") {
         Err(RowFault::OutOfMemory) => Err(RunStatus::OutOfMemory),
         Err(fault) => Err(RunStatus::Fleet(Input::Rows(fault))),
-        Ok(table) => match read_fleet(alloc, &table, network) {
-            Ok(fleet) => Ok(fleet),
-            Err(FleetFault::OutOfMemory) => Err(RunStatus::OutOfMemory),
-            Err(fault) => Err(RunStatus::Fleet(Input::Own(fault))),
-        },
+        Ok(table) => {
+            let read = read_fleet(alloc, &table, network);
+            drop(table);
+            match read {
+                Ok(fleet) => Ok(fleet),
+                Err(FleetFault::OutOfMemory) => Err(RunStatus::OutOfMemory),
+                Err(fault) => Err(RunStatus::Fleet(Input::Own(fault))),
+            }
+        }
     }
 }
 

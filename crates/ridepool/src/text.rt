@@ -1,10 +1,11 @@
-ghost use Rattle.std.specs.Prelude.{◌≡◌, ◌++◌, IfOk, OnOk, codes};
-ghost use Rattle.dispatch_report.specs.Words.{numbered};
-ghost use Rattle.ridepool.specs.Text.{at_place, longer_than, too_long_text, word_text, row_text, network_text, fleet_text, script_text, refused_row_text, at_row, day_text, audit_text, input_text, status_text};
+ghost use Rattle.std.specs.Prelude.{◌≡◌, ◌++◌, IfOk, codes};
+ghost use Rattle.ridepool.specs.Text.{word_text, row_text, network_text, fleet_text, script_text, refused_row_text, at_place, at_row, day_text, audit_text, input_text, status_text};
+ghost use Rattle.ridepool.specs.work.Phrase.{phrase_text};
 
+use crate::phrase::{Phrase, put_phrase};
 use crate::reading::most_bytes;
 use crate::status::RunStatus;
-use pool_base::{OutOfMemory, Which, put_bytes, put_number};
+use pool_base::{OutOfMemory, put_bytes};
 use pool_io::{Input, RowFault};
 use report_audit::AuditFault;
 use rider_limits::WordFault;
@@ -18,31 +19,34 @@ use std::alloc::Global;
 pub fn fault_text(alloc: Global, status: &RunStatus) -> Result<Vec<u8>, OutOfMemory>
     ensures { IfOk result (λ text. text.items ≡ status_text status.now) }
 {
-    let mut text = Vec::new(alloc);
-    put_status(&mut text, status)?;
-    Ok(text)
+    let (front, phrase) = status_phrase(status);
+    line_of(alloc, front, phrase)
 }
 
 /// The line that tells why a row that came alone is refused, without the program's name and without its end.
 pub fn refusal_text(alloc: Global, row: u64, refusal: &RowRefusal) -> Result<Vec<u8>, OutOfMemory>
     ensures { IfOk result (λ text. text.items ≡ codes "script: " ++ refused_row_text row refusal.now) }
 {
-    let mut text = Vec::new(alloc);
-    put_bytes(&mut text, b"script: ")?;
-    put_refusal(&mut text, row, refusal)?;
-    Ok(text)
+    line_of(alloc, b"script: ", refusal_phrase(row, refusal))
 }
 
-fn put_refusal(text: &mut Vec<u8>, row: u64, refusal: &RowRefusal) -> Result<(), OutOfMemory>
-    ensures { OnOk result (text.new.items ≡ text.old.items ++ refused_row_text row refusal.now) }
+/// A line of what it is about and of what it says.
+fn line_of(alloc: Global, front: &[u8], phrase: Phrase) -> Result<Vec<u8>, OutOfMemory>
+    ensures { IfOk result (λ line. line.items ≡ front.now ++ phrase_text phrase) }
+{
+    let mut line = Vec::new(alloc);
+    put_bytes(&mut line, front)?;
+    put_phrase(&mut line, phrase)?;
+    Ok(line)
+}
+
+fn refusal_phrase(row: u64, refusal: &RowRefusal) -> Phrase
+    ensures { phrase_text result ≡ refused_row_text row refusal.now }
 {
     match refusal {
-        RowRefusal::TooLong => {
-            put_at(text, b"row ", row)?;
-            put_bytes(text, b" is too long")
-        }
-        RowRefusal::UnequalLength => put_row_fault(text, RowFault::UnequalLength { row }),
-        RowRefusal::Own(fault) => put_script_fault(text, at_row(*fault, row)),
+        RowRefusal::TooLong => Phrase::Within(b"row ", row, b" is too long"),
+        RowRefusal::UnequalLength => row_phrase(RowFault::UnequalLength { row }),
+        RowRefusal::Own(fault) => script_phrase(at_row(*fault, row)),
     }
 }
 
@@ -63,210 +67,145 @@ fn at_row(fault: ScriptFault, row: u64) -> ScriptFault
     }
 }
 
-fn put_status(text: &mut Vec<u8>, status: &RunStatus) -> Result<(), OutOfMemory>
-    ensures { OnOk result (text.new.items ≡ text.old.items ++ status_text status.now) }
+/// What the line of a status is about, and what it says.
+#[tactic(auto, unfolding(crate::specs::Text::longer_than))]
+fn status_phrase(status: &RunStatus) -> (&'static [u8], Phrase)
+    ensures { result.0.now ++ phrase_text result.1 ≡ status_text status.now }
 {
     match status {
-        RunStatus::Done => Ok(()),
-        RunStatus::Words(fault) => {
-            put_bytes(text, b"words: ")?;
-            put_word_fault(text, *fault)
+        RunStatus::Done => (b"", Phrase::Words(b"")),
+        RunStatus::Words(fault) => (b"words: ", word_phrase(*fault)),
+        RunStatus::Network(fault) => (b"network: ", network_phrase(fault)),
+        RunStatus::Fleet(fault) => (b"fleet: ", fleet_phrase(fault)),
+        RunStatus::Script(fault) => (b"script: ", script_input_phrase(fault)),
+        RunStatus::TooLong(which) => {
+            let phrase = Phrase::Within(b": longer than ", most_bytes(*which), b" bytes");
+            (which.name().as_bytes(), phrase)
         }
-        RunStatus::Network(fault) => {
-            put_bytes(text, b"network: ")?;
-            put_network_input(text, fault)
+        RunStatus::ReadFault(which) => (which.name().as_bytes(), Phrase::Words(b": read failed")),
+        RunStatus::WriteFault => (b"report: ", Phrase::Words(b"write failed")),
+        RunStatus::OutOfMemory => (b"", Phrase::Words(b"out of memory")),
+        RunStatus::Day(fault) => (b"script: ", day_phrase(*fault)),
+        RunStatus::TooLate { round, .. } => {
+            let phrase = Phrase::At(b"script: day too late at round ", u64::from(*round));
+            (b"", phrase)
         }
-        RunStatus::Fleet(fault) => {
-            put_bytes(text, b"fleet: ")?;
-            put_fleet_input(text, fault)
-        }
-        RunStatus::Script(fault) => {
-            put_bytes(text, b"script: ")?;
-            put_script_input(text, fault)
-        }
-        RunStatus::TooLong(which) => put_too_long(text, *which),
-        RunStatus::ReadFault(which) => {
-            put_bytes(text, which.name().as_bytes())?;
-            put_bytes(text, b": read failed")
-        }
-        RunStatus::WriteFault => put_bytes(text, b"report: write failed"),
-        RunStatus::OutOfMemory => put_bytes(text, b"out of memory"),
-        RunStatus::Day(fault) => {
-            put_bytes(text, b"script: ")?;
-            put_day_fault(text, *fault)
-        }
-        RunStatus::TooLate { round, .. } => put_too_late(text, *round),
-        RunStatus::Report(fault) => {
-            put_bytes(text, b"report: ")?;
-            put_audit_fault(text, *fault)
-        }
+        RunStatus::Report(fault) => (b"report: ", audit_phrase(*fault)),
     }
 }
 
-fn put_too_long(text: &mut Vec<u8>, which: Which) -> Result<(), OutOfMemory>
-    ensures { OnOk result (text.new.items ≡ text.old.items ++ too_long_text which) }
-{
-    put_bytes(text, which.name().as_bytes())?;
-    put_bytes(text, b": ")?;
-    put_longer_than(text, most_bytes(which))
-}
-
-#[tactic(auto, unfolding(crate::specs::Text::longer_than))]
-fn put_longer_than(text: &mut Vec<u8>, most: u64) -> Result<(), OutOfMemory>
-    ensures { OnOk result (text.new.items ≡ text.old.items ++ longer_than most) }
-{
-    put_at(text, b"longer than ", most)?;
-    put_bytes(text, b" bytes")
-}
-
-fn put_too_late(text: &mut Vec<u8>, round: u32) -> Result<(), OutOfMemory>
-    ensures { OnOk result (text.new.items ≡ text.old.items ++ numbered (codes "script: day too late at round ") round) }
-{
-    put_at(text, b"script: day too late at round ", u64::from(round))
-}
-
-#[tactic(auto, unfolding(dispatch_report::specs::Words::numbered))]
-pub(crate) fn put_at(text: &mut Vec<u8>, words: &[u8], number: u64) -> Result<(), OutOfMemory>
-    ensures { OnOk result (text.new.items ≡ text.old.items ++ numbered words.now number) }
-{
-    put_bytes(text, words)?;
-    put_number(text, number)
-}
-
-#[tactic(auto, unfolding(crate::specs::Text::at_place))]
-fn put_place(text: &mut Vec<u8>, row: u64, column: u64) -> Result<(), OutOfMemory>
-    ensures { OnOk result (text.new.items ≡ text.old.items ++ at_place row column) }
-{
-    put_at(text, b"bad number at row ", row)?;
-    put_at(text, b" column ", column)
-}
-
-fn put_word_fault(text: &mut Vec<u8>, fault: WordFault) -> Result<(), OutOfMemory>
-    ensures { OnOk result (text.new.items ≡ text.old.items ++ word_text fault) }
+fn word_phrase(fault: WordFault) -> Phrase
+    ensures { phrase_text result ≡ word_text fault }
 {
     match fault {
-        WordFault::NoCommand => put_bytes(text, b"no command"),
-        WordFault::UnknownKey { word } => put_at(text, b"unknown key at word ", word),
-        WordFault::Repeated { word } => put_at(text, b"repeated key at word ", word),
-        WordFault::BadValue { word } => put_at(text, b"bad value at word ", word),
-        WordFault::MissingFile { which } => {
-            put_bytes(text, b"missing ")?;
-            put_bytes(text, which.name().as_bytes())
-        }
+        WordFault::NoCommand => Phrase::Words(b"no command"),
+        WordFault::UnknownKey { word } => Phrase::At(b"unknown key at word ", word),
+        WordFault::Repeated { word } => Phrase::At(b"repeated key at word ", word),
+        WordFault::BadValue { word } => Phrase::At(b"bad value at word ", word),
+        WordFault::MissingFile { which } => Phrase::Name(b"missing ", which),
     }
 }
 
-fn put_audit_fault(text: &mut Vec<u8>, fault: AuditFault) -> Result<(), OutOfMemory>
-    ensures { OnOk result (text.new.items ≡ text.old.items ++ audit_text fault) }
+fn audit_phrase(fault: AuditFault) -> Phrase
+    ensures { phrase_text result ≡ audit_text fault }
 {
     match fault {
-        AuditFault::Cut { line } => put_at(text, b"cut at line ", line),
-        AuditFault::Form { line } => put_at(text, b"bad form at line ", line),
-        AuditFault::Head { line } => put_at(text, b"wrong head at line ", line),
-        AuditFault::Entry { line } => put_at(text, b"wrong entry at line ", line),
+        AuditFault::Cut { line } => Phrase::At(b"cut at line ", line),
+        AuditFault::Form { line } => Phrase::At(b"bad form at line ", line),
+        AuditFault::Head { line } => Phrase::At(b"wrong head at line ", line),
+        AuditFault::Entry { line } => Phrase::At(b"wrong entry at line ", line),
         AuditFault::Batch { line, point } => {
-            put_at(text, b"wrong batch at line ", line)?;
-            put_at(text, b" point ", point)
+            Phrase::Both(b"wrong batch at line ", line, b" point ", point)
         }
-        AuditFault::OutOfMemory => put_bytes(text, b"out of memory"),
+        AuditFault::OutOfMemory => Phrase::Words(b"out of memory"),
     }
 }
 
-fn put_row_fault(text: &mut Vec<u8>, fault: RowFault) -> Result<(), OutOfMemory>
-    ensures { OnOk result (text.new.items ≡ text.old.items ++ row_text fault) }
+fn row_phrase(fault: RowFault) -> Phrase
+    ensures { phrase_text result ≡ row_text fault }
 {
     match fault {
-        RowFault::Header { fields } => {
-            put_at(text, b"wrong header of ", fields)?;
-            put_bytes(text, b" fields")
+        RowFault::Header { fields } => Phrase::Within(b"wrong header of ", fields, b" fields"),
+        RowFault::UnequalLength { row } => Phrase::Within(b"row ", row, b" has another length"),
+        RowFault::OutOfMemory => Phrase::Words(b"out of memory"),
+    }
+}
+
+/// A number that isn't one, by its row and its column.
+#[tactic(auto, unfolding(crate::specs::Text::at_place))]
+fn place_phrase(row: u64, column: u64) -> Phrase
+    ensures { phrase_text result ≡ at_place row column }
+{
+    Phrase::Both(b"bad number at row ", row, b" column ", column)
+}
+
+fn network_phrase(fault: &Input<NetworkFault>) -> Phrase
+    ensures { phrase_text result ≡ input_text network_text fault.now }
+{
+    match fault {
+        Input::Rows(fault) => row_phrase(*fault),
+        Input::Own(NetworkFault::TooManyArcs) => Phrase::Words(b"more than 400000 arcs"),
+        Input::Own(NetworkFault::Number { row, column }) => place_phrase(*row, *column),
+        Input::Own(NetworkFault::ArcTooLong { row }) => Phrase::At(b"arc too long at row ", *row),
+        Input::Own(NetworkFault::TooManyNodes { row }) => {
+            Phrase::At(b"more than 100000 nodes at row ", *row)
         }
-        RowFault::UnequalLength { row } => {
-            put_at(text, b"row ", row)?;
-            put_bytes(text, b" has another length")
-        }
-        RowFault::OutOfMemory => put_bytes(text, b"out of memory"),
+        Input::Own(NetworkFault::OutOfMemory) => Phrase::Words(b"out of memory"),
     }
 }
 
-fn put_network_input(text: &mut Vec<u8>, fault: &Input<NetworkFault>) -> Result<(), OutOfMemory>
-    ensures { OnOk result (text.new.items ≡ text.old.items ++ input_text network_text fault.now) }
+fn fleet_phrase(fault: &Input<FleetFault>) -> Phrase
+    ensures { phrase_text result ≡ input_text fleet_text fault.now }
 {
     match fault {
-        Input::Rows(fault) => put_row_fault(text, *fault),
-        Input::Own(fault) => put_network_fault(text, *fault),
+        Input::Rows(fault) => row_phrase(*fault),
+        Input::Own(FleetFault::TooManyVehicles) => Phrase::Words(b"more than 500 vehicles"),
+        Input::Own(FleetFault::Number { row, column }) => place_phrase(*row, *column),
+        Input::Own(FleetFault::Seats { row }) => Phrase::At(b"bad seats at row ", *row),
+        Input::Own(FleetFault::UnknownNode { row }) => Phrase::At(b"unknown node at row ", *row),
+        Input::Own(FleetFault::Duplicate { row }) => Phrase::At(b"repeated vehicle at row ", *row),
+        Input::Own(FleetFault::OutOfMemory) => Phrase::Words(b"out of memory"),
     }
 }
 
-fn put_fleet_input(text: &mut Vec<u8>, fault: &Input<FleetFault>) -> Result<(), OutOfMemory>
-    ensures { OnOk result (text.new.items ≡ text.old.items ++ input_text fleet_text fault.now) }
+fn script_input_phrase(fault: &Input<ScriptFault>) -> Phrase
+    ensures { phrase_text result ≡ input_text script_text fault.now }
 {
     match fault {
-        Input::Rows(fault) => put_row_fault(text, *fault),
-        Input::Own(fault) => put_fleet_fault(text, *fault),
+        Input::Rows(fault) => row_phrase(*fault),
+        Input::Own(fault) => script_phrase(*fault),
     }
 }
 
-fn put_script_input(text: &mut Vec<u8>, fault: &Input<ScriptFault>) -> Result<(), OutOfMemory>
-    ensures { OnOk result (text.new.items ≡ text.old.items ++ input_text script_text fault.now) }
+fn script_phrase(fault: ScriptFault) -> Phrase
+    ensures { phrase_text result ≡ script_text fault }
 {
     match fault {
-        Input::Rows(fault) => put_row_fault(text, *fault),
-        Input::Own(fault) => put_script_fault(text, *fault),
+        ScriptFault::TooManyRows => Phrase::Words(b"more than 200000 rows"),
+        ScriptFault::Number { row, column } => place_phrase(row, column),
+        ScriptFault::LaneRange { row } => Phrase::At(b"lane above 15 at row ", row),
+        ScriptFault::RoundBack { row } => Phrase::At(b"round goes back at row ", row),
+        ScriptFault::UnknownCommand { row } => Phrase::At(b"unknown command at row ", row),
+        ScriptFault::ExtraField { row } => Phrase::At(b"field not empty at row ", row),
+        ScriptFault::SealLane { row } => Phrase::At(b"seal outside lane 0 at row ", row),
+        ScriptFault::Party { row } => Phrase::At(b"bad party at row ", row),
+        ScriptFault::OutOfMemory => Phrase::Words(b"out of memory"),
     }
 }
 
-fn put_network_fault(text: &mut Vec<u8>, fault: NetworkFault) -> Result<(), OutOfMemory>
-    ensures { OnOk result (text.new.items ≡ text.old.items ++ network_text fault) }
+fn day_phrase(fault: DayFault) -> Phrase
+    ensures { phrase_text result ≡ day_text fault }
 {
     match fault {
-        NetworkFault::TooManyArcs => put_bytes(text, b"more than 400000 arcs"),
-        NetworkFault::Number { row, column } => put_place(text, row, column),
-        NetworkFault::ArcTooLong { row } => put_at(text, b"arc too long at row ", row),
-        NetworkFault::TooManyNodes { row } => put_at(text, b"more than 100000 nodes at row ", row),
-        NetworkFault::OutOfMemory => put_bytes(text, b"out of memory"),
-    }
-}
-
-fn put_fleet_fault(text: &mut Vec<u8>, fault: FleetFault) -> Result<(), OutOfMemory>
-    ensures { OnOk result (text.new.items ≡ text.old.items ++ fleet_text fault) }
-{
-    match fault {
-        FleetFault::TooManyVehicles => put_bytes(text, b"more than 500 vehicles"),
-        FleetFault::Number { row, column } => put_place(text, row, column),
-        FleetFault::Seats { row } => put_at(text, b"bad seats at row ", row),
-        FleetFault::UnknownNode { row } => put_at(text, b"unknown node at row ", row),
-        FleetFault::Duplicate { row } => put_at(text, b"repeated vehicle at row ", row),
-        FleetFault::OutOfMemory => put_bytes(text, b"out of memory"),
-    }
-}
-
-fn put_script_fault(text: &mut Vec<u8>, fault: ScriptFault) -> Result<(), OutOfMemory>
-    ensures { OnOk result (text.new.items ≡ text.old.items ++ script_text fault) }
-{
-    match fault {
-        ScriptFault::TooManyRows => put_bytes(text, b"more than 200000 rows"),
-        ScriptFault::Number { row, column } => put_place(text, row, column),
-        ScriptFault::LaneRange { row } => put_at(text, b"lane above 15 at row ", row),
-        ScriptFault::RoundBack { row } => put_at(text, b"round goes back at row ", row),
-        ScriptFault::UnknownCommand { row } => put_at(text, b"unknown command at row ", row),
-        ScriptFault::ExtraField { row } => put_at(text, b"field not empty at row ", row),
-        ScriptFault::SealLane { row } => put_at(text, b"seal outside lane 0 at row ", row),
-        ScriptFault::Party { row } => put_at(text, b"bad party at row ", row),
-        ScriptFault::OutOfMemory => put_bytes(text, b"out of memory"),
-    }
-}
-
-fn put_day_fault(text: &mut Vec<u8>, fault: DayFault) -> Result<(), OutOfMemory>
-    ensures { OnOk result (text.new.items ≡ text.old.items ++ day_text fault) }
-{
-    match fault {
-        DayFault::Command { round, lane } => {
-            put_at(text, b"command at round ", u64::from(round))?;
-            put_at(text, b" lane ", u64::from(lane))
-        }
-        DayFault::Seals { round } => put_at(text, b"seals at round ", u64::from(round)),
+        DayFault::Command { round, lane } => Phrase::Both(
+            b"command at round ",
+            u64::from(round),
+            b" lane ",
+            u64::from(lane),
+        ),
+        DayFault::Seals { round } => Phrase::At(b"seals at round ", u64::from(round)),
         DayFault::SealBack { round } => {
-            put_at(text, b"seal goes back at round ", u64::from(round))
+            Phrase::At(b"seal goes back at round ", u64::from(round))
         }
     }
 }

@@ -70,7 +70,7 @@ pub(crate) fn write_report<K: Sink, G: Gate>(
         settings,
         gate,
     };
-    write_by(
+    let written = write_by(
         rt,
         alloc,
         out,
@@ -78,7 +78,9 @@ pub(crate) fn write_report<K: Sink, G: Gate>(
         &inputs.script,
         &setup,
         notifiers,
-    )
+    );
+    drop(ways);
+    written
 }
 
 /// The same, with what its rounds share together.

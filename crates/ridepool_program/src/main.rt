@@ -94,23 +94,25 @@ const HELP_WORDS: [&str; 2] = ["--help", "-h"];
 const VERSION: &str = "ridepool 1.2.11\n";
 
 fn main(rt: HostRuntime) -> ExitCode {
-    let _places = [
-        standard_place(&rt),
-        standard_place(&rt),
-        standard_place(&rt),
-    ];
-    let words = match words_of(&rt) {
-        Ok(words) => words,
-        Err(OutOfMemory) => return report(&rt, &RunStatus::OutOfMemory),
-    };
-    let status = match page_of(&words) {
-        Some(page) => print_page(&rt, page),
-        None => match words.first().map(|word| word.as_str()) {
-            Some("live") => run_live(&rt, &rt, &words),
-            _ => run(&rt, &rt, &words),
-        },
+    let _input = standard_place(&rt);
+    let _output = standard_place(&rt);
+    let _error = standard_place(&rt);
+    let status = match words_of(&rt) {
+        Ok(words) => answer(&rt, &rt, &words),
+        Err(OutOfMemory) => RunStatus::OutOfMemory,
     };
     report(&rt, &status)
+}
+
+/// Does what the words ask for.
+fn answer(rt: &HostRuntime, threads: &(impl Threads + Wait + Sync), words: &[String]) -> RunStatus {
+    if let Some(page) = page_of(words) {
+        return print_page(rt, page);
+    }
+    match words.first() {
+        Some(word) if word.as_str() == "live" => run_live(rt, threads, words),
+        _ => run(rt, threads, words),
+    }
 }
 
 /// A file that takes the place of standard input, output or error where one of them is closed. No file that is opened
@@ -143,14 +145,8 @@ fn page_of(words: &[String]) -> Option<&'static str> {
         return Some(VERSION);
     }
     let asked = match words.get(1) {
-        Some(second) => {
-            if COMMANDS.contains(&first) {
-                second.as_str()
-            } else {
-                first
-            }
-        }
-        None => first,
+        Some(second) if COMMANDS.contains(&first) => second.as_str(),
+        _ => first,
     };
     if HELP_WORDS.contains(&asked) {
         Some(HELP)
@@ -174,42 +170,61 @@ fn run(rt: &HostRuntime, threads: &(impl Threads + Wait + Sync), words: &[String
         &[]
     };
     let path = notices_path(rt, named);
-    let Ok(file) = SharedFile::new(rt.alloc()) else {
+    let Ok(mut notifiers) = Vec::<Box<dyn Notifier>>::with_capacity(rt.alloc(), 1) else {
         return RunStatus::OutOfMemory;
     };
-    let mut notifiers: Vec<Box<dyn Notifier>> = Vec::new(rt.alloc());
-    if value_of(named, "notices").is_some() {
-        let Ok(notifier) = boxed_notifier_to(rt, &file) else {
-            return RunStatus::OutOfMemory;
-        };
-        if notifiers.push(notifier).is_err() {
-            return RunStatus::OutOfMemory;
-        }
+    let Ok((file, notifier)) = shared_file(rt, named) else {
+        drop(notifiers);
+        return RunStatus::OutOfMemory;
+    };
+    if let Some(notifier) = notifier {
+        notifiers.push_reserved(notifier);
     }
     let given = notifiers.len();
-    let mut network = source_of(rt, named, "network");
-    let mut fleet = source_of(rt, named, "fleet");
-    let mut script = source_of(rt, named, "script");
-    let mut report = source_of(rt, named, "report");
+    let mut inputs = Inputs::named(rt, named);
     let sink = OpeningSink::over(rt, StdSink::over(rt.stdout()), path, file);
     let mut sink = WatchedSink::over(rt.alloc(), sink, terminal_of(rt));
     let status = ridepool(
         threads,
         rt.alloc(),
         words,
-        &mut network,
-        &mut fleet,
-        &mut script,
-        &mut report,
+        &mut inputs.network,
+        &mut inputs.fleet,
+        &mut inputs.script,
+        &mut inputs.report,
         &mut sink,
         &mut notifiers,
         &WatchedGate::over(rt.alloc(), terminal_of(rt)),
     );
     sink.clear();
-    if notifiers.len() < given && path.is_some() {
+    drop(sink);
+    drop(inputs);
+    let left = notifiers.len();
+    drop(notifiers);
+    if left < given && path.is_some() {
         print_line(rt, b"notices: write failed");
     }
     status
+}
+
+/// The files that words name.
+#[derive(Drop)]
+struct Inputs {
+    network: StdSource<File>,
+    fleet: StdSource<File>,
+    script: StdSource<File>,
+    report: StdSource<File>,
+}
+
+impl Inputs {
+    fn named(rt: &HostRuntime, words: &[String]) -> Inputs {
+        Inputs {
+            network: source_of(rt, words, "network"),
+            fleet: source_of(rt, words, "fleet"),
+            script: source_of(rt, words, "script"),
+            report: source_of(rt, words, "report"),
+        }
+    }
 }
 
 /// Runs rows as they come, from standard input or from the file that the words name. Faulty words touch no file.
@@ -218,14 +233,11 @@ fn run_live(
     threads: &(impl Threads + Wait + Sync),
     words: &[String],
 ) -> RunStatus {
-    let Ok(whole) = words_of_run(rt.alloc(), words) else {
-        return RunStatus::OutOfMemory;
+    let passes = match words_of_run(rt.alloc(), words) {
+        Ok(whole) => read_words(&whole).is_ok(),
+        Err(OutOfMemory) => return RunStatus::OutOfMemory,
     };
-    let named: &[String] = if read_words(&whole).is_ok() {
-        words
-    } else {
-        &[]
-    };
+    let named: &[String] = if passes { words } else { &[] };
     match value_of(named, "script") {
         Some(_) => live_from(rt, threads, words, named, source_of(rt, named, "script")),
         None => live_from(rt, threads, words, named, StdSource::over(rt.stdin())),
@@ -272,7 +284,11 @@ fn live_from<S: Source + Send + Drop>(
     );
     drop(script);
     drop(out);
-    if notifiers.len() < given && path.is_some() {
+    drop(network);
+    drop(fleet);
+    let left = notifiers.len();
+    drop(notifiers);
+    if left < given && path.is_some() {
         print_line(rt, b"notices: write failed");
     }
     status
@@ -337,6 +353,24 @@ fn notices_path<'a>(rt: &HostRuntime, words: &'a [String]) -> Option<&'a str> {
         return None;
     }
     Some(path)
+}
+
+/// A file that isn't open, with the notifier that the words ask for in a box: one that writes to it, or none.
+fn shared_file(
+    rt: &HostRuntime,
+    words: &[String],
+) -> Result<(SharedFile, Option<Box<LineNotifier<SharedFile>>>), OutOfMemory> {
+    let file = SharedFile::new(rt.alloc())?;
+    if value_of(words, "notices").is_none() {
+        return Ok((file, None));
+    }
+    match boxed_notifier_to(rt, &file) {
+        Ok(notifier) => Ok((file, Some(notifier))),
+        Err(fault) => {
+            drop(file);
+            Err(fault)
+        }
+    }
 }
 
 /// A notifier that writes to this file, in a box.

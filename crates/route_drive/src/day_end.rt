@@ -48,7 +48,11 @@ pub(crate) fn drive_end<W: Ways, D: Drafter, G: Gate, K: RoundKeeper>(
         return Ok(drive);
     };
     match left_of(alloc, &drive) {
-        Ok(left) => run_last(rt, alloc, drive, number, &left, setup, keeper),
+        Ok(left) => {
+            let end = run_last(rt, alloc, drive, number, &left, setup, keeper);
+            drop(left);
+            end
+        }
         Err(stopped) => {
             drop(drive);
             Err(stopped_at(stopped, number))

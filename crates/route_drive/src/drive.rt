@@ -144,7 +144,11 @@ fn drive_round<W: Ways, D: Drafter, G: Gate, K: RoundKeeper>(
     ensures late { IfErr result (λ fault. (first : K) → IsLateAt round.now.number ((now : ℕ) × (seal_of round.now ≡ Some now) × EntersTooLate setup.now.network.now setup.now.settings.now.dwell now drive.book.state.vehicles drive.courses.items) (K.took first keeper.old) (K.took first keeper.new) fault) }
 {
     match driven_of(rt, alloc, setup, &drive, round) {
-        Ok(driven) => run_driven(rt, alloc, drive, round, &driven, setup, keeper),
+        Ok(driven) => {
+            let next = run_driven(rt, alloc, drive, round, &driven, setup, keeper);
+            drop(driven);
+            next
+        }
         Err(stopped) => {
             drop(drive);
             Err(stopped_at(stopped, round.number()))

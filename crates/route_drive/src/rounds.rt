@@ -43,12 +43,18 @@ pub(crate) fn driven_round<W: Ways, D: Drafter, G: Gate>(
         let vehicles = state.vehicles.as_slice();
         match enter_all(rt, alloc, &mut driven, setup, now, vehicles, courses) {
             Ok(()) => {}
-            Err(stopped) => return Err(stopped),
+            Err(stopped) => {
+                drop(driven);
+                return Err(stopped);
+            }
         }
     }
     match copy_lanes(&mut driven, round) {
         Ok(()) => Ok(driven),
-        Err(_) => Err(Stopped::OutOfMemory),
+        Err(_) => {
+            drop(driven);
+            Err(Stopped::OutOfMemory)
+        }
     }
 }
 
@@ -96,7 +102,10 @@ pub(crate) fn last_round(
         let course = &courses[k];
         match enter_left(&mut round, vehicle.id, course.stops.as_slice()) {
             Ok(()) => {}
-            Err(stopped) => return Err(stopped),
+            Err(stopped) => {
+                drop(round);
+                return Err(stopped);
+            }
         }
     }
     Ok(round)

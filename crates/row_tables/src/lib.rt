@@ -28,14 +28,12 @@ mod draws;
 pub mod fixed_point;
 pub mod lists;
 mod row_table;
-mod share;
 
 pub use ascent::{ascend, first_multipliers};
 pub use draft::{Decision, Draft, DraftNode, Drafter};
 pub use draws::Draws;
 use pool_base::OutOfMemory;
 pub use row_table::RowTable;
-pub use share::Share;
 
 /// What a call makes, unless memory is refused.
 pub type Made<T> = Result<T, OutOfMemory>;

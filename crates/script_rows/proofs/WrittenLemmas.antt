@@ -1,5 +1,5 @@
-use Rattle.std.proofs.Common.{◌≡◌, ℕ, ◌+◌, List, [], ◌∷◌, ◌++◌, refl, sym, ap, ◌∙◌}
-use Rattle.script_rows.proofs.Common.{Stream, Field, csv_line, csv_lines, Part, plain, both, Writes}
+use Rattle.std.proofs.Common.{◌≡◌, ℕ, ◌+◌, List, [], ◌∷◌, ◌++◌, refl, sym, ap, ◌∙◌, add-one}
+use Rattle.script_rows.proofs.Common.{Stream, Field, csv_line, csv_lines, Part, plain, both, each, Writes}
 use Rattle.std.proofs.lemmas.List.{append-nil, append_assoc}
 use Rattle.std.proofs.lemmas.List.Concat.{flat_map-append}
 
@@ -20,3 +20,11 @@ Writes-both first second old mid new s t u here rest = record {
       ∙ ap (λ (x : List ℕ). old ++ x) (sym (flat_map-append csv_line (first s).0 (second (first s).1).0));
   left = rest.left ∙ ap (λ (v : Stream). (second v).1) here.left;
 }
+
+-- no part was written
+pub Writes-none : (parts : ℕ → Part) (old : List ℕ) (s : Stream) → Writes (each parts 0) old old s s
+Writes-none parts old s = record { text = sym (append-nil old); left = refl }
+
+-- one more part was written
+pub Writes-next : (parts : ℕ → Part) (n : ℕ) (old mid new : List ℕ) (s t u : Stream) → Writes (each parts n) old mid s t → Writes (parts n) mid new t u → Writes (each parts (n + 1)) old new s u
+Writes-next parts n old mid new s t u before here = rw add-one (Writes-both (each parts n) (parts n) old mid new s t u before here)

@@ -1,11 +1,18 @@
 -- Hops of a network's arcs, ahead and back.
-use Rattle.std.proofs.Common.{◌≡◌, ◌≢◌, ℕ, ◌+◌, ◌<◌, ◌≤◌, ◌⊎◌, List, [], ◌∷◌, ◌++◌, length, get_or, set, map, All, Contains, sym, ap, ◌∙◌, subst, inl, inr, arith}
-use Rattle.travel_times.proofs.Common.{cases_eq, cases_lt, get_or_default, All-contains, Contains-get_or, Contains-append_left, Contains-push, Contains-push_cases, Arc, Hop, IsArcAmong, hop_of, leaving, turned, arc_from, AreHopsOf, AreNodeHops, TurnsHops, AreTurnedBefore, length-set, get_or-set_same, get_or-set_other}
+use Rattle.std.proofs.Common.{◌≡◌, ◌≢◌, ℕ, ◌+◌, ◌<◌, ◌≤◌, ◌⊎◌, List, [], ◌∷◌, ◌++◌, length, get_or, set, map, replicate, All, Contains, sym, ap, ◌∙◌, subst, inl, inr, arith}
+use Rattle.travel_times.proofs.Common.{cases_eq, cases_lt, get_or_default, get_or_past, get_or-replicate, length-replicate, All-contains, Contains-get_or, Contains-append_left, Contains-push, Contains-push_cases, Arc, Hop, IsArcAmong, hop_of, leaving, turned, arc_from, AreHopsOf, AreNodeHops, TurnsHops, AreTurnedBefore, length-set, get_or-set_same, get_or-set_other}
 use Rattle.travel_times.proofs.lemmas.SearchLemmas.{arc_of_hop, hop_of_arc, hops_among}
 use Rattle.travel_times.proofs.Turned.{turn_there, turn_back}
 
 abbrev pub none : Hop
 none = record { to = 0; seconds = 0 }
+
+-- as many nodes have no hops
+pub none_of : (n node : ℕ) → get_or {A = List Hop} (replicate n []) node [] ≡ []
+none_of n node = elim (cases_lt node n) [
+  | inl inside ↦ get_or-replicate {A = List Hop} n node [] [] inside
+  | inr past ↦ get_or_past (replicate n []) node [] (omega (arith, past, length-replicate {A = List Hop} n []))
+]
 
 -- an arc is known by its parts
 same_arc : (arc : Arc) (node : ℕ) (hop : Hop) → arc.from ≡ node → hop_of arc ≡ hop → arc ≡ arc_from node hop

@@ -1,5 +1,5 @@
-ghost use Rattle.std.specs.Prelude.{◌≡◌, ℕ, ◌<◌, ◌≤◌, ◌++◌, All, IfOk, OnOk, length, map, slice_index, slice_range};
-ghost use Rattle.road_network.specs.Roads.{hop_of, leaving};
+ghost use Rattle.std.specs.Prelude.{◌≡◌, ℕ, ◌<◌, ◌≤◌, ◌++◌, All, IfOk, OnOk, length, slice_index, slice_range};
+ghost use Rattle.road_network.specs.Roads.{leaving};
 ghost use Rattle.road_network.specs.Storage.{start_at};
 ghost use Rattle.travel_times.specs.Arcs.{AreArcsOf};
 
@@ -46,9 +46,18 @@ impl<'a> Arcs<'a> {
         requires { node < length self.now.ends.items }
         ensures { result.now ≡ slice_range self.now.hops.items (start_at self.now.ends.items node) (slice_index self.now.ends.items node) }
     {
-        let start = if node == 0 { 0 } else { self.ends[node - 1] };
+        let start = start_of(&self.ends, node);
         &self.hops[start..self.ends[node]]
     }
+}
+
+/// Where the hops of a node begin.
+#[inline]
+fn start_of(ends: &[usize], node: usize) -> usize
+    requires { node < length ends.now }
+    ensures { result ≡ start_at ends.now node }
+{
+    if node == 0 { 0 } else { ends[node - 1] }
 }
 
 /// Appends these hops.

@@ -1,5 +1,5 @@
 //! Labels from elsewhere, judged.
-ghost use Rattle.std.specs.Prelude.{◌≡◌, ◌≢◌, ◌↔◌, ℕ, ◌<◌, [], IfErr, IfOk, IfSome, IfNone, IsTrue, length, slice_index_or};
+ghost use Rattle.std.specs.Prelude.{◌≡◌, ◌↔◌, ◌<◌, IfErr, IfOk, IfSome, IfNone, IsTrue, length};
 ghost use Rattle.travel_times.specs.Fault.{IsLabelFault};
 ghost use Rattle.travel_times.specs.Labels.{AreLabelsOf};
 ghost use Rattle.travel_times.specs.work.Difference.{IsFirstDifference};

@@ -1,5 +1,5 @@
 //! What a search found becomes hubs of labels.
-ghost use Rattle.std.specs.Prelude.{◌≡◌, ◌≢◌, ℕ, ◌<◌, [], All, Contains, OnOk, length, slice_index, slice_index_or};
+ghost use Rattle.std.specs.Prelude.{◌≡◌, ◌≢◌, ℕ, ◌<◌, [], All, OnOk, length, slice_index, slice_index_or};
 ghost use Rattle.pool_base.specs.TravelTime.{never};
 ghost use Rattle.travel_times.specs.work.Drafts.{GainsHub, HandsOver};
 

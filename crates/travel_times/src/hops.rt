@@ -1,6 +1,6 @@
 //! The arcs of a network by the node that they leave, or by the node that they reach.
-ghost use Rattle.std.specs.Prelude.{◌≡◌, ◌<◌, ◌≤◌, ◌++◌, ◌∷◌, [], true, false, All, IfOk, OnOk, length, map, replicate};
-ghost use Rattle.road_network.specs.Roads.{IsNetwork, hop_of, leaving};
+ghost use Rattle.std.specs.Prelude.{◌≡◌, ◌<◌, ◌++◌, ◌∷◌, [], true, false, All, IfOk, OnOk, length, replicate};
+ghost use Rattle.road_network.specs.Roads.{leaving};
 ghost use Rattle.travel_times.specs.work.Hops.{AreNodeHops, TurnsHops, directed};
 
 use crate::short_hop::ShortHop;
@@ -63,23 +63,23 @@ pub(crate) fn hops_ahead(alloc: Global, network: &Network) -> Result<Vec<NodeHop
     ensures { IfOk result (λ hops. AreNodeHops (directed false network.now.arcs) (length network.now.nodes) hops.items) }
 {
     let nodes = network.node_count();
-    let mut hops = Vec::with_capacity(alloc, nodes)?;
+    let mut hops = no_hops(alloc, nodes)?;
     for node in 0..nodes {
-        hops.push(copy_of(alloc, network.arcs_from(node))?)?;
+        copy_hops(&mut hops[node], network.arcs_from(node))?;
     }
     Ok(hops)
 }
 
-/// The same hops in half the room.
-fn copy_of(alloc: Global, leaving: &[Hop]) -> Result<NodeHops, OutOfMemory>
-    requires { All (λ hop. hop.to < 100000) leaving.now }
-    ensures { IfOk result (λ hops. hops ≡ leaving.now) }
+/// Fills a list of hops with the same in half the room.
+fn copy_hops(hops: &mut NodeHops, leaving: &[Hop]) -> Result<(), OutOfMemory>
+    requires few { All (λ hop. hop.to < 100000) leaving.now }
+    requires none { hops.old ≡ [] }
+    ensures { OnOk result (hops.new ≡ leaving.now) }
 {
-    let mut hops = NodeHops::empty(alloc);
     for hop in leaving {
         hops.push(ShortHop::of(*hop))?;
     }
-    Ok(hops)
+    Ok(())
 }
 
 /// The hops of the arcs that reach each node, back to where they begin.

@@ -1,8 +1,8 @@
 //! A search from a node that goes no further where labels tell of a way already.
-ghost use Rattle.std.specs.Prelude.{◌≡◌, ℕ, ◌+◌, ◌<◌, ◌≤◌, false, [], All, Contains, OnOk, length, slice_index, slice_index_or};
-ghost use Rattle.pool_base.specs.TravelTime.{longest, never};
+ghost use Rattle.std.specs.Prelude.{◌≡◌, ℕ, ◌<◌, ◌≤◌, false, All, Contains, OnOk, length, slice_index};
+ghost use Rattle.pool_base.specs.TravelTime.{never};
 ghost use Rattle.road_network.specs.Roads.{IsArcAmong};
-ghost use Rattle.travel_times.specs.Search.{RelaxesHops, waits};
+ghost use Rattle.travel_times.specs.Search.{waits};
 ghost use Rattle.travel_times.specs.work.Hops.{AreNodeHops};
 ghost use Rattle.travel_times.specs.work.Pruned.{IsPruned};
 

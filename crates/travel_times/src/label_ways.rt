@@ -1,10 +1,11 @@
 //! Travel times from labels.
-ghost use Rattle.std.specs.Prelude.{◌≡◌, ℕ, ◌+◌, ◌*◌, ◌<◌, ◌≤◌, All, IfOk, length};
+ghost use Rattle.std.specs.Prelude.{◌≡◌, ◌+◌, ◌*◌, ◌<◌, ◌≤◌, All, IfOk, length};
 ghost use Rattle.road_network.specs.Roads.{Roads};
 ghost use Rattle.travel_times.specs.Labels.{AreLabelsOf};
 ghost use Rattle.travel_times.specs.work.Cells.{AreCells};
 
 use crate::labels::Labels;
+use crate::search::no_ways;
 use crate::table::{indexes_of, rows_of_a_piece, table_of_times};
 use crate::ways::Ways;
 use pool_base::{NodeId, OutOfMemory, Times};
@@ -80,7 +81,7 @@ fn cells_between(
     ensures times { IfOk result (λ cells. (roads : Roads) → AreLabelsOf roads labels.entry.now → AreCells roads.arcs points.entry.now 0 cells.items) }
 {
     let count = points.len() * points.len();
-    let mut cells = vec![in alloc; Times::NEVER; count]?;
+    let mut cells = no_ways(alloc, count)?;
     let rows = rows_of_a_piece(points.len(), workers as usize, count < FEW);
     write_table(rt, labels, points, (rows * points.len()).max(1), &mut cells);
     Ok(cells)

@@ -1,4 +1,4 @@
-ghost use Rattle.std.specs.Prelude.{◌≡◌, ℕ, ◌+◌, ◌<◌, ◌≤◌, false, All, Contains, IfOk, length, map, replicate, slice_index};
+ghost use Rattle.std.specs.Prelude.{◌≡◌, ℕ, ◌+◌, ◌<◌, ◌≤◌, false, All, Contains, IfOk, length, map, slice_index};
 ghost use Rattle.pool_base.specs.TravelTime.{longest};
 ghost use Rattle.road_network.specs.Roads.{index_in};
 ghost use Rattle.road_network.specs.Walk.{IsTimeBetween};
@@ -7,7 +7,7 @@ ghost use Rattle.travel_times.specs.Table.{AreTravelTimes};
 ghost use Rattle.travel_times.specs.work.Table.{AreRows};
 
 use crate::rows::push_row;
-use crate::search::{LONGEST, first_near};
+use crate::search::{LONGEST, first_near, no_ways, none_waiting};
 use crate::table::{indexes_of, table_of};
 use pool_base::{NodeId, OutOfMemory, Times};
 use road_network::{Hop, Network};
@@ -50,7 +50,7 @@ fn seconds_from(alloc: Global, network: &Network, start: usize) -> Result<Vec<u3
     ensures times { IfOk result (λ seconds. (goal : ℕ) → goal < length network.now.nodes → IsTimeBetween network.now.arcs start goal (slice_index seconds.items goal)) }
 {
     let nodes = network.node_count();
-    let mut seconds = unreached(alloc, nodes)?;
+    let mut seconds = no_ways(alloc, nodes)?;
     let mut waiting = none_waiting(alloc, nodes)?;
     seconds[start] = 0;
     waiting[start] = true;
@@ -60,20 +60,6 @@ fn seconds_from(alloc: Global, network: &Network, start: usize) -> Result<Vec<u3
         relax(network.arcs_from(node), here, &mut seconds, &mut waiting);
     }
     Ok(seconds)
-}
-
-/// As many nodes that no walk reached yet.
-fn unreached(alloc: Global, nodes: usize) -> Result<Vec<u32>, OutOfMemory>
-    ensures { IfOk result (λ seconds. seconds.items ≡ replicate nodes u32.MAX) }
-{
-    Ok(vec![in alloc; Times::NEVER; nodes]?)
-}
-
-/// As many nodes of which none waits.
-fn none_waiting(alloc: Global, nodes: usize) -> Result<Vec<bool>, OutOfMemory>
-    ensures { IfOk result (λ waiting. waiting.items ≡ replicate nodes false) }
-{
-    Ok(vec![in alloc; false; nodes]?)
 }
 
 /// Relaxes the arcs of a node.

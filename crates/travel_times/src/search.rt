@@ -46,8 +46,8 @@ impl Search {
             self.waiting.fill(false);
             return Ok(());
         }
-        self.seconds = vec![in self.alloc; Times::NEVER; nodes]?;
-        self.waiting = vec![in self.alloc; false; nodes]?;
+        self.seconds = no_ways(self.alloc, nodes)?;
+        self.waiting = none_waiting(self.alloc, nodes)?;
         Ok(())
     }
 
@@ -88,6 +88,20 @@ impl Search {
     }
 }
 
+/// As many numbers of seconds that tell of no way.
+pub(crate) fn no_ways(alloc: Global, count: usize) -> Result<Vec<u32>, OutOfMemory>
+    ensures { IfOk result (λ seconds. seconds.items ≡ replicate count u32.MAX) }
+{
+    Ok(vec![in alloc; Times::NEVER; count]?)
+}
+
+/// As many nodes of which none waits.
+pub(crate) fn none_waiting(alloc: Global, nodes: usize) -> Result<Vec<bool>, OutOfMemory>
+    ensures { IfOk result (λ waiting. waiting.items ≡ replicate nodes false) }
+{
+    Ok(vec![in alloc; false; nodes]?)
+}
+
 /// How far a search goes: as far as its goal, if there is one.
 fn reach(goal: Option<usize>, seconds: &[u32]) -> u32
     requires { IfSome goal (λ goal. goal < length seconds.now) }
@@ -111,13 +125,23 @@ pub fn next_near(ring: &mut Ring, waiting: &mut [bool], seconds: &[u32], most: u
     while let Some(node) = ring.pop() {
         let node = node as usize;
         if node < waiting.len() && waiting[node] && seconds[node] <= most {
-            waiting[node] = false;
+            take(waiting, node);
             return Some(node);
         }
     }
     let node = first_near(waiting, seconds, most)?;
-    waiting[node] = false;
+    take(waiting, node);
     Some(node)
+}
+
+/// Takes a node that waits: it waits no longer.
+#[inline]
+pub(crate) fn take(waiting: &mut [bool], node: usize)
+    requires within { node < length waiting.old }
+    requires waits { waits waiting.old node ≡ true }
+    ensures { IsNextTaken waiting.old waiting.new node }
+{
+    waiting[node] = false;
 }
 
 /// The first node that waits and has at most so many seconds.

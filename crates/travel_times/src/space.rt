@@ -1,5 +1,5 @@
 //! The work space of pruned searches.
-ghost use Rattle.std.specs.Prelude.{◌≡◌, ℕ, ◌<◌, ◌≤◌, All, IfOk, OnOk, length};
+ghost use Rattle.std.specs.Prelude.{◌≡◌, ◌<◌, ◌≤◌, All, IfOk, OnOk, length};
 ghost use Rattle.road_network.specs.Roads.{IsArcAmong};
 ghost use Rattle.travel_times.specs.work.Adding.{AddsHub, IsClean};
 ghost use Rattle.travel_times.specs.work.Hops.{AreNodeHops};
@@ -9,8 +9,9 @@ use crate::hops::NodeHops;
 use crate::hub_search::{Known, search};
 use crate::label::ShortLabel;
 use crate::ring::Ring;
+use crate::search::{no_ways, none_waiting};
 use crate::via::{clear, spread};
-use pool_base::{OutOfMemory, Times};
+use pool_base::OutOfMemory;
 use std::alloc::Global;
 
 /// What a search works on, made once and clean between searches.
@@ -33,10 +34,10 @@ impl Space {
         ensures { IfOk result (λ s. IsClean nodes s.seconds.items s.waiting.items s.taken.items s.via.items) }
     {
         Ok(Space {
-            seconds: vec![in alloc; Times::NEVER; nodes]?,
-            waiting: vec![in alloc; false; nodes]?,
+            seconds: no_ways(alloc, nodes)?,
+            waiting: none_waiting(alloc, nodes)?,
             taken: Vec::new(alloc),
-            via: vec![in alloc; Times::NEVER; nodes]?,
+            via: no_ways(alloc, nodes)?,
             ring: Ring::new(alloc)?,
         })
     }

@@ -1,5 +1,4 @@
-ghost use Rattle.std.specs.Prelude.{◌≡◌, ℕ, ◌+◌, ◌*◌, ◌<◌, ◌≤◌, ◌↔◌, All, IsTrue, Contains, IfOk, length, map, replicate, slice_index};
-ghost use Rattle.pool_base.specs.TravelTime.{never};
+ghost use Rattle.std.specs.Prelude.{◌≡◌, ℕ, ◌+◌, ◌*◌, ◌<◌, ◌≤◌, ◌↔◌, All, IsTrue, Contains, IfOk, length, map, slice_index};
 ghost use Rattle.road_network.specs.Roads.{index_in};
 ghost use Rattle.road_network.specs.Walk.{IsTimeBetween};
 ghost use Rattle.travel_times.specs.Table.{AreTravelTimes};
@@ -7,6 +6,7 @@ ghost use Rattle.travel_times.specs.work.Table.{AreRows};
 
 use crate::arcs::Arcs;
 use crate::rows::{are_computed, write_pieces};
+use crate::search::no_ways;
 use pool_base::{NodeId, OutOfMemory, Times};
 use road_network::Network;
 use std::alloc::Global;
@@ -126,7 +126,7 @@ fn cells_between(
 {
     let arcs = Arcs::of(alloc, network)?;
     let count = points.len();
-    let mut cells = unwritten(alloc, count * count)?;
+    let mut cells = no_ways(alloc, count * count)?;
     if count == 0 {
         return Ok(cells);
     }
@@ -137,11 +137,4 @@ fn cells_between(
         return Err(OutOfMemory);
     }
     Ok(cells)
-}
-
-/// As many cells that tell of no way.
-fn unwritten(alloc: Global, cells: usize) -> Result<Vec<u32>, OutOfMemory>
-    ensures { IfOk result (λ list. list.items ≡ replicate cells never) }
-{
-    Ok(vec![in alloc; Times::NEVER; cells]?)
 }

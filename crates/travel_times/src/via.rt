@@ -1,5 +1,5 @@
 //! A node's own label, spread over all nodes, so that a hub is found by its index.
-ghost use Rattle.std.specs.Prelude.{◌≡◌, ℕ, ◌+◌, ◌<◌, ◌≤◌, ◌↔◌, All, IsTrue, length, slice_index, slice_index_or};
+ghost use Rattle.std.specs.Prelude.{◌≡◌, ℕ, ◌+◌, ◌<◌, ◌↔◌, All, IsTrue, length};
 ghost use Rattle.pool_base.specs.TravelTime.{never};
 ghost use Rattle.travel_times.specs.work.Drafts.{HasSpread, IsAmongHubs};
 ghost use Rattle.travel_times.specs.work.Pruned.{IsTold};

@@ -1,6 +1,7 @@
 pub mod RowOrder
 pub mod GraphSteps
 pub mod MoreRows
+pub mod Lists
 pub mod LevelSteps
 pub mod Runs
 pub mod GraphFaults

@@ -1,4 +1,4 @@
-ghost use Rattle.std.specs.Prelude.{◌≡◌, ◌+◌, ◌-◌, ◌<◌, ◌≤◌, ◌++◌, ◌∷◌, [], ◌↔◌, IsTrue, IsFalse, All, length, take, remove, slice_index, slice_index_or};
+ghost use Rattle.std.specs.Prelude.{◌≡◌, ◌+◌, ◌-◌, ◌<◌, ◌≤◌, ◌++◌, ◌∷◌, [], ◌↔◌, IsTrue, IsFalse, All, length, take, remove, slice_index_or};
 ghost use Rattle.trip_graph.specs.Trip.{trips_of};
 ghost use Rattle.trip_graph.specs.work.Level.{IsBelow};
 ghost use Rattle.trip_graph.specs.work.TripGrowth.{CanGrow, serves};

@@ -1,8 +1,8 @@
-ghost use Rattle.std.specs.Prelude.{◌≡◌, ◌+◌, ◌<◌, ◌≤◌, IfOk, length};
+ghost use Rattle.std.specs.Prelude.{◌≡◌, ◌+◌, ◌<◌, ◌≤◌, IfOk};
 ghost use Rattle.plan_rules.specs.declared.fault.GraphFault.TheVariants.{OutOfMemory as NoMemory};
 ghost use Rattle.pool_base.specs.Times.{point_count, travel_time};
 ghost use Rattle.stop_orders.specs.Sound.{IsSound};
-ghost use Rattle.trip_graph.specs.work.Levels.{AreLevels, level_total, AreRowsUpTo};
+ghost use Rattle.trip_graph.specs.work.Levels.{AreLevels, level_total};
 ghost use Rattle.trip_graph.specs.Answer.{IsAnswer, IsTripGraphOf};
 
 use crate::all_levels::all_levels;
@@ -13,7 +13,7 @@ use crate::rider_rider_graph::rider_rider;
 use crate::rows::{add_vehicle, held_row};
 use crate::vehicle_trips::VehicleTrips;
 use crate::workers::Workers;
-use plan_rules::{GraphFault, TripGraph, TripRow};
+use plan_rules::{GraphFault, TripGraph};
 use pool_base::{OutOfMemory, Sequence, Times};
 use rider_limits::Settings;
 use std::alloc::Global;
@@ -53,9 +53,10 @@ pub fn grow_graph<G: Gate>(
         gate,
     };
     let room = u64::from(settings.pairs);
-    let Some(levels) = all_levels(alloc, &workers, &growth, settings.trip, room)? else {
+    let mut levels = Vec::new(alloc);
+    if !all_levels(alloc, &workers, &growth, settings.trip, room, &mut levels)? {
         return Ok(GraphAnswer::Overflow);
-    };
+    }
     let rv = edges_of(alloc, levels[1].as_slice())?;
     let graph = graph_of(alloc, settled, times, settings, &levels)?;
     Ok(GraphAnswer::Graph {

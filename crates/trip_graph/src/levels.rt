@@ -1,11 +1,10 @@
-ghost use Rattle.std.specs.Prelude.{◌≡◌, ℕ, ◌+◌, ◌-◌, ◌<◌, ◌≤◌, [], IfOk, MatchOption, OnOk, length};
+ghost use Rattle.std.specs.Prelude.{◌≡◌, ◌+◌, ◌-◌, ◌<◌, ◌≤◌, [], IfOk, MatchOption, OnOk, length};
 ghost use Rattle.trip_graph.specs.work.Growth.{CanGrowBatch, CanGrowLevel, batch_of, tau_of};
 ghost use Rattle.trip_graph.specs.work.Levels.{AreLevelsUpTo, HasMoreOfSize, row_total};
 ghost use Rattle.trip_graph.specs.work.Runs.{AreEmpty, AreLevelsOf, AreNext, AreWithin};
 
 use crate::batch_growth::BatchGrowth;
 use crate::level::Level;
-use crate::level_rows::LevelRows;
 use crate::level_run::LevelRun;
 use crate::pieces::empty_piece;
 use crate::run::next_run;
@@ -17,26 +16,30 @@ use std::thread::Threads;
 use stop_orders::laws;
 use worker_gate::Gate;
 
-/// The rows of all vehicles without riders.
-pub(crate) fn first_level(alloc: Global, growth: &BatchGrowth<'_>) -> Result<LevelRows, OutOfMemory>
-    requires { CanGrowBatch growth.now }
-    ensures level { IfOk result (λ level. AreLevelsUpTo (tau_of growth.now) (batch_of growth.now) 0 (length (batch_of growth.now).vehicles) level.lists.items) }
-    ensures total { IfOk result (λ level. level.total ≡ row_total level.lists.items) }
-    ensures few { IfOk result (λ level. level.total ≤ 500) }
+/// Lists the rows of all vehicles without riders, and gives how many they are.
+pub(crate) fn first_level(
+    alloc: Global,
+    growth: &BatchGrowth<'_>,
+    lists: &mut Vec<VehicleTrips>,
+) -> Result<u64, OutOfMemory>
+    requires can { CanGrowBatch growth.now }
+    requires none { lists.old.items ≡ [] }
+    ensures { IfOk result (λ total. AreLevelsUpTo (tau_of growth.now) (batch_of growth.now) 0 (length (batch_of growth.now).vehicles) lists.new.items
+        × (total ≡ row_total lists.new.items) × (total ≤ 500)) }
 {
     let count = growth.settled.vehicles.as_slice().len();
-    let mut lists = Vec::with_capacity(alloc, count)?;
     let mut total = 0;
     for vehicle in 0..count {
         let trips = empty_piece(alloc, growth, vehicle)?;
         total += trips.rows().len() as u64;
         lists.push(trips)?;
     }
-    Ok(LevelRows { lists, total })
+    Ok(total)
 }
 
-/// The rows of all vehicles of `size + 1` riders, from those of `size` riders; `None` exactly where they are
-/// more than `room`. The vehicles that have rows of `size` riders are grown in runs, each by all workers.
+/// Lists the rows of all vehicles of `size + 1` riders, from those of `size` riders, and gives how many they are; `None`
+/// exactly where they are more than `room`. The vehicles that have rows of `size` riders are grown in runs, each by all
+/// workers.
 pub(crate) fn next_level<R: Threads + Sync, G: Gate>(
     alloc: Global,
     workers: &Workers<'_, R, G>,
@@ -44,15 +47,16 @@ pub(crate) fn next_level<R: Threads + Sync, G: Gate>(
     size: u8,
     below: &[VehicleTrips],
     room: u64,
-) -> Result<Option<LevelRows>, OutOfMemory>
+    lists: &mut Vec<VehicleTrips>,
+) -> Result<Option<u64>, OutOfMemory>
     requires can { CanGrowBatch growth.now }
     requires size { size < 6 }
     requires below { AreLevelsUpTo (tau_of growth.now) (batch_of growth.now) size (length (batch_of growth.now).vehicles) below.now }
+    requires none { lists.old.items ≡ [] }
     ensures { IfOk result (λ answer. MatchOption answer (HasMoreOfSize (tau_of growth.now) (batch_of growth.now) (size + 1) room)
-        (λ level. AreLevelsUpTo (tau_of growth.now) (batch_of growth.now) (size + 1) (length (batch_of growth.now).vehicles) level.lists.items
-        × (level.total ≡ row_total level.lists.items) × (level.total ≤ room))) }
+        (λ total. AreLevelsUpTo (tau_of growth.now) (batch_of growth.now) (size + 1) (length (batch_of growth.now).vehicles) lists.new.items
+        × (total ≡ row_total lists.new.items) × (total ≤ room))) }
 {
-    let mut lists = Vec::with_capacity(alloc, below.len())?;
     let mut total = 0;
     'runs: while lists.len() < below.len() {
         let next = next_run(below, lists.len());
@@ -65,12 +69,12 @@ pub(crate) fn next_level<R: Threads + Sync, G: Gate>(
             found: total,
         };
         let levels = grow_run(alloc, workers, &run)?;
-        let Some(found) = add_run(alloc, &run, levels, next.end, &mut lists)? else {
+        let Some(found) = add_run(alloc, &run, levels, next.end, lists)? else {
             return Ok(None);
         };
         total = found;
     }
-    Ok(Some(LevelRows { lists, total }))
+    Ok(Some(total))
 }
 
 /// Grows the vehicles of a run, by all workers.

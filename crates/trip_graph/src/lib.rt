@@ -40,7 +40,6 @@ mod grown;
 mod growth;
 mod level;
 mod level_growth;
-mod level_rows;
 mod level_run;
 mod levels;
 mod pieces;

@@ -1,4 +1,4 @@
-ghost use Rattle.std.specs.Prelude.{◌≡◌, ℕ, ◌-◌, ◌<◌, ◌≤◌, IfOk, Contains, length};
+ghost use Rattle.std.specs.Prelude.{◌≡◌, ◌-◌, ◌<◌, ◌≤◌, IfOk, length};
 ghost use Rattle.trip_graph.specs.work.Growth.{CanGrowBatch, batch_of, tau_of};
 ghost use Rattle.trip_graph.specs.Rows.{AreRowsOfSize, IsLevelOf};
 

@@ -1,4 +1,4 @@
-ghost use Rattle.std.specs.Prelude.{◌≡◌, ◌+◌, ◌<◌, ◌≤◌, min, ◌⊎◌, IfOk, OnOk, MatchBool, length};
+ghost use Rattle.std.specs.Prelude.{◌≡◌, ◌+◌, ◌<◌, ◌≤◌, min, IfOk, OnOk, MatchBool, length};
 ghost use Rattle.pool_base.specs.Times.{point_count, travel_time};
 ghost use Rattle.stop_orders.specs.Task.{IsTask, IsServable};
 ghost use Rattle.stop_orders.specs.Settled.{IsRrEdge, rider_at, pair_task};

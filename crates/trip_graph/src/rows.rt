@@ -1,4 +1,4 @@
-ghost use Rattle.std.specs.Prelude.{◌≡◌, ℕ, ◌+◌, ◌<◌, ◌≤◌, ◌^◌, ◌++◌, [], OnOk, IfOk, MatchBool, MatchOption, None, length, map, slice_index_or};
+ghost use Rattle.std.specs.Prelude.{◌≡◌, ℕ, ◌+◌, ◌<◌, ◌≤◌, ◌^◌, ◌++◌, [], OnOk, MatchBool, MatchOption, None, length, map, slice_index_or};
 ghost use Rattle.plan_rules.specs.Graph.{no_row};
 ghost use Rattle.trip_graph.specs.work.Rows.{trip_row, vehicle_rows};
 

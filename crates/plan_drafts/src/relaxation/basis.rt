@@ -136,10 +136,10 @@ impl Basis {
             write_over(&mut self.columns, &self.good)?;
             self.try_factor(table)?;
         }
-        self.made = Some((self.factors.len(), self.factors.size()));
+        self.made = Some((self.factors.pivots.len(), self.factors.size()));
         self.entering.load(&self.capacities);
         self.factors.solve(&mut self.entering);
-        copy(self.entering.numbers(), &mut self.levels);
+        copy(&self.entering.numbers, &mut self.levels);
         Ok(is_good)
     }
 
@@ -155,14 +155,14 @@ impl Basis {
             self.entering.set(place, ONE);
         }
         self.factors.solve(&mut self.entering);
-        copy(self.entering.numbers(), parts);
+        copy(&self.entering.numbers, parts);
     }
 
     /// Computes the prices at which each place costs this.
     pub fn find_prices(&mut self, costs: &[i64], prices: &mut [i64]) {
         self.numbers.load(costs);
         self.factors.price(&mut self.numbers);
-        copy(self.numbers.numbers(), prices);
+        copy(&self.numbers.numbers, prices);
     }
 
     /// Writes the inverse's row of a place over the conditions.
@@ -244,7 +244,7 @@ impl Basis {
         let each = if conditions > MANY_CONDITIONS { 32 } else { 8 };
         let most = conditions.saturating_mul(each).saturating_add(2000);
         let most = most.max(size.saturating_sub(48_000));
-        let more = self.factors.len().saturating_sub(count);
+        let more = self.factors.pivots.len().saturating_sub(count);
         Ok(more < MOST_EXCHANGES && self.factors.size().saturating_sub(size) <= most)
     }
 
@@ -261,7 +261,7 @@ impl Basis {
     /// Whether columns were exchanged since the factors were made.
     pub fn is_exchanged(&self) -> bool {
         let (count, _) = self.made.unwrap_or((usize::MAX, 0));
-        self.factors.len() > count
+        self.factors.pivots.len() > count
     }
 }
 

@@ -16,7 +16,8 @@ const A_NUMBER: usize = 8;
 /// No column stands here.
 pub const NONE: u32 = u32::MAX;
 
-/// Columns of numbers, each with 64 marks of the places where it isn't 0.
+/// Columns of numbers, each with 64 marks of the places where it isn't 0: one without any of some marks meets none of
+/// their places.
 #[derive(Drop)]
 struct Columns {
     places: Lists,
@@ -62,16 +63,6 @@ impl Columns {
         self.places.end()
     }
 
-    fn len(&self) -> usize {
-        self.marks.len()
-    }
-
-    /// Whether a column isn't 0 at a place with one of these marks: without one it meets none of these places.
-    #[inline]
-    fn meets(&self, number: usize, marks: u64) -> bool {
-        item(&self.marks, number, 0) & marks != 0
-    }
-
     /// The places where a column isn't 0, and its numbers there.
     #[inline]
     fn column(&self, number: usize) -> (&[u32], &[i64]) {
@@ -86,7 +77,7 @@ impl Columns {
 #[derive(Drop)]
 pub struct Factors {
     /// At which place each column came in, and its number there.
-    pivots: Vec<(u32, i64)>,
+    pub pivots: Vec<(u32, i64)>,
     /// The other numbers of each column: of one of the triangles those at places where none had come in before it.
     columns: Columns,
     /// The numbers of the triangles' columns where others had come in before.
@@ -113,14 +104,9 @@ impl Factors {
 
     pub fn copy_from(&mut self, other: &Factors) -> Made<()> {
         write_over(&mut self.pivots, &other.pivots)?;
-        self.count(other.size());
+        self.work = self.work.wrapping_add(other.size() as u64);
         self.columns.copy_from(&other.columns)?;
         self.above.copy_from(&other.above)
-    }
-
-    /// How many columns came in.
-    pub fn len(&self) -> usize {
-        self.pivots.len()
     }
 
     /// How many numbers they have.
@@ -132,14 +118,14 @@ impl Factors {
     /// Has a column of ones be the next of the triangles, of which no column before changes anything. Where a column
     /// came in before is placed.
     pub fn add_ones(&mut self, place: usize, places: &[u32], placed: &[u32]) -> Made<()> {
-        if places.len() > 1 {
-            for other in places {
-                self.part(place, *other as usize, ONE, placed)?;
-            }
-            self.above.end()?;
-            self.end(place, ONE)?;
+        if places.len() <= 1 {
+            return Ok(());
         }
-        Ok(())
+        for other in places {
+            self.part(place, *other as usize, ONE, placed)?;
+        }
+        self.above.end()?;
+        self.end(place, ONE)
     }
 
     /// Has a reduced column be the next of the triangles.
@@ -179,7 +165,7 @@ impl Factors {
 
     /// Writes numbers over the places where numbers over the conditions stand.
     pub fn solve(&mut self, column: &mut Sparse) {
-        let count = self.above.len();
+        let count = self.above.marks.len();
         self.reduce(column);
         for number in (0..count).rev() {
             let value = column.at(self.pivot(number).0);
@@ -195,13 +181,14 @@ impl Factors {
 
     /// Takes the first triangle's columns from a column over the conditions, as far as there are any.
     pub fn reduce(&mut self, column: &mut Sparse) {
-        let end = self.above.len();
+        let end = self.above.marks.len();
         self.take_from(column, 0, end);
     }
 
     /// Takes these columns from one, in their order.
     fn take_from(&mut self, column: &mut Sparse, first: usize, end: usize) {
-        self.count(end.saturating_sub(first) / A_NUMBER);
+        let passed = end.saturating_sub(first) / A_NUMBER;
+        self.work = self.work.wrapping_add(passed as u64);
         for number in first..end {
             let (place, divisor) = self.pivot(number);
             let value = column.at(place);
@@ -217,7 +204,7 @@ impl Factors {
 
     /// Writes prices of the conditions in place of the costs of the places.
     pub fn price(&mut self, costs: &mut Sparse) {
-        let count = self.above.len();
+        let count = self.above.marks.len();
         let mut marks = 0;
         for place in costs.places() {
             marks |= mark_of(place);
@@ -225,7 +212,7 @@ impl Factors {
         let end = self.pivots.len();
         marks = self.price_by(costs, count, end, marks);
         for number in 0..count {
-            if self.above.meets(number, marks) {
+            if item(&self.above.marks, number, 0) & marks != 0 {
                 let place = self.pivot(number).0;
                 let (places, numbers) = self.above.column(number);
                 let rest = costs.less_products(costs.at(place), places, numbers);
@@ -240,11 +227,12 @@ impl Factors {
     /// Prices the places of these columns, the last one first. The marks of all that isn't 0 then.
     fn price_by(&mut self, costs: &mut Sparse, first: usize, end: usize, marks: u64) -> u64 {
         let mut marks = marks;
-        self.count(end.saturating_sub(first) / A_NUMBER);
+        let passed = end.saturating_sub(first) / A_NUMBER;
+        self.work = self.work.wrapping_add(passed as u64);
         for number in (first..end).rev() {
             let (place, divisor) = self.pivot(number);
             let mut rest = costs.at(place);
-            if self.columns.meets(number, marks) {
+            if item(&self.columns.marks, number, 0) & marks != 0 {
                 let (places, numbers) = self.columns.column(number);
                 rest = costs.less_products(rest, places, numbers);
                 self.work = self.work.wrapping_add(places.len() as u64);
@@ -255,12 +243,6 @@ impl Factors {
             costs.set(place, quotient(rest, divisor));
         }
         marks
-    }
-
-    /// Counts so many numbers as gone through.
-    #[inline]
-    fn count(&mut self, numbers: usize) {
-        self.work = self.work.wrapping_add(numbers as u64);
     }
 
     #[inline]

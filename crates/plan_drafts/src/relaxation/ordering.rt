@@ -4,7 +4,7 @@
 //! column: both need no arithmetic. The rest comes by rising size.
 use crate::relaxation::factors::{Factors, NONE};
 use crate::relaxation::sparse::Sparse;
-use row_tables::fixed_point::{ONE, item, reset, set_at};
+use row_tables::fixed_point::{ONE, item, reset, set_at, write_over};
 use row_tables::lists::{Lists, short};
 use row_tables::{Made, RowTable};
 use std::alloc::Global;
@@ -66,12 +66,12 @@ pub struct Ordering {
     columns: Side,
     conditions: Side,
     queue: Vec<u32>,
-    /// The number and the condition of each column in order, no condition for the rest.
-    order: Vec<(u32, u32)>,
+    /// The columns with a single condition left and the numbers of these, of which there are so many, and behind them
+    /// the conditions with a single column left and the numbers of these.
+    pairs: Vec<(u32, u32)>,
+    split: usize,
     /// How many conditions of each column of the rest are left, and its number.
     rest: Vec<(u32, u32)>,
-    /// The conditions with a single column left, and the numbers of these.
-    single: Vec<(u32, u32)>,
     /// The column at each condition.
     placed: Vec<u32>,
 }
@@ -82,9 +82,9 @@ impl Ordering {
             columns: Side::new(alloc),
             conditions: Side::new(alloc),
             queue: Vec::new(alloc),
-            order: Vec::new(alloc),
+            pairs: Vec::new(alloc),
+            split: 0,
             rest: Vec::new(alloc),
-            single: Vec::new(alloc),
             placed: Vec::new(alloc),
         }
     }
@@ -94,28 +94,36 @@ impl Ordering {
     pub fn factor(
         &mut self,
         table: &RowTable,
-        columns: &mut [u32],
+        columns: &mut Vec<u32>,
         factors: &mut Factors,
         numbers: &mut Sparse,
     ) -> Made<bool> {
         self.find(table, columns)?;
         factors.clear();
         reset(&mut self.placed, columns.len(), NONE)?;
-        for turn in 0..self.order.len() {
-            let (place, condition) = item(&self.order, turn, (NONE, NONE));
+        for turn in 0..columns.len() {
+            let (place, condition) = self.turn(turn);
             let place = place as usize;
             match self.enter(condition, place, factors, numbers)? {
                 None => return Ok(false),
                 Some(condition) => set_at(&mut self.placed, condition, item(columns, place, NONE)),
             }
         }
-        if self.order.len() < columns.len() {
-            return Ok(false);
-        }
-        for place in 0..columns.len() {
-            set_at(columns, place, item(&self.placed, place, NONE));
-        }
+        write_over(columns, &self.placed)?;
         Ok(true)
+    }
+
+    /// The number and the condition of the column that comes in at this turn, no condition for the rest.
+    fn turn(&self, turn: usize) -> (u32, u32) {
+        let (one, other) = item(&self.pairs, turn, (NONE, NONE));
+        if turn < self.split {
+            return (one, other);
+        }
+        if turn < self.pairs.len() {
+            return (other, one);
+        }
+        let turn = turn.saturating_sub(self.pairs.len());
+        (item(&self.rest, turn, (0, NONE)).1, NONE)
     }
 
     /// Has a column come in. At which condition.
@@ -154,18 +162,15 @@ impl Ordering {
             .transpose(&self.columns.lists, columns.len())?;
         self.columns.count_all()?;
         self.conditions.count_all()?;
-        self.single.clear();
-        self.order.clear();
+        self.pairs.clear();
         let (columns, conditions) = (&mut self.columns, &mut self.conditions);
-        peel(columns, conditions, &mut self.queue, &mut self.order)?;
-        peel(conditions, columns, &mut self.queue, &mut self.single)?;
+        peel(columns, conditions, &mut self.queue, &mut self.pairs)?;
+        self.split = self.pairs.len();
+        peel(conditions, columns, &mut self.queue, &mut self.pairs)?;
         self.order_rest()
     }
 
     fn order_rest(&mut self) -> Made<()> {
-        for pair in &self.single {
-            self.order.push((pair.1, pair.0))?;
-        }
         self.rest.clear();
         for place in 0..self.columns.lists.len() {
             let count = self.columns.count(place);
@@ -174,9 +179,6 @@ impl Ordering {
             }
         }
         self.rest.as_mut_slice().sort_unstable();
-        for other in &self.rest {
-            self.order.push((other.1, NONE))?;
-        }
         Ok(())
     }
 

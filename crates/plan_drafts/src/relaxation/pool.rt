@@ -12,7 +12,7 @@ pub struct Pool {
     pub is_in: Vec<bool>,
     /// For each place what its column costs and its conditions: they lie side by side, unlike those of a table,
     /// of which a pool has few rows.
-    costs: Vec<i64>,
+    pub costs: Vec<i64>,
     conditions: Lists,
     /// The same conditions, but none of a column that was forbidden when they were listed; and for each condition the
     /// places of the columns with it.
@@ -39,20 +39,16 @@ impl Pool {
         }
     }
 
-    pub fn has(&self, column: usize) -> bool {
-        item(&self.is_in, column, false)
-    }
-
     /// Takes in a column, where it isn't in yet.
     pub fn add(&mut self, table: &RowTable, column: usize, cost: i64) -> Made<()> {
-        if !item(&self.is_in, column, true) {
-            set_at(&mut self.is_in, column, true);
-            self.is_listed = false;
-            self.columns.push(short(column))?;
-            self.costs.push(cost)?;
-            self.conditions.push_list(table.conditions_of(column))?;
+        if item(&self.is_in, column, true) {
+            return Ok(());
         }
-        Ok(())
+        set_at(&mut self.is_in, column, true);
+        self.is_listed = false;
+        self.columns.push(short(column))?;
+        self.costs.push(cost)?;
+        self.conditions.push_list(table.conditions_of(column))
     }
 
     /// Presses the columns together that are in.
@@ -61,7 +57,7 @@ impl Pool {
         self.conditions.clear();
         for place in 0..self.columns.len() {
             let column = self.column(place);
-            if self.has(column) {
+            if item(&self.is_in, column, false) {
                 let cost = at(&self.costs, place);
                 set_at(&mut self.columns, count, short(column));
                 set_at(&mut self.costs, count, cost);
@@ -73,11 +69,6 @@ impl Pool {
         self.costs.truncate(count);
         self.is_listed = false;
         Ok(())
-    }
-
-    /// Has the column at a place cost this.
-    pub fn set_cost(&mut self, place: usize, cost: i64) {
-        set_at(&mut self.costs, place, cost);
     }
 
     /// The place at the cursor, which moves on, from the last place to the first.

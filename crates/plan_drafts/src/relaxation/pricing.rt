@@ -58,7 +58,7 @@ impl Relaxation {
             if !item(&self.is_forbidden, row, true) {
                 let cost = table.reduced_cost(&self.tried, row);
                 least = least.min(cost);
-                if cost < bar && !self.pool.has(row) {
+                if cost < bar && !item(&self.pool.is_in, row, false) {
                     offer(&mut self.offers, most_rows, (cost, short(row)))?;
                 }
             }

@@ -2,7 +2,8 @@
 use crate::relaxation::Relaxation;
 use row_tables::fixed_point::{ONE, times};
 use row_tables::lists::short;
-use row_tables::{Made, RowTable, Share};
+use row_tables::{Made, RowTable};
+use std::cmp::Reverse;
 
 /// Within so much of what it may be at most a solution counts as the best, in 1/1024 second.
 const NEAR: i64 = 200;
@@ -23,19 +24,17 @@ impl Relaxation {
         cost
     }
 
-    /// Lists the rows of which the solution chooses more than a hundredth.
-    pub fn find_shares(&mut self, table: &RowTable, shares: &mut Vec<Share>) -> Made<()> {
+    /// Lists the rows of which the solution chooses more than a hundredth, and no more than this.
+    pub fn find_shares(&mut self, table: &RowTable, most: i64) -> Made<()> {
         self.basis.find_parts(&mut self.parts);
-        shares.clear();
+        self.shares.clear();
         for (place, part) in self.parts.iter().enumerate() {
             let row = self.basis.column(place);
-            if row < table.row_count() && *part > ONE / 100 {
-                shares.push(Share {
-                    row: short(row),
-                    part: *part,
-                })?;
+            if row < table.row_count() && *part > ONE / 100 && *part <= most {
+                self.shares.push((Reverse(*part), short(row)))?;
             }
         }
+        self.shares.as_mut_slice().sort_unstable();
         Ok(())
     }
 

@@ -12,7 +12,7 @@ const WORD: usize = 64;
 /// meets all numbers that count.
 #[derive(Drop)]
 pub struct Sparse {
-    numbers: Vec<i64>,
+    pub numbers: Vec<i64>,
     marks: Vec<u64>,
 }
 
@@ -29,10 +29,6 @@ impl Sparse {
     pub fn make_space(&mut self, count: usize) -> Made<()> {
         reset(&mut self.numbers, count, 0)?;
         reset(&mut self.marks, count / WORD + 1, 0)
-    }
-
-    pub fn numbers(&self) -> &[i64] {
-        &self.numbers
     }
 
     #[inline]

@@ -241,23 +241,3 @@ module _ (wait now : ℕ) where
             let same = look_up-key (λ (r : BookRider). r.id) k riders r found in
             let at : find_rider r.id riders ≡ Some r = cc in
             grind arith
-
-    -- who stays
-    module _ (pool : List ℕ) (up : KeysRise (λ id. id) pool) (is : IsPool pool riders) where
-      stays-own : (r : BookRider) (n : ℕ) → pool_id (after_seal wait now r) ≡ Some n → n ≡ r.id
-      stays-own r n e = pool_id-keeps (after_seal wait now r) n e ∙ after_seal-id r
-
-      stays-listed : (k : ℕ) (r : BookRider) (n : ℕ) → find_rider k riders ≡ Some r → pool_id (after_seal wait now r) ≡ Some n → look_up (λ id. id) k pool ≡ Some k
-      stays-listed k r n found e = active-listed wait now pool riders up differ is k r found (grind arith)
-
-      pub staying-rise : KeysRise (λ id. id) (filter_map (λ id. option_and_then (λ r. pool_id (after_seal wait now r)) (find_rider id riders)) pool)
-      staying-rise = made-rise (λ (r : BookRider). r.id) (λ n. n) (λ r. pool_id (after_seal wait now r)) stays-own pool riders up differ stays-listed
-
-      pub staying-pool : IsPool (filter_map (λ id. option_and_then (λ r. pool_id (after_seal wait now r)) (find_rider id riders)) pool) (map (after_seal wait now) riders)
-      staying-pool id =
-          made-found (λ (r : BookRider). r.id) (λ n. n) (λ r. pool_id (after_seal wait now r)) stays-own pool riders up differ stays-listed id
-          ∙ sym (ap (option_and_then pool_id) (look_up-map (λ r. r.id) (after_seal wait now) after_seal-id id riders) ∙ by (find_rider id riders))
-        where
-          by : (o : Option BookRider) → option_and_then pool_id (option_map (after_seal wait now) o) ≡ option_and_then (λ r. pool_id (after_seal wait now r)) o
-          by None = refl
-          by (Some r) = refl

@@ -1,6 +1,6 @@
 -- What a register finds after a change.
-use Rattle.std.proofs.Common.{Vec, Global, ◌≡◌, ℕ, ◌+◌, ◌<◌, Bool, true, false, cond, List, [], ◌∷◌, ◌++◌, length, get_or, set, map, Some, None, refl, sym, ap, ◌∙◌, arith, vec_capacity, is_some, option_map, option_and_then, count_by, rules}
-use Rattle.request_book.proofs.Common.{cond_both, BookRider, Status, look_up, changed_at, without, placed, by_key, KeysRise, KeysDiffer, Register, pool_id, HasRoom, IsIndexed, is_active, with_status, find_rider, find_vehicle, pool_count, Vehicle}
+use Rattle.std.proofs.Common.{Vec, Global, ◌≡◌, ℕ, zero, suc, ◌+◌, ◌<◌, Bool, true, false, cond, List, [], ◌∷◌, ◌++◌, length, get_or, set, take, map, Some, None, refl, sym, ap, subst, ◌∙◌, arith, vec_capacity, is_some, option_map, option_and_then, count_by, rules}
+use Rattle.request_book.proofs.Common.{cond_both, sum_by-cons, BookRider, Status, look_up, changed_at, without, placed, by_key, KeysRise, KeysDiffer, Register, pool_id, HasRoom, IsIndexed, is_active, with_status, find_rider, find_vehicle, pool_count, Vehicle}
 use Rattle.std.specs.List.{filter_map}
 use Rattle.request_book.proofs.lemmas.KeyedLemmas.{set-changed_at, look_up-changed_here, look_up-changed_there, look_up-without_here, look_up-without_there, look_up-placed_here, look_up-placed_there, look_up-push_here, look_up-push_there, look_up-map, look_up-key, look_up-filter_map, KeysDiffer-filter_map, KeysDiffer-from_rise, KeysRise-placed, KeysRise-changed_at, KeysDiffer-changed_at, KeysRise-without, map-changed_at, by_key-order, same_from_look_up, length-by_key, length-filter_map}
 
@@ -55,6 +55,15 @@ length-pool pool riders rise differ is =
     let same : pool ≡ by_key (λ n. n) ids = same_from_look_up (λ n. n) pool (by_key (λ n. n) ids) rise order.rise (λ k. is k ∙ sym (order.found k ∙ look_up-filter_map (λ r. r.id) (λ n. n) pool_id pool_id-keeps k riders differ)) in
     let each : (r : BookRider) → is_some (pool_id r) ≡ is_active r.status = λ r. grind arith in
     ap length same ∙ length-by_key (λ n. n) ids ∙ length-filter_map pool_id riders ∙ ap (λ p. count_by p riders) (λ i r. each r i)
+
+-- one more active rider than before
+pub pool_count-more : (riders : List BookRider) (i : ℕ) (r : BookRider) → i < length riders → r ≡ get_or riders i r → is_active r.status ≡ true → pool_count (take i riders) < pool_count riders
+pool_count-more riders i r within read active = by riders i within (subst (λ (x : BookRider). is_active x.status ≡ true) read active)
+  where
+    by : (xs : List BookRider) (i : ℕ) → i < length xs → is_active (get_or xs i r).status ≡ true → pool_count (take i xs) < pool_count xs
+    by [] i below on = absurd (omega (arith, below))
+    by (x ∷ xs) zero below on = grind (arith, on, sum_by-cons (λ (y : BookRider). cond (is_active y.status) 1 0) x xs)
+    by (x ∷ xs) (suc i) below on = grind (arith, by xs i (omega (arith, below)) on, sum_by-cons (λ (y : BookRider). cond (is_active y.status) 1 0) x xs, sum_by-cons (λ (y : BookRider). cond (is_active y.status) 1 0) x (take i xs))
 
 -- a write at the place of a vehicle changes that vehicle
 pub vehicle-set : (f : Vehicle → Vehicle) (k at : ℕ) (vs : List Vehicle) (d x : Vehicle) → KeysRise (λ v. v.id) vs → at < length vs → ((d : Vehicle) → find_vehicle k vs ≡ Some (get_or vs at d)) → d ≡ get_or vs at d → x ≡ f d → set vs at x ≡ changed_at (λ v. v.id) k f vs

@@ -11,6 +11,6 @@ returns-clause-worked g c =
     record {
       own = c.run_lane-ran.ensures.pass.0;
       ran = λ done.
-          lane-run c.args.setup.now.settings.now c.args.setup.now.network.now (lane_at c.args.round.now new.lane) c.args.lane.now.pass new c.requires.fresh.fresh
-          (subst (λ cs. HasRun c.args.setup.now.settings.now c.args.setup.now.network.now (IsLaneRun cs) c.args.lane.now.pass new) commands (when-ok c.run_lane-ran.result _ (sym c.is_ok-lane.ensures.value ∙ done) c.run_lane-ran.ensures.run));
+          lane-run c.args.setup.now.settings.now c.args.setup.now.network.now (lane_at c.args.round.now new.lane) c.args.pass new c.requires.fresh.fresh
+          (subst (λ cs. HasRun c.args.setup.now.settings.now c.args.setup.now.network.now (IsLaneRun cs) c.args.pass new) commands (when-ok c.run_lane-ran.result _ (sym c.is_ok-done.ensures.value ∙ done) c.run_lane-ran.ensures.run));
     }

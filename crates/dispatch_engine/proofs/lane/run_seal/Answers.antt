@@ -1,5 +1,5 @@
-use Rattle.std.proofs.Common.{◌≡◌, ◌∷◌, [], Some, None, refl, ap, subst, ◌∙◌, arith}
-use Rattle.dispatch_engine.proofs.Common.{on_ok_weaker, on_err_weaker, Seal, Close, HasCalled, with_snapshot, HasTaken}
+use Rattle.std.proofs.Common.{◌≡◌, ◌∷◌, [], Some, None, subst, ◌∙◌}
+use Rattle.dispatch_engine.proofs.Common.{on_ok_weaker, on_err_weaker, Seal, HasCalled, with_snapshot}
 use Rattle.dispatch_engine.proofs.PassLemmas.{runs-refused, runs-sealed, begun-none, begun-sealed}
 use Rattle.dispatch_engine.proofs.RoundLemmas.{on-err}
 use Rattle.dispatch_engine.proofs.lemmas.RunLemmas.{snapshot-known}
@@ -12,8 +12,8 @@ returns-in_default-clause-run g c =
     runs-refused c.args.setup.now.settings.now c.args.setup.now.network.now c.args.book.now.start.nodes c.args.pass.now c.seal.new.pass c.args.now r.position r.reply
     (subst (λ o. HasCalled c.args.book.now.start.nodes c.args.pass.now (Seal c.args.now) r.position (with_snapshot r.reply o) c.seal.new.pass) none c.in_ok-snapshot.ensures.call)
 
-pub solve_batch-requires-clause-nodes : goal.solve_batch-requires-clause-nodes
-solve_batch-requires-clause-nodes g c κs within =
+pub close_batch-requires-clause-known : goal.close_batch-requires-clause-known
+close_batch-requires-clause-known g c κs within =
     let r = c.in_ok-snapshot.field-0.receipt in
     let b = c.in-Some.snapshot in
     let some : c.in_ok-snapshot.field-0.snapshot ≡ Some b = c.in-Some.is in
@@ -26,18 +26,15 @@ returns g c =
     let roads = c.args.setup.now.network.now in
     let r = c.in_ok-snapshot.field-0.receipt in
     let b = c.in-Some.snapshot in
-    let outcome = c.in_ok-outcome.outcome in
     let nodes = c.args.book.now.start.nodes in
     let some : c.in_ok-snapshot.field-0.snapshot ≡ Some b = c.in-Some.is in
     let called = subst (λ o. HasCalled nodes c.args.pass.now (Seal c.args.now) r.position (with_snapshot r.reply o) c.seal.new.pass) some c.in_ok-snapshot.ensures.call in
     record {
-      pass = (c.take.ensures.pass.0, c.take.ensures.pass.1 ∙ c.seal.ensures.pass.1);
-      run = on_ok_weaker c.take.result
-          (λ taken.
-          let closed = subst (λ n. HasTaken nodes c.seal.new.pass (Close n outcome) c.take.new.pass) (ap (λ b. b.number) c.snapshot.view_is) taken in
-          runs-sealed settings roads nodes c.args.pass.now c.seal.new.pass c.take.new.pass c.args.now r.position r.reply b outcome closed.receipt called closed.called c.in_ok-outcome.ensures)
-          c.take.ensures.taken;
-      begun = on_err_weaker c.take.result (begun-sealed settings roads nodes c.args.pass.now c.seal.new.pass c.take.new.pass c.args.now r.position r.reply b called) c.take.ensures.refused;
+      pass = (c.close_batch.ensures.pass.0, c.close_batch.ensures.pass.1 ∙ c.seal.ensures.pass.1);
+      run = on_ok_weaker c.close_batch.result
+          (λ closed. runs-sealed settings roads nodes c.args.pass.now c.seal.new.pass c.close_batch.new.pass c.args.now r.position r.reply b closed.0 closed.2.receipt called closed.2.called closed.1)
+          c.close_batch.ensures.closed;
+      begun = on_err_weaker c.close_batch.result (begun-sealed settings roads nodes c.args.pass.now c.seal.new.pass c.close_batch.new.pass c.args.now r.position r.reply b called) c.close_batch.ensures.refused;
     }
 
 pub returns-in_err-snapshot-clause-begun : goal.returns-in_err-snapshot-clause-begun
@@ -45,21 +42,8 @@ returns-in_err-snapshot-clause-begun g c =
     on-err c.from_residual.result _
     (begun-none c.args.setup.now.settings.now c.args.setup.now.network.now (Seal c.args.now ∷ []) c.args.pass.now c.seal.new.pass c.in_err-snapshot.ensures.refused)
 
-pub returns-in_err-outcome-clause-begun : goal.returns-in_err-outcome-clause-begun
-returns-in_err-outcome-clause-begun g c =
-    let r = c.in_ok-snapshot.field-0.receipt in
-    let b = c.in-Some.snapshot in
-    let nodes = c.args.book.now.start.nodes in
-    let some : c.in_ok-snapshot.field-0.snapshot ≡ Some b = c.in-Some.is in
-    let called = subst (λ o. HasCalled nodes c.args.pass.now (Seal c.args.now) r.position (with_snapshot r.reply o) c.seal.new.pass) some c.in_ok-snapshot.ensures.call in
-    on-err c.from_residual-in_err-outcome.result _
-    (begun-sealed c.args.setup.now.settings.now c.args.setup.now.network.now nodes c.args.pass.now c.seal.new.pass c.seal.new.pass c.args.now r.position r.reply b called (refl, omega arith))
-
 pub returns-in_err-snapshot-clause-pass : goal.returns-in_err-snapshot-clause-pass
 returns-in_err-snapshot-clause-pass g c = c.seal.ensures.pass
 
 pub returns-in_default-clause-pass : goal.returns-in_default-clause-pass
 returns-in_default-clause-pass g c = c.seal.ensures.pass
-
-pub returns-in_err-outcome-clause-pass : goal.returns-in_err-outcome-clause-pass
-returns-in_err-outcome-clause-pass g c = c.seal.ensures.pass

@@ -7,4 +7,4 @@ pub returns : goal.returns
 unfolding round_text
 returns g c =
     let entries = same_lines _ _ (ap (λ es. entries_lines c.args.proof c.args.journal.now.first es) c.as_slice-entries.ensures) c.write_entries.ensures in
-    as_text _ c.new-piece.ensures.items (then c.write_round_line.ensures entries) c.write_rest.ensures
+    as_text c.new-piece.ensures.items (then c.write_round_line.ensures entries) c.write_rest.ensures

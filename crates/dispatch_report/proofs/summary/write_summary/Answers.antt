@@ -8,4 +8,4 @@ use Rattle.dispatch_report.proofs.summary.write_summary.Goals as goal
 pub returns : goal.returns
 unfolding summary_text
 returns g c =
-    as_text _ c.new-piece.ensures.items (same_lines _ _ (ap (λ es. flat_map entry_summary es) c.as_slice.ensures) c.write_batches.ensures) c.write_rest.ensures
+    as_text c.new-piece.ensures.items (same_lines _ _ (ap (λ es. flat_map entry_summary es) c.as_slice.ensures) c.write_batches.ensures) c.write_rest.ensures

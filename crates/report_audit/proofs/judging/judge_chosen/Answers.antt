@@ -30,11 +30,8 @@ returns-then-not-branch-3 c = (
 pub is_best_near-requires : goal.is_best_near-requires
 is_best_near-requires c = (c.in_ok-tells_plan.ensures.0 c.if-not-branch.false).0
 
-pub left_riders-requires : goal.left_riders-requires
-left_riders-requires c = rw c.chosen.ensures c.requires.gives.plan
-
 pub are_moves-requires-clause-plan : goal.are_moves-requires-clause-plan
-are_moves-requires-clause-plan c = rw c.chosen-2.ensures c.requires.gives.plan
+are_moves-requires-clause-plan c = rw c.chosen.ensures c.requires.gives.plan
 
 pub returns-then-not-branch-4 : goal.returns-then-not-branch-4
 returns-then-not-branch-4 c =
@@ -51,14 +48,14 @@ returns-then-not-branch-5 c =
           (up_to_tree settings p planned plan c.requires.gives c.requires.before (c.in_ok-tells_plan.ensures.0 c.if-not-branch.false)
           (c.in_ok-shows_bound.ensures.0 c.if-not-branch-2.false) (c.in_ok-is_well_shown.ensures.0 c.if-not-branch-3.false))
           (with_plan settings p planned plan c.requires.gives (λ chosen. IsBestNear graph chosen) (c.in_ok-is_best_near.ensures.0 c.if-not-branch-4.false)),
-      λ holds. both_ways _ c.if-not-branch-5.true (c.in_ok-are_moves.ensures.1 (rw (c.as_slice-moves.ensures, c.chosen-2.ensures, c.deref.ensures.value, c.in_ok-left.ensures.left, c.chosen.ensures)
+      λ holds. both_ways _ c.if-not-branch-5.true (c.in_ok-are_moves.ensures.1 (rw (c.as_slice-moves.ensures, c.chosen.ensures, c.requires.left)
           (at_plan settings p planned plan c.requires.gives (λ chosen. AreMoves p.tau settled (idle_vehicles settled graph chosen) (left_riders graph chosen) planned.moves) holds))),
     )
 
 pub returns : goal.returns
 returns c =
     let settings = c.args.graphs.now.instance.now.settings.now in let p = posed_by c.args.graphs.now in let settled = p.settled in let graph = p.graph in let plan = c.args.plan.now in let planned = c.args.planned.now in
-    let moves = rw (c.as_slice-moves.ensures, c.chosen-2.ensures, c.deref.ensures.value, c.in_ok-left.ensures.left, c.chosen.ensures) at (c.in_ok-are_moves.ensures.0 c.if-not-branch-5.false) in
+    let moves = rw (c.as_slice-moves.ensures, c.chosen.ensures, c.requires.left) at (c.in_ok-are_moves.ensures.0 c.if-not-branch-5.false) in
     hold_all (λ q. Holds settings q planned p) (hold_more (λ q. Holds settings q planned p) point.Moves
     (hold_more (λ q. Holds settings q planned p) point.Best
     (up_to_tree settings p planned plan c.requires.gives c.requires.before (c.in_ok-tells_plan.ensures.0 c.if-not-branch.false)

@@ -37,3 +37,7 @@ judge_chosen-requires-clause-before c =
     hold_more (λ q. Holds settings q planned p) point.Trips
     (third settings p planned (c.in_ok-tells_graphs.ensures.0 c.if-not-branch.false) (rw c.as_slice.ensures at (c.in_ok-are_late.ensures.0 c.if-not-branch-2.false)))
     (with_plan settings p planned c.in-Some.plan gives (λ chosen. Unit {0}) tt)
+
+pub left_riders-requires : goal.left_riders-requires
+left_riders-requires c =
+    let gives = rw (c.in-Some.is, c.as_slice-2.ensures) at c.in_ok-plan_of_trips.ensures in rw c.chosen.ensures gives.plan

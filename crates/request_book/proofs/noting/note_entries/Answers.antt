@@ -1,19 +1,25 @@
-use Rattle.std.proofs.Common.{◌∙◌, arith}
+use Rattle.std.proofs.Common.{◌≡◌, ap, sym, subst, ◌∙◌, arith}
+use Rattle.request_book.proofs.Common.{IsConsistent, state_of, step}
+use Rattle.request_book.proofs.lemmas.ConsistentLemmas.{step-consistent}
 use Rattle.request_book.proofs.NoticeLemmas.{told-next, told-end}
 use Rattle.request_book.proofs.noting.note_entries.Goals as goal
 
+pub run-requires-clause-consistent : goal.run-requires-clause-consistent
+run-requires-clause-consistent c = subst IsConsistent (sym c.in_ok-reserve.ensures.state) c.loop-entry.invariant.consistent
+
 pub loop-entry-preserved : goal.loop-entry-preserved
 loop-entry-preserved c =
-    let h = c.loop-entry.invariant in
+    let l = c.loop-entry in
+    let e = c.entry-item.result in
+    let nodes = c.args.nodes.now.names in
+    let stepped : (state_of c.run.new.self, c.in_ok-run.field-0) ≡ step nodes c.args.wait (state_of l.register) e.command =
+    c.in_ok-run.ensures.ok ∙ ap (λ s. step nodes c.args.wait s e.command) c.in_ok-reserve.ensures.state in
     record {
-      nodes = c.run.ensures.nodes ∙ h.nodes;
-      wait = c.run.ensures.wait ∙ h.wait;
-      told =
-          told-next c.args.replay.now.nodes c.args.replay.now.wait c.loop-entry.replay.nodes c.loop-entry.replay.wait c.loop-entry.replay.state c.run.new.self.state c.in_ok-run.field-0
-          c.args.entries.now c.loop-entry.entry-index c.entry-item.result c.loop-entry.told.items c.note_step.new.told.items _
-          h.nodes h.wait c.loop-entry-test.true c.entry-item.is c.in_ok-note_step.ensures c.in_ok-run.ensures.stepped h.told;
+      indexed = c.run.ensures.indexed;
+      consistent = subst IsConsistent (sym (ap (λ p. p.0) stepped)) (step-consistent nodes c.args.wait (state_of l.register) e.command l.invariant.consistent);
+      told = told-next nodes c.args.wait (state_of l.register) (state_of c.run.new.self) c.in_ok-run.field-0 c.args.entries.now l.entry-index e l.told.items c.note_step.new.told.items _
+          c.loop-entry-test.true c.entry-item.is c.in_ok-note_step.ensures stepped l.invariant.told;
     }
 
 pub returns : goal.returns
-returns c =
-    told-end c.args.replay.now.nodes c.args.replay.now.wait c.loop-entry.replay.state c.args.entries.now c.loop-entry.entry-index c.loop-entry.told.items _ (omega arith) c.loop-entry.invariant.told
+returns c = told-end c.args.nodes.now.names c.args.wait (state_of c.loop-entry.register) c.args.entries.now c.loop-entry.entry-index c.loop-entry.told.items _ (omega arith) c.loop-entry.invariant.told

@@ -7,7 +7,7 @@ use Rattle.request_book.proofs.riding.let_out.Goals as goal
 pub returns : goal.returns
 returns c =
     let v = c.args.vehicle.now in
-    let r = c.args.rider in
+    let r = c.args.rider.now in
     let out : List Passenger → Vehicle = λ ps. record v { node = r.destination; time = c.args.time; aboard = record { items = ps } } in
     let put : Vehicle → Vehicle = λ u. record u { node = r.destination; time = c.args.time } in
     let xs = v.aboard.items in

@@ -10,7 +10,7 @@ pub returns-in-Ok : goal.returns-in-Ok
 returns-in-Ok g c =
     let ends = rw (c.over.ensures.to_come, c.over.ensures.faults) at c.live_in-answer.ensures in
     answers-live _ _
-    (ExplainsLive.ended _ (record { settings = c.in-Ok.inputs.0; roads = c.in-Ok.inputs.1; vehicles = c.in-Ok.inputs.2 }, c.in-Ok.ensures.got _, ends))
+    (ExplainsLive.ended _ (record { settings = c.in-Ok.inputs.settings; roads = c.in-Ok.inputs.network; vehicles = c.in-Ok.inputs.fleet }, c.in-Ok.ensures.got _, ends))
     (inl c.in-Ok.ensures.limited.0, inl c.in-Ok.ensures.limited.1)
     (ends-hide _ _ c.live_in-answer.result.status ends)
 

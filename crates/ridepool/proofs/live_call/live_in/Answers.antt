@@ -11,7 +11,7 @@ start_live-requires-clause-named g c κs within = c.requires.named
 
 pub dispatch-sink-requires-clause-ready : goal.dispatch-sink-requires-clause-ready
 dispatch-sink-requires-clause-ready g c κs within =
-    ready-live (record { settings = c.args.inputs.now.0; roads = c.args.inputs.now.1; vehicles = c.args.inputs.now.2 }) c.in-Ok-start_live.book c.in-Ok-start_live.ensures.started.0
+    ready-live (record { settings = c.args.inputs.now.settings; roads = c.args.inputs.now.network; vehicles = c.args.inputs.now.fleet }) c.in-Ok-start_live.book c.in-Ok-start_live.ensures.started.0
 
 pub dispatch-sink-requires-clause-empty : goal.dispatch-sink-requires-clause-empty
 dispatch-sink-requires-clause-empty g c κs within = ap (λ (b : BookView). b.entries) c.in-Ok-start_live.ensures.started.0
@@ -34,5 +34,5 @@ returns-in-Ok-start_live g c =
     c.behind-rows.ensures.version c.behind-rows.ensures.last c.in-Ok-start_live.ensures.started.2 c.start_live.ensures.never_falls c.start_live.ensures.reads_never_fall
     c.dispatch-sink.ensures.run c.dispatch-sink.ensures.write_fault (λ is. omega (arith, c.dispatch-sink.ensures.read_fault is, c.into_source.ensures)) (ap (λ (s : Streamed). s.faults) c.behind-rows.ensures.lines)
 
-pub returns : goal.returns
-returns g c = let kept = c.ended-in-Err.ensures.kept in rw (c.ended-in-Err.ensures.reads, kept.0, kept.1, kept.2) (c.in-Err.ensures.stopped _)
+pub returns-in-Err : goal.returns-in-Err
+returns-in-Err g c = let kept = c.ended-in-Err.ensures.kept in rw (c.ended-in-Err.ensures.reads, kept.0, kept.1, kept.2) (c.in-Err.ensures.stopped _)

@@ -9,13 +9,13 @@ returns-in_default-clause-run g c = λ first. rw c.in_default.ensures (refl, (λ
 
 pub returns-in-Ok-clause-run : goal.returns-in-Ok-clause-run
 returns-in-Ok-clause-run g c =
-    if_ok_map c.run_last.result _ _ c.run_last.ensures.run (λ end on first. end_of c.args.setup.now.settings.now c.args.setup.now.network.now c.args.rounds.now c.in-Some.number
-    c.args.drive end (g.K.RoundKeeper.took first c.args.keeper.now) (g.K.RoundKeeper.took first c.run_last.new.keeper) c.in-Some.ensures.0 c.in-Some.ensures.1 (on first))
+    if_ok_map c.run_last-end.result _ _ c.run_last-end.ensures.run (λ end on first. end_of c.args.setup.now.settings.now c.args.setup.now.network.now c.args.rounds.now c.in-Some.number
+    c.args.drive end (g.K.RoundKeeper.took first c.args.keeper.now) (g.K.RoundKeeper.took first c.run_last-end.new.keeper) c.in-Some.ensures.0 c.in-Some.ensures.1 (on first))
 
 pub returns-in-Ok-clause-late : goal.returns-in-Ok-clause-late
 returns-in-Ok-clause-late g c =
-    if_err_map c.run_last.result (λ (f : DriveFault). f ≡ OutOfMemory) _ c.run_last.ensures.late (λ f is first.
-    subst (IsLateAt (number_after c.args.rounds.now) (Any (λ (c : Command). longest < second_of c) (left_commands c.args.drive.book.state.vehicles c.args.drive.courses.items)) (g.K.RoundKeeper.took first c.args.keeper.now) (g.K.RoundKeeper.took first c.run_last.new.keeper)) (sym is) tt)
+    if_err_map c.run_last-end.result (λ (f : DriveFault). f ≡ OutOfMemory) _ c.run_last-end.ensures.late (λ f is first.
+    subst (IsLateAt (number_after c.args.rounds.now) (Any (λ (c : Command). longest < second_of c) (left_commands c.args.drive.book.state.vehicles c.args.drive.courses.items)) (g.K.RoundKeeper.took first c.args.keeper.now) (g.K.RoundKeeper.took first c.run_last-end.new.keeper)) (sym is) tt)
 
 pub returns-in-Err-clause-late : goal.returns-in-Err-clause-late
 returns-in-Err-clause-late g c = λ first.

@@ -6,8 +6,8 @@ use Rattle.route_drive.proofs.drive.drive_round.Goals as goal
 
 pub returns-in-Ok-clause-late : goal.returns-in-Ok-clause-late
 returns-in-Ok-clause-late g c =
-    if_err_map c.run_driven.result (λ (f : DriveFault). f ≡ OutOfMemory) _ c.run_driven.ensures.late (λ f is first.
-    subst (IsLateAt c.args.round.now.number ((now : ℕ) × (seal_of c.args.round.now ≡ Some now) × EntersTooLate c.args.setup.now.network.now c.args.setup.now.settings.now.dwell now c.args.drive.book.state.vehicles c.args.drive.courses.items) (g.K.RoundKeeper.took first c.args.keeper.now) (g.K.RoundKeeper.took first c.run_driven.new.keeper)) (sym is) tt)
+    if_err_map c.run_driven-next.result (λ (f : DriveFault). f ≡ OutOfMemory) _ c.run_driven-next.ensures.late (λ f is first.
+    subst (IsLateAt c.args.round.now.number ((now : ℕ) × (seal_of c.args.round.now ≡ Some now) × EntersTooLate c.args.setup.now.network.now c.args.setup.now.settings.now.dwell now c.args.drive.book.state.vehicles c.args.drive.courses.items) (g.K.RoundKeeper.took first c.args.keeper.now) (g.K.RoundKeeper.took first c.run_driven-next.new.keeper)) (sym is) tt)
 
 pub returns-in-Err-clause-late : goal.returns-in-Err-clause-late
 returns-in-Err-clause-late g c = λ first.

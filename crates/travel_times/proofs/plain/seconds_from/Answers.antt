@@ -1,4 +1,4 @@
-use Rattle.std.proofs.Common.{◌≡◌, ℕ, ◌<◌, false, length, slice_index, set, map, replicate, arith}
+use Rattle.std.proofs.Common.{◌≡◌, ℕ, ◌<◌, false, length, slice_index, set, map, replicate, arith, ap}
 use Rattle.travel_times.proofs.Common.{with_item, with_items_is, get_or_read, get_or-replicate, length-replicate, never, hop_of, leaving, IsNextTaken, RelaxesHops}
 use Rattle.travel_times.proofs.lemmas.SearchLemmas.{IsSearching-start, IsSearching-step, IsTimeBetween-settled, IsNextTaken-set, hops_among, none_waits, none_waits_near}
 use Rattle.travel_times.proofs.plain.seconds_from.Goals as goal
@@ -48,3 +48,30 @@ returns-clause-times c =
     let roads = c.args.network.now in
     IsTimeBetween-settled roads.arcs (length roads.nodes) c.args.start c.loop-node.seconds.items c.loop-node.waiting.items c.loop-node.invariant.1.arcs c.loop-node.invariant.1.few_nodes c.loop-node.invariant.0
     (none_waits_near c.loop-node.seconds.items c.loop-node.waiting.items c.loop-node.invariant.0.reached (rw (c.deref.ensures.value, c.deref-in-loop-node.ensures.value) at c.in_default.ensures.none))
+
+pub index_mut-requires : goal.index_mut-requires
+index_mut-requires c = omega (arith, ap length c.in_ok-seconds.ensures, length-replicate {A = ℕ} c.node_count-nodes.result never, c.requires, c.node_count-nodes.ensures.count)
+
+pub index_mut-requires-2 : goal.index_mut-requires-2
+index_mut-requires-2 c = omega (arith, ap length c.in_ok-waiting.ensures, length-replicate c.node_count-nodes.result false, c.requires, c.node_count-nodes.ensures.count)
+
+pub relax-requires-clause-short : goal.relax-requires-clause-short
+relax-requires-clause-short c =
+    let inv = c.loop-node.invariant.0 in
+    let node = c.in-Some.node in
+    let some = rw c.deref.ensures.value at c.in-Some.ensures.some in
+    let within : c.in-Some.node < length c.loop-node.seconds.items = omega (arith, some.0, inv.seconds_length, inv.waiting_length) in
+    rw (get_or_read c.loop-node.seconds.items node c.index-here.result.now within c.index-here.ensures 0) (inv.reached node some.1)
+
+pub loop-node-smaller : goal.loop-node-smaller
+loop-node-smaller c =
+    let s = c.loop-node.seconds in
+    let w = c.loop-node.waiting in
+    let node = c.in-Some.node in
+    let some = rw c.deref.ensures.value at c.in-Some.ensures.some in
+    let taken : IsNextTaken w.items (set w.items node false) node = IsNextTaken-set w.items node some.0 some.1 in
+    let less = rw (c.deref_mut.ensures.value, c.deref_mut-in-Some.ensures.value) at c.relax.ensures.less in
+    let seconds_length : length c.relax.new.seconds ≡ s.len = omega (arith, c.relax.ensures.seconds_length, ap length c.deref_mut.ensures.value, s.ok.0) in
+    let waiting_length : length c.relax.new.waiting ≡ w.len = omega (arith, c.relax.ensures.waiting_length, ap length c.deref_mut-in-Some.ensures.value, taken.same_length, w.ok.0) in
+    rw (with_items_is s c.relax.new.seconds seconds_length, with_items_is (with_item w node false) c.relax.new.waiting waiting_length)
+    (omega (arith, less, taken.fewer))

@@ -1,5 +1,5 @@
-use Rattle.std.proofs.Common.{◌≡◌, ℕ, ◌<◌, ◌++◌, [], List, All, length, get_or, take, drop, ◌∙◌, ap, arith}
-use Rattle.travel_times.proofs.Common.{get_or_read, All-nil, All-from_get_or, never, Arc, IsArcAmong, AreNodeHops, IsPruned, HasSpread, HandsOver}
+use Rattle.std.proofs.Common.{◌≡◌, ℕ, ◌<◌, ◌++◌, [], List, All, length, get_or, take, drop, ◌∙◌, ap, arith, sym, subst}
+use Rattle.travel_times.proofs.Common.{get_or_read, All-nil, All-from_get_or, never, Arc, IsArcAmong, AreNodeHops, IsPruned, HasSpread, HandsOver, Hub}
 use Rattle.travel_times.proofs.Adding.{adds_hub, handed, found_range, spread_among}
 use Rattle.travel_times.proofs.Building.{held}
 use Rattle.travel_times.proofs.space.add_hub.Goals as goal
@@ -66,3 +66,11 @@ returns-clause-added c =
     let via' : c.deref-3.result.now ≡ c.spread.new.via = c.deref-3.ensures.value ∙ held s.via.len c.spread.new.via s.via.items via_each in
     let hands : HandsOver c.args.start c.spread.new.via c.search.new.taken.items (length c.search.new.taken.items) c.search.new.seconds c.args.labels.now c.hand_over.new.seconds c.hand_over.new.labels = rw (via', c.deref-2.ensures.value, seconds) at c.in_ok-hand_over.ensures in
     adds_hub c.args.hops.now c.args.own.now c.args.start c.args.labels.now c.hand_over.new.labels c.spread.new.via c.search.new.taken.items c.search.new.seconds c.hand_over.new.seconds c.requires.few c.requires.start via_n spread found c.in_ok-search.ensures.noted hands
+
+pub hand_over-requires-clause-hubs : goal.hand_over-requires-clause-hubs
+hand_over-requires-clause-hubs c =
+    let s = c.args.space.now in
+    let via_each : length c.spread.new.via ≡ c.args.space.now.via.len = omega (arith, c.spread.auto.via, ap length c.deref_mut.ensures.value, s.via.ok.0) in
+    let via_n : length c.spread.new.via ≡ length c.args.hops.now = omega (arith, c.spread.auto.via, ap length c.deref_mut.ensures.value, c.requires.clean.via_each) in
+    let via' : c.deref-3.result.now ≡ c.spread.new.via = c.deref-3.ensures.value ∙ held s.via.len c.spread.new.via s.via.items via_each in
+    subst (λ (n : ℕ). All (λ (label : List Hub). All (λ (hub : Hub). hub.node < n) label) c.args.labels.now) (sym (ap length via' ∙ via_n)) c.requires.labels.1

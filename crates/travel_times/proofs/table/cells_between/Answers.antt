@@ -29,3 +29,12 @@ returns g c =
     let read = c.deref.ensures.value ∙ same in
     let all = subst (λ xs. (i : ℕ) → i < n → slice_index xs (i * n + i) ≡ never → ⊥) read (c.are_computed.ensures c.if-not-are_computed.false) in
     subst (λ xs. AreRows arcs points 0 n xs) (sym same) (rows_of_written arcs points new (rw c.in_ok-arcs.ensures at c.write_pieces.ensures) all)
+
+pub returns-then-count-eq0 : goal.returns-then-count-eq0
+returns-then-count-eq0 g c =
+    let n = length c.args.points.now in
+    let none : length c.args.points.now ≡ 0 = omega arith in
+    record {
+      size = ap length c.in_ok-cells.ensures ∙ length-replicate {A = ℕ} (n * n) never;
+      times = λ i j lt less. absurd (omega (arith, none, lt));
+    }

@@ -1,6 +1,7 @@
-use Rattle.std.proofs.Common.{◌≡◌, ◌<◌, length, nat_eq, refl, sym, ◌∙◌, arith}
+use Rattle.std.proofs.Common.{◌≡◌, ◌<◌, length, nat_eq, refl, sym, ◌∙◌, arith, ap, map}
 use Rattle.travel_times.proofs.Common.{map_more, All-push, index_in}
 use Rattle.travel_times.proofs.Tables.{position-is}
+use Rattle.std.proofs.lemmas.List.{take_all}
 use Rattle.travel_times.proofs.table.indexes_of.Goals as goal
 
 pub unwrap-requires : goal.unwrap-requires
@@ -20,3 +21,6 @@ loop-node-preserved c =
       rw (c.in_ok-push.ensures.items, c.loop-node.invariant.0, map_more (index_in nodes) c.args.nodes.now i node within, ← c.node-item.is, index) refl,
       rw c.in_ok-push.ensures.items (All-push (λ point. point < length nodes) c.loop-node.points.items c.unwrap.result c.loop-node.invariant.1 below),
     )
+
+pub returns-clause-indexes : goal.returns-clause-indexes
+returns-clause-indexes c = c.loop-node.invariant.0 ∙ ap (map (index_in c.args.network.now.nodes)) (take_all c.loop-node.node-index c.args.nodes.now (omega arith))

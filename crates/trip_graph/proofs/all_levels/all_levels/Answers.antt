@@ -9,35 +9,35 @@ read_level tau settled sizes k at levels lists all lt same is =
     let e : get_or levels k [] ≡ lists = get_or_default levels k [] lists (let t = all.count in omega arith) ∙ ap (λ (n : ℕ). get_or levels n lists) (sym same) ∙ sym is in
     subst (λ (l : List (List TripOf)). AreLevelsUpTo tau settled k (length settled.vehicles) l) e (all.each k lt)
 
-pub returns-then-first-room : goal.returns-then-first-room
-returns-then-first-room g c =
+pub returns-then-total-room : goal.returns-then-total-room
+returns-then-total-room g c =
     let tau = travel_time c.args.growth.now.times.now in
-    let first = c.in_ok-first.ensures in
-    step.more_of_first tau c.args.growth.now.settled.now c.args.most c.args.room c.in_ok-first.first.lists.items c.requires.most first.level (let a = c.if-first-room.true in let b = first.total in omega arith)
+    let first = c.in_ok-total.ensures in
+    step.more_of_first tau c.args.growth.now.settled.now c.args.most c.args.room c.first_level.new.lists.items c.requires.most first.0 (let a = c.if-total-room.true in let b = first.1 in omega arith)
 
 pub loop-size-init : goal.loop-size-init
 loop-size-init g c =
     let tau = travel_time c.args.growth.now.times.now in
-    let lists = c.in_ok-first.first.lists.items in
-    let first = c.in_ok-first.ensures in
-    let fits = c.if-first-room.false in
-    let items : c.push.new.self.items ≡ lists ∷ [] = rw (c.in_ok-push.ensures.items, c.in_ok-levels.ensures.items, c.of.ensures) refl in
+    let lists = c.first_level.new.lists.items in
+    let first = c.in_ok-total.ensures in
+    let fits = c.if-total-room.false in
+    let items : c.push.new.self.items ≡ lists ∷ [] = rw (c.in_ok-push.ensures.items, c.requires.none, c.of.ensures) refl in
     record {
-      levels = rw items (step.levels_one tau c.args.growth.now.settled.now lists first.level);
-      counted = rw items (let t = first.total in omega arith);
+      levels = rw items (step.levels_one tau c.args.growth.now.settled.now lists first.0);
+      counted = rw items (let t = first.1 in omega arith);
       fits = omega arith;
     }
 
 pub next_level-requires-clause-below : goal.next_level-requires-clause-below
 next_level-requires-clause-below g c κs within =
-    rw c.as_slice-below.ensures (read_level (travel_time c.args.growth.now.times.now) c.args.growth.now.settled.now (c.loop-size.size + 1) c.loop-size.size c.from-in-loop-size.result c.loop-size.levels.items c.index.result.now
-    c.loop-size.invariant.levels (omega arith) c.from-in-loop-size.ensures c.index.ensures)
+    rw c.as_slice-below.ensures (read_level (travel_time c.args.growth.now.times.now) c.args.growth.now.settled.now (c.loop-size.size + 1) c.loop-size.size c.from.result c.loop-size.levels.items c.index.result.now
+    c.loop-size.invariant.levels (omega arith) c.from.ensures c.index.ensures)
 
 pub returns-in_default : goal.returns-in_default
 returns-in_default g c =
     let tau = travel_time c.args.growth.now.times.now in
     let inv = c.loop-size.invariant in
-    let more = rw c.in_default.is at c.in_ok-next.ensures in
+    let more = rw c.in_default.is at c.in_ok-more.ensures in
     step.more_of_next tau c.args.growth.now.settled.now c.args.most c.args.room (c.args.room - c.loop-size.total) (c.loop-size.size + 1) c.loop-size.levels.items c.requires.most inv.levels more
     (let t = c.loop-size-test.true in omega arith) (let h = inv.counted in let f = inv.fits in omega arith)
 
@@ -46,8 +46,8 @@ loop-size-preserved g c =
     let tau = travel_time c.args.growth.now.times.now in
     let inv = c.loop-size.invariant in
     let levels = c.loop-size.levels.items in
-    let lists = c.in-Some.next.lists.items in
-    let went = rw c.in-Some.is at c.in_ok-next.ensures in
+    let lists = c.next_level.new.lists.items in
+    let went = rw c.in-Some.is at c.in_ok-more.ensures in
     let items : c.push-in-loop-size.new.self.items ≡ levels ++ lists ∷ [] = rw (c.in_ok-push-2.ensures.items, c.of-in-loop-size.ensures) refl in
     let fits = inv.fits in
     let more = went.2 in

@@ -23,17 +23,17 @@ pub edges_of-requires : goal.edges_of-requires
 edges_of-requires g c =
     let tau = travel_time c.args.times.now in
     let settled = c.args.settled.now in
-    let levels = (rw c.in-Some.is at c.in_ok-levels.ensures).0 in
+    let levels = (rw c.if-not-branch.false at c.in_ok-all_levels.ensures).0 in
     have_one tau settled (length settled.vehicles) c.as_slice.result.now
-    (singles_of tau settled (c.args.settings.now.trip + 1) c.in-Some.levels.items c.index.result.now c.as_slice.result.now
+    (singles_of tau settled (c.args.settings.now.trip + 1) c.all_levels.new.levels.items c.index.result.now c.as_slice.result.now
     (let least = c.args.settings.now.in_range.trip_range.0 in omega arith) levels c.index.ensures c.as_slice.ensures)
 
 pub returns : goal.returns
 returns g c =
     let tau = travel_time c.args.times.now in
     let settled = c.args.settled.now in
-    let levels = (rw c.in-Some.is at c.in_ok-levels.ensures).0 in
+    let levels = (rw c.if-not-branch.false at c.in_ok-all_levels.ensures).0 in
     let rv = rv_of_singles tau settled c.as_slice.result.now
-    (singles_of tau settled (c.args.settings.now.trip + 1) c.in-Some.levels.items c.index.result.now c.as_slice.result.now
+    (singles_of tau settled (c.args.settings.now.trip + 1) c.all_levels.new.levels.items c.index.result.now c.as_slice.result.now
     (let least = c.args.settings.now.in_range.trip_range.0 in omega arith) levels c.index.ensures c.as_slice.ensures) in
     (c.in_ok-graph.ensures, subst (λ (l : List RvEdge). IsRvGraph tau settled l) (sym c.in_ok-rv.ensures ∙ sym c.of.ensures) rv, c.in_ok-rr.ensures)

@@ -116,3 +116,20 @@ skip_to-requires-2-clause-empty c =
     let gives = c.into_iter-level-iterator.ensures.into_iter_gives in
     let e = YieldsList-end (YieldsList-from_vec {s = c.into_iter-level-iterator.result} c.args.levels.items gives.0 (gives.1 ∙ c.args.levels.ok.0)) c.loop-level.yielded c.loop-level.level-iterator c.loop-level.yielded_by c.next.result c.next.new.self c.in-None.is c.next.ensures.steps in
     next_last run.below.now (length c.loop-level.lists.items) c.loop-level.number run.vehicles.now c.args.end inv.next (omega (arith, e.1, c.requires.levels.count, inv.number))
+
+pub bounds-run-number : goal.bounds-run-number
+bounds-run-number c =
+    let run = c.args.run.now in
+    let inv = c.loop-level.invariant in
+    let gives = c.into_iter-level-iterator.ensures.into_iter_gives in
+    let t = YieldsList-turn (YieldsList-from_vec {s = c.into_iter-level-iterator.result} c.args.levels.items gives.0 (gives.1 ∙ c.args.levels.ok.0)) c.loop-level.yielded c.loop-level.level-iterator c.loop-level.yielded_by c.next.result c.next.new.self c.in-Some.level c.in-Some.is c.next.ensures.steps in
+    omega (arith, t.0, c.requires.levels.count, inv.number)
+
+pub skip_to-requires-clause-within : goal.skip_to-requires-clause-within
+skip_to-requires-clause-within c =
+    let run = c.args.run.now in
+    let inv = c.loop-level.invariant in
+    let gives = c.into_iter-level-iterator.ensures.into_iter_gives in
+    let t = YieldsList-turn (YieldsList-from_vec {s = c.into_iter-level-iterator.result} c.args.levels.items gives.0 (gives.1 ∙ c.args.levels.ok.0)) c.loop-level.yielded c.loop-level.level-iterator c.loop-level.yielded_by c.next.result c.next.new.self c.in-Some.level c.in-Some.is c.next.ensures.steps in
+    let known = c.requires.vehicles c.loop-level.number (omega (arith, t.0, c.requires.levels.count, inv.number)) in
+    omega (arith, known)

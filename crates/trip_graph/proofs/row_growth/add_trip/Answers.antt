@@ -82,3 +82,6 @@ bounds-as_slice-rider-else-not-is_possible g c = omega (arith, last_rider _ _ _ 
 
 pub cost_with-requires-clause-room : goal.cost_with-requires-clause-room
 cost_with-requires-clause-room g c = subst (λ (t : Task). length t.riders.items < 6) (sym c.requires.task) (rw length-map c.requires.size)
+
+pub offset_bounds-as_slice-rider : goal.offset_bounds-as_slice-rider
+offset_bounds-as_slice-rider g c = record { fits = omega (arith, last_rider _ _ _ c.requires.trip, ap length c.as_slice.ensures, c.as_slice.type_inv.1) }

@@ -1,6 +1,6 @@
-use Rattle.std.proofs.Common.{List, Some, None, refl, sym, ap, subst, ◌∙◌, set}
+use Rattle.std.proofs.Common.{◌≡◌, List, Some, None, refl, sym, ap, subst, ◌∙◌, set}
 use Rattle.request_book.proofs.Common.{All-get_or, Vehicle, Reply, Dropped, Delivered, State, KeysDiffer, state_of, lets_out, BookRider, changed_at, with_status}
-use Rattle.request_book.proofs.lemmas.IndexLemmas.{vehicle-set, IsIndexed-vehicle, IsIndexed-leaves}
+use Rattle.request_book.proofs.lemmas.IndexLemmas.{vehicle-set, IsIndexed-vehicle, less-room}
 use Rattle.request_book.proofs.lemmas.StepLemmas.{dropoff-no_vehicle, dropoff-no_rider_at, dropoff-known}
 use Rattle.request_book.proofs.register.Register.dropoff.Goals as goal
 
@@ -24,24 +24,23 @@ returns-in-Some-first_of-clause-stepped c =
     dropoff-known (state_of c.args.self.now) c.args.vehicle c.args.rider c.args.time v c.in-Some-rider.found (Some c.in-Some-first_of.refusal) _ _ (c.in-Some.ensures.1 v ∙ ap Some (sym c.index.ensures)) (sym c.rider.ensures ∙ c.in-Some-rider.is)
     (sym c.in-Some-first_of.is ∙ c.first_of.ensures) c.not_aboard.ensures c.time_back.ensures
 
+pub retire-requires-clause-indexed : goal.retire-requires-clause-indexed
+retire-requires-clause-indexed c =
+    let r = c.in-Some-rider.found in
+    let changed = vehicle-set (lets_out r c.args.time) c.args.vehicle c.in-Some.at c.args.self.now.vehicles.items c.index_mut.result.now c.let_out.new.vehicle c.requires.indexed.vehicles c.in-Some.ensures.0 c.in-Some.ensures.1 c.index_mut.ensures.value c.let_out.ensures in
+    IsIndexed-vehicle c.args.self.now _ (lets_out r c.args.time) c.args.vehicle (λ u. refl) changed c.requires.indexed
+
 pub returns-in-None-clause-stepped : goal.returns-in-None-clause-stepped
 returns-in-None-clause-stepped c =
-    let g = c.args.self.now in
-    let s = state_of g in
+    let s = state_of c.args.self.now in
     let v = c.index.result.now in
     let r = c.in-Some-rider.found in
-    let changed = vehicle-set (lets_out r c.args.time) c.args.vehicle c.in-Some.at g.vehicles.items c.index_mut.result.now c.let_out.new.vehicle c.requires.indexed.vehicles c.in-Some.ensures.0 c.in-Some.ensures.1 c.index_mut.ensures.value c.let_out.ensures in
-    let Made : Type 0 = State × Reply in
-    let make : List BookRider → List Vehicle → Made = λ rs us. (record s { riders = rs; vehicles = us }, Dropped) in
-    ap (λ rs. make rs (set g.vehicles.items c.in-Some.at c.let_out.new.vehicle)) c.change_status.ensures.changed
-    ∙ ap (make (changed_at (λ x. x.id) r.id (with_status Delivered) g.riders.items)) changed
+    let changed = vehicle-set (lets_out r c.args.time) c.args.vehicle c.in-Some.at c.args.self.now.vehicles.items c.index_mut.result.now c.let_out.new.vehicle c.requires.indexed.vehicles c.in-Some.ensures.0 c.in-Some.ensures.1 c.index_mut.ensures.value c.let_out.ensures in
+    let dropped : State → State × Reply = λ t. (t, Dropped) in
+    ap dropped c.retire.ensures.state
+    ∙ ap (λ us. dropped (record s { riders = changed_at (λ x. x.id) r.id (with_status Delivered) s.riders; vehicles = us })) changed
     ∙ dropoff-known s c.args.vehicle c.args.rider c.args.time v r None _ _ (c.in-Some.ensures.1 v ∙ ap Some (sym c.index.ensures)) (sym c.rider.ensures ∙ c.in-Some-rider.is)
     (sym c.in-None.is ∙ c.first_of.ensures) c.not_aboard.ensures c.time_back.ensures
 
-pub returns-in-None-clause-indexed : goal.returns-in-None-clause-indexed
-returns-in-None-clause-indexed c =
-    let g = c.args.self.now in
-    let r = c.in-Some-rider.found in
-    let changed = vehicle-set (lets_out r c.args.time) c.args.vehicle c.in-Some.at g.vehicles.items c.index_mut.result.now c.let_out.new.vehicle c.requires.indexed.vehicles c.in-Some.ensures.0 c.in-Some.ensures.1 c.index_mut.ensures.value c.let_out.ensures in
-    IsIndexed-vehicle (record g { riders = c.change_status.new.riders; pool = c.leave.new.pool }) _ (lets_out r c.args.time) c.args.vehicle (λ u. refl) changed
-    (IsIndexed-leaves g c.change_status.new.riders c.leave.new.pool r.id Delivered refl c.change_status.ensures.changed c.leave.ensures.items c.leave.ensures.room c.requires.indexed)
+pub returns-in-None-clause-room : goal.returns-in-None-clause-room
+returns-in-None-clause-room c n room = let less = less-room n c.args.self.now room in c.retire.ensures.room n (record { riders = less.riders; ids = less.ids })

@@ -3,8 +3,8 @@ use Rattle.request_book.proofs.Common.{Vehicle, BookRider, look_up, KeysRise, Ke
 use Rattle.request_book.proofs.lemmas.KeyedLemmas.{look_up-nil, KeysDiffer-from_rise}
 use Rattle.request_book.proofs.register.Register.number.Goals as goal
 
-pub listed_vehicles-requires : goal.listed_vehicles-requires
-listed_vehicles-requires c =
+pub number_vehicles-requires-clause-differ : goal.number_vehicles-requires-clause-differ
+number_vehicles-requires-clause-differ c =
     subst (KeysDiffer (λ (v : Vehicle). v.id)) (sym c.deref.ensures.value) (KeysDiffer-from_rise (λ (v : Vehicle). v.id) c.args.self.now.vehicles.items c.requires.rise)
 
 nothing-differs : KeysDiffer (λ (r : BookRider). r.id) []
@@ -17,15 +17,15 @@ nothing-rises = tt
 
 pub returns-clause-indexed : goal.returns-clause-indexed
 returns-clause-indexed c =
-    let pool = c.in_ok-self.ensures.items in
+    let pool = c.in_ok-reserve.ensures.items ∙ c.requires.pool in
     let riders = c.requires.riders in
     record {
       ids = c.requires.ids ∙ sym (ap (map (λ (r : BookRider). r.id)) riders);
-      vehicle_ids = c.in_ok-self-2.ensures ∙ ap (map (λ (v : Vehicle). v.id)) c.deref.ensures.value;
+      vehicle_ids = c.in_ok-number_vehicles.ensures ∙ ap (map (λ (v : Vehicle). v.id)) c.deref.ensures.value;
       riders = subst (KeysDiffer (λ (r : BookRider). r.id)) (sym riders) nothing-differs;
       vehicles = c.requires.rise;
       pool_rise = subst (KeysRise (λ (n : ℕ). n)) (sym pool) nothing-rises;
       pool = λ id. ap (look_up (λ (n : ℕ). n) id) pool ∙ look_up-nil (λ (n : ℕ). n) id
           ∙ sym (ap (λ rs. option_and_then pool_id (find_rider id rs)) riders ∙ ap (option_and_then pool_id) (look_up-nil (λ (r : BookRider). r.id) id));
-      pool_room = omega (arith, c.in_ok-self.ensures.capacity);
+      pool_room = omega (arith, c.in_ok-reserve.ensures.ok);
     }

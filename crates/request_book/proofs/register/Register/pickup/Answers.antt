@@ -1,7 +1,7 @@
 use Rattle.std.proofs.Common.{◌≡◌, ◌<◌, ◌≤◌, List, Some, None, length, get_or, refl, sym, ap, subst, ◌∙◌, arith, set}
 use Rattle.request_book.proofs.Common.{All-get_or, HasSeats, Vehicle, Reply, Picked, Aboard, State, state_of, takes_in, BookRider, changed_at, with_status}
 use Rattle.std.proofs.lemmas.Option.{MatchOption-at_none}
-use Rattle.request_book.proofs.lemmas.IndexLemmas.{vehicle-set, IsIndexed-vehicle, IsIndexed-leaves}
+use Rattle.request_book.proofs.lemmas.IndexLemmas.{vehicle-set, IsIndexed-vehicle, less-room}
 use Rattle.request_book.proofs.lemmas.StepLemmas.{pickup-no_vehicle, pickup-no_rider_at, pickup-known, fifth-none}
 use Rattle.request_book.proofs.register.Register.pickup.Goals as goal
 
@@ -34,24 +34,23 @@ returns-in-Some-first_of-clause-stepped c =
     pickup-known (state_of c.args.self.now) c.args.vehicle c.args.rider c.args.time v c.in-Some-rider.found (Some c.in-Some-first_of.refusal) _ _ _ _ _ (c.in-Some.ensures.1 v ∙ ap Some (sym c.index-carrier.ensures)) (sym c.rider.ensures ∙ c.in-Some-rider.is)
     (sym c.in-Some-first_of.is ∙ c.first_of.ensures) c.is_aboard.ensures c.has_ended.ensures c.not_promised.ensures c.time_back.ensures c.vehicle_full.ensures.seats
 
+pub retire-requires-clause-indexed : goal.retire-requires-clause-indexed
+retire-requires-clause-indexed c =
+    let r = c.in-Some-rider.found in
+    let changed = vehicle-set (takes_in r c.args.time) c.args.vehicle c.in-Some.at c.args.self.now.vehicles.items c.index_mut.result.now c.take_in.new.vehicle c.requires.indexed.vehicles c.in-Some.ensures.0 c.in-Some.ensures.1 c.index_mut.ensures.value c.take_in.ensures in
+    IsIndexed-vehicle c.args.self.now _ (takes_in r c.args.time) c.args.vehicle (λ u. refl) changed c.requires.indexed
+
 pub returns-in-None-clause-stepped : goal.returns-in-None-clause-stepped
 returns-in-None-clause-stepped c =
-    let g = c.args.self.now in
-    let s = state_of g in
+    let s = state_of c.args.self.now in
     let v = c.index-carrier.result.now in
     let r = c.in-Some-rider.found in
-    let changed = vehicle-set (takes_in r c.args.time) c.args.vehicle c.in-Some.at g.vehicles.items c.index_mut.result.now c.take_in.new.vehicle c.requires.indexed.vehicles c.in-Some.ensures.0 c.in-Some.ensures.1 c.index_mut.ensures.value c.take_in.ensures in
-    let Made : Type 0 = State × Reply in
-    let make : List BookRider → List Vehicle → Made = λ rs us. (record s { riders = rs; vehicles = us }, Picked) in
-    ap (λ rs. make rs (set g.vehicles.items c.in-Some.at c.take_in.new.vehicle)) c.change_status.ensures.changed
-    ∙ ap (make (changed_at (λ x. x.id) r.id (with_status (Aboard c.args.vehicle)) g.riders.items)) changed
+    let changed = vehicle-set (takes_in r c.args.time) c.args.vehicle c.in-Some.at c.args.self.now.vehicles.items c.index_mut.result.now c.take_in.new.vehicle c.requires.indexed.vehicles c.in-Some.ensures.0 c.in-Some.ensures.1 c.index_mut.ensures.value c.take_in.ensures in
+    let picked : State → State × Reply = λ t. (t, Picked) in
+    ap picked c.retire.ensures.state
+    ∙ ap (λ us. picked (record s { riders = changed_at (λ x. x.id) r.id (with_status (Aboard c.args.vehicle)) s.riders; vehicles = us })) changed
     ∙ pickup-known s c.args.vehicle c.args.rider c.args.time v r None _ _ _ _ _ (c.in-Some.ensures.1 v ∙ ap Some (sym c.index-carrier.ensures)) (sym c.rider.ensures ∙ c.in-Some-rider.is)
     (sym c.in-None.is ∙ c.first_of.ensures) c.is_aboard.ensures c.has_ended.ensures c.not_promised.ensures c.time_back.ensures c.vehicle_full.ensures.seats
 
-pub returns-in-None-clause-indexed : goal.returns-in-None-clause-indexed
-returns-in-None-clause-indexed c =
-    let g = c.args.self.now in
-    let r = c.in-Some-rider.found in
-    let changed = vehicle-set (takes_in r c.args.time) c.args.vehicle c.in-Some.at g.vehicles.items c.index_mut.result.now c.take_in.new.vehicle c.requires.indexed.vehicles c.in-Some.ensures.0 c.in-Some.ensures.1 c.index_mut.ensures.value c.take_in.ensures in
-    IsIndexed-vehicle (record g { riders = c.change_status.new.riders; pool = c.leave.new.pool }) _ (takes_in r c.args.time) c.args.vehicle (λ u. refl) changed
-    (IsIndexed-leaves g c.change_status.new.riders c.leave.new.pool r.id (Aboard c.args.vehicle) refl c.change_status.ensures.changed c.leave.ensures.items c.leave.ensures.room c.requires.indexed)
+pub returns-in-None-clause-room : goal.returns-in-None-clause-room
+returns-in-None-clause-room c n room = let less = less-room n c.args.self.now room in c.retire.ensures.room n (record { riders = less.riders; ids = less.ids })

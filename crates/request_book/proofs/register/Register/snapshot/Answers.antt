@@ -13,8 +13,8 @@ batch_is c =
     let second = c.args.second in
     let make : ℕ → List Vehicle → List Rider → List ℕ → Batch = λ n vs rs es. record { number = n; sealed_at = second; vehicles = vs; riders = rs; expired = es } in
     let vehicles = c.of.ensures ∙ c.in_ok-vehicles.ensures ∙ c.deref.ensures.value in
-    let riders = c.of-2.ensures ∙ c.in_ok-riders.ensures ∙ batch-riders c.args.wait second g.pool.items g.riders.items h.pool_rise h.riders h.pool in
-    let expired = c.of-3.ensures ∙ c.in_ok-expired.ensures ∙ batch-expired c.args.wait second g.pool.items g.riders.items h.pool_rise h.riders h.pool in
+    let riders = c.of-2.ensures ∙ c.in_ok-part.ensures.asking ∙ batch-riders c.args.wait second g.pool.items g.riders.items h.pool_rise h.riders h.pool in
+    let expired = c.of-3.ensures ∙ c.in_ok-part.ensures.over ∙ batch-expired c.args.wait second g.pool.items g.riders.items h.pool_rise h.riders h.pool in
     ap (λ n. make n c.of.result c.of-2.result c.of-3.result) c.one_more.ensures
     ∙ ap (λ vs. make (one_more g.batches) vs c.of-2.result c.of-3.result) vehicles
     ∙ ap (λ rs. make (one_more g.batches) g.vehicles.items rs c.of-3.result) riders

@@ -37,3 +37,6 @@ returns g c =
     let ranks = ranks_are roads order rank c.node_count-nodes.ensures.kept c.in_ok-order.ensures (rw (c.deref.ensures.value, c.node_count-nodes.ensures.count) at c.in_ok-rank.ensures) in
     rw (held c.in_ok-forward.forward.len c.label_all.new.forward c.in_ok-forward.forward.items forward_each, held c.in_ok-backward.backward.len c.label_all.new.backward c.in_ok-backward.backward.items backward_each)
     (labels_made roads order rank c.label_all.new.forward c.label_all.new.backward c.node_count-nodes.ensures.kept c.in_ok-order.ensures ranks (rw c.deref-2.ensures.value at c.in_ok-label_all.ensures rank ranks))
+
+pub label_all-requires-clause-order : goal.label_all-requires-clause-order
+label_all-requires-clause-order g c κs within = rw c.deref-2.ensures.value c.in_ok-order.ensures

@@ -1,4 +1,4 @@
-use Rattle.std.proofs.Common.{◌≡◌, ℕ, ◌<◌, false, length, slice_index, map, replicate, ◌∙◌, arith}
+use Rattle.std.proofs.Common.{◌≡◌, ℕ, ◌<◌, false, length, slice_index, map, replicate, ◌∙◌, arith, ap}
 use Rattle.travel_times.proofs.Common.{with_items, with_items_is, get_or_read, get_or-replicate, length-replicate, never, hop_of, leaving, reach, IsNextTaken, RelaxesHops}
 use Rattle.travel_times.proofs.lemmas.SearchLemmas.{AreTimesUpTo-settled, IsSearching-start, IsSearching-step, hops_among, none_waits, reach_short}
 use Rattle.travel_times.proofs.search.Search.run.Goals as goal
@@ -59,3 +59,30 @@ returns-clause-times c =
     AreTimesUpTo-settled roads.arcs (length roads.nodes) c.args.start (reach c.args.goal s.seconds.items) s.seconds.items s.waiting.items c.loop-node.invariant.1.arcs c.loop-node.invariant.1.few_nodes inv
     (reach_short roads.arcs (length roads.nodes) c.args.start s.seconds.items s.waiting.items c.args.goal inv c.requires.goal)
     (λ node waiting. rw (most, c.deref.ensures.value) at (c.in_default.ensures.none node (rw same waiting)))
+
+pub index_mut-requires : goal.index_mut-requires
+index_mut-requires c = omega (arith, ap length c.in_ok-begin.ensures.seconds, length-replicate {A = ℕ} c.node_count-nodes.result never, c.requires.start, c.node_count-nodes.ensures.count)
+
+pub index_mut-requires-2 : goal.index_mut-requires-2
+index_mut-requires-2 c = omega (arith, ap length c.in_ok-begin.ensures.waiting, length-replicate c.node_count-nodes.result false, c.requires.start, c.node_count-nodes.ensures.count)
+
+pub relax-requires-clause-short : goal.relax-requires-clause-short
+relax-requires-clause-short c =
+    let s = c.loop-node.self in
+    let inv = c.loop-node.invariant.0 in
+    let node = c.in-Some.node in
+    let taken : IsNextTaken s.waiting.items c.next_near.new.waiting node = rw c.deref_mut.ensures.value at c.in-Some.ensures.some in
+    let within : c.in-Some.node < length c.loop-node.self.seconds.items = omega (arith, taken.within, inv.seconds_length, inv.waiting_length) in
+    rw (get_or_read s.seconds.items node c.index-here.result.now within c.index-here.ensures 0) (inv.reached node taken.waited)
+
+pub loop-node-smaller : goal.loop-node-smaller
+loop-node-smaller c =
+    let s = c.loop-node.self in
+    let taken : IsNextTaken s.waiting.items c.next_near.new.waiting c.in-Some.node = rw c.deref_mut.ensures.value at c.in-Some.ensures.some in
+    let waiting_length : length c.next_near.new.waiting ≡ s.waiting.len = omega (arith, taken.same_length, s.waiting.ok.0) in
+    let waiting_is : c.deref_mut-in-Some-2.result.now ≡ c.next_near.new.waiting = c.deref_mut-in-Some-2.ensures.value ∙ with_items_is s.waiting c.next_near.new.waiting waiting_length in
+    let less = rw (c.deref_mut-in-Some.ensures.value, waiting_is) at c.in_ok-relax.ensures.relaxes.less in
+    let seconds_length : length c.relax.new.seconds ≡ s.seconds.len = omega (arith, c.in_ok-relax.ensures.seconds_length, ap length c.deref_mut-in-Some.ensures.value, s.seconds.ok.0) in
+    let waiting_length' : length c.relax.new.waiting ≡ s.waiting.len = omega (arith, c.in_ok-relax.ensures.waiting_length, ap length waiting_is, waiting_length) in
+    rw (with_items_is s.seconds c.relax.new.seconds seconds_length, with_items_is (with_items s.waiting c.next_near.new.waiting) c.relax.new.waiting waiting_length')
+    (omega (arith, less, taken.fewer))
