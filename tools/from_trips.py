@@ -177,7 +177,7 @@ def nearest(plane, trips, far, left_out):
     return sorted(requests, key=lambda request: request.second)
 
 
-def script_rows(requests, length, every):
+def input_rows(requests, length, every):
     """The script: a round of requests, then one of their seal, and so on to the end of the span."""
     rows, rider = [], 0
     for batch in range(math.ceil(length / every)):
@@ -266,7 +266,7 @@ def convert(arguments):
     check_limits(path, len(requests), len(requests) + seals, seals * every)
     fleet, script = os.path.join(out, "fleet.csv"), os.path.join(out, "script.csv")
     tables.write_table(fleet, tables.FLEET, fleet_rows(plane.nodes, vehicles, seats, seed))
-    tables.write_table(script, tables.SCRIPT, script_rows(requests, length, every))
+    tables.write_table(script, tables.SCRIPT, input_rows(requests, length, every))
     print(f"{fleet}: {vehicles} vehicles of {seats} seats")
     print(f"{script}: {len(requests)} riders, {seals} seals, the last at second {seals * every}")
 

@@ -38,7 +38,7 @@ class Ground:
         """Fleet and script of these riders and of vehicles at drawn ones of these nodes, as from_trips.py makes them,
         and the riders' least seconds."""
         requests = [self.requests[at] for at in riders]
-        script = from_trips.script_rows(requests, self.length, cell.every)
+        script = from_trips.input_rows(requests, self.length, cell.every)
         from_trips.check_limits(self.path, len(requests), len(script), script[-1][3])
         fleet = from_trips.fleet_rows(nodes, vehicles, cell.seats, seed)
         texts = tables.table_text(tables.FLEET, fleet), tables.table_text(tables.SCRIPT, script)

@@ -19,11 +19,11 @@ CHAPTERS = (
     ("Outcomes", "What a batch comes to: its lists, its plan, its bound and its moves, and when these are good.",
      "batch_solver/specs/Matching", "batch_solver/specs/Potentials", "batch_solver/src/matched", "request_book/src/outcome", "batch_solver/specs/Outcome", "batch_solver", "report_audit/src/verdict", "report_audit/specs/Verdict"),
     ("Steps", "What a command changes of the book, and what it answers.",
-     "pool_base/specs/InOrder", "request_book", "script_rows/src/version", "script_rows/specs/Round"),
+     "pool_base/specs/InOrder", "request_book", "input_rows/src/version", "input_rows/specs/Round"),
     ("Runs", "What lanes make of a round, and rounds of a script.",
-     "worker_gate", "dispatch_engine"),
+     "shared_work", "dispatch_engine"),
     ("Files, words and texts", "How files and words are read, how a report is written, and what is wrong with either.",
-     "pool_base", "pool_base/src/which", "pool_base/src/memory", "pool_io", "road_network", "script_rows/src/fleet_fault", "script_rows/specs/Vehicle", "script_rows/specs/Fleet", "script_rows", "rider_limits", "dispatch_report",
+     "pool_base", "pool_base/src/which", "pool_base/src/memory", "pool_io", "road_network", "input_rows/src/fleet_fault", "input_rows/specs/Vehicle", "input_rows/specs/Fleet", "input_rows", "rider_limits", "dispatch_report",
      "route_drive/src/day", "report_audit/src/fault", "report_audit/src/refusal"),
     ("Notices", "What riders are told.", "request_book/src/notice", "request_book/specs/Notices", "request_book/specs/Told", "request_book/specs/Seen", "request_book/specs/Steady"),
     ("The run", "What a call of `run` answers. Its clause is `AnswersRun`, and nobody who wants to believe a run need read on.",
@@ -33,10 +33,10 @@ CHAPTERS = (
      "dispatch_engine/specs/Progress", "dispatch_engine/src/stand",
      "report_audit/specs/BlockLine", "report_audit/specs/Cut", "report_audit/specs/Order", "report_audit/specs/BlockLines", "report_audit/specs/HeadLines", "report_audit/specs/Line",
      "report_audit/specs/Settings", "report_audit/specs/HeadFault", "report_audit/specs/Next", "report_audit", "ridepool/specs/Audit"),
-    ("The made workload", "What is made of a seed, and what a call of `load` answers: `AnswersLoad`.", "script_rows/src/made", "script_rows/src/made_row", "script_rows/src/draw", "script_rows/specs/MadeRow", "script_rows/specs/Part", "script_rows/specs/Texts", "script_rows/specs/Accepted", "ridepool/specs/Load"),
+    ("The made workload", "What is made of a seed, and what a call of `load` answers: `AnswersLoad`.", "input_rows/src/made", "input_rows/src/made_row", "input_rows/src/draw", "input_rows/specs/MadeRow", "input_rows/specs/Part", "input_rows/specs/Texts", "input_rows/specs/Accepted", "ridepool/specs/Load"),
     ("The call", "What the program answers, by its command. The headline's clause is `Answers`.", "ridepool"),
     ("The live session", "What is read, answered and written while requests come in, and what a call of `live` answers: `AnswersLive`.",
-     "script_rows/specs/Lines", "script_rows/src/judge", "script_rows/specs/Rows", "script_rows/src/start", "script_rows/specs/Start", "script_rows/src/lines", "live_dispatch", "ridepool/specs/Live"),
+     "input_rows/specs/Lines", "input_rows/src/judge", "input_rows/specs/Rows", "input_rows/src/start", "input_rows/specs/Start", "input_rows/src/lines", "live_dispatch", "ridepool/specs/Live"),
 )
 
 

@@ -20,11 +20,11 @@ use request_book::{Answer, Outcome, Planned, Snapshot};
 use rider_limits::Settings;
 use road_network::Network;
 use row_tables::Drafter;
+use shared_work::Gate;
 use std::alloc::Global;
 use std::thread::Threads;
 use travel_times::Ways;
 use trip_graph::{GraphAnswer, grow_graph};
-use worker_gate::Gate;
 
 /// Solves a batch, after Alonso-Mora, Samaranayake, Wallar, Frazzoli and Rus (2017): travel times between its
 /// nodes, limits, the graphs, an assignment with its bound, and moves of idle vehicles.

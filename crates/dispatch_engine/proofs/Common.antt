@@ -30,9 +30,9 @@ pub use Rattle.request_book.specs.declared.reply.Reply.TheVariants.{Accepted, Cl
 pub use Rattle.request_book.specs.declared.state.State.{State}
 pub use Rattle.rider_limits.specs.declared.settings.Settings.{Settings}
 pub use Rattle.road_network.specs.Roads.{Roads}
-pub use Rattle.script_rows.specs.Round.{IsRound, MayStand, NumberedLanes, lane_at}
-pub use Rattle.worker_gate.specs.Values.{AreAllPasses, IsNew, IsPassOf, LockValue, calls_of, entry}
-pub use Rattle.worker_gate.specs.declared.logged.LoggedCall.{LoggedCall}
+pub use Rattle.input_rows.specs.Round.{IsRound, MayStand, NumberedLanes, lane_at}
+pub use Rattle.shared_work.specs.Values.{AreAllPasses, IsNew, IsPassOf, LockValue, calls_of, entry}
+pub use Rattle.shared_work.specs.declared.logged.LoggedCall.{LoggedCall}
 unfoldable pub use Rattle.dispatch_engine.specs.Locked.{calls_from}
 pub use Rattle.dispatch_engine.specs.Locked.{call_of, entry_of, sealed_by, snapshot_after}
 pub use Rattle.dispatch_engine.specs.Shared.{BookPass, HasCalled, HasCalledSome, IsFinished, IsSamePass, with_snapshot}

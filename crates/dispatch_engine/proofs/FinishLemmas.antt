@@ -9,8 +9,8 @@ use Rattle.request_book.specs.Step.{step}
 use Rattle.request_book.specs.declared.command.Command.{Command}
 use Rattle.request_book.specs.declared.journal.Entry.{Entry}
 use Rattle.request_book.specs.declared.state.State.{State}
-use Rattle.worker_gate.specs.Values.{GainsCalls, calls_of}
-use Rattle.worker_gate.specs.declared.logged.LoggedCall.{LoggedCall}
+use Rattle.shared_work.specs.Values.{GainsCalls, calls_of}
+use Rattle.shared_work.specs.declared.logged.LoggedCall.{LoggedCall}
 use Rattle.dispatch_engine.specs.declared.locked.BookRoot.{BookRoot}
 use Rattle.dispatch_engine.specs.declared.locked.LockedReply.{LockedReply}
 use Rattle.dispatch_engine.specs.Locked.{calls_from, entry_of, log_of, root_of}

@@ -11,7 +11,7 @@ use Rattle.request_book.specs.declared.journal.Entry.{Entry}
 use Rattle.request_book.specs.declared.reply.Reply.{Reply}
 use Rattle.request_book.specs.declared.reply.Reply.TheVariants.{Sealed}
 use Rattle.request_book.specs.declared.state.State.{State}
-use Rattle.worker_gate.specs.declared.logged.LoggedCall.{LoggedCall}
+use Rattle.shared_work.specs.declared.logged.LoggedCall.{LoggedCall}
 use Rattle.dispatch_engine.specs.declared.locked.BookRoot.{BookRoot}
 use Rattle.dispatch_engine.specs.declared.locked.LockedReply.{LockedReply}
 

@@ -5,7 +5,7 @@ use Rattle.dispatch_engine.specs.declared.stand.LaneStand.{LaneStand}
 use Rattle.request_book.specs.declared.command.Command.{Command}
 use Rattle.request_book.specs.declared.journal.Entry.{Entry}
 use Rattle.request_book.specs.declared.reply.Reply.{Reply}
-use Rattle.script_rows.specs.Round.{NumberedLanes, lane_at}
+use Rattle.input_rows.specs.Round.{NumberedLanes, lane_at}
 use Rattle.dispatch_engine.specs.Locked.{sealed_by}
 
 -- at the beginning no command was taken, and no batch waits for its close

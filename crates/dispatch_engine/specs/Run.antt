@@ -5,7 +5,7 @@ use Rattle.request_book.specs.declared.journal.Journal.{Journal}
 use Rattle.request_book.specs.declared.state.State.{State}
 use Rattle.rider_limits.specs.declared.settings.Settings.{Settings}
 use Rattle.road_network.specs.Roads.{Roads}
-use Rattle.script_rows.specs.Round.{NumberedLanes, lane_at}
+use Rattle.input_rows.specs.Round.{NumberedLanes, lane_at}
 use Rattle.dispatch_engine.specs.Lane.{IsLaneRunFrom, ClosesAreGood}
 
 -- a journal is a run of a round: each reply is the step's, each close has a good outcome for the batch that stands

@@ -4,7 +4,7 @@ use Rattle.std.specs.List.{AllZip}
 use Rattle.request_book.specs.declared.command.Command.{Command}
 use Rattle.request_book.specs.declared.command.Command.TheVariants.{Close}
 use Rattle.request_book.specs.declared.journal.Journal.{Journal}
-use Rattle.script_rows.specs.Round.{NumberedLanes, lane_at}
+use Rattle.input_rows.specs.Round.{NumberedLanes, lane_at}
 use Rattle.dispatch_engine.specs.Lane.{IsCloseOf}
 
 -- every command of the round stands in lane 0

@@ -6,7 +6,7 @@ use Rattle.request_book.specs.Replay.{state_after, RepliesAreSteps}
 use Rattle.request_book.specs.declared.command.Command.{Command}
 use Rattle.request_book.specs.declared.journal.Entry.{Entry}
 use Rattle.request_book.specs.declared.reply.Reply.{Reply}
-use Rattle.worker_gate.specs.Values.{PassValue, calls_of, entry}
+use Rattle.shared_work.specs.Values.{PassValue, calls_of, entry}
 use Rattle.dispatch_engine.specs.declared.locked.LockedReply.{LockedReply}
 use Rattle.dispatch_engine.specs.declared.shared.Receipt.{Receipt}
 use Rattle.dispatch_engine.specs.Locked.{calls_from, Fits}

@@ -1,20 +1,20 @@
 //! The lanes of a round at work, each on a thread of its own.
 ghost use Rattle.std.specs.Prelude.{◌≡◌, true, All, IfOk, IsTrue, map, vec_len};
-ghost use Rattle.worker_gate.specs.Values.{AreAllPasses};
+ghost use Rattle.shared_work.specs.Values.{AreAllPasses};
 ghost use Rattle.dispatch_engine.specs.work.Crew.{AreInOrder, HasWorked, IsToWork, at_rest};
 
 use crate::lane::run_lane;
 use crate::setup::Setup;
 use crate::shared::{Pass, SharedBook};
+use input_rows::Round;
 use pool_base::OutOfMemory;
 use row_tables::Drafter;
-use script_rows::Round;
+use shared_work::Gate;
 use std::alloc::Global;
 use std::sync::Wait;
 use std::thread;
 use std::thread::Threads;
 use travel_times::Ways;
-use worker_gate::Gate;
 
 /// A lane at work: its pass, and whether all its commands are taken.
 #[derive(Drop)]

@@ -3,8 +3,8 @@ ghost use Rattle.std.specs.Prelude.{◌≡◌, ◌∷◌, [], All, Contains, OnE
 ghost use Rattle.request_book.specs.Points.{named_nodes};
 ghost use Rattle.batch_solver.specs.Outcome.{IsGoodOutcome};
 ghost use Rattle.request_book.specs.declared.outcome.Outcome.{Outcome as OneOutcome};
-ghost use Rattle.script_rows.specs.Round.{MayStand};
-ghost use Rattle.worker_gate.specs.Values.{IsPassOf};
+ghost use Rattle.input_rows.specs.Round.{MayStand};
+ghost use Rattle.shared_work.specs.Values.{IsPassOf};
 ghost use Rattle.dispatch_engine.specs.Shared.{IsSamePass};
 ghost use Rattle.dispatch_engine.specs.Lane.{HasRun, IsLaneBeginning, IsLaneRun};
 ghost use Rattle.dispatch_engine.specs.work.Crew.{HasTaken};
@@ -15,11 +15,11 @@ use batch_solver::solve_batch;
 use pool_base::{OutOfMemory, Second};
 use request_book::{Command, Snapshot};
 use row_tables::Drafter;
+use shared_work::Gate;
 use std::alloc::Global;
 use std::sync::Wait;
 use std::thread::Threads;
 use travel_times::Ways;
-use worker_gate::Gate;
 
 /// Calls the book with a lane's commands, in their order, and closes each batch that a seal put up before
 /// the next command, with an outcome that is good for it. The batch is solved while other lanes go on.

@@ -5,7 +5,7 @@ ghost use Rattle.request_book.specs.declared.journal.Journal.{Journal};
 ghost use Rattle.request_book.specs.declared.state.State.{State};
 ghost use Rattle.rider_limits.specs.declared.settings.Settings.{Settings};
 ghost use Rattle.road_network.specs.Roads.{Roads};
-ghost use Rattle.script_rows.specs.Round.{NumberedLanes};
+ghost use Rattle.input_rows.specs.Round.{NumberedLanes};
 ghost use Rattle.dispatch_engine.specs.Run.{IsRun};
 ghost use Rattle.dispatch_engine.specs.Same.{HaveSameCommands, IsInLaneZero};
 

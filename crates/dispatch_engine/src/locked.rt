@@ -5,9 +5,9 @@ ghost use Rattle.dispatch_engine.specs.Locked.{snapshot_before};
 
 use pool_base::{NodeId, OutOfMemory, Sequence};
 use request_book::{Book, Command, Entry, Reply, Snapshot, State};
+use shared_work::Logged;
 use std::alloc::Global;
 use std::marker::Model;
-use worker_gate::Logged;
 
 /// A book whose calls the lock plays. Contracts see it as the book, and know what every book keeps.
 #[derive(Drop)]

@@ -3,13 +3,13 @@ ghost use Rattle.std.specs.Prelude.{◌≡◌, ◌↔◌, ◌<◌, ◌++◌, ◌
 ghost use Rattle.dispatch_engine.specs.Progress.{AreDone, HaveCome, IsNext, IsRest, at_start, stand_after, stand_at};
 ghost use Rattle.request_book.specs.declared.command.Command.{Command as OneCommand};
 ghost use Rattle.request_book.specs.declared.journal.Entry.{Entry as OneEntry};
-ghost use Rattle.script_rows.specs.Round.{NumberedLanes, lane_at};
+ghost use Rattle.input_rows.specs.Round.{NumberedLanes, lane_at};
 ghost use Rattle.dispatch_engine.specs.Locked.{sealed_by};
 
 use crate::stand::LaneStand;
+use input_rows::Round;
 use pool_base::OutOfMemory;
 use request_book::{Command, Reply};
-use script_rows::Round;
 use std::alloc::Global;
 use std::marker::Model;
 

@@ -1,22 +1,22 @@
 ghost use Rattle.std.specs.Prelude.{◌≡◌, ℕ, ◌<◌, ◌≤◌, [], All, IfOk};
 ghost use Rattle.request_book.specs.Book.{IsBook, IsSameBook};
-ghost use Rattle.script_rows.specs.Round.{IsRound, lane_at};
-ghost use Rattle.worker_gate.specs.Values.{AreAllPasses, IsNew};
+ghost use Rattle.input_rows.specs.Round.{IsRound, lane_at};
+ghost use Rattle.shared_work.specs.Values.{AreAllPasses, IsNew};
 ghost use Rattle.dispatch_engine.specs.work.Crew.{HaveRunLanes, IsSharedBy};
 ghost use Rattle.dispatch_engine.specs.Run.{IsReady, IsRoundRun, IsSameRun, journal_of};
 
 use crate::crew::{are_done, passes_of, work_all};
 use crate::setup::Setup;
 use crate::shared::{Pass, SharedBook};
+use input_rows::Round;
 use pool_base::OutOfMemory;
 use request_book::{Book, Command};
 use row_tables::Drafter;
-use script_rows::Round;
+use shared_work::Gate;
 use std::alloc::Global;
 use std::sync::Wait;
 use std::thread::Threads;
 use travel_times::Ways;
-use worker_gate::Gate;
 
 /// Runs the lanes of a round at the same time, each on a thread of its own where one can be made, each lane's
 /// commands in their order. The search follows what the drafter drafts and judges it, and the gate hears of each

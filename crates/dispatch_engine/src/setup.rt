@@ -3,8 +3,8 @@ ghost use Rattle.std.specs.Prelude.{◌≡◌};
 use rider_limits::Settings;
 use road_network::Network;
 use row_tables::Drafter;
+use shared_work::Gate;
 use travel_times::Ways;
-use worker_gate::Gate;
 
 /// What all batches of a run share: the network, `ways` that tells its travel times, what drafts assignments, the
 /// settings, and the gate that hears of pieces of growth and of receipts.

@@ -2,20 +2,20 @@
 ghost use Rattle.std.specs.Prelude.{◌≡◌, ◌≤◌, All, IfOk, IfErr, IsOk, IsTrue, OnErr};
 ghost use Rattle.request_book.specs.Book.{IsBook, is_light};
 ghost use Rattle.request_book.specs.declared.command.Command.TheVariants.{Seal};
-ghost use Rattle.worker_gate.specs.Values.{AreAllPasses, IsNew, IsPassOf};
+ghost use Rattle.shared_work.specs.Values.{AreAllPasses, IsNew, IsPassOf};
 ghost use Rattle.dispatch_engine.specs.Shared.{with_snapshot, HasCalled, HasCalledSome, IsFinished, IsSamePass};
 
 use crate::locked::{LockedBook, LockedReply};
 use pool_base::{OutOfMemory, Second};
 use request_book::{Book, Command, Reply, Snapshot, rounds_join};
+use shared_work::{Played, Refused, SeatLock};
 use std::alloc::Global;
 use std::marker::Model;
 use std::sync::Wait;
-use worker_gate::{Played, Refused, SeatLock};
 
 /// The pass of a lane to a shared book. Its calls are commands, each with its reply and the batch that it
 /// sealed.
-pub type Pass = worker_gate::Pass<LockedBook>;
+pub type Pass = shared_work::Pass<LockedBook>;
 
 /// A book under a lock. Contracts see its table, the book that it was started with, and how many lanes
 /// it has.
@@ -26,7 +26,7 @@ pub struct SharedBook {
 
 impl Model for SharedBook {
     ghost use Rattle.request_book.specs.Book.{BookView, IsBook};
-    ghost use Rattle.worker_gate.specs.Values.{LockValue};
+    ghost use Rattle.shared_work.specs.Values.{LockValue};
 
     ghost Value = { LockValue BookView };
 

@@ -10,7 +10,7 @@ use Rattle.dispatch_engine.specs.lemmas.Lanes.{IsPlain}
 use Rattle.request_book.specs.declared.outcome.Answer.TheVariants.{Overflow}
 use Rattle.request_book.specs.declared.outcome.Outcome.{Outcome}
 use Rattle.request_book.specs.declared.reply.Reply.TheVariants.{Accepted}
-use Rattle.worker_gate.specs.declared.logged.LoggedCall.{LoggedCall}
+use Rattle.shared_work.specs.declared.logged.LoggedCall.{LoggedCall}
 use Rattle.dispatch_engine.specs.declared.locked.LockedReply.{LockedReply}
 use Rattle.live_dispatch.proofs.RowLemmas.{AreLinesOf}
 

@@ -30,7 +30,7 @@ pub use Rattle.live_dispatch.specs.Live.{AreWhole, BeginsRows, ButLast, HasAppen
 pub use Rattle.live_dispatch.specs.declared.fault.LiveFault.{LiveFault}
 pub use Rattle.live_dispatch.specs.work.Rows.{EndsIn, EndsWith, in_lane, last_of, round_numbers, start_text}
 pub use Rattle.live_dispatch.specs.work.Standing.{AppendsSome, Awaits, GivesNext, HasCut, HasEnded, HasRunOn, HasTaken, HaveCome, Moment, Opens, Stands, WritesSome, ended_by, entry_for, moment, of_line, of_report, outputs_of, row_text}
-pub use Rattle.script_rows.specs.Rows.{ComesBehind, TakesRows}
+pub use Rattle.input_rows.specs.Rows.{ComesBehind, TakesRows}
 pub use Rattle.pool_io.specs.Faults.{Rose}
 pub use Rattle.pool_io.specs.Sink.{AppendsPart}
 pub use Rattle.request_book.specs.Book.{BookView, IsBook, next_position}
@@ -50,11 +50,11 @@ pub use Rattle.request_book.specs.Seen.{notifiers_seen}
 pub use Rattle.request_book.specs.Told.{HaveHeard, NotifierView}
 pub use Rattle.request_book.specs.declared.notice.Notice.{Notice}
 pub use Rattle.road_network.specs.Roads.{Roads}
-pub use Rattle.script_rows.specs.Line.{IsBehind}
-pub use Rattle.script_rows.specs.Round.{MayStand, NumberedLanes, lane_at}
-pub use Rattle.script_rows.specs.Script.{round_of}
-pub use Rattle.script_rows.specs.declared.line.Line.{Line}
-pub use Rattle.script_rows.specs.lemmas.Named.{rounds_of}
+pub use Rattle.input_rows.specs.Line.{IsBehind}
+pub use Rattle.input_rows.specs.Round.{MayStand, NumberedLanes, lane_at}
+pub use Rattle.input_rows.specs.Script.{round_of}
+pub use Rattle.input_rows.specs.declared.line.Line.{Line}
+pub use Rattle.input_rows.specs.lemmas.Named.{rounds_of}
 pub use Rattle.dispatch_engine.proofs.lemmas.LockedLemmas.{applied-fits, step-seals}
 unfoldable pub use Rattle.dispatch_engine.specs.Locked.{calls_from}
 pub use Rattle.dispatch_engine.specs.Locked.{sealed_by}

@@ -9,8 +9,8 @@ use Rattle.request_book.specs.declared.state.State.{State}
 use Rattle.request_book.specs.Step.{step}
 use Rattle.rider_limits.specs.declared.settings.Settings.{Settings}
 use Rattle.road_network.specs.Roads.{Roads}
-use Rattle.script_rows.specs.declared.line.Line.{Line}
-use Rattle.worker_gate.specs.Values.{calls_of, GainsCalls, PassValue}
+use Rattle.input_rows.specs.declared.line.Line.{Line}
+use Rattle.shared_work.specs.Values.{calls_of, GainsCalls, PassValue}
 use Rattle.dispatch_engine.specs.Locked.{calls_from}
 use Rattle.dispatch_engine.specs.declared.locked.LockedReply.{LockedReply}
 use Rattle.live_dispatch.specs.Desk.{desk_call, desk_log, desk_root, DeskView, IsDesk}

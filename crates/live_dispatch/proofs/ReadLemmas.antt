@@ -11,10 +11,10 @@ use Rattle.std.proofs.lemmas.List.{map-append}
 use Rattle.std.proofs.lemmas.List.Elements.{All-push}
 use Rattle.live_dispatch.specs.declared.desk.LaneCommand.{LaneCommand}
 use Rattle.dispatch_engine.specs.declared.locked.LockedReply.{LockedReply}
-use Rattle.worker_gate.specs.Values.{PassValue}
-use Rattle.worker_gate.specs.declared.logged.LoggedCall.{LoggedCall}
-use Rattle.script_rows.specs.declared.line.Line.{Line}
-use Rattle.script_rows.specs.Rows.{TakesRows}
+use Rattle.shared_work.specs.Values.{PassValue}
+use Rattle.shared_work.specs.declared.logged.LoggedCall.{LoggedCall}
+use Rattle.input_rows.specs.declared.line.Line.{Line}
+use Rattle.input_rows.specs.Rows.{TakesRows}
 use Rattle.live_dispatch.proofs.lemmas.TakenLemmas.{takes-more}
 
 -- rows were run so far

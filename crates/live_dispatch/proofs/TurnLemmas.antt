@@ -1,10 +1,10 @@
 -- From one row to the next.
 use Rattle.std.proofs.Common.{rules, ◌≡◌, ℕ, ◌<◌, ◌≤◌, ◌^◌, Bool, List, [], ◌∷◌, ◌++◌, Option, None, Some, Result, Ok, Err, refl, sym, ap, subst, ◌∙◌, arith}
 use Rattle.live_dispatch.proofs.Common.{Appends-nil, Batch, IsReady, SinkView, Outputs, ReportFault, AreRows, BeginWithRows, takes-all, takes-begin, takes-more, takes-none, takes-start, TakesRows, Rose, IsBook, next_position, state_after, Entry, Settings, all-heard-nothing, Roads, IsBehind, Line, LiveFault, EndsIn, last_of, AppendsSome, Awaits, GivesNext, HasEnded, HasTaken, HaveCome, Moment, Opens, Stands, WritesSome, of_line, of_report, outputs_of, row_text}
-use Rattle.script_rows.specs.declared.lines.LineFault.{LineFault}
+use Rattle.input_rows.specs.declared.lines.LineFault.{LineFault}
 use Rattle.live_dispatch.proofs.EndLemmas.{begun-ended, no_read_of, stood-ended, write_of}
 use Rattle.live_dispatch.proofs.StepLemmas.{row-begins}
-use Rattle.script_rows.specs.declared.lines.LineFault.TheVariants as line
+use Rattle.input_rows.specs.declared.lines.LineFault.TheVariants as line
 use Rattle.live_dispatch.specs.declared.fault.LiveFault.TheVariants as live
 
 -- what holds between two rows

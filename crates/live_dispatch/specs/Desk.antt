@@ -1,5 +1,5 @@
 -- A book whose entries are written as they are made.
-use Rattle.worker_gate.specs.declared.logged.LoggedCall.{LoggedCall}
+use Rattle.shared_work.specs.declared.logged.LoggedCall.{LoggedCall}
 use Rattle.dispatch_engine.specs.Locked.{log_of, Fits}
 use Rattle.dispatch_engine.specs.declared.locked.LockedReply.{LockedReply}
 use Rattle.live_dispatch.specs.declared.desk.LaneCommand.{LaneCommand}

@@ -19,9 +19,9 @@ use Rattle.request_book.specs.Notices.{notices}
 use Rattle.request_book.specs.Told.{HaveHeard, NotifierView}
 use Rattle.request_book.specs.declared.notice.Notice.{Notice}
 use Rattle.road_network.specs.Roads.{Roads}
-use Rattle.script_rows.specs.Round.{NumberedLanes, lane_at}
-use Rattle.script_rows.specs.Script.{round_of}
-use Rattle.script_rows.specs.declared.line.Line.{Line}
+use Rattle.input_rows.specs.Round.{NumberedLanes, lane_at}
+use Rattle.input_rows.specs.Script.{round_of}
+use Rattle.input_rows.specs.declared.line.Line.{Line}
 
 -- the rounds of rows, one for each number
 abbrev pub rows_rounds : List Line → List NumberedLanes

@@ -9,16 +9,16 @@ use Rattle.request_book.specs.declared.journal.Entry.{Entry}
 use Rattle.request_book.specs.declared.outcome.Outcome.{Outcome}
 use Rattle.rider_limits.specs.declared.settings.Settings.{Settings}
 use Rattle.road_network.specs.Roads.{Roads}
-use Rattle.worker_gate.specs.Values.{PassValue}
+use Rattle.shared_work.specs.Values.{PassValue}
 use Rattle.dispatch_report.specs.declared.fault.ReportFault.{ReportFault}
 use Rattle.request_book.specs.Book.{BookView}
 use Rattle.dispatch_engine.specs.declared.locked.LockedReply.{LockedReply}
 use Rattle.live_dispatch.specs.declared.desk.LaneCommand.{LaneCommand}
-use Rattle.script_rows.specs.Line.{IsBehind}
-use Rattle.script_rows.specs.declared.line.Line.{Line}
+use Rattle.input_rows.specs.Line.{IsBehind}
+use Rattle.input_rows.specs.declared.line.Line.{Line}
 use Rattle.live_dispatch.specs.declared.read_on.Halt.{Halt}
 use Rattle.live_dispatch.specs.declared.read_on.Halt.TheVariants as stop
-use Rattle.script_rows.specs.Rows.{TakesRows}
+use Rattle.input_rows.specs.Rows.{TakesRows}
 
 -- a row's command with its lane
 abbrev pub row_command : Line → LaneCommand

@@ -4,7 +4,7 @@ ghost use Rattle.request_book.specs.Batch.{Batch};
 ghost use Rattle.request_book.specs.Points.{named_nodes};
 ghost use Rattle.live_dispatch.specs.Phase.{FaultsFrom, IsHeldBack};
 ghost use Rattle.live_dispatch.specs.Desk.{outputs_seen};
-ghost use Rattle.script_rows.specs.declared.line.Line.{Line};
+ghost use Rattle.input_rows.specs.declared.line.Line.{Line};
 ghost use Rattle.live_dispatch.specs.work.Rows.{last_of};
 ghost use Rattle.live_dispatch.specs.work.Standing.{Awaits, HasCut, HasEnded, HasRunOn, HaveCome, Moment, Opens, Stands, moment};
 
@@ -14,16 +14,16 @@ use crate::read_on::Halt;
 use crate::run::{OpenBatch, Opened, Unopened, run_open};
 use dispatch_engine::Setup;
 use dispatch_report::ReportFault;
+use input_rows::{Line, RowSource};
 use pool_base::OutOfMemory;
 use pool_io::Sink;
 use request_book::{Book, Notifier, Snapshot};
 use row_tables::Drafter;
-use script_rows::{Line, RowSource};
+use shared_work::Gate;
 use std::alloc::Global;
 use std::sync::Wait;
 use std::thread::Threads;
 use travel_times::Ways;
-use worker_gate::Gate;
 
 /// Solves and closes the batch that is open, while rows of its round in other lanes are run. It gives the row that waited
 /// for the close; at the end of the rows the run is ended.

@@ -1,6 +1,6 @@
 ghost use Rattle.std.specs.Prelude.{◌≡◌, [], All, Contains};
 ghost use Rattle.request_book.specs.Points.{named_nodes};
-ghost use Rattle.worker_gate.specs.Values.{IsPassOf};
+ghost use Rattle.shared_work.specs.Values.{IsPassOf};
 ghost use Rattle.live_dispatch.specs.Phase.{ClosesBatch, commands_in};
 
 use crate::desk::{Desk, LaneCommand, Opening};
@@ -9,11 +9,11 @@ use dispatch_engine::Setup;
 use pool_io::Sink;
 use request_book::{Command, Notifier, Snapshot};
 use row_tables::Drafter;
+use shared_work::{Gate, Pass, SeatLock};
 use std::alloc::Global;
 use std::sync::Wait;
 use std::thread::Threads;
 use travel_times::Ways;
-use worker_gate::{Gate, Pass, SeatLock};
 
 /// Solves the batch and closes it, and says whether it did.
 pub(crate) fn close_batch<K: Sink, N: Notifier, J: Opening, W: Ways, D: Drafter, G: Gate>(

@@ -2,7 +2,7 @@ ghost use Rattle.std.specs.Prelude.{◌≡◌};
 ghost use Rattle.live_dispatch.specs.work.Standing.{of_line, of_report};
 
 use dispatch_report::ReportFault;
-use script_rows::LineFault;
+use input_rows::LineFault;
 
 /// Why a run ended before its rows.
 #[derive(Clone, Copy)]

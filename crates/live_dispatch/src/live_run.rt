@@ -9,9 +9,9 @@ ghost use Rattle.live_dispatch.specs.work.Standing.{ended_by};
 
 use crate::fault::{LiveFault, fault_of_text};
 use dispatch_report::write_end;
+use input_rows::RowSource;
 use pool_io::Sink;
 use request_book::{Book, Notifier};
-use script_rows::RowSource;
 use std::alloc::Global;
 
 /// A run while no batch is open: the book, the sink of its report, its notifiers and its rows to come.

@@ -7,8 +7,8 @@ use dispatch_engine::LockedReply;
 use pool_base::OutOfMemory;
 use pool_io::Sink;
 use request_book::Notifier;
+use shared_work::Logged;
 use std::alloc::Global;
-use worker_gate::Logged;
 
 // Which pass plays the commands of a lane.
 fn pass_of(lane: u8) -> u8

@@ -1,23 +1,23 @@
 ghost use Rattle.std.specs.Prelude.{◌≡◌, ◌<◌, [], ◌∷◌, All, Contains, vec_capacity};
 ghost use Rattle.live_dispatch.specs.Desk.{desk_log, desk_root};
 ghost use Rattle.request_book.specs.Points.{named_nodes};
-ghost use Rattle.worker_gate.specs.Values.{AreAllPasses, GainsCalls, IsNew, IsPassOf};
+ghost use Rattle.shared_work.specs.Values.{AreAllPasses, GainsCalls, IsNew, IsPassOf};
 ghost use Rattle.live_dispatch.specs.Phase.{ClosesBatch, FaultsFrom, IsHeldBack, RanRows, TakesRun, commands_in};
 
 use crate::close::close_batch;
 use crate::desk::{Desk, Opening};
 use crate::read_on::{Halt, read_on};
 use dispatch_engine::Setup;
+use input_rows::RowSource;
 use pool_io::Sink;
 use request_book::{Notifier, Snapshot};
 use row_tables::Drafter;
-use script_rows::RowSource;
+use shared_work::{Gate, Pass, SeatLock};
 use std::alloc::Global;
 use std::sync::Wait;
 use std::thread;
 use std::thread::Threads;
 use travel_times::Ways;
-use worker_gate::{Gate, Pass, SeatLock};
 
 /// The reader's part, with what it was lent.
 pub(crate) struct Reading<K: Sink, N: Notifier, J: Opening, L> {

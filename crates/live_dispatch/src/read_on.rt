@@ -1,14 +1,14 @@
 ghost use Rattle.std.specs.Prelude.{◌≡◌, []};
-ghost use Rattle.worker_gate.specs.Values.{IsPassOf};
+ghost use Rattle.shared_work.specs.Values.{IsPassOf};
 ghost use Rattle.live_dispatch.specs.Phase.{FaultsFrom, IsHeldBack, RanRows, TakesRun, commands_in};
 
 use crate::desk::{Desk, LaneCommand, Opening};
+use input_rows::{Line, LineFault, RowSource};
 use pool_io::Sink;
 use request_book::Notifier;
-use script_rows::{Line, LineFault, RowSource};
+use shared_work::{Pass, SeatLock};
 use std::alloc::Global;
 use std::sync::Wait;
-use worker_gate::{Pass, SeatLock};
 
 /// Why no more rows are read while a batch is open.
 #[derive(Drop)]

@@ -10,10 +10,10 @@ ghost use Rattle.live_dispatch.specs.work.Standing.{HasTaken, WritesSome, entry_
 
 use dispatch_engine::sealed_by_command;
 use dispatch_report::{ReportFault, write_round_start, write_step};
+use input_rows::Line;
 use pool_base::OutOfMemory;
 use pool_io::Sink;
 use request_book::{Book, Command, Entry, Snapshot};
-use script_rows::Line;
 
 /// Runs a row and writes its line, behind the line of its round where the last row was of another. It gives the batch
 /// that the row sealed. `line` is room for a line.

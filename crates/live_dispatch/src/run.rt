@@ -10,16 +10,16 @@ use crate::open::{Reading, finish, two_of, work_both};
 use crate::read_on::Halt;
 use dispatch_engine::Setup;
 use dispatch_report::ReportFault;
+use input_rows::RowSource;
 use pool_io::Sink;
 use request_book::{Book, Notifier, Snapshot};
 use row_tables::Drafter;
-use script_rows::RowSource;
+use shared_work::{Gate, SeatLock};
 use std::alloc::Global;
 use std::marker::Brand;
 use std::sync::Wait;
 use std::thread::Threads;
 use travel_times::Ways;
-use worker_gate::{Gate, SeatLock};
 
 /// What a batch that is open is run on: the book, the sink of the report, the notifiers, and the rows to come.
 #[derive(Drop)]

@@ -5,10 +5,10 @@ ghost use Rattle.pool_io.specs.Faults.{Rose};
 ghost use Rattle.dispatch_engine.specs.Run.{IsReady};
 ghost use Rattle.pool_io.specs.Views.{Change, sink_seen};
 ghost use Rattle.live_dispatch.specs.Desk.{outputs_seen};
-ghost use Rattle.script_rows.specs.Rows.{ComesBehind};
+ghost use Rattle.input_rows.specs.Rows.{ComesBehind};
 ghost use Rattle.request_book.specs.Seen.{notifiers_seen};
 ghost use Rattle.request_book.specs.Told.{NotifierView};
-ghost use Rattle.script_rows.specs.Line.{IsBehind};
+ghost use Rattle.input_rows.specs.Line.{IsBehind};
 ghost use Rattle.live_dispatch.specs.Live.{BeginsRows, RunsRows};
 ghost use Rattle.live_dispatch.specs.work.Rows.{last_of};
 ghost use Rattle.live_dispatch.specs.work.Standing.{Awaits, GivesNext, HasEnded, HaveCome, Moment, Stands, moment};
@@ -18,15 +18,15 @@ use crate::fault::{LiveFault, fault_of_line, fault_of_text};
 use crate::live_run::{Dispatched, LiveRun, end, stop};
 use crate::row::run_row;
 use dispatch_engine::Setup;
+use input_rows::{Line, LineFault, RowSource};
 use pool_io::Sink;
 use request_book::{Book, Notifier};
 use row_tables::Drafter;
-use script_rows::{Line, LineFault, RowSource};
+use shared_work::Gate;
 use std::alloc::Global;
 use std::sync::Wait;
 use std::thread::Threads;
 use travel_times::Ways;
-use worker_gate::Gate;
 
 /// Runs rows until there is none, and writes the last line: each row's line is written before the next row is waited
 /// for, but for the rows that run beside an open batch, whose lines are written in the order of the journal. Where that

@@ -68,7 +68,7 @@ unfoldable pub use Rattle.request_book.specs.lemmas.Table.{close_step, seal_step
 pub use Rattle.request_book.specs.lemmas.Table.{answer, batch_unless, seal_refusal}
 pub use Rattle.rider_limits.specs.declared.settings.Settings.{Settings}
 pub use Rattle.road_network.specs.Roads.{Roads, index_in}
-pub use Rattle.script_rows.specs.Round.{IsRound, MayStand, NumberedLanes, lane_at}
+pub use Rattle.input_rows.specs.Round.{IsRound, MayStand, NumberedLanes, lane_at}
 pub use Rattle.dispatch_engine.specs.Locked.{sealed_by, snapshot_before}
 pub use Rattle.report_audit.specs.Judged.{CanBeTold, HasTrips, NamesRow, at_most, judged_outcome, judged_plan, late_of, node_of, number_among, row_of, trip_of}
 pub use Rattle.report_audit.specs.Told.{Told, nothing_told, told_by, with_line}

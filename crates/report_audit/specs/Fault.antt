@@ -17,7 +17,7 @@ use Rattle.request_book.specs.declared.journal.Journal.{Journal}
 use Rattle.request_book.specs.declared.reply.Reply.TheVariants.{Closed}
 use Rattle.rider_limits.specs.declared.settings.Settings.{Settings}
 use Rattle.road_network.specs.Roads.{Roads}
-use Rattle.script_rows.specs.Round.{NumberedLanes}
+use Rattle.input_rows.specs.Round.{NumberedLanes}
 use Rattle.report_audit.specs.Place.{Extent, MayFollow, IsInForm, IsRightUpTo, MayComeNext, position_behind, state_behind}
 use Rattle.report_audit.specs.declared.fault.AuditFault.{AuditFault}
 use Rattle.report_audit.specs.declared.fault.AuditFault.TheVariants.{Cut, Form, Head, Entry as WrongEntry, Batch as WrongBatch, OutOfMemory}

@@ -17,7 +17,7 @@ use Rattle.request_book.specs.declared.journal.Journal.{Journal}
 use Rattle.request_book.specs.declared.state.State.{State}
 use Rattle.rider_limits.specs.declared.settings.Settings.{Settings}
 use Rattle.road_network.specs.Roads.{Roads}
-use Rattle.script_rows.specs.Round.{NumberedLanes, lane_at}
+use Rattle.input_rows.specs.Round.{NumberedLanes, lane_at}
 use Rattle.report_audit.specs.Report.{rounds_text}
 use Rattle.report_audit.specs.Types.{AreTold, JournalsAreTold}
 

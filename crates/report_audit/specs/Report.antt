@@ -13,7 +13,7 @@ use Rattle.request_book.specs.declared.reply.Reply.{Reply}
 use Rattle.request_book.specs.declared.reply.Reply.TheVariants.{Closed}
 use Rattle.rider_limits.specs.declared.settings.Settings.{Settings}
 use Rattle.road_network.specs.Roads.{Roads}
-use Rattle.script_rows.specs.Round.{NumberedLanes}
+use Rattle.input_rows.specs.Round.{NumberedLanes}
 use Rattle.report_audit.specs.Types.{JournalsAreTold}
 use Rattle.report_audit.specs.declared.fault.Audited.{Audited}
 

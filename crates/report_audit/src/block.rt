@@ -15,10 +15,10 @@ use crate::told::told_by;
 use request_book::{Outcome, Snapshot};
 use rider_limits::Settings;
 use road_network::Network;
+use shared_work::Gate;
 use std::alloc::Global;
 use std::thread::Threads;
 use travel_times::Ways;
-use worker_gate::Gate;
 
 /// A good outcome whose block was read.
 #[derive(Drop)]

@@ -9,10 +9,10 @@ use crate::refusal::BlockRefusal;
 use crate::setup::AuditSetup;
 use pool_base::{OutOfMemory, Sequence};
 use request_book::{Answer, Book, Command, Entry, Outcome, Reply, Snapshot};
+use shared_work::Gate;
 use std::alloc::Global;
 use std::thread::Threads;
 use travel_times::NetworkWays;
-use worker_gate::Gate;
 
 /// The close of the batch that is sealed, by its line and its block: it is taken into the book, and what follows the block
 /// is the answer. `None` where the line isn't the close's.

@@ -14,7 +14,7 @@ ghost use Rattle.report_audit.specs.Next.{IsNextLine};
 ghost use Rattle.request_book.specs.Book.{IsApplied, next_position};
 ghost use Rattle.request_book.specs.Command.{IsNoClose};
 ghost use Rattle.request_book.specs.declared.reply.Reply.{Reply as OneReply};
-ghost use Rattle.script_rows.specs.Round.{IsRound};
+ghost use Rattle.input_rows.specs.Round.{IsRound};
 
 use crate::close::audit_close;
 use crate::fault::{AuditFault, block_fault};
@@ -23,12 +23,12 @@ use crate::next::NextLine;
 use crate::refusal::BlockRefusal;
 use crate::setup::AuditSetup;
 use dispatch_engine::{Progress, sealed_by_command};
+use input_rows::Round;
 use pool_base::OutOfMemory;
 use request_book::{Book, Command, Entry, Reply, Snapshot};
-use script_rows::Round;
+use shared_work::Gate;
 use std::alloc::Global;
 use std::thread::Threads;
-use worker_gate::Gate;
 
 /// The entry with whose line the rest of a report begins, and behind a close the block of its batch: it is taken into the
 /// book, and what follows it is the answer.

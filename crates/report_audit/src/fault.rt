@@ -5,7 +5,7 @@ ghost use Rattle.report_audit.specs.Fault.{FailsAt, HasFault, IsWrongBatch};
 ghost use Rattle.report_audit.specs.declared.fault.AuditFault.TheVariants.{OutOfMemory as NoMemory};
 ghost use Rattle.report_audit.specs.work.Standing.{fault_of_head};
 ghost use Rattle.road_network.specs.Roads.{Roads};
-ghost use Rattle.script_rows.specs.Round.{NumberedLanes};
+ghost use Rattle.input_rows.specs.Round.{NumberedLanes};
 
 use crate::head_fault::HeadFault;
 use crate::refusal::BlockRefusal;

@@ -29,11 +29,11 @@ use pool_base::OutOfMemory;
 use request_book::{Answer, Outcome, Planned, Snapshot};
 use rider_limits::Settings;
 use road_network::Network;
+use shared_work::Gate;
 use std::alloc::Global;
 use std::thread::Threads;
 use travel_times::Ways;
 use trip_graph::{GraphAnswer, grow_graph};
-use worker_gate::Gate;
 
 /// Whether the outcome is a good one of this batch, whoever made it; else the first point that fails.
 ///

@@ -9,7 +9,7 @@ ghost use Rattle.report_audit.specs.Line.{IsFirstLine};
 ghost use Rattle.report_audit.specs.Next.{IsNextLine};
 ghost use Rattle.rider_limits.specs.declared.settings.Settings.{Settings};
 ghost use Rattle.road_network.specs.Roads.{Roads};
-ghost use Rattle.script_rows.specs.Round.{NumberedLanes};
+ghost use Rattle.input_rows.specs.Round.{NumberedLanes};
 
 use crate::fault::AuditFault;
 use crate::next::{NextLine, read_next};

@@ -15,12 +15,12 @@ use crate::next::NextLine;
 use crate::round::audit_round;
 use crate::setup::AuditSetup;
 use dispatch_engine::opened_book;
+use input_rows::Script;
 use request_book::{Book, Fleet};
 use road_network::Network;
-use script_rows::Script;
+use shared_work::Gate;
 use std::alloc::Global;
 use std::thread::Threads;
-use worker_gate::Gate;
 
 /// Whether a text is the report of a run of this script, from an empty book with these vehicles, printed with its search
 /// trees: how many entries and batches it has, or its first fault.

@@ -9,10 +9,10 @@ use crate::line::behind_line;
 use crate::next::NextLine;
 use crate::setup::AuditSetup;
 use dispatch_engine::Progress;
+use input_rows::Round;
 use request_book::{Book, Command, Entry, Reply};
-use script_rows::Round;
+use shared_work::Gate;
 use std::thread::Threads;
-use worker_gate::Gate;
 
 /// What follows a round in a report, and how many batches the round closes.
 #[derive(Drop)]

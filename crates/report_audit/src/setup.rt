@@ -1,7 +1,7 @@
 use rider_limits::Settings;
 use road_network::Network;
+use shared_work::Gate;
 use std::alloc::Global;
-use worker_gate::Gate;
 
 /// What the rounds of an audit share: the allocator, the whole report, the network, the settings, and the gate that hears
 /// of pieces.

@@ -9,8 +9,8 @@ pub use Rattle.dispatch_engine.specs.Run.{IsReady, IsRoundRun, IsRun, IsSameRun,
 pub use Rattle.pool_io.specs.Views.{Change, IsUntouched, SinkView, SourceView, source_seen}
 pub use Rattle.dispatch_report.specs.Written.{WritesText}
 pub use Rattle.dispatch_report.specs.declared.fault.ReportFault.{ReportFault}
-pub use Rattle.script_rows.specs.Lines.{Streamed, lines_in}
-pub use Rattle.script_rows.specs.Texts.{texts_of}
+pub use Rattle.input_rows.specs.Lines.{Streamed, lines_in}
+pub use Rattle.input_rows.specs.Texts.{texts_of}
 pub use Rattle.pool_base.specs.declared.which.Which.{Which}
 pub use Rattle.pool_io.specs.Faults.{Rose}
 pub use Rattle.pool_io.specs.Sink.{AppendsPart}
@@ -49,4 +49,4 @@ pub use Rattle.road_network.specs.Roads.{Roads}
 pub use Rattle.route_drive.specs.Day.{day_fault}
 pub use Rattle.route_drive.specs.declared.day.DayFault.{DayFault}
 pub use Rattle.route_drive.specs.declared.day_run.DayRound.{DayRound}
-pub use Rattle.script_rows.specs.Round.{NumberedLanes}
+pub use Rattle.input_rows.specs.Round.{NumberedLanes}

@@ -4,17 +4,17 @@ use Rattle.ridepool.proofs.Common.{Appends, IsReady, Change, SinkView, WritesTex
 use Rattle.std.specs.Result.{IsErrOf}
 use Rattle.live_dispatch.specs.Live.{BeginsRows, RunsRows}
 use Rattle.live_dispatch.specs.declared.fault.LiveFault.{LiveFault}
-use Rattle.script_rows.specs.Rows.{rows_to_come}
-use Rattle.script_rows.specs.Start.{live_rows, HasOtherStart, HasStarted}
-use Rattle.script_rows.specs.declared.start.StartFault.{StartFault}
-use Rattle.script_rows.specs.declared.line.Line.{Line}
-use Rattle.script_rows.specs.declared.version.ScriptVersion.{ScriptVersion}
+use Rattle.input_rows.specs.Rows.{rows_to_come}
+use Rattle.input_rows.specs.Start.{live_rows, HasOtherStart, HasStarted}
+use Rattle.input_rows.specs.declared.start.StartFault.{StartFault}
+use Rattle.input_rows.specs.declared.line.Line.{Line}
+use Rattle.input_rows.specs.declared.version.ScriptVersion.{ScriptVersion}
 use Rattle.ridepool.proofs.ReadingLemmas.{reads_within}
 use Rattle.ridepool.proofs.CompleteLemmas.{none_is_no_some, not_long, ok_is_no_err, read_of, same_value}
 use Rattle.ridepool.specs.work.Live.{live_seen, RefusesWords, status_of_end, status_of_start}
 use Rattle.dispatch_report.specs.declared.fault.ReportFault.TheVariants as report
 use Rattle.live_dispatch.specs.declared.fault.LiveFault.TheVariants as live
-use Rattle.script_rows.specs.declared.start.StartFault.TheVariants as start
+use Rattle.input_rows.specs.declared.start.StartFault.TheVariants as start
 use Rattle.pool_base.specs.declared.which.Which.TheVariants as file
 
 -- a script with a header has rows

@@ -9,7 +9,7 @@ use Rattle.rider_limits.specs.Settings.{AreGiven}
 use Rattle.rider_limits.specs.Words.{fault_of}
 use Rattle.rider_limits.specs.declared.settings.Settings.{Settings}
 use Rattle.road_network.specs.Roads.{Roads}
-use Rattle.script_rows.specs.Round.{NumberedLanes}
+use Rattle.input_rows.specs.Round.{NumberedLanes}
 use Rattle.ridepool.specs.Reading.{network_in, vehicles_in, IsFleetIn, script_in}
 use Rattle.pool_io.specs.Views.{Change, IsUntouched, SourceView}
 use Rattle.ridepool.specs.Seen.{IsSilent, Seen, Sources, source_at}

@@ -4,10 +4,10 @@ use Rattle.std.specs.Io.KnownBytes.{Appends}
 use Rattle.request_book.specs.declared.vehicle.Vehicle.{Vehicle}
 use Rattle.dispatch_report.specs.Head.{head_text}
 use Rattle.pool_io.specs.Views.{Change, IsUntouched, SinkView, SourceView}
-use Rattle.script_rows.specs.declared.fleet_fault.FleetFault.{FleetFault}
+use Rattle.input_rows.specs.declared.fleet_fault.FleetFault.{FleetFault}
 use Rattle.live_dispatch.specs.Live.{BeginsRows, RunsRows}
-use Rattle.script_rows.specs.Lines.{lines_in}
-use Rattle.script_rows.specs.Start.{live_rows, HasOtherStart}
+use Rattle.input_rows.specs.Lines.{lines_in}
+use Rattle.input_rows.specs.Start.{live_rows, HasOtherStart}
 use Rattle.pool_base.specs.declared.which.Which.TheVariants as file
 use Rattle.pool_io.specs.Faults.{Rose}
 use Rattle.pool_io.specs.Sink.{AppendsPart}
@@ -21,7 +21,7 @@ use Rattle.rider_limits.specs.declared.word_fault.WordFault.{WordFault}
 use Rattle.request_book.specs.Told.{NotifierView}
 use Rattle.road_network.specs.Roads.{Roads}
 use Rattle.road_network.specs.declared.fault.NetworkFault.{NetworkFault}
-use Rattle.script_rows.specs.declared.line.Line.{Line}
+use Rattle.input_rows.specs.declared.line.Line.{Line}
 use Rattle.ridepool.specs.Inputs.{AreGood, IsSourceTooLong, IsWithin, Reads, Tells}
 use Rattle.ridepool.specs.Reading.{network_in, vehicles_in, IsFleetIn}
 use Rattle.ridepool.specs.Status.{HidesNoMemory}

@@ -1,7 +1,7 @@
 -- What a call of `load` answers.
 use Rattle.std.specs.Prelude.{◌≡◌, Ok, ◌⊎◌}
 use Rattle.dispatch_report.specs.Summary.{load_text, summary_text}
-use Rattle.script_rows.specs.Texts.{Texts, texts_of}
+use Rattle.input_rows.specs.Texts.{Texts, texts_of}
 use Rattle.rider_limits.specs.declared.load_shape.LoadShape.{LoadShape}
 use Rattle.rider_limits.specs.declared.settings.Settings.{Settings}
 use Rattle.ridepool.specs.Inputs.{Inputs, AreUntouched, HasNoWriteFault}

@@ -13,7 +13,7 @@ use Rattle.request_book.specs.Told.{NotifierView, HaveHeard}
 use Rattle.request_book.specs.declared.notice.Notice.{Notice}
 use Rattle.road_network.specs.Roads.{Roads}
 use Rattle.route_drive.specs.declared.day_run.DayRound.{DayRound}
-use Rattle.script_rows.specs.Round.{NumberedLanes}
+use Rattle.input_rows.specs.Round.{NumberedLanes}
 use Rattle.ridepool.specs.Inputs.{Inputs}
 use Rattle.ridepool.specs.Seen.{Seen}
 use Rattle.ridepool.specs.declared.status.RunStatus.{RunStatus}

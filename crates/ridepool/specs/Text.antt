@@ -1,10 +1,10 @@
 -- The line on standard error that tells why a run ended.
 use Rattle.std.specs.Prelude.{ℕ, List, [], ◌++◌, codes}
 use Rattle.dispatch_report.specs.Words.{numbered}
-use Rattle.script_rows.specs.declared.fleet_fault.FleetFault.{FleetFault}
-use Rattle.script_rows.specs.declared.fleet_fault.FleetFault.TheVariants as fleet
-use Rattle.script_rows.specs.declared.judge.RowRefusal.{RowRefusal}
-use Rattle.script_rows.specs.declared.judge.RowRefusal.TheVariants as refusal
+use Rattle.input_rows.specs.declared.fleet_fault.FleetFault.{FleetFault}
+use Rattle.input_rows.specs.declared.fleet_fault.FleetFault.TheVariants as fleet
+use Rattle.input_rows.specs.declared.judge.RowRefusal.{RowRefusal}
+use Rattle.input_rows.specs.declared.judge.RowRefusal.TheVariants as refusal
 use Rattle.pool_base.specs.Which.{file_name}
 use Rattle.pool_base.specs.declared.which.Which.{Which}
 use Rattle.pool_io.specs.declared.input.Input.{Input}
@@ -19,8 +19,8 @@ use Rattle.road_network.specs.declared.fault.NetworkFault.{NetworkFault}
 use Rattle.road_network.specs.declared.fault.NetworkFault.TheVariants as network
 use Rattle.route_drive.specs.declared.day.DayFault.{DayFault}
 use Rattle.route_drive.specs.declared.day.DayFault.TheVariants as day
-use Rattle.script_rows.specs.declared.fault.ScriptFault.{ScriptFault}
-use Rattle.script_rows.specs.declared.fault.ScriptFault.TheVariants as script
+use Rattle.input_rows.specs.declared.fault.ScriptFault.{ScriptFault}
+use Rattle.input_rows.specs.declared.fault.ScriptFault.TheVariants as script
 use Rattle.ridepool.specs.Inputs.{most_bytes}
 use Rattle.ridepool.specs.declared.status.RunStatus.{RunStatus}
 use Rattle.ridepool.specs.declared.status.RunStatus.TheVariants.{Done, Words, Network, Fleet, Script, TooLong, ReadFault, WriteFault, OutOfMemory, Day, TooLate, Report}

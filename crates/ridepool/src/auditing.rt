@@ -16,9 +16,9 @@ use pool_base::{OutOfMemory, Which, put_bytes};
 use pool_io::{Sink, Source, WriteAll, write_all};
 use report_audit::{AuditFault, Audited, audit};
 use rider_limits::Settings;
+use shared_work::Gate;
 use std::alloc::Global;
 use std::thread::Threads;
-use worker_gate::Gate;
 
 /// Reads a printed report and judges it, and where it is one of a run of the script, writes the line that says so.
 pub(crate) fn write_audit<A: Source, K: Sink, G: Gate>(

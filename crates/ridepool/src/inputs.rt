@@ -1,18 +1,18 @@
 ghost use Rattle.std.specs.Prelude.{◌≡◌, All, IfOk, IfErr};
-ghost use Rattle.script_rows.specs.Accepted.{AreRead};
-ghost use Rattle.script_rows.specs.Texts.{texts_of};
+ghost use Rattle.input_rows.specs.Accepted.{AreRead};
+ghost use Rattle.input_rows.specs.Texts.{texts_of};
 ghost use Rattle.request_book.specs.Consistent.{IsNode};
 ghost use Rattle.pool_io.specs.Views.{Change, IsUntouched, SourceView, source_seen};
 ghost use Rattle.ridepool.specs.work.Reading.{GotInputs, ReadSources};
 
 use crate::reading::{fleet_from, network_from, script_from};
 use crate::status::RunStatus;
+use input_rows::{MadeInputs, Script, make_inputs};
 use pool_io::Source;
 use request_book::Fleet;
 use rider_limits::{LoadShape, Mode, Settings};
 use road_network::Network;
 use route_drive::is_day;
-use script_rows::{MadeInputs, Script, make_inputs};
 use std::alloc::Global;
 
 /// The network, the fleet and the script that a call works on.

@@ -3,7 +3,7 @@ ghost use Rattle.std.specs.Prelude.{◌≡◌, ◌≤◌, List, map, All, MatchR
 ghost use Rattle.std.specs.Io.KnownBytes.{Appends};
 ghost use Rattle.std.specs.String.{string_bytes};
 ghost use Rattle.pool_io.specs.Views.{sink_seen, source_seen};
-ghost use Rattle.script_rows.specs.Start.{HasStarted};
+ghost use Rattle.input_rows.specs.Start.{HasStarted};
 ghost use Rattle.request_book.specs.Consistent.{IsNode};
 ghost use Rattle.request_book.specs.Seen.{notifiers_seen};
 ghost use Rattle.request_book.specs.Told.{NotifierView};
@@ -20,6 +20,7 @@ use crate::words::live_settings;
 use crate::writing::status_of;
 use dispatch_engine::{Setup, opened_book};
 use dispatch_report::write_head;
+use input_rows::{LineStream, LiveRows, RefusalListener, ScriptVersion, StartFault, read_start};
 use live_dispatch::{Dispatched, LiveFault, dispatch};
 use plan_drafts::RelaxationDrafter;
 use pool_base::Which;
@@ -28,12 +29,11 @@ use request_book::{Book, Fleet, Notifier};
 use rider_limits::Settings;
 use road_network::Network;
 use row_tables::Drafter;
-use script_rows::{LineStream, LiveRows, RefusalListener, ScriptVersion, StartFault, read_start};
+use shared_work::Gate;
 use std::alloc::Global;
 use std::sync::Wait;
 use std::thread::Threads;
 use travel_times::Ways;
-use worker_gate::Gate;
 
 /// What a call gives back, and how it ended.
 #[derive(Drop)]

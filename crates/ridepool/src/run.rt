@@ -11,10 +11,10 @@ use crate::writing::write_report;
 use pool_io::{Sink, Source};
 use request_book::Notifier;
 use rider_limits::{Mode, read_words};
+use shared_work::Gate;
 use std::alloc::Global;
 use std::sync::Wait;
 use std::thread::Threads;
-use worker_gate::Gate;
 
 /// Reads the words and the inputs, runs the script or drives the day, and writes the report, or of a made
 /// workload its summary; or judges a printed report, and writes whether it is one of a run of the script.

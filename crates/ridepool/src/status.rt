@@ -1,12 +1,12 @@
 ghost use Rattle.std.specs.Prelude.{◌≡◌};
 
+use input_rows::{FleetFault, ScriptFault};
 use pool_base::Which;
 use pool_io::Input;
 use report_audit::AuditFault;
 use rider_limits::WordFault;
 use road_network::NetworkFault;
 use route_drive::DayFault;
-use script_rows::{FleetFault, ScriptFault};
 
 /// How a call ended.
 #[derive(Drop)]

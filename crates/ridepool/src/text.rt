@@ -5,13 +5,13 @@ ghost use Rattle.ridepool.specs.work.Phrase.{phrase_text};
 use crate::phrase::{Phrase, put_phrase};
 use crate::reading::most_bytes;
 use crate::status::RunStatus;
+use input_rows::{FleetFault, RowRefusal, ScriptFault};
 use pool_base::{OutOfMemory, put_bytes};
 use pool_io::{Input, RowFault};
 use report_audit::AuditFault;
 use rider_limits::WordFault;
 use road_network::NetworkFault;
 use route_drive::DayFault;
-use script_rows::{FleetFault, RowRefusal, ScriptFault};
 use std::alloc::Global;
 
 /// The line that tells why a run ended, without the program's name and without its end; empty where all

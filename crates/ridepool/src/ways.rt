@@ -4,11 +4,11 @@ ghost use Rattle.std.specs.Prelude.{◌≡◌, IfOk};
 use pool_base::{NodeId, OutOfMemory, Times};
 use rider_limits::{Settings, TimesWay};
 use road_network::Network;
+use shared_work::Gate;
 use std::alloc::Global;
 use std::marker::Model;
 use std::thread::Threads;
 use travel_times::{LabelWays, Labels, NetworkWays, Ways};
-use worker_gate::Gate;
 
 /// The travel times of a network, by labels where there are any, and else by searches. Contracts see it as the network.
 #[derive(Drop)]

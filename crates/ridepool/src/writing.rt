@@ -21,6 +21,7 @@ use dispatch_report::{
     DayCounts, ReportFault, write_day_end, write_end, write_head, write_load, write_round,
     write_summary,
 };
+use input_rows::{Round, Script};
 use plan_drafts::RelaxationDrafter;
 use pool_base::OutOfMemory;
 use pool_io::Sink;
@@ -29,12 +30,11 @@ use rider_limits::{Mode, Settings};
 use road_network::Network;
 use route_drive::{DayRound, DriveFault, drive_day};
 use row_tables::Drafter;
-use script_rows::{Round, Script};
+use shared_work::Gate;
 use std::alloc::Global;
 use std::sync::Wait;
 use std::thread::Threads;
 use travel_times::Ways;
-use worker_gate::Gate;
 
 /// Runs the script, or drives the vehicles through its day, and writes the report, or a made workload's summary;
 /// after each round's text its notices are told. Travel times come in the way that the settings

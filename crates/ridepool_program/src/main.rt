@@ -13,6 +13,7 @@ mod watched_sink;
 use crate::notices::{OpeningSink, SharedFile, is_taken};
 use crate::watched_gate::WatchedGate;
 use crate::watched_sink::WatchedSink;
+use input_rows::{RefusalListener, RowRefusal};
 use pool_base::OutOfMemory;
 use pool_io::{Source, StdSink, StdSource};
 use request_book::Notifier;
@@ -20,7 +21,6 @@ use ridepool::{
     LineNotifier, LiveEnd, RunStatus, fault_text, live, refusal_text, ridepool, words_of_run,
 };
 use rider_limits::{read_words, value_of};
-use script_rows::{RefusalListener, RowRefusal};
 use std::alloc::Global;
 use std::fs::File;
 use std::io::{IsTerminal, Stderr, Write};

@@ -1,7 +1,7 @@
 use crate::watched_sink::CLEAR;
+use shared_work::Gate;
 use std::alloc::{AllocError, Global};
 use std::io::{Stderr, Write};
-use worker_gate::Gate;
 
 /// A gate that lets all pass at once, and shows on a terminal how far long work is: the labels of a network, and the
 /// rounds of a day. The line goes away when the work is done.

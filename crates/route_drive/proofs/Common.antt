@@ -117,7 +117,7 @@ pub use Rattle.route_drive.specs.work.Places.{ArePlaced, heading_of, headings_of
 pub use Rattle.route_drive.specs.work.Rounds.{Adds}
 pub use Rattle.route_drive.specs.work.Serving.{AreReached, AreReported, HasCalls, HasSeatsFor, IsBound, IsBoundBy, IsDayState, IsDone, IsKept, IsOfVehicle, IsPromiseKept, IsReadyForSeal, IsRightDropoff, IsRightPickup, IsRightStop, IsServing, KeepsBounds, LeavesAll, LeavesOthers, ShowsRiders, calls_of, chosen_stops, closed, course_of, is_stop_of, party_at, seats_after, stops_with}
 pub use Rattle.route_drive.specs.work.Tree.{AreHopsOpened, Grows, IsGrowing, IsOpened, IsTight, IsTree, IsWalkBack, found_at, is_seen, no_found}
-pub use Rattle.script_rows.specs.Round.{IsRound, MayStand, NumberedLanes, empty_round, lane_at}
+pub use Rattle.input_rows.specs.Round.{IsRound, MayStand, NumberedLanes, empty_round, lane_at}
 pub use Rattle.dispatch_engine.specs.Locked.{sealed_by}
 pub use Rattle.stop_orders.proofs.lemmas.ClockLemmas.{AtLeastAsSoon, soon_over, soon_there}
 pub use Rattle.stop_orders.specs.Order.{IsKnown, IsOrder, is_of_passenger, is_of_rider}

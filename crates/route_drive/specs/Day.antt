@@ -6,7 +6,7 @@ use Rattle.pool_base.specs.InOrder.{first_fault}
 use Rattle.request_book.specs.declared.command.Command.{Command}
 use Rattle.request_book.specs.declared.command.Command.TheVariants.{Submit, Seal}
 use Rattle.stop_orders.specs.Settled.{greatest}
-use Rattle.script_rows.specs.Round.{NumberedLanes, empty_round, lane_at}
+use Rattle.input_rows.specs.Round.{NumberedLanes, empty_round, lane_at}
 use Rattle.route_drive.specs.declared.day.DayFault.{DayFault}
 use Rattle.route_drive.specs.declared.day.DayFault.TheVariants as fault
 

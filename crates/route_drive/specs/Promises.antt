@@ -25,7 +25,7 @@ use Rattle.request_book.specs.declared.state.State.{State}
 use Rattle.rider_limits.specs.declared.settings.Settings.{Settings}
 use Rattle.road_network.specs.Roads.{Roads, IsNetwork, index_in}
 use Rattle.road_network.specs.Walk.{IsTimeBetween}
-use Rattle.script_rows.specs.Round.{IsRound, NumberedLanes}
+use Rattle.input_rows.specs.Round.{IsRound, NumberedLanes}
 use Rattle.stop_orders.specs.declared.settled.Settled.{Settled}
 use Rattle.travel_times.specs.Table.{AreTravelTimes}
 use Rattle.route_drive.specs.declared.day_run.DayRound.{DayRound}

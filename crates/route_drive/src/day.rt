@@ -3,9 +3,9 @@ ghost use Rattle.std.specs.List.{list_any};
 ghost use Rattle.pool_base.specs.InOrder.{first_fault};
 ghost use Rattle.route_drive.specs.Day.{day_fault, first_seal, is_of_day, is_seal_command, lane_fault, round_fault, seal_of, seals_fault};
 
+use input_rows::{Round, Script};
 use pool_base::Second;
 use request_book::Command;
-use script_rows::{Round, Script};
 
 /// Why a script is no day.
 #[derive(Clone, Copy)]

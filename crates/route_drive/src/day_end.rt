@@ -3,7 +3,7 @@ ghost use Rattle.std.specs.List.{Any};
 ghost use Rattle.pool_base.specs.TravelTime.{longest};
 ghost use Rattle.request_book.specs.declared.journal.Entry.{Entry as EntryValue};
 ghost use Rattle.route_drive.specs.declared.day_run.DriveFault.TheVariants.{OutOfMemory as NoMemory};
-ghost use Rattle.script_rows.specs.Round.{lane_at};
+ghost use Rattle.input_rows.specs.Round.{lane_at};
 ghost use Rattle.dispatch_engine.specs.Run.{IsReady};
 ghost use Rattle.route_drive.specs.Counts.{AreCounts};
 ghost use Rattle.route_drive.specs.Entering.{left_commands, second_of};
@@ -20,14 +20,14 @@ use crate::keeper::RoundKeeper;
 use crate::rounds::last_round;
 use dispatch_engine::Setup;
 use dispatch_report::DayCounts;
+use input_rows::Round;
 use road_network::Network;
 use row_tables::Drafter;
-use script_rows::Round;
+use shared_work::Gate;
 use std::alloc::Global;
 use std::sync::Wait;
 use std::thread::Threads;
 use travel_times::Ways;
-use worker_gate::Gate;
 
 /// Drives a day to its end, whose rounds were driven: the stops that are left, unless there was no round.
 pub(crate) fn drive_end<W: Ways, D: Drafter, G: Gate, K: RoundKeeper>(

@@ -19,15 +19,15 @@ use crate::plan::{courses_after, first_courses};
 use crate::rounds::driven_round;
 use dispatch_engine::{Setup, run_round};
 use dispatch_report::DayCounts;
+use input_rows::{Round, Script};
 use pool_base::OutOfMemory;
 use request_book::{Book, Journal};
 use row_tables::Drafter;
-use script_rows::{Round, Script};
+use shared_work::Gate;
 use std::alloc::Global;
 use std::sync::Wait;
 use std::thread::Threads;
 use travel_times::Ways;
-use worker_gate::Gate;
 
 /// A day under way.
 #[derive(Drop)]

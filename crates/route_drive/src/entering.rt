@@ -8,19 +8,19 @@ ghost use Rattle.route_drive.specs.declared.entering.Stopped.TheVariants.{TooLat
 ghost use Rattle.route_drive.specs.work.Drive.{IsInTime};
 ghost use Rattle.route_drive.specs.work.Places.{told_by, told_of};
 ghost use Rattle.route_drive.specs.work.Rounds.{Adds};
-ghost use Rattle.script_rows.specs.Round.{MayStand};
+ghost use Rattle.input_rows.specs.Round.{MayStand};
 
 use crate::course::{Course, NodeAt};
 use crate::places::places_at;
 use dispatch_engine::Setup;
+use input_rows::Round;
 use pool_base::{NodeId, OutOfMemory, Second, VehicleId};
 use request_book::{Command, PlannedStop, Vehicle};
 use row_tables::Drafter;
-use script_rows::Round;
+use shared_work::Gate;
 use std::alloc::Global;
 use std::thread::Threads;
 use travel_times::Ways;
-use worker_gate::Gate;
 
 /// Why entering stopped.
 #[derive(Drop)]

@@ -9,11 +9,11 @@ ghost use Rattle.route_drive.specs.Entering.{to_come};
 use crate::course::Course;
 use crate::day::first_seal;
 use arrayvec::ArrayVec;
+use input_rows::Round;
 use pool_base::{NodeId, OutOfMemory, RiderId, Second, VehicleId};
 use request_book::{
     Answer, BookRider, Command, Entry, Planned, PlannedStop, Reply, State, Vehicle,
 };
-use script_rows::Round;
 use std::alloc::Global;
 
 /// At first nothing is on its way.

@@ -10,14 +10,14 @@ use crate::drive::driven_day;
 use crate::keeper::RoundKeeper;
 use dispatch_engine::Setup;
 use dispatch_report::DayCounts;
+use input_rows::Script;
 use request_book::Book;
 use row_tables::Drafter;
-use script_rows::Script;
+use shared_work::Gate;
 use std::alloc::Global;
 use std::sync::Wait;
 use std::thread::Threads;
 use travel_times::Ways;
-use worker_gate::Gate;
 
 /// Drives a day: runs its rounds, and before each seal enters what the vehicles did since, which is the stops of
 /// their last plan at their printed seconds, and then where each vehicle is. A last round has the stops that are

@@ -8,20 +8,20 @@ ghost use Rattle.route_drive.specs.Entering.{EntersTooLate, left_commands, secon
 ghost use Rattle.route_drive.specs.declared.entering.Stopped.TheVariants.{TooLate as Late};
 ghost use Rattle.route_drive.specs.work.Drive.{IsInTime};
 ghost use Rattle.route_drive.specs.work.Rounds.{Adds};
-ghost use Rattle.script_rows.specs.Round.{MayStand, lane_at};
+ghost use Rattle.input_rows.specs.Round.{MayStand, lane_at};
 
 use crate::course::Course;
 use crate::day::first_seal;
 use crate::entering::{Stopped, command_of, enter_all, put};
 use dispatch_engine::Setup;
+use input_rows::Round;
 use pool_base::{OutOfMemory, Second, VehicleId};
 use request_book::{Command, PlannedStop, State, Vehicle};
 use row_tables::Drafter;
-use script_rows::Round;
+use shared_work::Gate;
 use std::alloc::Global;
 use std::thread::Threads;
 use travel_times::Ways;
-use worker_gate::Gate;
 
 /// A round of a day as it is driven from a state: where it has a seal, all vehicles are entered before it.
 pub(crate) fn driven_round<W: Ways, D: Drafter, G: Gate>(

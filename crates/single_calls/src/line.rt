@@ -1,10 +1,10 @@
 //! A line of five nodes, and the batch of two riders who ask for a ride on it.
+use input_rows::{FLEET_HEADER, read_fleet};
 use pool_base::{NodeId, Party, RiderId, Second};
 use pool_io::rows;
 use request_book::{Book, Command, Reply, Snapshot};
 use rider_limits::{Mode, Settings, TimesWay};
 use road_network::{Network, read_network};
-use script_rows::{FLEET_HEADER, read_fleet};
 use std::alloc::Global;
 
 /// Five nodes in a line, a minute between neighbours.

@@ -2,11 +2,11 @@
 ghost use Rattle.std.specs.Prelude.{◌≡◌, ◌*◌, ◌≤◌};
 
 use pool_base::OutOfMemory;
+use shared_work::{Gate, Job, run_pieces};
 use std::alloc::Global;
 use std::sync::atomic::{AtomicU64, Ordering};
 use std::test::Fail;
 use std::thread;
-use worker_gate::{Gate, Job, run_pieces};
 
 const TURNS: u32 = 1_000_000_000;
 

@@ -8,11 +8,11 @@ use pool_base::{NodeId, OutOfMemory, Times};
 use request_book::{Answer, Outcome, Snapshot};
 use rider_limits::Settings;
 use road_network::Network;
+use shared_work::FreeGate;
 use std::alloc::Global;
 use std::sync::atomic::{AtomicU64, Ordering};
 use std::thread::Threads;
 use travel_times::{Ways, are_known, times_between};
-use worker_gate::FreeGate;
 
 // The travel times of a network, with a count of the tables that were asked for.
 #[derive(Drop)]

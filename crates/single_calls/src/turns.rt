@@ -1,13 +1,13 @@
 //! Lanes that count in turn.
 ghost use Rattle.std.specs.Prelude.{◌≡◌, ℕ, ◌<◌, All, length, vec_len, slice_index_or};
-ghost use Rattle.worker_gate.specs.Values.{IsPassOf, AreAllPasses};
+ghost use Rattle.shared_work.specs.Values.{IsPassOf, AreAllPasses};
 
+use shared_work::{Counter, Pass, SeatLock};
 use std::alloc::Global;
 use std::sync::Wait;
 use std::test::Fail;
 use std::thread;
 use std::thread::Threads;
-use worker_gate::{Counter, Pass, SeatLock};
 
 const LANES: u8 = 16;
 

@@ -15,9 +15,9 @@ use crate::rank::{nodes_by_rank, ranks_of};
 use crate::space::{Space, add_hub};
 use pool_base::{OutOfMemory, Times};
 use road_network::Network;
+use shared_work::{FreeGate, Gate};
 use std::alloc::Global;
 use std::marker::Model;
-use worker_gate::{FreeGate, Gate};
 
 /// The hub labels of a road network. Contracts see the hubs of each node, by index: those that it reaches, and those that
 /// reach it.

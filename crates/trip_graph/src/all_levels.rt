@@ -8,9 +8,9 @@ use crate::levels::{first_level, next_level};
 use crate::vehicle_trips::VehicleTrips;
 use crate::workers::Workers;
 use pool_base::{OutOfMemory, Sequence};
+use shared_work::Gate;
 use std::alloc::Global;
 use std::thread::Threads;
-use worker_gate::Gate;
 
 /// Lists the rows of all vehicles of each size from 0 to `most`; `false` exactly where they are more than `room`.
 pub(crate) fn all_levels<R: Threads + Sync, G: Gate>(

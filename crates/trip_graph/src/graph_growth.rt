@@ -16,10 +16,10 @@ use crate::workers::Workers;
 use plan_rules::{GraphFault, TripGraph};
 use pool_base::{OutOfMemory, Sequence, Times};
 use rider_limits::Settings;
+use shared_work::Gate;
 use std::alloc::Global;
 use std::thread::Threads;
 use stop_orders::{Settled, laws};
-use worker_gate::Gate;
 
 /// The three graphs of a batch: which vehicle can serve which rider, which two riders could share an empty
 /// vehicle, and which vehicle can serve which trips of at most `settings.trip` riders, at which least

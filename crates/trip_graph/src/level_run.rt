@@ -6,8 +6,8 @@ use crate::level::Level;
 use crate::pieces::level_piece;
 use crate::vehicle_trips::VehicleTrips;
 use pool_base::OutOfMemory;
+use shared_work::Job;
 use std::alloc::Global;
-use worker_gate::Job;
 
 /// The growth of some vehicles from the rows of `size` riders to those of one rider more: each vehicle is a
 /// piece that needs nothing of the others, with the room that stands at the start.

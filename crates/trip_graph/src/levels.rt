@@ -11,10 +11,10 @@ use crate::run::next_run;
 use crate::vehicle_trips::VehicleTrips;
 use crate::workers::Workers;
 use pool_base::OutOfMemory;
+use shared_work::Gate;
 use std::alloc::Global;
 use std::thread::Threads;
 use stop_orders::laws;
-use worker_gate::Gate;
 
 /// Lists the rows of all vehicles without riders, and gives how many they are.
 pub(crate) fn first_level(

@@ -1,11 +1,11 @@
 //! Who grows the levels.
 ghost use Rattle.std.specs.Prelude.{◌≡◌, ℕ, ◌<◌, ◌≤◌, IfOk, vec_len};
-ghost use Rattle.worker_gate.specs.Outs.{AreRight};
+ghost use Rattle.shared_work.specs.Outs.{AreRight};
 
 use pool_base::OutOfMemory;
+use shared_work::{Gate, Job, run_pieces};
 use std::alloc::Global;
 use std::thread::Threads;
-use worker_gate::{Gate, Job, run_pieces};
 
 /// So many workers, the runtime that makes their threads, and the gate that hears of each piece.
 #[derive(Drop)]

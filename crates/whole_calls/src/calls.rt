@@ -2,10 +2,10 @@
 use pool_io::{MemorySink, MemorySource};
 use request_book::Notifier;
 use ridepool::{RunStatus, ridepool};
+use shared_work::Gate;
 use std::alloc::{AllocError, Global};
 use std::sync::Wait;
 use std::thread::Threads;
-use worker_gate::Gate;
 
 const NETWORK: &[u8] =
     b"from,to,seconds\n1,2,60\n2,1,60\n2,3,60\n3,2,60\n3,4,60\n4,3,60\n4,5,60\n5,4,60\n";

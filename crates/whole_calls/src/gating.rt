@@ -1,13 +1,13 @@
 //! What a gate sees of whole runs: lanes that meet, a lane that is answered during growth, and pieces of growth.
 use crate::calls::ends_with;
 use request_book::Notifier;
+use shared_work::Gate;
 use std::alloc::{AllocError, Global};
 use std::sync::Wait;
 use std::sync::atomic::{AtomicU64, Ordering};
 use std::test::Fail;
 use std::thread;
 use std::thread::Threads;
-use worker_gate::Gate;
 
 const FLEET: &[u8] = b"vehicle,seats,node,second\n1,2,1,0\n";
 

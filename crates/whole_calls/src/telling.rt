@@ -1,11 +1,11 @@
 //! Three notifiers of a run, of whom one is left out once it fails.
 use crate::calls::ends_with;
 use request_book::{MemoryNotifier, Notifier};
+use shared_work::FreeGate;
 use std::alloc::{AllocError, Global};
 use std::sync::Wait;
 use std::test::Fail;
 use std::thread::Threads;
-use worker_gate::FreeGate;
 
 const FLEET: &[u8] = b"vehicle,seats,node,second\n1,2,1,0\n";
 

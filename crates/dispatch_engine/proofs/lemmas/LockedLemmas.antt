@@ -13,7 +13,7 @@ use Rattle.request_book.specs.declared.command.Command.{Command}
 use Rattle.request_book.specs.declared.journal.Entry.{Entry}
 use Rattle.request_book.specs.declared.reply.Reply.{Reply}
 use Rattle.request_book.specs.declared.state.State.{State}
-use Rattle.worker_gate.specs.declared.logged.LoggedCall.{LoggedCall}
+use Rattle.shared_work.specs.declared.logged.LoggedCall.{LoggedCall}
 use Rattle.dispatch_engine.specs.Locked.{sealed_by, snapshot_after, call_of, calls_from, log_of, Fits, snapshot_before}
 
 module _ (nodes : List ℕ) (wait : ℕ) where

@@ -4,8 +4,8 @@ use Rattle.request_book.specs.Book.{BookView}
 use Rattle.request_book.specs.declared.command.Command.{Command}
 use Rattle.rider_limits.specs.declared.settings.Settings.{Settings}
 use Rattle.road_network.specs.Roads.{Roads}
-use Rattle.script_rows.specs.Round.{IsRound, NumberedLanes, lane_at}
-use Rattle.worker_gate.specs.Values.{IsPassOf, LockValue}
+use Rattle.input_rows.specs.Round.{IsRound, NumberedLanes, lane_at}
+use Rattle.shared_work.specs.Values.{IsPassOf, LockValue}
 use Rattle.dispatch_engine.specs.Locked.{entry_of}
 use Rattle.dispatch_engine.specs.Shared.{BookPass, HasCalledSome}
 use Rattle.dispatch_engine.specs.declared.shared.Receipt.{Receipt}

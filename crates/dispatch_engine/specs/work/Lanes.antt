@@ -6,7 +6,7 @@ use Rattle.request_book.specs.declared.journal.Entry.{Entry}
 use Rattle.request_book.specs.declared.state.State.{State}
 use Rattle.rider_limits.specs.declared.settings.Settings.{Settings}
 use Rattle.road_network.specs.Roads.{Roads}
-use Rattle.worker_gate.specs.declared.logged.LoggedCall.{LoggedCall}
+use Rattle.shared_work.specs.declared.logged.LoggedCall.{LoggedCall}
 use Rattle.dispatch_engine.specs.declared.locked.LockedReply.{LockedReply}
 use Rattle.dispatch_engine.specs.Locked.{entry_of}
 use Rattle.dispatch_engine.specs.Shared.{BookPass}

@@ -3,8 +3,8 @@ use Rattle.std.proofs.Common.{rules, List, [], ◌∷◌, ◌++◌, Option, None
 use Rattle.live_dispatch.specs.Phase.{AreRows, BeginWithRows, TakesRun}
 use Rattle.live_dispatch.specs.declared.read_on.Halt.{Halt}
 use Rattle.live_dispatch.specs.declared.read_on.Halt.TheVariants as stop
-use Rattle.script_rows.specs.Rows.{NoRows, TakesRows}
-use Rattle.script_rows.specs.declared.line.Line.{Line}
+use Rattle.input_rows.specs.Rows.{NoRows, TakesRows}
+use Rattle.input_rows.specs.declared.line.Line.{Line}
 
 pub takes-none : (old : Option (List Line)) → TakesRows old old []
 takes-none None = tt

@@ -4,7 +4,7 @@ use Rattle.std.specs.List.{list_any}
 use Rattle.pool_base.specs.Distinct.{distinct}
 use Rattle.dispatch_report.specs.Round.{round_line}
 use Rattle.request_book.specs.declared.command.Command.{Command}
-use Rattle.script_rows.specs.declared.line.Line.{Line}
+use Rattle.input_rows.specs.declared.line.Line.{Line}
 
 -- the numbers of rows
 abbrev pub round_numbers : List Line → List ℕ

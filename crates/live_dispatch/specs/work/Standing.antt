@@ -11,9 +11,9 @@ use Rattle.dispatch_report.specs.declared.fault.ReportFault.TheVariants as repor
 use Rattle.live_dispatch.specs.Phase.{HasRunOpen, desk_after}
 use Rattle.live_dispatch.specs.declared.read_on.Halt.{Halt}
 use Rattle.live_dispatch.specs.Desk.{desk_of, Outputs}
-use Rattle.script_rows.specs.Rows.{GivesRow, TakesRows}
-use Rattle.script_rows.specs.declared.lines.LineFault.{LineFault}
-use Rattle.script_rows.specs.declared.lines.LineFault.TheVariants as line
+use Rattle.input_rows.specs.Rows.{GivesRow, TakesRows}
+use Rattle.input_rows.specs.declared.lines.LineFault.{LineFault}
+use Rattle.input_rows.specs.declared.lines.LineFault.TheVariants as line
 use Rattle.pool_io.specs.Faults.{Rose}
 use Rattle.request_book.specs.Book.{BookView, IsApplied, next_position}
 use Rattle.request_book.specs.Step.{step}
@@ -24,9 +24,9 @@ use Rattle.request_book.specs.declared.reply.Reply.{Reply}
 use Rattle.rider_limits.specs.declared.settings.Settings.{Settings}
 use Rattle.request_book.specs.Told.{HaveHeard, NotifierView}
 use Rattle.road_network.specs.Roads.{Roads}
-use Rattle.script_rows.specs.Line.{IsBehind}
-use Rattle.script_rows.specs.declared.line.Line.{Line}
-use Rattle.script_rows.specs.lemmas.Named.{rounds_of}
+use Rattle.input_rows.specs.Line.{IsBehind}
+use Rattle.input_rows.specs.declared.line.Line.{Line}
+use Rattle.input_rows.specs.lemmas.Named.{rounds_of}
 use Rattle.dispatch_engine.specs.Locked.{Fits, snapshot_before}
 use Rattle.live_dispatch.specs.Live.{BeginsRows, journals_notices, journals_text, RunsRows}
 use Rattle.live_dispatch.specs.declared.fault.LiveFault.{LiveFault}

@@ -31,7 +31,7 @@ use Rattle.request_book.specs.declared.reply.Reply.{Reply}
 use Rattle.request_book.specs.declared.reply.Reply.TheVariants.{Closed}
 use Rattle.rider_limits.specs.declared.settings.Settings.{Settings}
 use Rattle.road_network.specs.Roads.{Roads}
-use Rattle.script_rows.specs.Round.{IsRound, NumberedLanes, lane_at}
+use Rattle.input_rows.specs.Round.{IsRound, NumberedLanes, lane_at}
 use Rattle.dispatch_engine.specs.Locked.{snapshot_before}
 use Rattle.report_audit.specs.Fault.{HasFault}
 use Rattle.report_audit.specs.Place.{BeginsRound, Extent, IsRightBetween, IsRightUpTo, MayFollow, position_behind}

@@ -3,8 +3,8 @@ use Rattle.std.specs.Prelude.{◌≡◌, List, ℕ, Option, Some, Result, Ok, Er
 use Rattle.pool_io.specs.Views.{Change, SinkView}
 use Rattle.live_dispatch.specs.declared.fault.LiveFault.{LiveFault}
 use Rattle.live_dispatch.specs.declared.fault.LiveFault.TheVariants as live
-use Rattle.script_rows.specs.declared.start.StartFault.{StartFault}
-use Rattle.script_rows.specs.declared.start.StartFault.TheVariants as start
+use Rattle.input_rows.specs.declared.start.StartFault.{StartFault}
+use Rattle.input_rows.specs.declared.start.StartFault.TheVariants as start
 use Rattle.pool_base.specs.declared.which.Which.TheVariants as file
 use Rattle.pool_io.specs.declared.input.Input.TheVariants.{Rows}
 use Rattle.pool_io.specs.declared.records.RowFault.TheVariants as row

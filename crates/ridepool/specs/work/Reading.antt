@@ -1,6 +1,6 @@
 -- What the readers of sources and of bytes say.
 use Rattle.std.specs.Prelude.{◌≡◌, ℕ, List, Some, Result, Err, IfErr, MatchResult, ◌⊎◌}
-use Rattle.script_rows.specs.Texts.{texts_of}
+use Rattle.input_rows.specs.Texts.{texts_of}
 use Rattle.pool_base.specs.declared.which.Which.{Which}
 use Rattle.pool_io.specs.Faults.{Rose}
 use Rattle.pool_io.specs.declared.input.Input.{Input}
@@ -9,8 +9,8 @@ use Rattle.rider_limits.specs.declared.settings.Mode.TheVariants.{Load, Drive}
 use Rattle.rider_limits.specs.declared.settings.Settings.{Settings}
 use Rattle.route_drive.specs.Day.{day_fault}
 use Rattle.route_drive.specs.declared.day.DayFault.{DayFault}
-use Rattle.script_rows.specs.Round.{NumberedLanes}
-use Rattle.script_rows.specs.declared.fault.ScriptFault.{ScriptFault}
+use Rattle.input_rows.specs.Round.{NumberedLanes}
+use Rattle.input_rows.specs.declared.fault.ScriptFault.{ScriptFault}
 use Rattle.ridepool.specs.Status.{HidesNoMemory}
 use Rattle.ridepool.specs.Inputs.{Inputs, IsWithin, IsSourceTooLong, Reads, AreReadFrom, AreUntouched, IsStop}
 use Rattle.ridepool.specs.Load.{AreTexts}

@@ -24,7 +24,7 @@ use Rattle.route_drive.specs.Promises.{IsKeptDay}
 use Rattle.route_drive.specs.declared.day_run.DayRound.{DayRound}
 use Rattle.route_drive.specs.declared.day_run.DriveFault.{DriveFault}
 use Rattle.route_drive.specs.declared.day_run.DriveFault.TheVariants as drive
-use Rattle.script_rows.specs.Round.{NumberedLanes}
+use Rattle.input_rows.specs.Round.{NumberedLanes}
 use Rattle.ridepool.specs.Inputs.{Inputs}
 use Rattle.ridepool.specs.Drive.{DrivesDay}
 use Rattle.ridepool.specs.Report.{journals_of, rounds_notices, IsCutShort, IsPart, IsWhole}

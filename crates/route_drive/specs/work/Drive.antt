@@ -8,7 +8,7 @@ use Rattle.request_book.specs.declared.journal.Journal.{Journal}
 use Rattle.request_book.specs.declared.state.State.{State}
 use Rattle.rider_limits.specs.declared.settings.Settings.{Settings}
 use Rattle.road_network.specs.Roads.{Roads}
-use Rattle.script_rows.specs.Round.{NumberedLanes, lane_at, empty_round}
+use Rattle.input_rows.specs.Round.{NumberedLanes, lane_at, empty_round}
 use Rattle.dispatch_engine.specs.Run.{IsReady, IsRoundRun, IsRun, position_after_run, state_after_run}
 use Rattle.route_drive.specs.declared.course.Course.{Course}
 use Rattle.route_drive.specs.declared.day_run.DayRound.{DayRound}

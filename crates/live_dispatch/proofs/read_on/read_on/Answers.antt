@@ -1,6 +1,6 @@
 use Rattle.std.proofs.Common.{ℕ, sym, subst, ◌∷◌, [], ◌∙◌, refl, arith}
-use Rattle.worker_gate.specs.Values.{entry}
-use Rattle.script_rows.specs.Line.{IsBehind}
+use Rattle.shared_work.specs.Values.{entry}
+use Rattle.input_rows.specs.Line.{IsBehind}
 use Rattle.live_dispatch.specs.Phase.{GoesOn}
 use Rattle.live_dispatch.proofs.ReadLemmas.{ran-so, run-more, called_ok, refused_err}
 use Rattle.live_dispatch.proofs.lemmas.TakenLemmas.{takes-all, takes-more, takes-start}

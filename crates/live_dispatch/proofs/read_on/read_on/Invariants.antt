@@ -1,5 +1,5 @@
 use Rattle.std.proofs.Common.{◌≡◌, ◌≤◌}
-use Rattle.worker_gate.specs.Values.{IsPassOf}
+use Rattle.shared_work.specs.Values.{IsPassOf}
 use Rattle.live_dispatch.proofs.ReadLemmas.{HasRun}
 use Rattle.live_dispatch.proofs.read_on.read_on.Given as goal
 

@@ -1,6 +1,6 @@
 use Rattle.std.proofs.Common.{◌≡◌, List, sym, subst}
 use Rattle.request_book.specs.Book.{BookView}
-use Rattle.worker_gate.specs.Values.{LockValue}
+use Rattle.shared_work.specs.Values.{LockValue}
 use Rattle.dispatch_engine.specs.Shared.{BookPass, IsFinished}
 use Rattle.dispatch_engine.proofs.FinishLemmas.{finished}
 use Rattle.dispatch_engine.proofs.shared.SharedBook.finish.Goals as goal
