@@ -247,12 +247,12 @@ def ensured(crate, name):
 
 
 def stale_first_comments():
-    """Each library's first comment shows a caller, and names functions and clauses that there are."""
+    """Each library's first comment shows a caller or more, and names functions and clauses that there are."""
     wrong = []
     for crate in libraries():
         comment = "".join(re.findall(r"^//! ?(.*\n)", (crate / "src" / "lib.rt").read_text(), re.M))
         _, found, main = comment.partition("Main clauses: ")
-        if not found or comment.count("```") != 2:
+        if not found or comment.count("```") not in (2, 4, 6):
             wrong.append(f"{crate.name}: the first comment lacks a caller or its main clauses")
         for part in re.split(r"[;.]\s", main):
             name, *clauses = re.findall(r"`(?:\w+::)?(\w+)`", part) or [""]
