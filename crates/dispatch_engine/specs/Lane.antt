@@ -1,7 +1,7 @@
 -- What a lane did: its commands, each once, in their order, and the closes of the batches that it sealed.
 use Rattle.std.specs.Prelude.{◌≡◌, ℕ, ◌≤◌, ◌==◌, List, [], ◌∷◌, ◌++◌, Option, None, Some, IfSome, All, filter, map}
 use Rattle.request_book.specs.Batch.{Batch}
-use Rattle.batch_solver.specs.Outcome.{IsGoodOutcome}
+use Rattle.dispatch_engine.specs.Outcome.{IsGoodOutcome}
 use Rattle.request_book.specs.Command.{closed_outcome}
 use Rattle.request_book.specs.Step.{step}
 use Rattle.request_book.specs.declared.command.Command.{Command}

@@ -1,1 +1,3 @@
 pub mod Lanes
+pub mod Named
+pub mod NamedPromises

@@ -1,2 +1,11 @@
-pub mod Lanes
+pub mod Chosen
 pub mod Crew
+pub mod Lanes
+pub mod Lists
+pub mod Prices
+pub mod Promised
+pub mod Relaxation
+pub mod Requests
+pub mod SearchTree
+pub mod Settling
+pub mod Weights

@@ -1,7 +1,7 @@
 //! A lane's commands, called by its pass, with the batches that it seals.
 ghost use Rattle.std.specs.Prelude.{◌≡◌, ◌∷◌, [], All, Contains, OnErr, OnOk};
 ghost use Rattle.request_book.specs.Points.{named_nodes};
-ghost use Rattle.batch_solver.specs.Outcome.{IsGoodOutcome};
+ghost use Rattle.dispatch_engine.specs.Outcome.{IsGoodOutcome};
 ghost use Rattle.request_book.specs.declared.outcome.Outcome.{Outcome as OneOutcome};
 ghost use Rattle.input_rows.specs.Round.{MayStand};
 ghost use Rattle.shared_work.specs.Values.{IsPassOf};
@@ -11,7 +11,7 @@ ghost use Rattle.dispatch_engine.specs.work.Crew.{HasTaken};
 
 use crate::setup::Setup;
 use crate::shared::{Pass, SealReceipt, SharedBook};
-use batch_solver::solve_batch;
+use crate::solving::solve_batch;
 use pool_base::{OutOfMemory, Second};
 use request_book::{Command, Snapshot};
 use row_tables::Drafter;

@@ -3,7 +3,7 @@ use Rattle.live_dispatch.specs.Desk.{desk_root, pass_of, DeskView, IsDesk, Outpu
 use Rattle.std.specs.Prelude.{◌≡◌, ◌≢◌, ℕ, ◌≤◌, ◌==◌, Bool, true, false, filter, List, [], ◌∷◌, ◌++◌, map, Option, None, Some, All, ⊤}
 use Rattle.request_book.specs.Batch.{Batch}
 use Rattle.pool_io.specs.Faults.{Rose}
-use Rattle.batch_solver.specs.Outcome.{IsGoodOutcome}
+use Rattle.dispatch_engine.specs.Outcome.{IsGoodOutcome}
 use Rattle.request_book.specs.declared.command.Command.TheVariants.{Close}
 use Rattle.request_book.specs.declared.journal.Entry.{Entry}
 use Rattle.request_book.specs.declared.outcome.Outcome.{Outcome}

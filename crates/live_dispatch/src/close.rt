@@ -4,8 +4,7 @@ ghost use Rattle.shared_work.specs.Values.{IsPassOf};
 ghost use Rattle.live_dispatch.specs.Phase.{ClosesBatch, commands_in};
 
 use crate::desk::{Desk, LaneCommand, Opening};
-use batch_solver::solve_batch;
-use dispatch_engine::Setup;
+use dispatch_engine::{Setup, solve_batch};
 use pool_io::Sink;
 use request_book::{Command, Notifier, Snapshot};
 use row_tables::Drafter;

@@ -84,11 +84,11 @@ pub use Rattle.dispatch_report.specs.declared.block_line.RowText.{RowText}
 pub use Rattle.dispatch_report.specs.declared.block_line.TripText.{TripText}
 pub use Rattle.request_book.specs.declared.outcome.RowLine.{RowLine}
 pub use Rattle.request_book.specs.declared.outcome.Answer.{Answer}
-pub use Rattle.batch_solver.specs.Outcome.{AnswersWith, HasGraphsWith, IsGoodOutcome, IsGoodPlan, IsOutcomeWith}
+pub use Rattle.dispatch_engine.specs.Outcome.{AnswersWith, HasGraphsWith, IsGoodOutcome, IsGoodPlan, IsOutcomeWith}
 pub use Rattle.request_book.specs.Kept.{IsKept}
 pub use Rattle.report_audit.specs.Verdict.{IsVerdictOf, Meets, point_place}
 pub use Rattle.request_book.specs.declared.outcome.Planned.{Planned}
-pub use Rattle.batch_solver.specs.declared.point.Point.{Point}
+pub use Rattle.dispatch_engine.specs.declared.point.Point.{Point}
 pub use Rattle.std.proofs.lemmas.Fmt.{decimal_digit, decimal_is_IsNumeral_wide}
 pub use Rattle.std.proofs.lemmas.Grind.{flat_map-append}
 pub use Rattle.std.specs.Char.{is_ascii_digit}
@@ -107,15 +107,15 @@ unfoldable pub use Rattle.assignment_search.specs.Growth.{choice_count}
 pub use Rattle.assignment_search.specs.Growth.{product_below}
 pub use Rattle.request_book.proofs.lemmas.KeptLemmas.{once_apart}
 pub use Rattle.request_book.specs.lemmas.Kept.{IsOnce, riders_aboard}
-pub use Rattle.batch_solver.proofs.lemmas.LeftLemmas.{kept_few}
-pub use Rattle.batch_solver.proofs.lemmas.MoveLemmas.{has_places, no_moves, none_matched, pairs_within}
-pub use Rattle.batch_solver.proofs.lemmas.TripLemmas.{valid_task, vehicle_read}
-pub use Rattle.batch_solver.specs.Instance.{posed_by}
-pub use Rattle.batch_solver.specs.Moves.{AreMoves, idle_vehicles, is_idle, move_line, origins_of, starts_of}
-pub use Rattle.batch_solver.specs.Points.{GivesPlanWith, Holds, Posed}
-pub use Rattle.batch_solver.specs.Told.{left_riders, rider_id, told_stop}
-pub use Rattle.batch_solver.specs.Trips.{AreLate, AreTrips, IsLate, IsLateOrder, IsTripOf}
-pub use Rattle.batch_solver.specs.lemmas.Named.{told_stops, vehicle_id}
+pub use Rattle.dispatch_engine.proofs.lemmas.LeftLemmas.{kept_few}
+pub use Rattle.dispatch_engine.proofs.lemmas.MoveLemmas.{has_places, no_moves, none_matched, pairs_within}
+pub use Rattle.dispatch_engine.proofs.lemmas.TripLemmas.{valid_task, vehicle_read}
+pub use Rattle.dispatch_engine.specs.Instance.{posed_by}
+pub use Rattle.dispatch_engine.specs.Moves.{AreMoves, idle_vehicles, is_idle, move_line, origins_of, starts_of}
+pub use Rattle.dispatch_engine.specs.Points.{GivesPlanWith, Holds, Posed}
+pub use Rattle.dispatch_engine.specs.Told.{left_riders, rider_id, told_stop}
+pub use Rattle.dispatch_engine.specs.Trips.{AreLate, AreTrips, IsLate, IsLateOrder, IsTripOf}
+pub use Rattle.dispatch_engine.specs.lemmas.Named.{told_stops, vehicle_id}
 pub use Rattle.bound_checker.specs.lemmas.Visit.{coming_of}
 pub use Rattle.report_audit.specs.declared.verdict.Verdict.{Verdict}
 pub use Rattle.report_audit.specs.declared.verdict.Verdict.TheVariants.{Fails, Good}
@@ -141,9 +141,9 @@ pub use Rattle.plan_rules.specs.declared.row.TripRow.{TripRow}
 pub use Rattle.plan_rules.specs.lemmas.Graph.{HasNoRow}
 pub use Rattle.plan_rules.specs.lemmas.Tree.{IsWholeTree, places_read}
 pub use Rattle.pool_base.specs.Times.{point_count, travel_time}
-pub use Rattle.batch_solver.proofs.lemmas.Promises.{filter_range_below, filter_range_rises, rising_once}
-pub use Rattle.batch_solver.specs.Settling.{IsPlaced, IsSettled}
-pub use Rattle.batch_solver.specs.Matching.{IsBestMatching, IsMatching, pair_seconds}
+pub use Rattle.dispatch_engine.proofs.lemmas.Promises.{filter_range_below, filter_range_rises, rising_once}
+pub use Rattle.dispatch_engine.specs.Settling.{IsPlaced, IsSettled}
+pub use Rattle.dispatch_engine.specs.Matching.{IsBestMatching, IsMatching, pair_seconds}
 pub use Rattle.request_book.specs.declared.outcome.ChosenTrip.{ChosenTrip}
 pub use Rattle.request_book.specs.declared.outcome.LateVehicle.{LateVehicle}
 pub use Rattle.request_book.specs.declared.outcome.MoveLine.{MoveLine}

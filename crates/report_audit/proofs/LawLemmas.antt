@@ -6,7 +6,7 @@ use Rattle.report_audit.proofs.OutcomeLemmas.{judged_few, lines_are}
 use Rattle.report_audit.proofs.lemmas.VerdictLemmas.{last_place}
 use Rattle.report_audit.proofs.TellingLemmas.{told_below}
 use Rattle.report_audit.proofs.ToldLemmas.{AreShort, IsShort, all_short}
-use Rattle.batch_solver.specs.declared.point.Point.TheVariants as point
+use Rattle.dispatch_engine.specs.declared.point.Point.TheVariants as point
 
 not_above : (n place : ℕ) → (n < place → ⊥) → place ≤ n
 not_above n place none = ⊎_elim (λ (above : n < place). absurd (none above)) (λ (low : place ≤ n). low) (cases_lt n place)

@@ -3,8 +3,8 @@ use Rattle.std.proofs.lemmas.Bool.Decides.{nat_tests}
 use Rattle.std.proofs.Common.{rules, refl, Bool, not, nat_lt, Some, None, ◌≡◌, ◌==◌, ℕ, ◌<◌, ◌≤◌, ne_eqb, eq-eqb, List, [], ◌++◌, All, length, get_or, map, slice_get, unwrap_or, option_map, sym, ap, ◌∙◌, subst, arith}
 use Rattle.report_audit.proofs.Common.{cond_both, position, position_or_len, get_or-map, length-map, position_or_len_is, prefix_len-le-length, All-append, All-cons, All-map, All-from_get_or, slice_get-get_or, slice_get-map, Batch, IsKept, Vehicle, AnswersWith, HasGraphsWith, IsGoodOutcome, IsGoodPlan, HasTrips, number_among, Node, Answer, Outcome, Planned, RowLine, Settings, Roads}
 use Rattle.std.proofs.lemmas.List.Kept.{AllPairs-from_increasing}
-use Rattle.batch_solver.specs.Told.{rider_id, row_line}
-use Rattle.batch_solver.specs.lemmas.Named.{vehicle_id}
+use Rattle.dispatch_engine.specs.Told.{rider_id, row_line}
+use Rattle.dispatch_engine.specs.lemmas.Named.{vehicle_id}
 use Rattle.plan_rules.specs.Graph.{Graph, IsRowOf, row_vehicle, no_row}
 use Rattle.plan_rules.specs.GoodGraph.{IsGoodGraph}
 use Rattle.plan_rules.specs.Multipliers.{Usable}
@@ -15,10 +15,10 @@ use Rattle.plan_rules.specs.Tree.SearchTree.{Parted, Bounded, Closed}
 use Rattle.plan_rules.specs.declared.node.Node.TheVariants.{Branch, Leaf, Dead}
 use Rattle.plan_rules.specs.declared.row.TripRow.{TripRow}
 use Rattle.pool_base.specs.Times.{travel_time}
-use Rattle.batch_solver.specs.Settling.{IsSettled}
+use Rattle.dispatch_engine.specs.Settling.{IsSettled}
 use Rattle.request_book.specs.declared.outcome.Answer.TheVariants.{Overflow, Planned as Plan}
 use Rattle.stop_orders.specs.declared.settled.Settled.{Settled}
-use Rattle.batch_solver.specs.declared.point.Point.TheVariants as point
+use Rattle.dispatch_engine.specs.declared.point.Point.TheVariants as point
 
 -- a branch names a row of the vehicle whose number it has in the order of these ids
 abbrev pub IsNumbered : List ℕ → List RowLine → Node → Type 0

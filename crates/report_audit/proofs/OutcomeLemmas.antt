@@ -13,7 +13,7 @@ use Rattle.report_audit.specs.Fits.{HasFewStops}
 use Rattle.report_audit.proofs.NumberedLemmas.{AreNumbered, IsNumbered}
 use Rattle.report_audit.proofs.ShapeLemmas.{IsNodeLine, from, is_printed, nest, printed}
 use Rattle.report_audit.proofs.ToldLemmas.{overflow_told, overflow_is_told, plan_is_told}
-use Rattle.batch_solver.specs.declared.point.Point.TheVariants as point
+use Rattle.dispatch_engine.specs.declared.point.Point.TheVariants as point
 use Rattle.plan_rules.specs.declared.node.Node.TheVariants as node
 
 -- what lines tell of the parts of a plan

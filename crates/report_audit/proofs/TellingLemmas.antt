@@ -2,7 +2,7 @@
 use Rattle.std.proofs.Common.{ℕ, ◌<◌, refl}
 use Rattle.report_audit.proofs.Common.{point_place, Point, CanBeTold, Told, HoldUpTo}
 use Rattle.report_audit.proofs.lemmas.VerdictLemmas.{HoldBelow}
-use Rattle.batch_solver.specs.declared.point.Point.TheVariants as point
+use Rattle.dispatch_engine.specs.declared.point.Point.TheVariants as point
 
 module _ (t : Told) where
   -- where the points that ask something of the lines can be told before a place, all can

@@ -3,7 +3,7 @@ use Rattle.std.proofs.Common.{◌≡◌, ℕ, true, false, List, [], ◌∷◌, 
 use Rattle.report_audit.proofs.Common.{All-cons, All-head, All-tail, BlockLine, Expired, Overflow, Lapsed, Late, Alone, Shared, Row, Trip, Out, Move, Branch, Leaf, Dead, End, Point, CanBeTold, Told, nothing_told, told_by, with_line}
 use Rattle.std.specs.List.{All}
 use Rattle.dispatch_report.specs.declared.block_line.BlockLine.TheVariants.{Batch}
-use Rattle.batch_solver.specs.declared.point.Point.TheVariants as point
+use Rattle.dispatch_engine.specs.declared.point.Point.TheVariants as point
 use Rattle.report_audit.proofs.ShapeLemmas.{IsNodeLine, from, printed}
 
 -- the lines of a list add its items

@@ -1,10 +1,10 @@
 use Rattle.std.specs.Prelude.{◌≡◌, ℕ, true, List, ◌++◌, map}
 use Rattle.request_book.specs.Batch.{Batch}
-use Rattle.batch_solver.specs.Outcome.{IsGoodOutcome}
+use Rattle.dispatch_engine.specs.Outcome.{IsGoodOutcome}
 use Rattle.dispatch_report.specs.Block.{block_lines}
 use Rattle.dispatch_report.specs.Lines.{lines_text}
 use Rattle.report_audit.specs.Verdict.{Meets, IsVerdictOf, point_place}
-use Rattle.batch_solver.specs.declared.point.Point.{Point}
+use Rattle.dispatch_engine.specs.declared.point.Point.{Point}
 use Rattle.report_audit.specs.declared.verdict.Verdict.TheVariants.{Fails}
 use Rattle.report_audit.specs.BlockLines.{IsBlock, BlockFails}
 use Rattle.report_audit.specs.declared.block_lines.BlockFault.TheVariants as fault

@@ -3,8 +3,8 @@ use Rattle.std.specs.Prelude.{◌≡◌, ℕ, ◌==◌, ◌≤◌, ◌-◌, ◌^
 use Rattle.std.specs.List.{All, position_or_len}
 use Rattle.plan_rules.specs.declared.node.Node.{Node}
 use Rattle.plan_rules.specs.declared.node.Node.TheVariants as node
-use Rattle.batch_solver.specs.declared.point.Point.{Point}
-use Rattle.batch_solver.specs.declared.point.Point.TheVariants as point
+use Rattle.dispatch_engine.specs.declared.point.Point.{Point}
+use Rattle.dispatch_engine.specs.declared.point.Point.TheVariants as point
 use Rattle.dispatch_report.specs.declared.block_line.BlockLine.{BlockLine}
 use Rattle.dispatch_report.specs.declared.block_line.BlockLine.TheVariants.{Branch, Leaf}
 use Rattle.dispatch_report.specs.declared.block_line.LateText.{LateText}

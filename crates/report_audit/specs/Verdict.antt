@@ -1,10 +1,10 @@
 -- What a verdict says of an outcome.
 use Rattle.std.specs.Prelude.{ℕ, ◌<◌}
 use Rattle.request_book.specs.Batch.{Batch}
-use Rattle.batch_solver.specs.Outcome.{IsOutcomeWith}
-use Rattle.batch_solver.specs.Points.{Holds}
-use Rattle.batch_solver.specs.declared.point.Point.{Point}
-use Rattle.batch_solver.specs.declared.point.Point.TheVariants as point
+use Rattle.dispatch_engine.specs.Outcome.{IsOutcomeWith}
+use Rattle.dispatch_engine.specs.Points.{Holds}
+use Rattle.dispatch_engine.specs.declared.point.Point.{Point}
+use Rattle.dispatch_engine.specs.declared.point.Point.TheVariants as point
 use Rattle.request_book.specs.declared.outcome.Outcome.{Outcome}
 use Rattle.rider_limits.specs.declared.settings.Settings.{Settings}
 use Rattle.road_network.specs.Roads.{Roads}

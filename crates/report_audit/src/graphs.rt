@@ -1,10 +1,10 @@
 //! What is told of the graphs.
 ghost use Rattle.std.specs.Prelude.{◌≡◌, ◌↔◌, IfOk, IsTrue};
-ghost use Rattle.batch_solver.specs.Instance.{AreExact, posed_by};
-ghost use Rattle.batch_solver.specs.Points.{Holds};
-ghost use Rattle.batch_solver.specs.declared.point.Point.TheVariants.{Graphs as GraphsPoint};
+ghost use Rattle.dispatch_engine.specs.Instance.{AreExact, posed_by};
+ghost use Rattle.dispatch_engine.specs.Points.{Holds};
+ghost use Rattle.dispatch_engine.specs.declared.point.Point.TheVariants.{Graphs as GraphsPoint};
 
-use batch_solver::{Graphs, lapsed_ids, row_lines, rr_lines, rv_lines};
+use dispatch_engine::{Graphs, lapsed_ids, row_lines, rr_lines, rv_lines};
 use pool_base::{OutOfMemory, RiderId, VehicleId};
 use request_book::{Planned, RowLine};
 use std::alloc::Global;

@@ -1,11 +1,11 @@
 //! The judge of an outcome.
 ghost use Rattle.std.specs.Prelude.{◌≡◌, ◌↔◌, ◌<◌, All, Contains, IfOk, IsTrue};
 ghost use Rattle.request_book.specs.Points.{named_nodes};
-ghost use Rattle.batch_solver.specs.Instance.{AreExact, HasSoundLimits, posed_by};
-ghost use Rattle.batch_solver.specs.Outcome.{AnswersWith, IsGoodOutcome};
-ghost use Rattle.batch_solver.specs.Points.{Holds};
-ghost use Rattle.batch_solver.specs.Told.{left_riders};
-ghost use Rattle.batch_solver.specs.declared.point.Point.{Point as OnePoint};
+ghost use Rattle.dispatch_engine.specs.Instance.{AreExact, HasSoundLimits, posed_by};
+ghost use Rattle.dispatch_engine.specs.Outcome.{AnswersWith, IsGoodOutcome};
+ghost use Rattle.dispatch_engine.specs.Points.{Holds};
+ghost use Rattle.dispatch_engine.specs.Told.{left_riders};
+ghost use Rattle.dispatch_engine.specs.declared.point.Point.{Point as OnePoint};
 ghost use Rattle.pool_base.specs.Times.{travel_time};
 ghost use Rattle.assignment_search.specs.Found.{ShowsBound, IsClose, IsFair};
 ghost use Rattle.report_audit.specs.Verdict.{IsVerdictOf, Meets, point_place};
@@ -23,7 +23,7 @@ use crate::plan::tells_plan;
 use crate::tight::is_close;
 use crate::trips::plan_of_trips;
 use crate::verdict::Verdict;
-use batch_solver::{Graphs, Instance, Point, left_riders, settle};
+use dispatch_engine::{Graphs, Instance, Point, left_riders, settle};
 use plan_rules::{Plan, TripGraph};
 use pool_base::OutOfMemory;
 use request_book::{Answer, Outcome, Planned, Snapshot};

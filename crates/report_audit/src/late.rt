@@ -1,7 +1,7 @@
 //! Late vehicles.
 ghost use Rattle.std.specs.Prelude.{◌≡◌, ◌↔◌, ◌<◌, [], IfOk, IsTrue, length};
-ghost use Rattle.batch_solver.specs.Instance.{HasSoundLimits};
-ghost use Rattle.batch_solver.specs.Trips.{IsLate, IsLateOrder, AreLate};
+ghost use Rattle.dispatch_engine.specs.Instance.{HasSoundLimits};
+ghost use Rattle.dispatch_engine.specs.Trips.{IsLate, IsLateOrder, AreLate};
 ghost use Rattle.pool_base.specs.Times.{point_count, travel_time};
 ghost use Rattle.stop_orders.specs.Settled.{trip_task};
 ghost use Rattle.stop_orders.specs.Task.{IsTask};
@@ -9,7 +9,7 @@ ghost use Rattle.report_audit.specs.work.Orders.{HasOwnIds};
 ghost use Rattle.report_audit.specs.work.Trips.{IsLeast};
 
 use crate::orders::told_order;
-use batch_solver::Instance;
+use dispatch_engine::Instance;
 use pool_base::OutOfMemory;
 use request_book::{LateVehicle, PlannedStop};
 use std::alloc::Global;

@@ -1,16 +1,16 @@
 //! Moves of idle vehicles.
 ghost use Rattle.std.specs.Prelude.{◌≡◌, ◌↔◌, ◌<◌, ◌≤◌, ℕ, All, IfOk, IsTrue, List, MatchOption, length, slice_index, sum_by};
-ghost use Rattle.batch_solver.specs.Instance.{AreExact};
-ghost use Rattle.batch_solver.specs.Moves.{AreMoves, idle_vehicles, move_line, origins_of, starts_of};
-ghost use Rattle.batch_solver.specs.Told.{left_riders};
-ghost use Rattle.batch_solver.specs.lemmas.Named.{vehicle_id};
+ghost use Rattle.dispatch_engine.specs.Instance.{AreExact};
+ghost use Rattle.dispatch_engine.specs.Moves.{AreMoves, idle_vehicles, move_line, origins_of, starts_of};
+ghost use Rattle.dispatch_engine.specs.Told.{left_riders};
+ghost use Rattle.dispatch_engine.specs.lemmas.Named.{vehicle_id};
 ghost use Rattle.plan_rules.specs.Plan.{IsPlan};
 ghost use Rattle.pool_base.specs.Times.{point_count, travel_time};
-ghost use Rattle.batch_solver.specs.Matching.{IsBestMatching, pair_seconds};
+ghost use Rattle.dispatch_engine.specs.Matching.{IsBestMatching, pair_seconds};
 ghost use Rattle.report_audit.specs.work.Moves.{CanPrecede, HaveOwnPlaces, IsPairWithin, TellsMoves};
 
 use crate::orders::place_of_rider;
-use batch_solver::{Graphs, idle_vehicles, origins_of, rebalance, starts_of};
+use dispatch_engine::{Graphs, idle_vehicles, origins_of, rebalance, starts_of};
 use pool_base::{OutOfMemory, Times, VehicleId};
 use request_book::MoveLine;
 use std::alloc::Global;

@@ -1,7 +1,7 @@
 //! Orders of stops, read from what is told of them.
 ghost use Rattle.std.specs.Prelude.{◌≡◌, ◌<◌, ◌≤◌, ℕ, List, All, IfNone, IfSome, IsTrue, MatchOption, Some, length, slice_index, ◌↔◌};
-ghost use Rattle.batch_solver.specs.Told.{rider_id, told_stop};
-ghost use Rattle.batch_solver.specs.lemmas.Named.{told_stops};
+ghost use Rattle.dispatch_engine.specs.Told.{rider_id, told_stop};
+ghost use Rattle.dispatch_engine.specs.lemmas.Named.{told_stops};
 ghost use Rattle.pool_base.specs.Times.{point_count, travel_time};
 ghost use Rattle.stop_orders.specs.Order.{IsKnown};
 ghost use Rattle.stop_orders.specs.Settled.{IsTrip, trip_task, vehicle_at};
@@ -10,7 +10,7 @@ ghost use Rattle.stop_orders.specs.declared.stop.Stop.{Stop as OneStop};
 ghost use Rattle.report_audit.specs.work.Orders.{HasOwnIds};
 
 use arrayvec::ArrayVec;
-use batch_solver::{Instance, tell_stops};
+use dispatch_engine::{Instance, tell_stops};
 use pool_base::RiderId;
 use request_book::PlannedStop;
 use stop_orders::{Settled, SettledRider, Stop, Task, is_order};

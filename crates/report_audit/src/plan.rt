@@ -1,10 +1,10 @@
 //! What is told of the plan.
 ghost use Rattle.std.specs.Prelude.{◌≡◌, ◌↔◌, ◌<◌, All, IfOk, IsTrue, length};
-ghost use Rattle.batch_solver.specs.Told.{left_riders};
+ghost use Rattle.dispatch_engine.specs.Told.{left_riders};
 ghost use Rattle.report_audit.specs.work.Trips.{TellsPlan};
 
 use crate::graphs::are_same_riders;
-use batch_solver::rider_ids;
+use dispatch_engine::rider_ids;
 use plan_rules::{Plan, TripGraph, cost_of, is_lawful};
 use pool_base::OutOfMemory;
 use request_book::Planned;

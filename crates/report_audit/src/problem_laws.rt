@@ -9,7 +9,7 @@ ghost use Rattle.trip_graph.specs.declared.rv_edge.RvEdge.{RvEdge};
 ghost use Rattle.plan_rules.specs.Graph.{Graph};
 ghost use Rattle.pool_base.specs.Times.{travel_time};
 ghost use Rattle.pool_base.specs.declared.times.Times.{Times};
-ghost use Rattle.batch_solver.specs.Settling.{IsSettled};
+ghost use Rattle.dispatch_engine.specs.Settling.{IsSettled};
 ghost use Rattle.rider_limits.specs.declared.settings.Settings.{Settings};
 ghost use Rattle.road_network.specs.declared.arc.Arc.{Arc};
 ghost use Rattle.stop_orders.specs.declared.settled.Settled.{Settled};

@@ -5,7 +5,7 @@ ghost use Rattle.report_audit.specs.work.Judged.{verdict_place};
 
 use crate::block_lines::BlockFault;
 use crate::verdict::Verdict;
-use batch_solver::Point;
+use dispatch_engine::Point;
 use pool_base::OutOfMemory;
 
 /// Why a text begins with no block of a good outcome.

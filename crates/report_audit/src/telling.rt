@@ -1,7 +1,7 @@
 //! What no outcome can tell, by the points that ask for it.
 ghost use Rattle.std.specs.Prelude.{◌≤◌, ◌↔◌, IfSome, IsTrue, length};
 ghost use Rattle.std.specs.List.{All};
-ghost use Rattle.batch_solver.specs.declared.point.Point.TheVariants as point;
+ghost use Rattle.dispatch_engine.specs.declared.point.Point.TheVariants as point;
 ghost use Rattle.report_audit.specs.Judged.{CanBeTold, NamesRow};
 ghost use Rattle.report_audit.specs.work.Judged.{HoldUpTo};
 ghost use Rattle.report_audit.specs.work.Told.{told_in};

@@ -3,13 +3,13 @@ ghost use Rattle.std.specs.Prelude.{◌↔◌, ◌<◌, ℕ, IfOk, IsTrue, List,
 ghost use Rattle.plan_rules.specs.Graph.{IsRowOf};
 ghost use Rattle.plan_rules.specs.Plan.{IsPlan};
 ghost use Rattle.pool_base.specs.Times.{travel_time};
-ghost use Rattle.batch_solver.specs.Instance.{AreExact};
-ghost use Rattle.batch_solver.specs.Trips.{AreTrips};
+ghost use Rattle.dispatch_engine.specs.Instance.{AreExact};
+ghost use Rattle.dispatch_engine.specs.Trips.{AreTrips};
 ghost use Rattle.report_audit.specs.work.Orders.{HasOwnIds};
 ghost use Rattle.report_audit.specs.work.Trips.{GivesTrips, TellsRow};
 
 use crate::orders::told_order;
-use batch_solver::Graphs;
+use dispatch_engine::Graphs;
 use plan_rules::Plan;
 use pool_base::OutOfMemory;
 use request_book::ChosenTrip;

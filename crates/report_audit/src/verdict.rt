@@ -1,4 +1,4 @@
-use batch_solver::Point;
+use dispatch_engine::Point;
 
 /// What was found of an outcome.
 #[derive(Clone, Copy)]

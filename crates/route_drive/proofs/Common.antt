@@ -22,9 +22,9 @@ pub use Rattle.request_book.specs.declared.passenger.Passenger.{Passenger}
 pub use Rattle.request_book.specs.declared.promise.Promise.{Promise}
 pub use Rattle.request_book.specs.declared.batch_rider.Rider.{Rider}
 pub use Rattle.request_book.specs.declared.vehicle.Vehicle.{Vehicle}
-pub use Rattle.batch_solver.specs.Outcome.{AnswersWith, HasGraphsWith, IsGoodOutcome, IsGoodPlan}
-pub use Rattle.batch_solver.specs.Told.{rider_id, told_stop}
-pub use Rattle.batch_solver.specs.Trips.{IsLate, IsTripOf}
+pub use Rattle.dispatch_engine.specs.Outcome.{AnswersWith, HasGraphsWith, IsGoodOutcome, IsGoodPlan}
+pub use Rattle.dispatch_engine.specs.Told.{rider_id, told_stop}
+pub use Rattle.dispatch_engine.specs.Trips.{IsLate, IsTripOf}
 pub use Rattle.dispatch_engine.proofs.lemmas.LaneLemmas.{IsQuiet, plain-quiet}
 unfoldable pub use Rattle.dispatch_engine.specs.Lane.{ClosesAreGood}
 pub use Rattle.dispatch_engine.specs.Lane.{IsCloseOf, IsGoodClose, IsLaneRun, IsLaneRunFrom, of_lane}
@@ -41,11 +41,11 @@ pub use Rattle.pool_base.specs.Times.{travel_time}
 pub use Rattle.pool_base.specs.TravelTime.{IsTravelTime, longest, never}
 pub use Rattle.pool_base.specs.declared.times.Times.{Times}
 pub use Rattle.pool_io.specs.Faults.{one_more}
-pub use Rattle.batch_solver.proofs.lemmas.Promises.{filter_range_has, promised_trip}
-pub use Rattle.batch_solver.specs.Promised.{IsLive, promised_limit, promised_to}
-pub use Rattle.batch_solver.specs.Requests.{IsLegOf, request_at}
-pub use Rattle.batch_solver.specs.Settling.{IsPlaced, IsSettled}
-pub use Rattle.batch_solver.specs.lemmas.NamedPromises.{IsHeld, ideal_second, is_promised_to, kept_leg, kept_legs, no_request}
+pub use Rattle.dispatch_engine.proofs.lemmas.Promises.{filter_range_has, promised_trip}
+pub use Rattle.dispatch_engine.specs.Promised.{IsLive, promised_limit, promised_to}
+pub use Rattle.dispatch_engine.specs.Requests.{IsLegOf, request_at}
+pub use Rattle.dispatch_engine.specs.Settling.{IsPlaced, IsSettled}
+pub use Rattle.dispatch_engine.specs.lemmas.NamedPromises.{IsHeld, ideal_second, is_promised_to, kept_leg, kept_legs, no_request}
 pub use Rattle.request_book.proofs.lemmas.BatchLemmas.{after_seal-id}
 pub use Rattle.request_book.proofs.lemmas.ConsistentLemmas.{step-consistent}
 pub use Rattle.request_book.proofs.lemmas.KeyedLemmas.{All-look_up, KeysDiffer-filter_map, KeysDiffer-from_rise, KeysDiffer-map, by_key-order, look_up-at, look_up-changed_here, look_up-changed_there, look_up-filter_map, look_up-here, look_up-key, look_up-map, look_up-nil, look_up-push_found, look_up-push_here, look_up-push_there, look_up-there, map-changed_at, without_key-absent}

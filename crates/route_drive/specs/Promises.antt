@@ -8,7 +8,7 @@ use Rattle.request_book.specs.Vehicle.{HasSeats}
 use Rattle.request_book.specs.declared.promise.Promise.{Promise}
 use Rattle.request_book.specs.declared.vehicle.Vehicle.{Vehicle}
 use Rattle.dispatch_engine.specs.Run.{state_after_run}
-use Rattle.batch_solver.specs.Settling.{IsSettled}
+use Rattle.dispatch_engine.specs.Settling.{IsSettled}
 use Rattle.request_book.specs.Book.{opening}
 use Rattle.request_book.specs.Consistent.{IsNode}
 use Rattle.request_book.specs.State.{find_rider}

@@ -7,7 +7,7 @@ ghost use Rattle.stop_orders.specs.Sound.{IsSound};
 
 use crate::line::{LINE, batch_on, network_of, settings};
 use crate::walking::fast;
-use batch_solver::settle;
+use dispatch_engine::settle;
 use pool_base::{OutOfMemory, Steps, Times};
 use request_book::{Points, Snapshot};
 use road_network::Network;

@@ -2,7 +2,7 @@
 ghost use Rattle.std.specs.Prelude.{◌≡◌};
 
 use crate::line::{LINE, batch_on, network_of, settings};
-use batch_solver::solve_batch;
+use dispatch_engine::solve_batch;
 use plan_drafts::RelaxationDrafter;
 use pool_base::{NodeId, OutOfMemory, Times};
 use request_book::{Answer, Outcome, Snapshot};

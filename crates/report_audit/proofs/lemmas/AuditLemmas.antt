@@ -18,7 +18,7 @@ use Rattle.report_audit.specs.declared.refusal.BlockRefusal.{BlockRefusal}
 use Rattle.report_audit.specs.declared.refusal.BlockRefusal.TheVariants.{OutOfMemory, Cut, Form, Wrong}
 use Rattle.report_audit.proofs.NumberedLemmas.{vehicle_ids, outcome_numbered, outcome_trips}
 use Rattle.report_audit.proofs.OutcomeLemmas.{IsToldAs, judged_few, lines_are, outcome_is_told}
-use Rattle.batch_solver.specs.declared.point.Point.TheVariants as point
+use Rattle.dispatch_engine.specs.declared.point.Point.TheVariants as point
 use Rattle.report_audit.specs.declared.block_lines.BlockFault.TheVariants as fault
 
 -- two lists of points, one beside the other, where something else holds

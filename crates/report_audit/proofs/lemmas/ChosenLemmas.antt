@@ -1,7 +1,7 @@
 -- The plan that trips give, and the points that ask for it.
 use Rattle.std.proofs.Common.{ℕ, List, Option, sym, subst}
 use Rattle.report_audit.proofs.Common.{IsClose, IsFair, ShowsBound, GivesPlanWith, Holds, Posed, TellsPlan, Planned, Settings, GivesTrips}
-use Rattle.batch_solver.specs.declared.point.Point.TheVariants as point
+use Rattle.dispatch_engine.specs.declared.point.Point.TheVariants as point
 use Rattle.report_audit.proofs.lemmas.VerdictLemmas.{HoldBelow, hold_more}
 
 module _ (settings : Settings) (p : Posed) (planned : Planned) (plan : List (Option ℕ)) (gives : GivesTrips p.points p.tau p.settled p.graph plan planned.chosen) where

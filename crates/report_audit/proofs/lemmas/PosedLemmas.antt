@@ -10,7 +10,7 @@ use Rattle.report_audit.proofs.lemmas.TableLemmas.{one_table}
 use Rattle.pool_base.specs.declared.times.Times.{Times}
 use Rattle.request_book.specs.declared.outcome.Outcome.{Outcome}
 use Rattle.report_audit.proofs.lemmas.VerdictLemmas.{verdict_of_same}
-use Rattle.batch_solver.specs.declared.point.Point.TheVariants as point
+use Rattle.dispatch_engine.specs.declared.point.Point.TheVariants as point
 use Rattle.request_book.specs.declared.outcome.Answer.TheVariants as answer
 
 -- what holds with some graphs of these limits holds with others

@@ -15,11 +15,11 @@ use Rattle.stop_orders.specs.Task.{IsServable, leg_at, no_leg}
 use Rattle.stop_orders.specs.Settled.{vehicle_at, rider_at, vehicle_task, no_rider}
 use Rattle.stop_orders.specs.lemmas.Named.{no_vehicle}
 use Rattle.rider_limits.specs.declared.settings.Settings.{Settings}
-use Rattle.batch_solver.specs.Requests.{IsLegOf, request_at}
-use Rattle.batch_solver.specs.Promised.{promised_limit, promised_to, IsLive}
-use Rattle.batch_solver.specs.lemmas.NamedPromises.{ideal_second, kept_leg, kept_legs, HoldsPromised, IsHeld, no_request}
-use Rattle.batch_solver.specs.Settling.{IsPlaced, HasRightLimit, IsSettled}
-use Rattle.batch_solver.proofs.lemmas.Promises.{some_at, rising_once}
+use Rattle.dispatch_engine.specs.Requests.{IsLegOf, request_at}
+use Rattle.dispatch_engine.specs.Promised.{promised_limit, promised_to, IsLive}
+use Rattle.dispatch_engine.specs.lemmas.NamedPromises.{ideal_second, kept_leg, kept_legs, HoldsPromised, IsHeld, no_request}
+use Rattle.dispatch_engine.specs.Settling.{IsPlaced, HasRightLimit, IsSettled}
+use Rattle.dispatch_engine.proofs.lemmas.Promises.{some_at, rising_once}
 
 -- a node stands at one place
 pub one_place_of : (points : List ℕ) → IsStrictlyIncreasing points → (i j node : ℕ) → slice_get points i ≡ Some node → slice_get points j ≡ Some node → i ≡ j

@@ -1,7 +1,7 @@
 -- Points, asked one after the other.
 use Rattle.std.proofs.Common.{◌≡◌, ℕ, zero, suc, ◌+◌, ◌<◌, refl, arith, rules}
 use Rattle.report_audit.proofs.Common.{point_place, IsVerdictOf, Point, Verdict, Good, Fails}
-use Rattle.batch_solver.specs.declared.point.Point.TheVariants as point
+use Rattle.dispatch_engine.specs.declared.point.Point.TheVariants as point
 
 -- all points before this place hold
 abbrev pub HoldBelow : (Point → Type 0) → ℕ → Type 0

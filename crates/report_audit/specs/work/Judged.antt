@@ -2,7 +2,7 @@
 use Rattle.std.specs.Prelude.{◌≡◌, ℕ, ◌<◌, List}
 use Rattle.arrayvec.specs.ArrayVec.{ArrayVec}
 use Rattle.report_audit.specs.Verdict.{point_place}
-use Rattle.batch_solver.specs.declared.point.Point.{Point}
+use Rattle.dispatch_engine.specs.declared.point.Point.{Point}
 use Rattle.report_audit.specs.declared.verdict.Verdict.{Verdict}
 use Rattle.report_audit.specs.declared.verdict.Verdict.TheVariants.{Good, Fails}
 use Rattle.request_book.specs.declared.outcome.PlannedStop.{PlannedStop}

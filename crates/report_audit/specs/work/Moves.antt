@@ -1,9 +1,9 @@
 -- Moves, read as pairs of places of two lists.
 use Rattle.std.specs.Prelude.{◌≡◌, ◌≢◌, ℕ, ◌<◌, List, All, AllPairs, length, slice_index, slice_index_or}
-use Rattle.batch_solver.specs.Moves.{move_line, origins_of, starts_of}
-use Rattle.batch_solver.specs.Told.{rider_id}
-use Rattle.batch_solver.specs.lemmas.Named.{vehicle_id}
-use Rattle.batch_solver.specs.Matching.{IsMatching}
+use Rattle.dispatch_engine.specs.Moves.{move_line, origins_of, starts_of}
+use Rattle.dispatch_engine.specs.Told.{rider_id}
+use Rattle.dispatch_engine.specs.lemmas.Named.{vehicle_id}
+use Rattle.dispatch_engine.specs.Matching.{IsMatching}
 use Rattle.request_book.specs.declared.outcome.MoveLine.{MoveLine}
 use Rattle.stop_orders.specs.Settled.{rider_at, vehicle_at}
 use Rattle.stop_orders.specs.declared.settled.Settled.{Settled}

@@ -1,6 +1,6 @@
 -- Ids by which riders and passengers are told apart.
 use Rattle.std.specs.Prelude.{◌≡◌, ℕ, ◌<◌, List, [], length, slice_index}
-use Rattle.batch_solver.specs.Told.{rider_id}
+use Rattle.dispatch_engine.specs.Told.{rider_id}
 use Rattle.stop_orders.specs.Settled.{vehicle_at, trip_task}
 use Rattle.stop_orders.specs.Task.{IsOrderOf, ReachesAll}
 use Rattle.stop_orders.specs.declared.settled.Settled.{Settled}

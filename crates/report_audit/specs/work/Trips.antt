@@ -1,8 +1,8 @@
 -- The row of which a trip tells.
 use Rattle.std.specs.Prelude.{◌≡◌, ℕ, ◌≤◌, List, Option, map}
-use Rattle.batch_solver.specs.Told.{rider_id, left_riders}
-use Rattle.batch_solver.specs.lemmas.Named.{vehicle_id, told_stops}
-use Rattle.batch_solver.specs.Trips.{AreTrips}
+use Rattle.dispatch_engine.specs.Told.{rider_id, left_riders}
+use Rattle.dispatch_engine.specs.lemmas.Named.{vehicle_id, told_stops}
+use Rattle.dispatch_engine.specs.Trips.{AreTrips}
 use Rattle.plan_rules.specs.Graph.{Graph, riders_at, cost_at}
 use Rattle.plan_rules.specs.Plan.{IsPlan, IsLawful, cost_of}
 use Rattle.request_book.specs.declared.outcome.ChosenTrip.{ChosenTrip}

@@ -15,7 +15,7 @@ use Rattle.route_drive.proofs.kept.Tables.{time_between}
 use Rattle.route_drive.proofs.kept.States.{stepped, vehicle_id}
 use Rattle.route_drive.proofs.kept.Sealing.{first_call}
 use Rattle.trip_graph.specs.Answer.{IsRowWith}
-use Rattle.batch_solver.specs.declared.point.Point.TheVariants as point
+use Rattle.dispatch_engine.specs.declared.point.Point.TheVariants as point
 
 all_each : {A X : Type 0} (P : A → X → Type 0) (xs : List X) → ((a : A) → AllByRecursion (P a) xs) → AllByRecursion (λ x. (a : A) → P a x) xs
 all_each P [] each = tt

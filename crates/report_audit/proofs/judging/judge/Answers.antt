@@ -1,9 +1,9 @@
 use Rattle.std.proofs.Common.{◌≡◌, ℕ, List, All, Contains, length, map, sym, ap, ◌∙◌, subst, arith}
 use Rattle.report_audit.proofs.Common.{IfOk-weaker, both_ways, length-map, Batch, IsVerdictOf, Meets, Fails, IsKept, point_count, travel_time, Roads, index_in, AreTravelTimes}
-use Rattle.batch_solver.proofs.lemmas.PointLemmas.{points_known}
+use Rattle.dispatch_engine.proofs.lemmas.PointLemmas.{points_known}
 use Rattle.report_audit.proofs.lemmas.IdLemmas.{own_ids}
 use Rattle.report_audit.proofs.lemmas.PosedLemmas.{meets_of, verdict_good}
-use Rattle.batch_solver.specs.declared.point.Point.TheVariants as point
+use Rattle.dispatch_engine.specs.declared.point.Point.TheVariants as point
 use Rattle.report_audit.proofs.judging.judge.Goals as goal
 
 pub table-requires-clause-known : goal.table-requires-clause-known

@@ -5,7 +5,7 @@ use Rattle.trip_graph.specs.declared.answer.GraphAnswer.{GraphAnswer}
 use Rattle.trip_graph.specs.declared.answer.GraphAnswer.TheVariants.{Graph as Grown}
 use Rattle.report_audit.proofs.lemmas.PosedLemmas.{with_graphs, of_graphs}
 use Rattle.report_audit.proofs.lemmas.VerdictLemmas.{verdict_of_same}
-use Rattle.batch_solver.specs.declared.point.Point.TheVariants as point
+use Rattle.dispatch_engine.specs.declared.point.Point.TheVariants as point
 use Rattle.report_audit.proofs.judging.judge_answer.Goals as goal
 
 pub returns-in-Overflow : goal.returns-in-Overflow

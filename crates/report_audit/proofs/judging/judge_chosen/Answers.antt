@@ -1,7 +1,7 @@
 use Rattle.report_audit.proofs.Common.{both_ways, IsBestNear, AreMoves, idle_vehicles, TellsPlan, posed_by, Holds, left_riders}
 use Rattle.report_audit.proofs.lemmas.ChosenLemmas.{with_plan, at_plan, up_to_plan, up_to_bound, up_to_tree}
 use Rattle.report_audit.proofs.lemmas.VerdictLemmas.{hold_more, hold_all}
-use Rattle.batch_solver.specs.declared.point.Point.TheVariants as point
+use Rattle.dispatch_engine.specs.declared.point.Point.TheVariants as point
 use Rattle.report_audit.proofs.judging.judge_chosen.Goals as goal
 
 pub returns-then-not-branch : goal.returns-then-not-branch

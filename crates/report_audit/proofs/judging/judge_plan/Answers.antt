@@ -1,7 +1,7 @@
 use Rattle.report_audit.proofs.Common.{both_ways, Planned, Posed, Settings, posed_by, Holds}
 use Rattle.report_audit.proofs.lemmas.ChosenLemmas.{with_plan}
 use Rattle.report_audit.proofs.lemmas.VerdictLemmas.{HoldBelow, hold_none, hold_more}
-use Rattle.batch_solver.specs.declared.point.Point.TheVariants as point
+use Rattle.dispatch_engine.specs.declared.point.Point.TheVariants as point
 use Rattle.report_audit.proofs.judging.judge_plan.Goals as goal
 
 -- the points before the second hold, and so on

@@ -1,6 +1,6 @@
 use Rattle.std.proofs.Common.{◌↔◌, drop, length}
 use Rattle.report_audit.proofs.Common.{AllZip, travel_time, vehicle_at, IsLate}
-use Rattle.batch_solver.specs.Trips.{AreLate}
+use Rattle.dispatch_engine.specs.Trips.{AreLate}
 use Rattle.report_audit.proofs.lemmas.WalkLemmas.{passing}
 use Rattle.report_audit.proofs.late.are_late.Given as goal
 

@@ -1,6 +1,6 @@
 use Rattle.std.proofs.Common.{◌≡◌, ℕ, ◌<◌}
 use Rattle.std.specs.Prelude.{slice_index}
-use Rattle.batch_solver.specs.lemmas.Named.{vehicle_id}
+use Rattle.dispatch_engine.specs.lemmas.Named.{vehicle_id}
 use Rattle.report_audit.proofs.moves.place_of_vehicle.Given as goal
 
 abbrev pub invariant-loop-place : goal.invariant-loop-place

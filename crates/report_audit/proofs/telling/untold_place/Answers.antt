@@ -1,7 +1,7 @@
 use Rattle.std.proofs.Common.{arith}
 use Rattle.report_audit.proofs.Common.{both_ways, told_in}
 use Rattle.report_audit.proofs.TellingLemmas.{told_below, untold_at}
-use Rattle.batch_solver.specs.declared.point.Point.TheVariants as point
+use Rattle.dispatch_engine.specs.declared.point.Point.TheVariants as point
 use Rattle.report_audit.proofs.telling.untold_place.Goals as goal
 
 pub returns-then-not-are_short_rows : goal.returns-then-not-are_short_rows

@@ -1,5 +1,5 @@
 use Rattle.std.proofs.Common.{ℕ, List, All, Contains, refl, subst}
-use Rattle.batch_solver.proofs.lemmas.PointLemmas.{named_known}
+use Rattle.dispatch_engine.proofs.lemmas.PointLemmas.{named_known}
 use Rattle.single_calls.proofs.solving.solved_by.Goals as goal
 
 pub solve_batch-requires-clause-nodes : goal.solve_batch-requires-clause-nodes

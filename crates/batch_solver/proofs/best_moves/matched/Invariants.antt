@@ -1,5 +1,0 @@
-use Rattle.batch_solver.proofs.Common.{IsPricedMatching, IsSized, IsSameProblem, HasRoom}
-use Rattle.batch_solver.proofs.best_moves.matched.Given as goal
-
-abbrev pub invariant-loop-vehicle : goal.invariant-loop-vehicle
-invariant-loop-vehicle l = IsPricedMatching l.vehicle l.vehicle l.matching × IsSized l.matching × HasRoom l.riders l.tree × IsSameProblem l.initial.matching l.matching

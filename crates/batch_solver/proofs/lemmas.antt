@@ -1,5 +1,0 @@
-pub mod LeftLemmas
-pub mod MoveLemmas
-pub mod PointLemmas
-pub mod TripLemmas
-pub mod Promises

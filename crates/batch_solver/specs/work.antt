@@ -1,9 +1,0 @@
-pub mod Lists
-pub mod Prices
-pub mod Relaxation
-pub mod SearchTree
-pub mod Chosen
-pub mod Weights
-pub mod Requests
-pub mod Promised
-pub mod Settling
