@@ -4,18 +4,20 @@
 //! status and the line on standard error are those of the call's answer.
 #![tactic(auto)]
 
+mod input;
 mod notices;
 mod progress;
 mod reading;
 mod watched_gate;
 mod watched_sink;
 
+use crate::input::Input;
 use crate::notices::{OpeningSink, SharedFile, is_taken};
 use crate::watched_gate::WatchedGate;
 use crate::watched_sink::WatchedSink;
 use input_rows::{RefusalListener, RowRefusal};
 use pool_base::OutOfMemory;
-use pool_io::{Source, StdSink, StdSource};
+use pool_io::{StdSink, StdSource};
 use request_book::Notifier;
 use ridepool::{
     LineNotifier, LiveEnd, RunStatus, fault_text, live, refusal_text, ridepool, words_of_run,
@@ -91,7 +93,7 @@ const COMMANDS: [&str; 5] = ["run", "live", "drive", "load", "audit"];
 
 const HELP_WORDS: [&str; 2] = ["--help", "-h"];
 
-const VERSION: &str = "ridepool 1.2.11\n";
+const VERSION: &str = "ridepool 1.2.12\n";
 
 fn main(rt: HostRuntime) -> ExitCode {
     let _input = standard_place(&rt);
@@ -210,10 +212,10 @@ fn run(rt: &HostRuntime, threads: &(impl Threads + Wait + Sync), words: &[String
 /// The files that words name.
 #[derive(Drop)]
 struct Inputs {
-    network: StdSource<File>,
-    fleet: StdSource<File>,
-    script: StdSource<File>,
-    report: StdSource<File>,
+    network: StdSource<Input>,
+    fleet: StdSource<Input>,
+    script: StdSource<Input>,
+    report: StdSource<Input>,
 }
 
 impl Inputs {
@@ -238,19 +240,20 @@ fn run_live(
         Err(OutOfMemory) => return RunStatus::OutOfMemory,
     };
     let named: &[String] = if passes { words } else { &[] };
-    match value_of(named, "script") {
-        Some(_) => live_from(rt, threads, words, named, source_of(rt, named, "script")),
-        None => live_from(rt, threads, words, named, StdSource::over(rt.stdin())),
-    }
+    let script = match value_of(named, "script") {
+        Some(_) => source_of(rt, named, "script"),
+        None => StdSource::over(Input::Standard(rt.stdin())),
+    };
+    live_from(rt, threads, words, named, script)
 }
 
 /// Runs the rows of this source.
-fn live_from<S: Source + Send + Drop>(
+fn live_from(
     rt: &HostRuntime,
     threads: &(impl Threads + Wait + Sync),
     words: &[String],
     named: &[String],
-    script: S,
+    script: StdSource<Input>,
 ) -> RunStatus {
     let path = notices_path(rt, named);
     let Ok(file) = SharedFile::new(rt.alloc()) else {
@@ -260,6 +263,7 @@ fn live_from<S: Source + Send + Drop>(
         return RunStatus::OutOfMemory;
     };
     let given = notifiers.len();
+    let sink = OpeningSink::over(rt, StdSink::over(rt.stdout()), path, file);
     let mut network = source_of(rt, named, "network");
     let mut fleet = source_of(rt, named, "fleet");
     let LiveEnd {
@@ -274,7 +278,7 @@ fn live_from<S: Source + Send + Drop>(
         &mut network,
         &mut fleet,
         script,
-        OpeningSink::over(rt, StdSink::over(rt.stdout()), path, file),
+        WatchedSink::over(rt.alloc(), sink, None::<Stderr>),
         notifiers,
         &WatchedGate::over(rt.alloc(), terminal_of(rt)),
         RefusedRows {
@@ -386,12 +390,12 @@ fn boxed_notifier_to(
 }
 
 /// The file that the words give a key, or a source whose every read fails.
-fn source_of(rt: &HostRuntime, words: &[String], key: &str) -> StdSource<File> {
+fn source_of(rt: &HostRuntime, words: &[String], key: &str) -> StdSource<Input> {
     let Some(path) = value_of(words, key) else {
         return StdSource::missing();
     };
     match File::open(rt, path) {
-        Ok(file) => StdSource::over(file),
+        Ok(file) => StdSource::over(Input::File(file)),
         Err(_) => StdSource::missing(),
     }
 }

@@ -45,15 +45,6 @@ impl<K, W> WatchedSink<K, W> {
             is_shown: false,
         }
     }
-
-    /// The sink that was watched.
-    pub(crate) fn into_inner(self) -> K
-    where
-        W: Drop,
-        ensures { result ≡ self }
-    {
-        self.sink
-    }
 }
 
 impl<K, W: Write> WatchedSink<K, W> {
