@@ -99,9 +99,7 @@ impl Matching {
         ensures nearest { IfOk result (IsNearest self.now.riders tree.new.place.items tree.new.tight_at.items) }
     {
         tree.clear();
-        tree.vehicles.push(vehicle)?;
-        tree.riders.push(self.riders)?;
-        tree.parents.push(0)?;
+        tree.push(vehicle, self.riders, 0)?;
         Ok(relax(
             &mut tree.tight_at,
             &mut tree.parent_of,
@@ -128,9 +126,8 @@ impl Matching {
     {
         let vehicle = self.vehicle_of[rider];
         let position = tree.vehicles.len();
-        tree.vehicles.push(vehicle)?;
-        tree.riders.push(rider)?;
-        tree.parents.push(tree.parent_of[rider])?;
+        let parent = tree.parent_of[rider];
+        tree.push(vehicle, rider, parent)?;
         tree.place[rider] = position;
         tree.cheapest = cheaper(&self.vehicle_price, &tree.vehicles, tree.cheapest, position);
         Ok(relax(

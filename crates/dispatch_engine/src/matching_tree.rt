@@ -1,4 +1,4 @@
-ghost use Rattle.std.specs.Prelude.{◌≡◌, ◌≢◌, ◌⊎◌, ℕ, ◌+◌, ◌-◌, ◌<◌, ◌≤◌, ◌^◌, IfOk, length, slice_index, [], replicate};
+ghost use Rattle.std.specs.Prelude.{◌≡◌, ◌≢◌, ◌⊎◌, ℕ, ◌+◌, ◌-◌, ◌<◌, ◌≤◌, ◌^◌, IfOk, OnOk, length, slice_index, [], ◌∷◌, ◌++◌, replicate};
 ghost use Rattle.dispatch_engine.specs.work.SearchTree.{HasRoom, IsNearest};
 ghost use Rattle.dispatch_engine.specs.work.Relaxation.{IsCheaper, Relaxes, Improves, Falls, Rises};
 
@@ -61,6 +61,23 @@ impl Tree {
         self.tight_at.fill(u64::MAX);
         self.cheapest = 0;
         self.lowered = 0;
+    }
+
+    /// Puts a vehicle, its rider and the position of the vehicle that reached it behind the others.
+    pub(crate) fn push(
+        &mut self,
+        vehicle: usize,
+        rider: usize,
+        parent: usize,
+    ) -> Result<(), OutOfMemory>
+        ensures vehicles { OnOk result (self.new.vehicles.items ≡ self.old.vehicles.items ++ vehicle ∷ []) }
+        ensures riders { OnOk result (self.new.riders.items ≡ self.old.riders.items ++ rider ∷ []) }
+        ensures parents { OnOk result (self.new.parents.items ≡ self.old.parents.items ++ parent ∷ []) }
+        ensures lists_alone { self.new ≡ record self.old { vehicles = self.new.vehicles; riders = self.new.riders; parents = self.new.parents } }
+    {
+        self.vehicles.push(vehicle)?;
+        self.riders.push(rider)?;
+        Ok(self.parents.push(parent)?)
     }
 
     /// How far the prices have yet to fall until this rider is tight; the greatest number where there is no such rider.
