@@ -64,6 +64,13 @@ returns-clause-tree c =
       cheapest = rw (c.push.ensures.lists_alone, vehicles) cheapest;
     }
 
+pub cheaper-tree-requires-clause-first_price : goal.cheaper-tree-requires-clause-first_price
+cheaper-tree-requires-clause-first_price c =
+    let t = c.args.tree.now in
+    let tree = c.requires.tree in
+    rw (c.deref.ensures.value, c.deref-2.ensures.value, c.push.ensures.lists_alone, c.in_ok-push.ensures.vehicles, get_or_append_left t.vehicles.items (c.index-vehicle.result.now ∷ []) 0 t.cheapest tree.cheapest.within, c.requires.priced.prices.a_length)
+    (tree.grown.tree.vehicle t.cheapest tree.cheapest.within)
+
 pub overflow_add-index : goal.overflow_add-index
 overflow_add-index c =
     let s = c.args.self.now in

@@ -73,15 +73,26 @@ shift-requires-in-search-clause-not_past c =
     let inv = c.search.invariant in
     none_past _ _ _ c.search.nearest _ c.slack-slack.result _ inv.next inv.tree.reached.tight_length c.slack-slack.ensures.some (omega arith)
 
-pub grow-requires-clause-priced : goal.grow-requires-clause-priced
-grow-requires-clause-priced c =
-    let root : root_of c.shift-in-search.new.tree ≡ root_of c.search.tree = ap root_of c.shift-in-search.ensures.lowered_alone in
-    rw root c.shift-in-search.ensures.priced
-
-pub grow-requires-clause-tree : goal.grow-requires-clause-tree
-grow-requires-clause-tree c =
-    let root : root_of c.shift-in-search.new.tree ≡ root_of c.search.tree = ap root_of c.shift-in-search.ensures.lowered_alone in
-    rw root c.shift-in-search.ensures.tree
+pub grow-requires : goal.grow-requires
+grow-requires c =
+    let t = c.search.tree in
+    let inv = c.search.invariant in
+    let shift = c.shift-in-search in
+    let within : c.search.nearest < c.search.self.riders = nearest_within _ _ _ t.vehicles.items t.tight_at.items t.cheapest _ _ _ c.search.nearest inv.priced.prices.a_length inv.priced.prices.a_most inv.tree.cheapest.within
+    (inv.tree.grown.tree.vehicle t.cheapest inv.tree.cheapest.within) c.index.ensures c.index-price.ensures inv.tree.reached.tight_length c.slack-slack.ensures.none c.if-price-slack.false in
+    let slack : t.lowered + c.slack-slack.result ≡ slice_index t.tight_at.items c.search.nearest = c.slack-slack.ensures.some (omega (arith, inv.tree.reached.tight_length, within)) in
+    let within' : c.search.nearest < shift.new.self.riders = rw shift.ensures.prices_alone within in
+    let partner : c.index-in-search.result.now ≡ slice_index shift.new.self.vehicle_of.items c.search.nearest = get_or_read shift.new.self.vehicle_of.items c.search.nearest c.index-in-search.result.now (rw shift.ensures.priced.p_length within') c.index-in-search.ensures 0 in
+    let root : root_of shift.new.tree ≡ root_of t = ap root_of shift.ensures.lowered_alone in
+    record {
+      sized = rw shift.ensures.prices_alone (record { few_vehicles = inv.sized.few_vehicles; few_riders = inv.sized.few_riders; table = inv.sized.table });
+      priced = rw root shift.ensures.priced;
+      tree = rw root shift.ensures.tree;
+      within = within';
+      outside = rw shift.ensures.lowered_alone (inv.next.outside within);
+      tight = rw shift.ensures.lowered_alone (sym slack);
+      matched = omega (arith, partner, shift.ensures.priced.p_most c.search.nearest within', c.if-index-self.false);
+    }
 
 pub search-preserved : goal.search-preserved
 search-preserved c =
