@@ -1,5 +1,5 @@
 -- From the lanes of a round to its journal.
-use Rattle.std.proofs.Common.{◌≡◌, ◌≢◌, ℕ, ◌+◌, ◌<◌, ◌≤◌, List, [], ◌++◌, length, sym, ap, subst, ◌∙◌, Result, Ok, Err, OnErr}
+use Rattle.std.proofs.Common.{◌≡◌, ◌≢◌, ℕ, ◌<◌, ◌≤◌, List, [], ◌++◌, length, sym, ap, subst, ◌∙◌, Result, Ok, Err, OnErr}
 use Rattle.dispatch_engine.proofs.Common.{AllByRecursion, BookView, IsBook, IsSameBook, state_after, RepliesAreSteps, Command, Entry, State, Settings, Roads, IsRound, MayStand, NumberedLanes, lane_at, BookPass, IsFinished, of_lane, ClosesAreGood, IsLaneRun, IsReady, IsRoundRun, IsSameRun, journal_of, HaveRunLanes, IsPlain, IsJointRun}
 use Rattle.std.proofs.lemmas.List.Elements.{recursion_from_All}
 use Rattle.std.specs.List.{All}

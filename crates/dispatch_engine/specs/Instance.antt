@@ -1,5 +1,4 @@
 -- A batch whose limits are settled, and its graphs, as `Instance` and `Graphs` hold them.
-use Rattle.std.specs.Prelude.{ℕ}
 use Rattle.trip_graph.specs.RrGraph.{IsRrGraph}
 use Rattle.trip_graph.specs.RvGraph.{IsRvGraph}
 use Rattle.pool_base.specs.Times.{point_count, travel_time}

@@ -1,4 +1,4 @@
-ghost use Rattle.std.specs.Prelude.{◌≡◌, All, Contains, IfOk, OnOk};
+ghost use Rattle.std.specs.Prelude.{◌≡◌, All, Contains, IfOk, OnOk, IsOkAnd};
 ghost use Rattle.request_book.specs.Points.{named_nodes};
 ghost use Rattle.plan_rules.specs.Plan.{IsLawful};
 ghost use Rattle.pool_base.specs.Times.{travel_time};
@@ -167,24 +167,27 @@ fn list_all(
 {
     let settled = graphs.instance.settled;
     let graph = graphs.graph;
-    put(&mut planned.lapsed, lapsed_ids(alloc, settled)?);
-    put(&mut planned.late, late_lines(alloc, graphs.instance)?);
-    put(&mut planned.rv, rv_lines(alloc, settled, graphs.rv)?);
-    put(&mut planned.rr, rr_lines(alloc, settled, graphs.rr.all())?);
-    put(&mut planned.rows, row_lines(alloc, settled, graph.rows())?);
-    put(&mut planned.chosen, chosen_trips(alloc, graphs, chosen)?);
     let left = left_riders(alloc, graph, chosen)?;
-    put(&mut planned.left, rider_ids(alloc, settled, &left)?);
-    let moves = move_lines(alloc, graphs, chosen, &left)?;
-    put(&mut planned.moves, moves);
+    put(&mut planned.lapsed, lapsed_ids(alloc, settled))?;
+    put(&mut planned.late, late_lines(alloc, graphs.instance))?;
+    put(&mut planned.rv, rv_lines(alloc, settled, graphs.rv))?;
+    put(&mut planned.rr, rr_lines(alloc, settled, graphs.rr.all()))?;
+    put(&mut planned.rows, row_lines(alloc, settled, graph.rows()))?;
+    put(&mut planned.chosen, chosen_trips(alloc, graphs, chosen))?;
+    put(&mut planned.left, rider_ids(alloc, settled, &left))?;
+    put(&mut planned.moves, move_lines(alloc, graphs, chosen, &left))?;
     Ok(())
 }
 
-/// Puts these items in place of a list.
-fn put<T: Drop>(list: &mut Sequence<T>, items: Vec<T>)
-    ensures { list.new ≡ items.items }
+/// Puts these items in place of a list, if there are any.
+fn put<T: Drop>(
+    list: &mut Sequence<T>,
+    items: Result<Vec<T>, OutOfMemory>,
+) -> Result<(), OutOfMemory>
+    ensures { OnOk result (IsOkAnd items (λ v. list.new ≡ v.items)) }
 {
-    *list = Sequence::of(items);
+    *list = Sequence::of(items?);
+    Ok(())
 }
 
 /// The bound. It is a call, so that a caller knows that it is within its type's range.

@@ -1,7 +1,15 @@
-use Rattle.std.proofs.Common.{◌<◌, ◌≤◌, ℕ, List, length, map, All, sym, ap, ◌∙◌, subst, arith}
-use Rattle.dispatch_engine.proofs.Common.{get_or_default, no_row, TripRow, travel_time, ChosenTrip, MoveLine, rider_id, row_line, left_riders, AreTrips, AreLate, AreMoves, idle_vehicles}
-use Rattle.request_book.specs.declared.outcome.LateVehicle.{LateVehicle}
+use Rattle.std.proofs.Common.{◌≡◌, Result, Ok, Err, IfOk, IsOkAnd, ◌<◌, ◌≤◌, ℕ, List, length, map, All, sym, ap, ◌∙◌, subst, arith}
+use Rattle.dispatch_engine.proofs.Common.{get_or_default, no_row, TripRow, travel_time, rider_id, row_line, AreTrips, AreLate, AreMoves, idle_vehicles}
+use Rattle.std.specs.Global.{Vec}
 use Rattle.dispatch_engine.proofs.solving.list_all.Goals as goal
+
+-- what a call said of its items holds of the list that took them
+items_have : {T E : Type 0} (r : Result (Vec T) E) {list : List T} (P : List T → Type 0) → IfOk r (λ v. P v.items) → IsOkAnd r (λ v. list ≡ v.items) → P list
+items_have (Ok v) P said is = subst P (sym is) said
+items_have (Err e) P said is = absurd is
+
+items_are : {T E : Type 0} (r : Result (Vec T) E) {list items : List T} → IfOk r (λ v. v.items ≡ items) → IsOkAnd r (λ v. list ≡ v.items) → list ≡ items
+items_are r {items = items} said is = items_have r (λ list. list ≡ items) said is
 
 pub rv_lines-requires-clause-riders : goal.rv_lines-requires-clause-riders
 rv_lines-requires-clause-riders c = λ k d l. (c.requires.exact.edges_exact.right k d l).riders.within 0 0 (omega arith)
@@ -26,13 +34,13 @@ returns-clause-lists c =
     let tau = travel_time instance.times.now in
     let left = c.in_ok-left.ensures.left in
     record {
-      lapsed = c.put.ensures ∙ c.in_ok-lapsed_ids.ensures;
-      rv = c.put-3.ensures ∙ c.in_ok-rv_lines.ensures;
-      rr = c.put-4.ensures ∙ c.in_ok-rr_lines.ensures ∙ ap (λ (pairs : List (ℕ × ℕ)). map (λ (pair : ℕ × ℕ). (rider_id settled pair.0, rider_id settled pair.1)) pairs) c.all.ensures;
-      rows = c.put-5.ensures ∙ c.in_ok-row_lines.ensures ∙ ap (λ (rows : List TripRow). map (row_line settled) rows) c.rows.ensures.value;
-      late = subst (λ (late : List LateVehicle). AreLate points tau settled late) (sym c.put-2.ensures) c.in_ok-late_lines.ensures;
-      trips = subst (λ (trips : List ChosenTrip). AreTrips points tau settled graph chosen trips) (sym c.put-6.ensures) c.in_ok-chosen_trips.ensures;
-      left = c.put-7.ensures ∙ c.in_ok-rider_ids.ensures ∙ ap (λ (riders : List ℕ). map (rider_id settled) riders) (c.deref.ensures.value ∙ left);
-      moves = subst (λ (moves : List MoveLine). AreMoves tau settled (idle_vehicles settled graph chosen) (left_riders graph chosen) moves) (sym c.put-8.ensures)
-          (subst (λ (riders : List ℕ). AreMoves tau settled (idle_vehicles settled graph chosen) riders c.in_ok-moves.moves.items) (c.deref-2.ensures.value ∙ left) c.in_ok-moves.ensures);
+      lapsed = items_are c.lapsed_ids.result c.lapsed_ids.ensures c.in_ok-put.ensures;
+      rv = items_are c.rv_lines.result c.rv_lines.ensures c.in_ok-put-3.ensures;
+      rr = items_are c.rr_lines.result c.rr_lines.ensures c.in_ok-put-4.ensures ∙ ap (λ (pairs : List (ℕ × ℕ)). map (λ (pair : ℕ × ℕ). (rider_id settled pair.0, rider_id settled pair.1)) pairs) c.all.ensures;
+      rows = items_are c.row_lines.result c.row_lines.ensures c.in_ok-put-5.ensures ∙ ap (λ (rows : List TripRow). map (row_line settled) rows) c.rows.ensures.value;
+      late = items_have c.late_lines.result (AreLate points tau settled) c.late_lines.ensures c.in_ok-put-2.ensures;
+      trips = items_have c.chosen_trips.result (AreTrips points tau settled graph chosen) c.chosen_trips.ensures c.in_ok-put-6.ensures;
+      left = items_are c.rider_ids.result c.rider_ids.ensures c.in_ok-put-7.ensures ∙ ap (λ (riders : List ℕ). map (rider_id settled) riders) (c.deref.ensures.value ∙ left);
+      moves = subst (λ (riders : List ℕ). AreMoves tau settled (idle_vehicles settled graph chosen) riders c.put-8.new.list) (c.deref-2.ensures.value ∙ left)
+          (items_have c.move_lines.result (AreMoves tau settled (idle_vehicles settled graph chosen) c.deref-2.result.now) c.move_lines.ensures c.in_ok-put-8.ensures);
     }
