@@ -35,16 +35,32 @@ pub(crate) fn read_line(bytes: &[u8]) -> Line {
     }
 }
 
+/// The lines of which the first word says all.
+const WORDS: [(&str, Line); 5] = [
+    ("fleet", Line::HeadEnd),
+    ("load", Line::HeadEnd),
+    ("round", Line::Round),
+    ("row", Line::Row),
+    ("done", Line::Done),
+];
+
 fn line_of(text: &str) -> Line {
-    match text.split_once(' ') {
-        Some(("fleet" | "load", _)) => Line::HeadEnd,
-        Some(("round", _)) => Line::Round,
-        Some(("batch", rest)) => batch_line(rest),
-        Some(("row", _)) => Line::Row,
-        Some(("cost", cost)) => number(cost).map_or(Line::Other, Line::Cost),
-        Some(("bound", bound)) => number(bound).map_or(Line::Other, Line::Bound),
-        Some(("done", _)) => Line::Done,
-        None if text == "overflow" => Line::Overflow,
+    let Some((word, rest)) = text.split_once(' ') else {
+        return if text == "overflow" {
+            Line::Overflow
+        } else {
+            Line::Other
+        };
+    };
+    for (name, line) in &WORDS {
+        if *name == word {
+            return *line;
+        }
+    }
+    match word {
+        "batch" => batch_line(rest),
+        "cost" => number(rest).map_or(Line::Other, Line::Cost),
+        "bound" => number(rest).map_or(Line::Other, Line::Bound),
         _ => Line::Other,
     }
 }
