@@ -1,6 +1,6 @@
 //! The rows of a trip graph, or of a part of one, in flat tables.
 use crate::Made;
-use crate::fixed_point::{at, item, part};
+use crate::fixed_point::{at, item, part, put};
 use crate::lists::{Lists, short};
 use plan_rules::{TripGraph, TripRow};
 use std::alloc::Global;
@@ -47,16 +47,19 @@ impl RowTable {
 
     /// The rows of a graph but for those with a mark that says no. They are numbered anew.
     pub fn of_allowed(alloc: Global, graph: &TripGraph, allowed: &[bool]) -> Made<Self> {
-        let mut must = Vec::new(alloc);
+        let mut table = RowTable::new(alloc, i64::from(graph.penalty()), Vec::new(alloc));
+        let done = table.fill(graph, allowed);
+        done.and(Ok(table))
+    }
+
+    fn fill(&mut self, graph: &TripGraph, allowed: &[bool]) -> Made<()> {
         for rider in 0..graph.rider_count() {
-            must.push(graph.must(rider))?;
+            put(&mut self.must, graph.must(rider))?;
         }
-        let mut table = RowTable::new(alloc, i64::from(graph.penalty()), must);
         for vehicle in 0..graph.vehicle_count() {
-            table.push_vehicle(graph, allowed, vehicle)?;
+            self.push_vehicle(graph, allowed, vehicle)?;
         }
-        table.index()?;
-        Ok(table)
+        self.index()
     }
 
     fn push_vehicle(&mut self, graph: &TripGraph, allowed: &[bool], vehicle: usize) -> Made<()> {
@@ -88,25 +91,23 @@ impl RowTable {
 
     fn end_row(&mut self, cost: i64) -> Made<()> {
         let vehicle = self.vehicle_count();
-        self.vehicles.push(short(vehicle))?;
-        self.costs.push(cost)?;
         let condition = self.rider_count().saturating_add(vehicle);
-        self.conditions.push(condition)?;
-        self.conditions.end()
+        put(&mut self.vehicles, short(vehicle))
+            .and(put(&mut self.costs, cost))
+            .and(self.conditions.push(condition))
+            .and(self.conditions.end())
     }
 
     /// Ends the rows of the vehicle at hand: later ones are those of the next.
     pub fn end_vehicle(&mut self) -> Made<()> {
-        self.ends.push(short(self.costs.len()))?;
-        Ok(())
+        put(&mut self.ends, short(self.costs.len()))
     }
 
     /// Lists the rows of each rider, and the columns of single conditions. To be called after the last row.
     pub fn index(&mut self) -> Made<()> {
         self.rows.transpose(&self.conditions, self.must.len())?;
         for condition in 0..self.condition_count() {
-            self.conditions.push(condition)?;
-            self.conditions.end()?;
+            self.conditions.push_list(&[short(condition)])?;
         }
         Ok(())
     }
