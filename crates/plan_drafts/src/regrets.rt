@@ -4,8 +4,8 @@
 //! cost of its row lies above the vehicle's least, and for each rider who is left out what that costs above
 //! her multiplier. Of each vehicle's rows only those of least regret are looked at.
 
-use row_tables::fixed_point::{at, item, reset, set_at};
-use row_tables::lists::{Lists, short};
+use row_tables::fixed_point::{at, item, put, reset, set_at};
+use row_tables::lists::Lists;
 use row_tables::{Made, RowTable};
 use std::alloc::Global;
 
@@ -49,11 +49,12 @@ impl<'a> Regrets<'a> {
 
     /// Finds the regrets under these multipliers, in 1/1024 second.
     pub fn fill(&mut self, multipliers: &[i64]) -> Made<()> {
-        self.price_riders(multipliers)?;
+        self.price_riders(multipliers)
+            .and(reset(&mut self.is_listed, self.table.row_count(), true))?;
         for vehicle in 0..self.table.vehicle_count() {
-            self.reduce(vehicle)?;
+            self.reduce(vehicle).and(self.list_vehicle(vehicle))?;
         }
-        self.list()
+        self.list_riders()
     }
 
     /// What each rider is worth: her multiplier, and at most what it costs to leave her out.
@@ -61,8 +62,7 @@ impl<'a> Regrets<'a> {
         for rider in 0..self.table.rider_count() {
             let cost = self.table.cost_left(rider).saturating_mul(1024);
             let price = at(multipliers, rider).min(cost);
-            self.prices.push(price)?;
-            self.left.push(cost.saturating_sub(price))?;
+            put(&mut self.prices, price).and(put(&mut self.left, cost.saturating_sub(price)))?;
         }
         Ok(())
     }
@@ -72,7 +72,7 @@ impl<'a> Regrets<'a> {
         let least = self.least_cost(vehicle);
         for row in self.table.rows_of(vehicle) {
             let cost = self.table.reduced_cost(&self.prices, row);
-            self.above.push(cost.saturating_sub(least))?;
+            put(&mut self.above, cost.saturating_sub(least))?;
         }
         Ok(())
     }
@@ -86,44 +86,25 @@ impl<'a> Regrets<'a> {
         least
     }
 
-    /// Lists the rows that are looked at.
-    fn list(&mut self) -> Made<()> {
-        reset(&mut self.is_listed, self.table.row_count(), false)?;
-        for vehicle in 0..self.table.vehicle_count() {
-            self.rank_vehicle(vehicle)?;
-            self.list_vehicle(vehicle)?;
-        }
-        self.list_riders()
-    }
-
-    /// All rows of the vehicle by rising regret.
-    fn rank_vehicle(&mut self, vehicle: usize) -> Made<()> {
-        self.ranks.clear();
-        for row in self.table.rows_of(vehicle) {
-            let rank = (self.above(short(row)), short(row));
-            self.ranks.push(rank)?;
-        }
-        self.ranks.as_mut_slice().sort_unstable();
-        Ok(())
-    }
-
-    /// Lists the vehicle's rows of least regret and its first one, and marks them.
+    /// Lists the vehicle's rows of least regret and its first one, and marks the others as left out.
     fn list_vehicle(&mut self, vehicle: usize) -> Made<()> {
         let first = self.table.rows_of(vehicle).start;
+        self.rank(self.table.rider_count().saturating_add(vehicle))?;
         for (place, rank) in self.ranks.iter().enumerate() {
             let row = rank.1 as usize;
             if place < MOST_ROWS || row == first {
                 self.rows.push(row)?;
-                set_at(&mut self.is_listed, row, true);
+            } else {
+                set_at(&mut self.is_listed, row, false);
             }
         }
         self.rows.end()
     }
 
-    /// Lists for each rider the marked rows that have her.
+    /// Lists for each rider the rows that have her, but for those that are left out.
     fn list_riders(&mut self) -> Made<()> {
         for rider in 0..self.table.rider_count() {
-            self.rank_rider(rider)?;
+            self.rank(rider)?;
             for rank in &self.ranks {
                 self.with.push(rank.1 as usize)?;
             }
@@ -132,13 +113,13 @@ impl<'a> Regrets<'a> {
         Ok(())
     }
 
-    /// The marked rows that have the rider, by rising regret.
-    fn rank_rider(&mut self, rider: usize) -> Made<()> {
+    /// The rows under a condition by rising regret, but for those that are left out.
+    fn rank(&mut self, condition: usize) -> Made<()> {
         self.ranks.clear();
-        for row in self.table.rows_with(rider) {
+        for row in self.table.rows_with(condition) {
             if item(&self.is_listed, *row as usize, false) {
                 let rank = (self.above(*row), *row);
-                self.ranks.push(rank)?;
+                put(&mut self.ranks, rank)?;
             }
         }
         self.ranks.as_mut_slice().sort_unstable();

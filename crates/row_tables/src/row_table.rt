@@ -1,6 +1,6 @@
 //! The rows of a trip graph, or of a part of one, in flat tables.
 use crate::Made;
-use crate::fixed_point::{at, item, part, put};
+use crate::fixed_point::{at, item, part, put, write_over};
 use crate::lists::{Lists, short};
 use plan_rules::{TripGraph, TripRow};
 use std::alloc::Global;
@@ -98,15 +98,21 @@ impl RowTable {
             .and(self.conditions.end())
     }
 
+    /// Becomes a table for the riders of another.
+    pub fn copy_riders(&mut self, other: &RowTable) -> Made<()> {
+        write_over(&mut self.must, &other.must)
+    }
+
     /// Ends the rows of the vehicle at hand: later ones are those of the next.
     pub fn end_vehicle(&mut self) -> Made<()> {
         put(&mut self.ends, short(self.costs.len()))
     }
 
-    /// Lists the rows of each rider, and the columns of single conditions. To be called after the last row.
+    /// Lists the rows under each condition, and the columns of single conditions. To be called after the last row.
     pub fn index(&mut self) -> Made<()> {
-        self.rows.transpose(&self.conditions, self.must.len())?;
-        for condition in 0..self.condition_count() {
+        let conditions = self.condition_count();
+        self.rows.transpose(&self.conditions, conditions)?;
+        for condition in 0..conditions {
             self.conditions.push_list(&[short(condition)])?;
         }
         Ok(())
@@ -167,10 +173,10 @@ impl RowTable {
         self.conditions.list(column)
     }
 
-    /// The rows that have this rider, rising.
+    /// The rows under this condition, rising: those that have the rider, or behind the riders those of a vehicle.
     #[inline]
-    pub fn rows_with(&self, rider: usize) -> &[u32] {
-        self.rows.list(rider)
+    pub fn rows_with(&self, condition: usize) -> &[u32] {
+        self.rows.list(condition)
     }
 
     /// The cost of the row.

@@ -55,7 +55,7 @@ impl Relaxation {
             let cost = self.cost_of(self.basis.column(place));
             set_at(&mut self.parts, place, cost);
         }
-        self.basis.find_prices(&self.parts, &mut self.prices);
+        self.basis.find_prices(&self.parts);
     }
 
     /// What a column costs.
@@ -92,7 +92,7 @@ impl Relaxation {
         let mut count = 0;
         for number in 0..self.candidates.len() {
             let (_, place) = item(&self.candidates, number, (0, u32::MAX));
-            let cost = self.pool.reduced_cost(place as usize, &self.prices);
+            let cost = self.pool.reduced_cost(place as usize, &self.basis.prices);
             if cost < -LEAST_GAIN && !self.basis.has(self.pool.column(place as usize)) {
                 set_at(&mut self.candidates, count, (cost, place));
                 count = count.wrapping_add(1);
@@ -120,7 +120,7 @@ impl Relaxation {
         self.count_looks(count);
         for _ in 0..count {
             let place = self.pool.next();
-            let cost = self.pool.reduced_cost(place, &self.prices);
+            let cost = self.pool.reduced_cost(place, &self.basis.prices);
             if cost < -LEAST_GAIN {
                 let column = self.pool.column(place);
                 if self.may_enter(column) {
@@ -149,9 +149,9 @@ impl Relaxation {
             self.change_prices(cost);
             return Ok(true);
         }
-        let is_good = self.basis.factor(table)?;
+        let is_good = self.basis.factor(table);
         self.reprice();
-        Ok(is_good)
+        is_good
     }
 
     /// The place that a column that comes in takes, and how much of it comes in. Rows that are held at 0 leave
@@ -169,7 +169,7 @@ impl Relaxation {
     pub fn change_prices(&mut self, factor: i64) {
         for condition in self.row.places() {
             let change = times(self.row.at(condition), factor);
-            add_at(&mut self.prices, condition, change);
+            add_at(&mut self.basis.prices, condition, change);
         }
     }
 }

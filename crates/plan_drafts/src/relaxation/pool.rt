@@ -1,5 +1,5 @@
 //! The columns over which a solution is sought.
-use row_tables::fixed_point::{at, item, set_at};
+use row_tables::fixed_point::{at, item, put, set_at};
 use row_tables::lists::{Lists, short};
 use row_tables::{Made, RowTable};
 use std::alloc::Global;
@@ -46,9 +46,9 @@ impl Pool {
         }
         set_at(&mut self.is_in, column, true);
         self.is_listed = false;
-        self.columns.push(short(column))?;
-        self.costs.push(cost)?;
-        self.conditions.push_list(table.conditions_of(column))
+        put(&mut self.columns, short(column))
+            .and(put(&mut self.costs, cost))
+            .and(self.conditions.push_list(table.conditions_of(column)))
     }
 
     /// Presses the columns together that are in.
@@ -99,11 +99,12 @@ impl Pool {
         self.is_listed = true;
         self.open.clear();
         for place in 0..self.columns.len() {
-            if item(is_forbidden, self.column(place), false) {
-                self.open.end()?;
+            let listed = if item(is_forbidden, self.column(place), false) {
+                self.open.end()
             } else {
-                self.open.push_list(self.conditions.list(place))?;
-            }
+                self.open.push_list(self.conditions.list(place))
+            };
+            listed?;
         }
         self.places.transpose(&self.open, conditions)
     }

@@ -14,7 +14,7 @@ impl Relaxation {
     /// Rounds the riders' prices to multipliers.
     pub fn find_multipliers(&mut self, table: &RowTable) {
         for rider in 0..self.tried.len() {
-            let multiplier = self.in_multipliers(at(&self.prices, rider));
+            let multiplier = self.in_multipliers(at(&self.basis.prices, rider));
             let multiplier = multiplier.min(table.most_multiplier(rider));
             set_at(&mut self.tried, rider, multiplier);
         }
@@ -28,7 +28,7 @@ impl Relaxation {
         let mut value = table.value_of_riders(&self.tried);
         for vehicle in 0..table.vehicle_count() {
             let condition = table.rider_count().saturating_add(vehicle);
-            let price = self.in_multipliers(at(&self.prices, condition));
+            let price = self.in_multipliers(at(&self.basis.prices, condition));
             let bar = price.saturating_sub(LEAST_GAIN);
             value = value.wrapping_add(self.look_through(table, vehicle, bar, most_rows)?);
         }

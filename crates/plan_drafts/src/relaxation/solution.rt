@@ -1,6 +1,6 @@
 //! What a solution costs, how near it is to the best, and which rows it chooses.
 use crate::relaxation::Relaxation;
-use row_tables::fixed_point::{ONE, times};
+use row_tables::fixed_point::{ONE, put, times};
 use row_tables::lists::short;
 use row_tables::{Made, RowTable};
 use std::cmp::Reverse;
@@ -31,7 +31,7 @@ impl Relaxation {
         for (place, part) in self.parts.iter().enumerate() {
             let row = self.basis.column(place);
             if row < table.row_count() && *part > ONE / 100 && *part <= most {
-                self.shares.push((Reverse(*part), short(row)))?;
+                put(&mut self.shares, (Reverse(*part), short(row)))?;
             }
         }
         self.shares.as_mut_slice().sort_unstable();
