@@ -34,34 +34,37 @@ impl Beside {
     /// Lists for each row and each of its riders the row of the same vehicle without her, or one past the last row. A
     /// vehicle's rows stand by size, then riders.
     fn list_without(&mut self, table: &RowTable) -> Made<()> {
+        let mut made = Ok(());
         for row in 0..table.row_count() {
             let riders = table.riders_of(row);
             for skipped in 0..riders.len() {
                 let rest = part(riders, skipped.saturating_add(1), riders.len());
-                write_over(&mut self.trip, part(riders, 0, skipped))
+                made = made
+                    .and(write_over(&mut self.trip, part(riders, 0, skipped)))
                     .and(append(&mut self.trip, rest))
-                    .and(self.without.push(find(table, row, &self.trip)))?;
+                    .and(self.without.push(find(table, row, &self.trip)));
             }
-            self.without.end()?;
+            made = made.and(self.without.end());
         }
-        Ok(())
+        made
     }
 
     /// Lists the narrower rows, the wider ones, and who is added: those of a row stand by rising riders, as the rows of
     /// a vehicle do.
     pub fn fill(&mut self, table: &RowTable) -> Made<()> {
-        self.list_without(table)
-            .and(self.wider.transpose(&self.without, table.row_count()))?;
+        let mut made = self
+            .list_without(table)
+            .and(self.wider.transpose(&self.without, table.row_count()));
         for row in 0..table.row_count() {
             let mut marks = 0;
             for wider in self.wider.list(row) {
                 let rider = first_other(table.riders_of(*wider as usize), table.riders_of(row));
-                put(&mut self.added, rider)?;
+                made = made.and(put(&mut self.added, rider));
                 marks |= mark_of(rider);
             }
-            put(&mut self.rows, (worth(table, row), marks))?;
+            made = made.and(put(&mut self.rows, (worth(table, row), marks)));
         }
-        Ok(())
+        made
     }
 
     /// The row without this rider of its own, if there is one.

@@ -72,16 +72,17 @@ impl Branching {
 
     /// Ranks these rows, those that are chosen most nearly by half first, as many as may be tried.
     fn rank(&mut self, table: &RowTable, shares: &[Share]) -> Made<()> {
+        let mut made = Ok(());
         self.ranks.clear();
         for share in shares {
             let distance = share.0.0.wrapping_sub(ONE / 2).saturating_abs();
             let riders = table.riders_of(share.1 as usize).len().min(6) as i64;
             let rank = distance.wrapping_sub(A_RIDER.wrapping_mul(riders));
-            put(&mut self.ranks, (rank, share.1))?;
+            made = made.and(put(&mut self.ranks, (rank, share.1)));
         }
         self.ranks.as_mut_slice().sort_unstable();
         self.ranks.truncate(self.candidates);
-        Ok(())
+        made
     }
 
     /// Tries one row after the other, until some in a row are no better. The place of the best one. A row that can't be

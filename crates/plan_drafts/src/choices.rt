@@ -121,11 +121,12 @@ impl Choices {
         self.fits.clear();
         self.sizes.clear();
         self.work = 0;
+        let mut made = Ok(());
         for vehicle in vehicles {
             let first = self.fits.len();
             let added = self.add_fits(regrets, present, *vehicle as usize);
             let size = self.fits.len().saturating_sub(first);
-            added.and(put(&mut self.sizes, (size, first)))?;
+            made = made.and(added).and(put(&mut self.sizes, (size, first)));
         }
         self.sizes.as_mut_slice().sort_unstable();
         self.turns.clear();
@@ -136,15 +137,16 @@ impl Choices {
                 next: *first,
                 ..NO_TURN
             };
-            put(&mut self.turns, turn)?;
+            made = made.and(put(&mut self.turns, turn));
         }
-        Ok(())
+        made
     }
 
     fn add_fits(&mut self, regrets: &Regrets, present: &Present, vehicle: usize) -> Made<()> {
         let rows = regrets.rows.list(vehicle);
         let looks = (rows.len() as u64).saturating_mul(A_ROW);
         self.work = self.work.saturating_add(looks);
+        let mut made = Ok(());
         for row in rows {
             if present.is_free(regrets.table, *row) {
                 let fit = Fit {
@@ -152,10 +154,10 @@ impl Choices {
                     above: regrets.above(*row),
                     ..NO_FIT
                 };
-                put(&mut self.fits, fit)?;
+                made = made.and(put(&mut self.fits, fit));
             }
         }
-        Ok(())
+        made
     }
 
     /// The turn of this number, an empty one behind the last.
@@ -227,14 +229,15 @@ impl Choices {
         left: i64,
     ) -> Made<i64> {
         let mut regret = left;
+        let mut made = Ok(());
         self.best.clear();
         for vehicle in vehicles {
             if let Some(row) = present.row(*vehicle as usize) {
-                put(&mut self.best, row)?;
+                made = made.and(put(&mut self.best, row));
                 regret = regret.saturating_add(regret_of(regrets, row));
             }
         }
-        Ok(regret)
+        made.and(Ok(regret))
     }
 
     /// Searches for choices of a lesser regret than this; the least one found, or this. It is broken off

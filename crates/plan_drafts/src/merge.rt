@@ -2,7 +2,7 @@
 use crate::Plan;
 use crate::regrets::Regrets;
 use crate::scout::Scout;
-use row_tables::fixed_point::{item, put, reset, set_at};
+use row_tables::fixed_point::{item, put, reset, set_at, write_over};
 use row_tables::lists::short;
 use row_tables::{Made, RowTable};
 use std::alloc::Global;
@@ -40,38 +40,39 @@ impl Merge {
         for scout in scouts {
             mark(&scout.plans.present.rows, &mut self.parts);
         }
+        let mut made = Ok(());
         for vehicle in 0..table.vehicle_count() {
-            self.put_vehicle(regrets, vehicle)?;
+            made = made.and(self.put_vehicle(regrets, vehicle));
         }
-        renumber(plan, &self.parts, &mut self.plan).and(self.part.index())
+        made.and(renumber(plan, &self.parts, &mut self.plan))
+            .and(self.part.index())
     }
 
     fn put_vehicle(&mut self, regrets: &Regrets, vehicle: usize) -> Made<()> {
         let table = regrets.table;
+        let mut made = Ok(());
         for row in table.rows_of(vehicle) {
             if item(&self.parts, row, None).is_some() || regrets.above(short(row)) <= 0 {
                 let number = short(self.wholes.len());
                 set_at(&mut self.parts, row, Some(number));
-                self.part
-                    .push_row(table.cost(row), table.riders_of(row))
-                    .and(put(&mut self.wholes, Some(short(row))))?;
+                made = made
+                    .and(self.part.push_row(table.cost(row), table.riders_of(row)))
+                    .and(put(&mut self.wholes, Some(short(row))));
             }
         }
-        self.part.end_vehicle()
+        made.and(self.part.end_vehicle())
     }
 }
 
 /// Writes a plan with these numbers in place of its rows.
 pub fn renumber(plan: &[Option<u32>], numbers: &[Option<u32>], rows: &mut Plan) -> Made<()> {
-    rows.clear();
-    for row in plan {
-        let number = match row {
-            None => None,
-            Some(row) => item(numbers, *row as usize, None),
-        };
-        put(rows, number)?;
+    let written = write_over(rows, plan);
+    for row in rows.iter_mut() {
+        if let Some(number) = *row {
+            *row = item(numbers, number as usize, None);
+        }
     }
-    Ok(())
+    written
 }
 
 /// Marks a plan's rows.

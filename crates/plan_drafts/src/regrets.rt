@@ -51,30 +51,37 @@ impl<'a> Regrets<'a> {
     pub fn fill(&mut self, multipliers: &[i64]) -> Made<()> {
         self.price_riders(multipliers)
             .and(reset(&mut self.is_listed, self.table.row_count(), true))?;
+        let mut made = Ok(());
         for vehicle in 0..self.table.vehicle_count() {
-            self.reduce(vehicle).and(self.list_vehicle(vehicle))?;
+            made = made
+                .and(self.reduce(vehicle))
+                .and(self.list_vehicle(vehicle));
         }
-        self.list_riders()
+        made.and(self.list_riders())
     }
 
     /// What each rider is worth: her multiplier, and at most what it costs to leave her out.
     fn price_riders(&mut self, multipliers: &[i64]) -> Made<()> {
+        let mut made = Ok(());
         for rider in 0..self.table.rider_count() {
             let cost = self.table.cost_left(rider).saturating_mul(1024);
             let price = at(multipliers, rider).min(cost);
-            put(&mut self.prices, price).and(put(&mut self.left, cost.saturating_sub(price)))?;
+            made = made
+                .and(put(&mut self.prices, price))
+                .and(put(&mut self.left, cost.saturating_sub(price)));
         }
-        Ok(())
+        made
     }
 
     /// Notes the regrets of a vehicle's rows.
     fn reduce(&mut self, vehicle: usize) -> Made<()> {
         let least = self.least_cost(vehicle);
+        let mut made = Ok(());
         for row in self.table.rows_of(vehicle) {
             let cost = self.table.reduced_cost(&self.prices, row);
-            put(&mut self.above, cost.saturating_sub(least))?;
+            made = made.and(put(&mut self.above, cost.saturating_sub(least)));
         }
-        Ok(())
+        made
     }
 
     /// The least reduced cost of a vehicle's rows.
@@ -89,41 +96,43 @@ impl<'a> Regrets<'a> {
     /// Lists the vehicle's rows of least regret and its first one, and marks the others as left out.
     fn list_vehicle(&mut self, vehicle: usize) -> Made<()> {
         let first = self.table.rows_of(vehicle).start;
-        self.rank(self.table.rider_count().saturating_add(vehicle))?;
+        let mut made = self.rank(self.table.rider_count().saturating_add(vehicle));
         for (place, rank) in self.ranks.iter().enumerate() {
             let row = rank.1 as usize;
             if place < MOST_ROWS || row == first {
-                self.rows.push(row)?;
+                made = made.and(self.rows.push(row));
             } else {
                 set_at(&mut self.is_listed, row, false);
             }
         }
-        self.rows.end()
+        made.and(self.rows.end())
     }
 
     /// Lists for each rider the rows that have her, but for those that are left out.
     fn list_riders(&mut self) -> Made<()> {
+        let mut made = Ok(());
         for rider in 0..self.table.rider_count() {
-            self.rank(rider)?;
+            made = made.and(self.rank(rider));
             for rank in &self.ranks {
-                self.with.push(rank.1 as usize)?;
+                made = made.and(self.with.push(rank.1 as usize));
             }
-            self.with.end()?;
+            made = made.and(self.with.end());
         }
-        Ok(())
+        made
     }
 
     /// The rows under a condition by rising regret, but for those that are left out.
     fn rank(&mut self, condition: usize) -> Made<()> {
+        let mut made = Ok(());
         self.ranks.clear();
         for row in self.table.rows_with(condition) {
             if item(&self.is_listed, *row as usize, false) {
                 let rank = (self.above(*row), *row);
-                put(&mut self.ranks, rank)?;
+                made = made.and(put(&mut self.ranks, rank));
             }
         }
         self.ranks.as_mut_slice().sort_unstable();
-        Ok(())
+        made
     }
 
     /// The regret of this row.

@@ -127,12 +127,13 @@ impl Relaxation {
         self.scale = scale_of(table);
         self.basis.begin(table, start).and(self.make_space(table))?;
         self.set_costs_left(table, &[], i64::MAX);
+        let mut made = Ok(());
         for rider in 0..table.rider_count() {
             let column = table.row_count().saturating_add(rider);
             let cost = at(&self.costs, column);
-            self.pool.add(table, column, cost)?;
+            made = made.and(self.pool.add(table, column, cost));
         }
-        self.add_all(table, columns)
+        made.and(self.add_all(table, columns))
     }
 
     fn make_space(&mut self, table: &RowTable) -> Made<()> {
@@ -230,11 +231,12 @@ impl Relaxation {
     }
 
     fn add_all(&mut self, table: &RowTable, columns: &[u32]) -> Made<()> {
+        let mut made = Ok(());
         for column in columns {
             let cost = at(&self.costs, *column as usize);
-            self.pool.add(table, *column as usize, cost)?;
+            made = made.and(self.pool.add(table, *column as usize, cost));
         }
-        Ok(())
+        made
     }
 
     /// Takes the rows out of the pool that aren't in the basis and whose reduced cost lies so much above their

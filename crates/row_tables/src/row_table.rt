@@ -53,13 +53,14 @@ impl RowTable {
     }
 
     fn fill(&mut self, graph: &TripGraph, allowed: &[bool]) -> Made<()> {
+        let mut made = Ok(());
         for rider in 0..graph.rider_count() {
-            put(&mut self.must, graph.must(rider))?;
+            made = made.and(put(&mut self.must, graph.must(rider)));
         }
         for vehicle in 0..graph.vehicle_count() {
-            self.push_vehicle(graph, allowed, vehicle)?;
+            made = made.and(self.push_vehicle(graph, allowed, vehicle));
         }
-        self.index()
+        made.and(self.index())
     }
 
     fn push_vehicle(&mut self, graph: &TripGraph, allowed: &[bool], vehicle: usize) -> Made<()> {
@@ -75,18 +76,20 @@ impl RowTable {
     }
 
     fn push_trip(&mut self, trip: &TripRow) -> Made<()> {
+        let mut made = Ok(());
         for rider in trip.riders.as_slice() {
-            self.conditions.push(*rider)?;
+            made = made.and(self.conditions.push(*rider));
         }
-        self.end_row(trip.cost.min(1_000_000_000) as i64)
+        made.and(self.end_row(trip.cost.min(1_000_000_000) as i64))
     }
 
     /// Puts in a row of the vehicle at hand.
     pub fn push_row(&mut self, cost: i64, riders: &[u32]) -> Made<()> {
+        let mut made = Ok(());
         for rider in riders {
-            self.conditions.push(*rider as usize)?;
+            made = made.and(self.conditions.push(*rider as usize));
         }
-        self.end_row(cost)
+        made.and(self.end_row(cost))
     }
 
     fn end_row(&mut self, cost: i64) -> Made<()> {
@@ -111,11 +114,11 @@ impl RowTable {
     /// Lists the rows under each condition, and the columns of single conditions. To be called after the last row.
     pub fn index(&mut self) -> Made<()> {
         let conditions = self.condition_count();
-        self.rows.transpose(&self.conditions, conditions)?;
+        let mut made = self.rows.transpose(&self.conditions, conditions);
         for condition in 0..conditions {
-            self.conditions.push_list(&[short(condition)])?;
+            made = made.and(self.conditions.push_list(&[short(condition)]));
         }
-        Ok(())
+        made
     }
 
     /// How many vehicles there are.

@@ -69,20 +69,20 @@ impl Basis {
     /// all other riders as left out.
     pub fn begin(&mut self, table: &RowTable, start: &[Option<u32>]) -> Made<()> {
         let count = table.condition_count();
-        reset(&mut self.is_in, table.column_count(), false)
+        let mut made = reset(&mut self.is_in, table.column_count(), false)
             .and(reset(&mut self.levels, count, 0))
             .and(reset(&mut self.prices, count, 0))
             .and(self.numbers.make_space(count))
             .and(self.entering.make_space(count))
-            .and(self.draw_capacities(table))?;
+            .and(self.draw_capacities(table));
         for condition in 0..count {
             let vehicle = condition.wrapping_sub(table.rider_count());
             let single = short(table.row_count().saturating_add(condition));
             let column = item(start, vehicle, None).unwrap_or(single);
-            put(&mut self.columns, column)?;
+            made = made.and(put(&mut self.columns, column));
             set_at(&mut self.is_in, column as usize, true);
         }
-        write_over(&mut self.good, &self.columns)
+        made.and(write_over(&mut self.good, &self.columns))
     }
 
     fn draw_capacities(&mut self, table: &RowTable) -> Made<()> {

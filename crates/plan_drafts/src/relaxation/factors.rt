@@ -120,18 +120,21 @@ impl Factors {
         if places.len() <= 1 {
             return Ok(());
         }
+        let mut made = Ok(());
         for other in places {
-            self.part(place, *other as usize, ONE, placed)?;
+            made = made.and(self.part(place, *other as usize, ONE, placed));
         }
-        self.above.end().and(self.end(place, ONE))
+        made.and(self.above.end()).and(self.end(place, ONE))
     }
 
     /// Has a reduced column be the next of the triangles.
     pub fn add(&mut self, place: usize, column: &Sparse, placed: &[u32]) -> Made<()> {
+        let mut made = Ok(());
         for other in column.places() {
-            self.part(place, other, column.at(other), placed)?;
+            made = made.and(self.part(place, other, column.at(other), placed));
         }
-        self.above.end().and(self.end(place, column.at(place)))
+        made.and(self.above.end())
+            .and(self.end(place, column.at(place)))
     }
 
     /// Puts a number of a column into the one triangle or the other.
@@ -147,12 +150,13 @@ impl Factors {
 
     /// Has a column come in at a place, as it is over all places.
     pub fn enter(&mut self, place: usize, column: &Sparse) -> Made<()> {
+        let mut made = Ok(());
         for other in column.places() {
             if other != place {
-                self.columns.push(other, column.at(other))?;
+                made = made.and(self.columns.push(other, column.at(other)));
             }
         }
-        self.end(place, column.at(place))
+        made.and(self.end(place, column.at(place)))
     }
 
     fn end(&mut self, place: usize, value: i64) -> Made<()> {

@@ -29,11 +29,13 @@ impl Side {
     }
 
     fn count_all(&mut self) -> Made<()> {
+        let mut made = Ok(());
         self.counts.clear();
         for number in 0..self.lists.len() {
-            put(&mut self.counts, short(self.lists.list(number).len()))?;
+            let count = short(self.lists.list(number).len());
+            made = made.and(put(&mut self.counts, count));
         }
-        Ok(())
+        made
     }
 
     #[inline]
@@ -153,14 +155,14 @@ impl Ordering {
 
     /// Orders these columns.
     fn find(&mut self, table: &RowTable, columns: &[u32]) -> Made<()> {
+        let mut made = Ok(());
         self.columns.lists.clear();
         for column in columns {
             let conditions = table.conditions_of(*column as usize);
-            self.columns.lists.push_list(conditions)?;
+            made = made.and(self.columns.lists.push_list(conditions));
         }
-        self.conditions
-            .lists
-            .transpose(&self.columns.lists, columns.len())
+        let lists = &mut self.conditions.lists;
+        made.and(lists.transpose(&self.columns.lists, columns.len()))
             .and(self.columns.count_all())
             .and(self.conditions.count_all())?;
         self.pairs.clear();
@@ -173,15 +175,16 @@ impl Ordering {
     }
 
     fn order_rest(&mut self) -> Made<()> {
+        let mut made = Ok(());
         self.rest.clear();
         for place in 0..self.columns.lists.len() {
             let count = self.columns.count(place);
             if count > 0 {
-                put(&mut self.rest, (count, short(place)))?;
+                made = made.and(put(&mut self.rest, (count, short(place))));
             }
         }
         self.rest.as_mut_slice().sort_unstable();
-        Ok(())
+        made
     }
 
     /// Of the conditions that are left, at which these are at least a third of their greatest number there, the

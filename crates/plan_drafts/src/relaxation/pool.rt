@@ -54,6 +54,7 @@ impl Pool {
     /// Presses the columns together that are in.
     pub fn press(&mut self, table: &RowTable) -> Made<()> {
         let mut count = 0;
+        let mut made = Ok(());
         self.conditions.clear();
         for place in 0..self.columns.len() {
             let column = self.column(place);
@@ -61,14 +62,14 @@ impl Pool {
                 let cost = at(&self.costs, place);
                 set_at(&mut self.columns, count, short(column));
                 set_at(&mut self.costs, count, cost);
-                self.conditions.push_list(table.conditions_of(column))?;
+                made = made.and(self.conditions.push_list(table.conditions_of(column)));
                 count = count.wrapping_add(1);
             }
         }
         self.columns.truncate(count);
         self.costs.truncate(count);
         self.is_listed = false;
-        Ok(())
+        made
     }
 
     /// The place at the cursor, which moves on, from the last place to the first.
@@ -96,6 +97,7 @@ impl Pool {
 
     /// Lists the places of each condition, below this many, but for those of forbidden columns.
     pub fn list_places(&mut self, conditions: usize, is_forbidden: &[bool]) -> Made<()> {
+        let mut made = Ok(());
         self.is_listed = true;
         self.open.clear();
         for place in 0..self.columns.len() {
@@ -104,8 +106,8 @@ impl Pool {
             } else {
                 self.open.push_list(self.conditions.list(place))
             };
-            listed?;
+            made = made.and(listed);
         }
-        self.places.transpose(&self.open, conditions)
+        made.and(self.places.transpose(&self.open, conditions))
     }
 }

@@ -27,15 +27,16 @@ impl Relaxation {
     /// Lists the rows of which the solution chooses more than a hundredth, and no more than this.
     pub fn find_shares(&mut self, table: &RowTable, most: i64) -> Made<()> {
         self.basis.find_parts(&mut self.parts);
+        let mut made = Ok(());
         self.shares.clear();
         for (place, part) in self.parts.iter().enumerate() {
             let row = self.basis.column(place);
             if row < table.row_count() && *part > ONE / 100 && *part <= most {
-                put(&mut self.shares, (Reverse(*part), short(row)))?;
+                made = made.and(put(&mut self.shares, (Reverse(*part), short(row))));
             }
         }
         self.shares.as_mut_slice().sort_unstable();
-        Ok(())
+        made
     }
 
     /// Whether the value is so near to what the solution costs that it is the best.
