@@ -81,6 +81,7 @@ fn are_whole(shares: &[Share]) -> bool {
 
 /// Lists the rows whose vehicles have another choice. False where a forbidden row is chosen.
 fn list_open(table: &RowTable, relaxation: &Relaxation, open: &mut Vec<Share>) -> Made<bool> {
+    let mut made = Ok(());
     open.clear();
     for share in &relaxation.shares {
         let row = share.1 as usize;
@@ -88,10 +89,10 @@ fn list_open(table: &RowTable, relaxation: &Relaxation, open: &mut Vec<Share>) -
             return Ok(false);
         }
         if relaxation.has_choice(table, row) {
-            put(open, *share)?;
+            made = made.and(put(open, *share));
         }
     }
-    Ok(true)
+    made.and(Ok(true))
 }
 
 /// The rows of which more than half is chosen.

@@ -148,8 +148,9 @@ impl<'a> Drafting<'a> {
         let table = self.regrets.table;
         let share = self.tree.allowance.share(FIRST_SHARE);
         let relaxation = &mut self.relaxation;
-        relaxation.begin(table, held, &[], share)?;
-        solve(self.alloc, table, relaxation)?;
+        relaxation
+            .begin(table, held, &[], share)
+            .and(solve(self.alloc, table, relaxation))?;
         let rooted = self.tree.root(table, relaxation);
         self.tree.allowance.settle(share, relaxation.allowance());
         rooted
@@ -281,19 +282,20 @@ impl<'a> Drafting<'a> {
 
     /// Takes the best plan of these scouts, who each had so much work to do, and merges their plans.
     fn hear<R: Threads + Sync>(&mut self, rt: &R, share: Allowance, scouts: &[Scout]) -> Made<()> {
+        let mut made = Ok(());
         let mut left = share;
         for scout in scouts {
             if !scout.is_done {
                 return Err(OutOfMemory);
             }
             left.rest = left.rest.min(scout.left.rest);
-            self.tree
-                .offer(&scout.plans.present.rows, scout.plans.cost)?;
+            let rows = &scout.plans.present.rows;
+            made = made.and(self.tree.offer(rows, scout.plans.cost));
         }
         let work = share.rest.saturating_sub(left.rest);
         let times = scouts.len().div_ceil(SCOUTS as usize) as u64;
         self.tree.allowance.spend(work.saturating_mul(times));
-        self.merge(rt, scouts)
+        made.and(self.merge(rt, scouts))
     }
 
     /// Takes the best plan of the rows that the best one and those of scouts choose, as a small draft finds it.

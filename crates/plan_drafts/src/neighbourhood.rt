@@ -52,25 +52,28 @@ impl Neighbourhood {
         size: usize,
         most_steps: u32,
     ) -> Made<i64> {
+        let mut made = Ok(());
         self.vehicles.clear();
         self.frontier.clear();
         self.is_in.as_mut_slice().fill(false);
         let left = self.left_rider(regrets, present);
         if let Some(rider) = left {
-            put(&mut self.frontier, rider)?;
+            made = put(&mut self.frontier, rider);
         }
         if left.is_none() || self.draws.below(3) == 0 {
             let vehicle = self.regretted(regrets, present);
-            self.add(regrets, present, vehicle)?;
+            made = made.and(self.add(regrets, present, vehicle));
         }
         for _ in 0..size.saturating_mul(6) {
             if self.vehicles.len() >= size {
                 break;
             }
-            self.step(regrets, present, size)?;
+            made = made.and(self.step(regrets, present, size));
         }
-        self.choices
-            .choose(regrets, present, &self.vehicles, most_steps)
+        made.and(
+            self.choices
+                .choose(regrets, present, &self.vehicles, most_steps),
+        )
     }
 
     /// A rider who is left out and could be served, if one is soon found.
@@ -112,18 +115,18 @@ impl Neighbourhood {
         let most = self.draws.below(rows.len()).saturating_add(4);
         let most = self.draws.below(most.min(rows.len())).saturating_add(1);
         let row = item(rows, self.draws.below(most), 0) as usize;
-        let added = self.add(regrets, present, regrets.table.vehicle(row));
+        let mut made = self.add(regrets, present, regrets.table.vehicle(row));
         for rider in regrets.table.riders_of(row) {
             match present.server(*rider) {
-                None => put(&mut self.frontier, *rider)?,
+                None => made = made.and(put(&mut self.frontier, *rider)),
                 Some(server) => {
                     if self.vehicles.len() < size {
-                        self.add(regrets, present, server as usize)?;
+                        made = made.and(self.add(regrets, present, server as usize));
                     }
                 }
             }
         }
-        added
+        made
     }
 
     /// Takes in a vehicle that has a row, and its riders.

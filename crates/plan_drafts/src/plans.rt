@@ -72,7 +72,7 @@ impl Plans {
         most_steps: u32,
         allowance: &mut Allowance,
     ) -> Made<()> {
-        self.neighbourhood.begin(regrets.table)?;
+        let begun = self.neighbourhood.begin(regrets.table);
         let mut idle: u32 = 0;
         for attempt in 0..MOST_ATTEMPTS {
             if self.cost <= bound || idle > most_idle || allowance.rest == 0 {
@@ -85,7 +85,7 @@ impl Plans {
             self.cost = self.cost.saturating_sub(saved / 1024);
             idle = if saved > 0 { 0 } else { idle.saturating_add(1) };
         }
-        self.count(regrets)
+        begun.and(self.count(regrets))
     }
 
     fn count(&mut self, regrets: &Regrets) -> Made<()> {

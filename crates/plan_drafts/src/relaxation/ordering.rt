@@ -218,30 +218,31 @@ fn peel(
     queue: &mut Vec<u32>,
     pairs: &mut Vec<(u32, u32)>,
 ) -> Made<()> {
+    let mut made = Ok(());
     queue.clear();
     for number in 0..side.lists.len() {
         if side.count(number) == 1 {
-            put(queue, short(number))?;
+            made = made.and(put(queue, short(number)));
         }
     }
     for turn in 0..side.lists.len() {
         if turn >= queue.len() {
-            return Ok(());
+            break;
         }
         let number = item(queue, turn, NONE);
         let met = side.lists.list(number as usize);
         if let Some(other) = others.first_left(met) {
             others.take_one(met);
             set_at(&mut others.counts, other, 0);
-            put(pairs, (number, short(other)))?;
+            made = made.and(put(pairs, (number, short(other))));
             for near in others.lists.list(other) {
                 let count = side.count(*near as usize);
                 set_at(&mut side.counts, *near as usize, count.saturating_sub(1));
                 if count == 2 {
-                    put(queue, *near)?;
+                    made = made.and(put(queue, *near));
                 }
             }
         }
     }
-    Ok(())
+    made
 }

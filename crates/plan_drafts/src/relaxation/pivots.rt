@@ -69,10 +69,11 @@ impl Relaxation {
 
     /// The place in the pool of the column to come in next, and its reduced cost.
     fn next_place(&mut self) -> Made<Option<(i64, u32)>> {
+        let mut made = Ok(());
         self.reprice_candidates();
         if self.turns == 0 || self.candidates.is_empty() {
             self.turns = MOST_CANDIDATES as u32;
-            self.find_candidates()?;
+            made = self.find_candidates();
         } else {
             self.turns = self.turns.saturating_sub(1);
         }
@@ -84,7 +85,7 @@ impl Relaxation {
                 best = Some(*candidate);
             }
         }
-        Ok(best)
+        made.and(Ok(best))
     }
 
     /// Takes out the candidates that better nothing any more.
@@ -105,18 +106,20 @@ impl Relaxation {
         self.candidates.clear();
         let count = self.pool.columns.len();
         let look = (count / 4).max(LEAST_LOOK).min(count);
+        let mut made = Ok(());
         for part in 0..5_usize {
             let seen = part.wrapping_mul(look);
-            self.look_at(look.min(count.saturating_sub(seen)))?;
+            made = made.and(self.look_at(look.min(count.saturating_sub(seen))));
             if self.candidates.len() >= ENOUGH_CANDIDATES {
-                return Ok(());
+                break;
             }
         }
-        Ok(())
+        made
     }
 
     /// Takes those of the next columns among the candidates that better the solution, and do so more than others.
     fn look_at(&mut self, count: usize) -> Made<()> {
+        let mut made = Ok(());
         self.count_looks(count);
         for _ in 0..count {
             let place = self.pool.next();
@@ -124,11 +127,12 @@ impl Relaxation {
             if cost < -LEAST_GAIN {
                 let column = self.pool.column(place);
                 if self.may_enter(column) {
-                    offer(&mut self.candidates, MOST_CANDIDATES, (cost, short(place)))?;
+                    let found = (cost, short(place));
+                    made = made.and(offer(&mut self.candidates, MOST_CANDIDATES, found));
                 }
             }
         }
-        Ok(())
+        made
     }
 
     /// Whether a column is neither in the basis nor forbidden.

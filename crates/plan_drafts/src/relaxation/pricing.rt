@@ -53,21 +53,22 @@ impl Relaxation {
         } else {
             NO_ROW
         };
+        let mut made = Ok(());
         self.offers.clear();
         for row in table.rows_of(vehicle) {
             if !item(&self.is_forbidden, row, true) {
                 let cost = table.reduced_cost(&self.tried, row);
                 least = least.min(cost);
                 if cost < bar && !item(&self.pool.is_in, row, false) {
-                    offer(&mut self.offers, most_rows, (cost, short(row)))?;
+                    made = made.and(offer(&mut self.offers, most_rows, (cost, short(row))));
                 }
             }
         }
         for offered in &self.offers {
             let row = offered.1 as usize;
             let cost = at(&self.costs, row);
-            self.pool.add(table, row, cost)?;
+            made = made.and(self.pool.add(table, row, cost));
         }
-        Ok(least)
+        made.and(Ok(least))
     }
 }
