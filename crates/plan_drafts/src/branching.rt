@@ -56,7 +56,7 @@ impl Branching {
         tries: bool,
     ) -> Made<Option<usize>> {
         let limit = in_prices(limit, relaxation.scale);
-        let rest = limit.saturating_sub(relaxation.cost());
+        let rest = limit.saturating_sub(relaxation.cost_of_all(&relaxation.basis.levels));
         self.saved
             .copy_from(&relaxation.basis)
             .and(self.rank(table, shares))?;

@@ -185,14 +185,9 @@ impl<'a> Drafting<'a> {
             .find_shares(regrets.table, i64::MAX)
             .and(self.plans.round(regrets, &relaxation.shares))
             .and(self.better())?;
-        if !self.tree.is_open() || self.relaxation.is_tired() || !self.dive()? {
+        if !self.tree.is_open() || self.relaxation.is_tired() {
             return Ok(());
         }
-        self.better()
-    }
-
-    /// Makes a plan by a dive from the solution. Whether it comes to one.
-    fn dive(&mut self) -> Made<bool> {
         let share = self.tree.allowance.share(DIVE_SHARE);
         let (regrets, relaxation) = (&self.regrets, &mut self.relaxation);
         relaxation.allowance = share;
@@ -200,7 +195,10 @@ impl<'a> Drafting<'a> {
         let found = dive(self.alloc, regrets, relaxation, basis, 0, &mut self.plans);
         relaxation.allow_after(0);
         self.tree.allowance.settle(share, relaxation.allowance());
-        found
+        if found? {
+            return self.better();
+        }
+        Ok(())
     }
 
     /// Betters the plan at hand by neighbourhoods, and takes it where it is the best so far.
@@ -255,7 +253,7 @@ impl<'a> Drafting<'a> {
         let share = self.tree.allowance.share(SCOUT_SHARE);
         let mut scouts = Vec::new(self.alloc);
         let sent = self.send_scouts(rt, anneals, share, numbers, &mut scouts);
-        let scouted = sent.and(self.hear(rt, share, &scouts));
+        let scouted = sent.and(self.merge(rt, share, &scouts));
         drop(scouts);
         scouted
     }
@@ -280,8 +278,9 @@ impl<'a> Drafting<'a> {
         Ok(())
     }
 
-    /// Takes the best plan of these scouts, who each had so much work to do, and merges their plans.
-    fn hear<R: Threads + Sync>(&mut self, rt: &R, share: Allowance, scouts: &[Scout]) -> Made<()> {
+    /// Takes the best plan of these scouts, who each had so much work to do, and then the best one of the rows that it
+    /// and theirs choose, as a small draft finds it.
+    fn merge<R: Threads + Sync>(&mut self, rt: &R, share: Allowance, scouts: &[Scout]) -> Made<()> {
         let mut made = Ok(());
         let mut left = share;
         for scout in scouts {
@@ -295,11 +294,6 @@ impl<'a> Drafting<'a> {
         let work = share.rest.saturating_sub(left.rest);
         let times = scouts.len().div_ceil(SCOUTS as usize) as u64;
         self.tree.allowance.spend(work.saturating_mul(times));
-        made.and(self.merge(rt, scouts))
-    }
-
-    /// Takes the best plan of the rows that the best one and those of scouts choose, as a small draft finds it.
-    fn merge<R: Threads + Sync>(&mut self, rt: &R, scouts: &[Scout]) -> Made<()> {
         let mut merge = Merge::new(self.alloc, self.regrets.table.penalty());
         let filled = merge.fill(&self.regrets, &self.tree.draft.plan, scouts);
         let share = self.tree.allowance.share(MERGE_SHARE);
@@ -307,7 +301,7 @@ impl<'a> Drafting<'a> {
         let taken = self.take(rt, &mut part, &mut merge.plan, &merge.wholes);
         drop(part);
         drop(merge);
-        filled.and(taken)
+        made.and(filled).and(taken)
     }
 
     /// Takes the best plan of a part of the rows, of which these are the numbers, if it is better, as a draft of the

@@ -103,15 +103,9 @@ impl Parter {
     }
 
     /// Parts the node at hand of this tree.
-    pub fn part(&mut self, table: &RowTable, tree: &DraftTree) {
+    pub fn part(&mut self, table: &RowTable, tree: &DraftTree) -> Made<()> {
         self.branch = None;
-        self.is_done = match self.node {
-            None => true,
-            Some(number) => self.branch(table, tree, number).is_ok(),
-        };
-    }
-
-    fn branch(&mut self, table: &RowTable, tree: &DraftTree, number: usize) -> Made<()> {
+        let number = self.node.unwrap_or(usize::MAX);
         let Some(standing) = tree.standings.get(number) else {
             return Ok(());
         };

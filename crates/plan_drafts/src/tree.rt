@@ -195,7 +195,9 @@ impl DraftTree {
         team: &mut [Parter],
     ) {
         let workers = usize::from(workers).max(1);
-        let part = |_: usize, parter: &mut Parter| parter.part(table, self);
+        let part = |_: usize, parter: &mut Parter| parter.is_done = parter
+            .part(table, self)
+            .is_ok();
         thread::for_each_mut(rt, team, workers, &part);
     }
 

@@ -9,13 +9,8 @@ use std::cmp::Reverse;
 const NEAR: i64 = 200;
 
 impl Relaxation {
-    /// What the solution costs, in units of 2^-32 of 2^scale seconds.
-    pub fn cost(&self) -> i64 {
-        self.cost_of_all(&self.basis.levels)
-    }
-
-    /// What so much of each column of the basis costs.
-    fn cost_of_all(&self, parts: &[i64]) -> i64 {
+    /// What so much of each column of the basis costs, in units of 2^-32 of 2^scale seconds.
+    pub fn cost_of_all(&self, parts: &[i64]) -> i64 {
         let mut cost: i64 = 0;
         for (place, part) in parts.iter().enumerate() {
             let each = self.cost_of(self.basis.column(place));
