@@ -63,6 +63,7 @@ pub mod shim {
     }
     impl<T: Copy> Vec<T> {
         pub fn extend_from_slice(&mut self, items: &[T]) -> Done { self.0.extend_from_slice(items); Ok(()) }
+        pub fn resize(&mut self, count: usize, item: T) -> Done { self.0.resize(count, item); Ok(()) }
         pub fn from_slice(_: Global, items: &[T]) -> Result<Self, OutOfMemory> { Ok(Vec(items.to_vec())) }
     }
     impl<T: Copy + Ord> Vec<T> {

@@ -5,6 +5,7 @@ ghost use Rattle.plan_rules.specs.Plan.{IsLawful, cost_of};
 use crate::ascend;
 use plan_rules::{Plan, TripGraph, cost_of, is_lawful};
 use pool_base::OutOfMemory;
+use row_tables::fixed_point::put;
 use row_tables::{Draft, DraftNode, Drafter, RowTable};
 use std::alloc::Global;
 use std::thread::Threads;
@@ -56,12 +57,12 @@ impl Guide {
     /// A draft and a tree of one node.
     fn new(alloc: Global, table: RowTable, draft: Draft) -> Result<Self, OutOfMemory> {
         let mut numbers = Vec::new(alloc);
-        numbers.push(Some(0))?;
-        Ok(Guide {
+        let made = put(&mut numbers, Some(0));
+        made.and(Ok(Guide {
             table,
             draft,
             numbers,
-        })
+        }))
     }
 
     /// The draft's plan, where it is lawful and costs less than this.

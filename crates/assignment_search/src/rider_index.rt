@@ -7,7 +7,8 @@ ghost use Rattle.assignment_search.specs.work.Index.{ListsAll};
 use plan_rules::TripGraph;
 use pool_base::OutOfMemory;
 use row_tables::RowTable;
-use row_tables::fixed_point::item;
+use row_tables::fixed_point::{append, item, put, write_over};
+use row_tables::lists::short;
 use std::alloc::Global;
 
 /// For each rider the numbers of the rows that have her, one list behind the other.
@@ -32,8 +33,8 @@ impl RiderIndex {
     {
         let mut starts = Vec::new(alloc);
         let mut rows = Vec::new(alloc);
-        list(table, &mut starts, &mut rows)?;
-        let mut cursors = Vec::from_slice(alloc, &starts)?;
+        let mut cursors = Vec::new(alloc);
+        list(table, &mut starts, &mut rows).and(write_over(&mut cursors, &starts))?;
         if lists_all(graph, &starts, &rows, &mut cursors) {
             return Ok(RiderIndex {
                 starts,
@@ -89,12 +90,13 @@ fn numbers_below(alloc: Global, count: usize) -> Result<Vec<u32>, OutOfMemory>
 }
 
 fn list(table: &RowTable, starts: &mut Vec<u32>, rows: &mut Vec<u32>) -> Result<(), OutOfMemory> {
-    starts.push(0)?;
+    let mut made = put(starts, 0);
     for rider in 0..table.rider_count() {
-        rows.extend_from_slice(table.rows_with(rider))?;
-        starts.push(rows.len().min(u32::MAX as usize) as u32)?;
+        made = made
+            .and(append(rows, table.rows_with(rider)))
+            .and(put(starts, short(rows.len())));
     }
-    Ok(())
+    made
 }
 
 /// Whether each row is in the lists of all its riders. The cursors stand where the lists start.

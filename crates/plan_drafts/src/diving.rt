@@ -1,7 +1,9 @@
 //! A plan from the relaxation: rows that it chooses nearly whole are taken, and it is solved again.
 use crate::Plan;
+use crate::plans::Plans;
+use crate::regrets::Regrets;
 use crate::relaxation::{Relaxation, Share};
-use row_tables::fixed_point::set_at;
+use row_tables::fixed_point::{put, set_at};
 use row_tables::{Draws, Made, RowTable};
 use std::alloc::Global;
 use std::cmp::Reverse;
@@ -23,45 +25,50 @@ const MOST_ROWS: usize = 10;
 
 const MOST_PASSES: u32 = 3;
 
-/// A plan that starts at this basis, if it comes to one. But for number 0 the first row is left out now and then, as is
-/// drawn from the number.
+/// Takes as the present plan one that starts at this basis, if it comes to one; whether it does. But for number 0 the
+/// first row is left out now and then, as is drawn from the number.
 pub fn dive(
     alloc: Global,
-    table: &RowTable,
+    regrets: &Regrets,
     relaxation: &mut Relaxation,
     basis: &[u32],
     number: u64,
-) -> Made<Option<Plan>> {
+    plans: &mut Plans,
+) -> Made<bool> {
     relaxation.is_held = false;
-    relaxation.go_to(table, basis)?;
+    relaxation.go_to(regrets.table, basis)?;
     let mut open: Vec<Share> = Vec::new(alloc);
-    let plan = descend(alloc, table, relaxation, number, &mut open);
+    let found = descend(alloc, regrets, relaxation, number, &mut open, plans);
     drop(open);
-    plan
+    found
 }
 
 /// The same from where the relaxation stands. The open rows are work space.
 fn descend(
     alloc: Global,
-    table: &RowTable,
+    regrets: &Regrets,
     relaxation: &mut Relaxation,
     number: u64,
     open: &mut Vec<Share>,
-) -> Made<Option<Plan>> {
+    plans: &mut Plans,
+) -> Made<bool> {
+    let table = regrets.table;
     let mut draws = Draws::new(number);
     for _ in 0..table.vehicle_count().saturating_mul(2) {
-        relaxation.solve(table, i64::MAX, MOST_ROWS, MOST_PASSES)?;
-        relaxation.find_shares(table, i64::MAX)?;
+        relaxation
+            .solve(table, i64::MAX, MOST_ROWS, MOST_PASSES)
+            .and(relaxation.find_shares(table, i64::MAX))?;
         if relaxation.is_tired() || !list_open(table, relaxation, open)? {
             break;
         }
         if are_whole(&relaxation.shares) {
-            return Ok(Some(whole_plan(alloc, table, &relaxation.shares)?));
+            let plan = whole_plan(alloc, table, &relaxation.shares)?;
+            return plans.adopt(regrets, &plan).and(Ok(true));
         }
         let skips = number > 0 && draws.below(4) == 0;
         take_first(table, relaxation, open, skips);
     }
-    Ok(None)
+    Ok(false)
 }
 
 /// Whether all rows are chosen whole.
@@ -74,6 +81,7 @@ fn are_whole(shares: &[Share]) -> bool {
 
 /// Lists the rows whose vehicles have another choice. False where a forbidden row is chosen.
 fn list_open(table: &RowTable, relaxation: &Relaxation, open: &mut Vec<Share>) -> Made<bool> {
+    let mut made = Ok(());
     open.clear();
     for share in &relaxation.shares {
         let row = share.1 as usize;
@@ -81,10 +89,10 @@ fn list_open(table: &RowTable, relaxation: &Relaxation, open: &mut Vec<Share>) -
             return Ok(false);
         }
         if relaxation.has_choice(table, row) {
-            open.push(*share)?;
+            made = made.and(put(open, *share));
         }
     }
-    Ok(true)
+    made.and(Ok(true))
 }
 
 /// The rows of which more than half is chosen.

@@ -4,8 +4,8 @@
 //! cost of its row lies above the vehicle's least, and for each rider who is left out what that costs above
 //! her multiplier. Of each vehicle's rows only those of least regret are looked at.
 
-use row_tables::fixed_point::{at, item, reset, set_at};
-use row_tables::lists::{Lists, short};
+use row_tables::fixed_point::{at, item, put, reset, set_at};
+use row_tables::lists::Lists;
 use row_tables::{Made, RowTable};
 use std::alloc::Global;
 
@@ -49,32 +49,39 @@ impl<'a> Regrets<'a> {
 
     /// Finds the regrets under these multipliers, in 1/1024 second.
     pub fn fill(&mut self, multipliers: &[i64]) -> Made<()> {
-        self.price_riders(multipliers)?;
+        self.price_riders(multipliers)
+            .and(reset(&mut self.is_listed, self.table.row_count(), true))?;
+        let mut made = Ok(());
         for vehicle in 0..self.table.vehicle_count() {
-            self.reduce(vehicle)?;
+            made = made
+                .and(self.reduce(vehicle))
+                .and(self.list_vehicle(vehicle));
         }
-        self.list()
+        made.and(self.list_riders())
     }
 
     /// What each rider is worth: her multiplier, and at most what it costs to leave her out.
     fn price_riders(&mut self, multipliers: &[i64]) -> Made<()> {
+        let mut made = Ok(());
         for rider in 0..self.table.rider_count() {
             let cost = self.table.cost_left(rider).saturating_mul(1024);
             let price = at(multipliers, rider).min(cost);
-            self.prices.push(price)?;
-            self.left.push(cost.saturating_sub(price))?;
+            made = made
+                .and(put(&mut self.prices, price))
+                .and(put(&mut self.left, cost.saturating_sub(price)));
         }
-        Ok(())
+        made
     }
 
     /// Notes the regrets of a vehicle's rows.
     fn reduce(&mut self, vehicle: usize) -> Made<()> {
         let least = self.least_cost(vehicle);
+        let mut made = Ok(());
         for row in self.table.rows_of(vehicle) {
             let cost = self.table.reduced_cost(&self.prices, row);
-            self.above.push(cost.saturating_sub(least))?;
+            made = made.and(put(&mut self.above, cost.saturating_sub(least)));
         }
-        Ok(())
+        made
     }
 
     /// The least reduced cost of a vehicle's rows.
@@ -86,63 +93,46 @@ impl<'a> Regrets<'a> {
         least
     }
 
-    /// Lists the rows that are looked at.
-    fn list(&mut self) -> Made<()> {
-        reset(&mut self.is_listed, self.table.row_count(), false)?;
-        for vehicle in 0..self.table.vehicle_count() {
-            self.rank_vehicle(vehicle)?;
-            self.list_vehicle(vehicle)?;
-        }
-        self.list_riders()
-    }
-
-    /// All rows of the vehicle by rising regret.
-    fn rank_vehicle(&mut self, vehicle: usize) -> Made<()> {
-        self.ranks.clear();
-        for row in self.table.rows_of(vehicle) {
-            let rank = (self.above(short(row)), short(row));
-            self.ranks.push(rank)?;
-        }
-        self.ranks.as_mut_slice().sort_unstable();
-        Ok(())
-    }
-
-    /// Lists the vehicle's rows of least regret and its first one, and marks them.
+    /// Lists the vehicle's rows of least regret and its first one, and marks the others as left out.
     fn list_vehicle(&mut self, vehicle: usize) -> Made<()> {
         let first = self.table.rows_of(vehicle).start;
+        let mut made = self.rank(self.table.rider_count().saturating_add(vehicle));
         for (place, rank) in self.ranks.iter().enumerate() {
             let row = rank.1 as usize;
             if place < MOST_ROWS || row == first {
-                self.rows.push(row)?;
-                set_at(&mut self.is_listed, row, true);
+                made = made.and(self.rows.push(row));
+            } else {
+                set_at(&mut self.is_listed, row, false);
             }
         }
-        self.rows.end()
+        made.and(self.rows.end())
     }
 
-    /// Lists for each rider the marked rows that have her.
+    /// Lists for each rider the rows that have her, but for those that are left out.
     fn list_riders(&mut self) -> Made<()> {
+        let mut made = Ok(());
         for rider in 0..self.table.rider_count() {
-            self.rank_rider(rider)?;
+            made = made.and(self.rank(rider));
             for rank in &self.ranks {
-                self.with.push(rank.1 as usize)?;
+                made = made.and(self.with.push(rank.1 as usize));
             }
-            self.with.end()?;
+            made = made.and(self.with.end());
         }
-        Ok(())
+        made
     }
 
-    /// The marked rows that have the rider, by rising regret.
-    fn rank_rider(&mut self, rider: usize) -> Made<()> {
+    /// The rows under a condition by rising regret, but for those that are left out.
+    fn rank(&mut self, condition: usize) -> Made<()> {
+        let mut made = Ok(());
         self.ranks.clear();
-        for row in self.table.rows_with(rider) {
+        for row in self.table.rows_with(condition) {
             if item(&self.is_listed, *row as usize, false) {
                 let rank = (self.above(*row), *row);
-                self.ranks.push(rank)?;
+                made = made.and(put(&mut self.ranks, rank));
             }
         }
         self.ranks.as_mut_slice().sort_unstable();
-        Ok(())
+        made
     }
 
     /// The regret of this row.

@@ -3,7 +3,7 @@
 //! The subgradient counts for each rider how often the vehicles' rows of least reduced cost have her. Steps are
 //! as long as Polyak's rule says (1969), and halved after eight turns without a rise.
 use crate::Made;
-use crate::fixed_point::{add_at, at, copy, set_at};
+use crate::fixed_point::{add_at, at, copy, put, reset, set_at, write_over};
 use crate::row_table::RowTable;
 use std::alloc::Global;
 
@@ -32,25 +32,16 @@ pub fn ascend(
     turns: u32,
 ) -> Made<Vec<i64>> {
     let mut ascent = Ascent {
-        best: Vec::from_slice(alloc, &start)?,
+        best: Vec::new(alloc),
         point: start,
         value: i64::MIN,
-        slopes: vec![in alloc; 0; table.rider_count()]?,
-        direction: vec![in alloc; 0; table.rider_count()]?,
+        slopes: Vec::new(alloc),
+        direction: Vec::new(alloc),
         scale: UNIT,
         idle: 0,
     };
-    for _ in 0..turns {
-        let value = ascent.look(table);
-        ascent.keep(value);
-        let size = ascent.turn(table);
-        if size <= 0 {
-            break;
-        }
-        let gap = target.saturating_sub(value).max(UNIT);
-        ascent.step(table, gap, size);
-    }
-    Ok(ascent.best)
+    let done = ascent.climb(table, target, turns);
+    done.and(Ok(ascent.best))
 }
 
 #[derive(Drop)]
@@ -66,6 +57,25 @@ struct Ascent {
 }
 
 impl Ascent {
+    /// Takes so many turns, fewer where one leads nowhere.
+    fn climb(&mut self, table: &RowTable, target: i64, turns: u32) -> Made<()> {
+        let riders = table.rider_count();
+        write_over(&mut self.best, &self.point)
+            .and(reset(&mut self.slopes, riders, 0))
+            .and(reset(&mut self.direction, riders, 0))?;
+        for _ in 0..turns {
+            let value = self.look(table);
+            self.keep(value);
+            let size = self.turn(table);
+            if size <= 0 {
+                break;
+            }
+            let gap = target.saturating_sub(value).max(UNIT);
+            self.step(table, gap, size);
+        }
+        Ok(())
+    }
+
     /// The value at the point. Computes the slopes there.
     fn look(&mut self, table: &RowTable) -> i64 {
         self.mark_rising(table);
@@ -148,7 +158,7 @@ fn first_point(alloc: Global, table: &RowTable) -> Made<Vec<i64>> {
                 least = least.min(table.cost(row).saturating_sub(table.cost(first)));
             }
         }
-        point.push(least.wrapping_mul(UNIT))?;
+        put(&mut point, least.wrapping_mul(UNIT))?;
     }
     Ok(point)
 }

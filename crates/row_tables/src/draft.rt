@@ -61,12 +61,18 @@ impl Draft {
     /// The row that a node is branched on, and the number of the node where it is taken; the one where it
     /// isn't comes next.
     pub fn branch(&self, number: usize) -> Option<(usize, usize)> {
-        self.nodes.get(number)?.branch
+        match self.nodes.get(number) {
+            None => None,
+            Some(node) => node.branch,
+        }
     }
 
     /// The decision that leads to a node.
     pub fn decision(&self, number: usize) -> Option<Decision> {
-        self.nodes.get(number)?.decision
+        match self.nodes.get(number) {
+            None => None,
+            Some(node) => node.decision,
+        }
     }
 
     /// The multipliers of a node, with those of riders in taken rows sunk.

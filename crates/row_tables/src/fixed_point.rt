@@ -106,18 +106,27 @@ pub fn copy(from: &[i64], to: &mut [i64]) {
     }
 }
 
+/// Puts an item behind the last one.
+pub fn put<T: Copy>(items: &mut Vec<T>, item: T) -> Made<()> {
+    items.push(item)?;
+    Ok(())
+}
+
 /// Makes this a list of so many equal items.
 pub fn reset<T: Copy>(items: &mut Vec<T>, count: usize, item: T) -> Made<()> {
     items.clear();
-    for _ in 0..count {
-        items.push(item)?;
-    }
+    items.resize(count, item)?;
+    Ok(())
+}
+
+/// Puts a list behind another.
+pub fn append<T: Copy>(items: &mut Vec<T>, others: &[T]) -> Made<()> {
+    items.extend_from_slice(others)?;
     Ok(())
 }
 
 /// Writes a list in place of another.
 pub fn write_over<T: Copy>(items: &mut Vec<T>, others: &[T]) -> Made<()> {
     items.clear();
-    items.extend_from_slice(others)?;
-    Ok(())
+    append(items, others)
 }

@@ -1,6 +1,6 @@
 //! The rows of a trip graph, or of a part of one, in flat tables.
 use crate::Made;
-use crate::fixed_point::{at, item, part};
+use crate::fixed_point::{at, item, part, put, write_over};
 use crate::lists::{Lists, short};
 use plan_rules::{TripGraph, TripRow};
 use std::alloc::Global;
@@ -47,16 +47,20 @@ impl RowTable {
 
     /// The rows of a graph but for those with a mark that says no. They are numbered anew.
     pub fn of_allowed(alloc: Global, graph: &TripGraph, allowed: &[bool]) -> Made<Self> {
-        let mut must = Vec::new(alloc);
+        let mut table = RowTable::new(alloc, i64::from(graph.penalty()), Vec::new(alloc));
+        let done = table.fill(graph, allowed);
+        done.and(Ok(table))
+    }
+
+    fn fill(&mut self, graph: &TripGraph, allowed: &[bool]) -> Made<()> {
+        let mut made = Ok(());
         for rider in 0..graph.rider_count() {
-            must.push(graph.must(rider))?;
+            made = made.and(put(&mut self.must, graph.must(rider)));
         }
-        let mut table = RowTable::new(alloc, i64::from(graph.penalty()), must);
         for vehicle in 0..graph.vehicle_count() {
-            table.push_vehicle(graph, allowed, vehicle)?;
+            made = made.and(self.push_vehicle(graph, allowed, vehicle));
         }
-        table.index()?;
-        Ok(table)
+        made.and(self.index())
     }
 
     fn push_vehicle(&mut self, graph: &TripGraph, allowed: &[bool], vehicle: usize) -> Made<()> {
@@ -72,43 +76,49 @@ impl RowTable {
     }
 
     fn push_trip(&mut self, trip: &TripRow) -> Made<()> {
+        let mut made = Ok(());
         for rider in trip.riders.as_slice() {
-            self.conditions.push(*rider)?;
+            made = made.and(self.conditions.push(*rider));
         }
-        self.end_row(trip.cost.min(1_000_000_000) as i64)
+        made.and(self.end_row(trip.cost.min(1_000_000_000) as i64))
     }
 
     /// Puts in a row of the vehicle at hand.
     pub fn push_row(&mut self, cost: i64, riders: &[u32]) -> Made<()> {
+        let mut made = Ok(());
         for rider in riders {
-            self.conditions.push(*rider as usize)?;
+            made = made.and(self.conditions.push(*rider as usize));
         }
-        self.end_row(cost)
+        made.and(self.end_row(cost))
     }
 
     fn end_row(&mut self, cost: i64) -> Made<()> {
         let vehicle = self.vehicle_count();
-        self.vehicles.push(short(vehicle))?;
-        self.costs.push(cost)?;
         let condition = self.rider_count().saturating_add(vehicle);
-        self.conditions.push(condition)?;
-        self.conditions.end()
+        put(&mut self.vehicles, short(vehicle))
+            .and(put(&mut self.costs, cost))
+            .and(self.conditions.push(condition))
+            .and(self.conditions.end())
+    }
+
+    /// Becomes a table for the riders of another.
+    pub fn copy_riders(&mut self, other: &RowTable) -> Made<()> {
+        write_over(&mut self.must, &other.must)
     }
 
     /// Ends the rows of the vehicle at hand: later ones are those of the next.
     pub fn end_vehicle(&mut self) -> Made<()> {
-        self.ends.push(short(self.costs.len()))?;
-        Ok(())
+        put(&mut self.ends, short(self.costs.len()))
     }
 
-    /// Lists the rows of each rider, and the columns of single conditions. To be called after the last row.
+    /// Lists the rows under each condition, and the columns of single conditions. To be called after the last row.
     pub fn index(&mut self) -> Made<()> {
-        self.rows.transpose(&self.conditions, self.must.len())?;
-        for condition in 0..self.condition_count() {
-            self.conditions.push(condition)?;
-            self.conditions.end()?;
+        let conditions = self.condition_count();
+        let mut made = self.rows.transpose(&self.conditions, conditions);
+        for condition in 0..conditions {
+            made = made.and(self.conditions.push_list(&[short(condition)]));
         }
-        Ok(())
+        made
     }
 
     /// How many vehicles there are.
@@ -166,10 +176,10 @@ impl RowTable {
         self.conditions.list(column)
     }
 
-    /// The rows that have this rider, rising.
+    /// The rows under this condition, rising: those that have the rider, or behind the riders those of a vehicle.
     #[inline]
-    pub fn rows_with(&self, rider: usize) -> &[u32] {
-        self.rows.list(rider)
+    pub fn rows_with(&self, condition: usize) -> &[u32] {
+        self.rows.list(condition)
     }
 
     /// The cost of the row.
