@@ -1,5 +1,5 @@
 use Rattle.std.proofs.Common.{◌≡◌, ℕ, ◌+◌, ◌<◌, ◌≤◌, List, [], ◌∷◌, ◌++◌, length, ap, arith, rules}
-use Rattle.stop_orders.proofs.Common.{IsTravelTime, Task, Stop, Pick, Drop, Alight, IsKnown, place_of, no_leg, IsTask, visit_at, free_seats, IsNextStop, left_count, Label, IsRoutable, task_riders, task_passengers, first_label, second_at, CanVisit, next_label, IsSmallLabel, LeadsTo}
+use Rattle.stop_orders.proofs.Common.{IsTravelTime, Task, Stop, Pick, Drop, Alight, IsKnown, place_of, no_leg, IsTask, visit_at, free_seats, IsNextStop, left_count, Label, IsRoutable, task_riders, task_passengers, first_label, second_at, CanVisit, next_label, IsSmallLabel, LeadsTo, person_of}
 use Rattle.stop_orders.proofs.lemmas.DoneLemmas.{left_count-most}
 use Rattle.stop_orders.proofs.lemmas.PlainLemmas.{MakesOrders-next, MakesOrders-none, append_one}
 
@@ -11,6 +11,12 @@ routable points task valid = search rules
 pub known_next : (riders passengers done : ℕ) (s : Stop) → IsNextStop riders passengers done s → IsKnown riders passengers s
 known_next riders passengers done (Pick i) next = next.0
 known_next riders passengers done _ next = next.0
+
+-- .. and is one of the persons
+pub person_next : (riders passengers done : ℕ) (s : Stop) → IsNextStop riders passengers done s → person_of riders s < riders + passengers
+person_next riders passengers done (Pick i) next = omega (arith, next.0)
+person_next riders passengers done (Drop i) next = omega (arith, next.0)
+person_next riders passengers done (Alight j) next = omega (arith, next.0)
 
 module _ (points : ℕ) (tau : ℕ → ℕ → ℕ) (t : IsTravelTime points tau) (task : Task) (valid : IsRoutable points task) where
   place_in : (s : Stop) → IsKnown (task_riders task) (task_passengers task) s → place_of (visit_at task s) < points

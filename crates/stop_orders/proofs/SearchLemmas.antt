@@ -5,7 +5,7 @@ use Rattle.stop_orders.proofs.lemmas.DoneLemmas.{IsAllDone-from_nil, Completes-n
 use Rattle.stop_orders.proofs.lemmas.PlainLemmas.{MakesOrders-all}
 use Rattle.std.proofs.lemmas.List.{append-nil}
 use Rattle.stop_orders.proofs.AheadLemmas.{is_ahead, goes_on_next}
-use Rattle.stop_orders.proofs.LabelLemmas.{known_next}
+use Rattle.stop_orders.proofs.LabelLemmas.{person_next}
 
 -- what follows from a result's fact follows where the result is one
 pub on_ok : {A E : Type 0} (r : Result A E) (P Q : Type 0) → (P → Q) → OnOk r P → OnOk r Q
@@ -82,12 +82,12 @@ module _ (points : ℕ) (tau : ℕ → ℕ → ℕ) (t : IsTravelTime points tau
   tried_never label s best never = λ rest way. absurd (never (goes_on_next points tau t task valid.rider_count label s rest way).1)
 
   -- where all candidates were tried
-  pub exhausted_tried : (label : Label) (best : Option Route) (candidates : List Candidate) → (IsAllDone (task_riders task) (task_passengers task) label.done → ⊥) → AreCandidates tau task label (task_riders task) (task_passengers task) candidates
+  pub exhausted_tried : (label : Label) (best : Option Route) (candidates : List Candidate) → (IsAllDone (task_riders task) (task_passengers task) label.done → ⊥) → AreCandidates tau task label (task_riders task + task_passengers task) candidates
       → All (λ c. IsTried tau task best label c.stop) candidates → IsExhausted tau task best label
   exhausted_tried label best candidates more are tried [] way = absurd (more (IsAllDone-from_nil (task_riders task) (task_passengers task) label.done way.completes))
   exhausted_tried label best candidates more are tried (s ∷ rest) way =
       let on = goes_on_next points tau t task valid.rider_count label s rest way in
-      let listed = are.whole s on.0 (known_next (task_riders task) (task_passengers task) label.done s on.0) on.1 in
+      let listed = are.whole s on.0 (person_next (task_riders task) (task_passengers task) label.done s on.0) on.1 in
       All-contains (IsTried tau task best label) (map (λ c. c.stop) candidates) s (All-map (IsTried tau task best label) (λ c. c.stop) candidates tried) listed rest way
 
 -- what holds in the loop over the candidates
