@@ -1,5 +1,5 @@
-use Rattle.std.proofs.Common.{◌≡◌, ℕ, ◌+◌, ◌<◌, ◌≤◌, List, [], ◌∷◌, length, map, get_or, take, Option, Some, None, Result, Ok, Err, OnOk, sym, ap, ◌∙◌, subst, arith, inl, inr, All, rules}
-use Rattle.stop_orders.proofs.Common.{cases_lt, All-weaker, All-more, All-map, All-contains, IsTravelTime, Route, Task, Stop, ServesFrom, visits_of, free_seats, order_delay, Serves, IsAllDone, Completes, IsFound, NoneBetter, StaysGood, Label, Candidate, IsRoutable, task_riders, task_passengers, CanVisit, next_label, GoesOn, rest_delay, RiderCan, PassengerCan, least_ahead, IsDominated, LeadsTo, IsExhausted, IsTried, IsLabelDone, AreCandidates, Searched}
+use Rattle.std.proofs.Common.{◌≡◌, ℕ, ◌+◌, ◌<◌, ◌≤◌, List, [], ◌∷◌, length, map, get_or, take, Option, Some, None, Result, Ok, Err, OnOk, sym, ap, ◌∙◌, subst, arith, inl, inr, All, rules, IfOk, IsErr}
+use Rattle.stop_orders.proofs.Common.{cases_lt, All-weaker, All-more, All-map, All-contains, IsTravelTime, Route, Task, Stop, ServesFrom, visits_of, free_seats, order_delay, Serves, IsAllDone, Completes, IsFound, NoneBetter, StaysGood, Label, Candidate, IsRoutable, task_riders, task_passengers, CanVisit, next_label, GoesOn, rest_delay, RiderCan, PassengerCan, least_ahead, IsDominated, LeadsTo, IsExhausted, IsTried, IsLabelDone, AreCandidates, Searched, false≢true}
 use Rattle.stop_orders.proofs.lemmas.ClockLemmas.{soon_over, ServesFrom-soon}
 use Rattle.stop_orders.proofs.lemmas.DoneLemmas.{IsAllDone-from_nil, Completes-none}
 use Rattle.stop_orders.proofs.lemmas.PlainLemmas.{MakesOrders-all}
@@ -11,6 +11,11 @@ use Rattle.stop_orders.proofs.LabelLemmas.{person_next}
 pub on_ok : {A E : Type 0} (r : Result A E) (P Q : Type 0) → (P → Q) → OnOk r P → OnOk r Q
 on_ok (Ok x) P Q f p = f p
 on_ok (Err e) P Q f p = tt
+
+-- nothing is said of what failed
+pub on_err : {A E : Type 0} (r : Result A E) (P : A → Type 0) → IsErr r → IfOk r P
+on_err (Ok x) P is = absurd (false≢true is)
+on_err (Err e) P is = tt
 
 -- a greater delay is no better either
 NoneBetter-more : (best : Option Route) (a b : ℕ) → a ≤ b → NoneBetter best a → NoneBetter best b
