@@ -1,5 +1,5 @@
-use Rattle.std.proofs.Common.{◌≡◌, length, sym, subst, refl, arith}
-use Rattle.plan_rules.proofs.Common.{MarksServed, graph_of}
+use Rattle.std.proofs.Common.{◌≡◌, length, sym, subst, refl, arith, inl}
+use Rattle.plan_rules.proofs.Common.{MarksServed, graph_of, both_ways}
 use Rattle.std.proofs.lemmas.List.{take_at}
 use Rattle.plan_rules.proofs.lemmas.HeldLemmas.{holds_more}
 use Rattle.plan_rules.proofs.lemmas.PlanLemmas.{held_lawful}
@@ -24,3 +24,13 @@ loop-vehicle-preserved c =
 
 pub returns-clause-held : goal.returns-clause-held
 returns-clause-held c = held_lawful (graph_of c.args.parts.now) (omega (arith, c.len-2.ensures, c.if-len-parts.false)) (λ v l. c.loop-vehicle.invariant.holds v (omega (arith, l)))
+
+pub returns-then-not-mark_held_by-clause-fault : goal.returns-then-not-mark_held_by-clause-fault
+returns-then-not-mark_held_by-clause-fault c =
+    inl (record {
+      rows = c.requires.rows;
+      order = c.requires.order;
+      within = omega (arith, c.loop-vehicle-test.true, c.min-count.ensures, c.len.ensures);
+      wrong = λ holds. both_ways _ c.if-not-mark_held_by.true (c.mark_held_by.ensures.variant.1 holds);
+      before = c.loop-vehicle.invariant.holds;
+    })
