@@ -1,0 +1,1 @@
+use Rattle.trip_graph.proofs.rows.row_with.Goals as goal
