@@ -203,3 +203,27 @@ returns-in_err-try_all-clause-searched t c = on_err c.from_residual.result _ c.f
 
 pub returns-clause-path : goal.returns-clause-path
 returns-clause-path t c = on_ok c.keep.result _ (c.loop-candidate.path.items ≡ c.args.path.now.items) (λ _. c.loop-candidate.invariant.same) c.keep.ensures
+
+pub list_candidates-requires-clause-valid : goal.list_candidates-requires-clause-valid
+list_candidates-requires-clause-valid t c = c.requires.valid
+
+pub bounds-candidate-items-candidate-index : goal.bounds-candidate-items-candidate-index
+bounds-candidate-items-candidate-index t c = c.loop-candidate-test.true
+
+pub label_after-next-requires-clause-few : goal.label_after-next-requires-clause-few
+label_after-next-requires-clause-few t c = c.requires.valid.rider_count
+
+pub label_after-next-requires-clause-fewer : goal.label_after-next-requires-clause-fewer
+label_after-next-requires-clause-fewer t c = c.requires.valid.passenger_count
+
+pub label_after-next-requires-clause-dwell : goal.label_after-next-requires-clause-dwell
+label_after-next-requires-clause-dwell t c = c.requires.valid.dwell
+
+pub label_after-next-requires-clause-room : goal.label_after-next-requires-clause-room
+label_after-next-requires-clause-room t c = omega (arith, c.requires.small.room)
+
+pub label_after-next-requires-clause-delay : goal.label_after-next-requires-clause-delay
+label_after-next-requires-clause-delay t c = omega (arith, c.requires.small.delay)
+
+pub is_hopeless-requires-clause-settled : goal.is_hopeless-requires-clause-settled
+is_hopeless-requires-clause-settled t c = c.loop-candidate.invariant.settled
