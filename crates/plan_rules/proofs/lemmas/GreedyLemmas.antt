@@ -1,5 +1,5 @@
 -- Greedy plans: ranks, and what taking a row keeps.
-use Rattle.std.proofs.Common.{All, ◌≡◌, ◌⊎◌, ◌||◌, ℕ, ◌-◌, ◌<◌, ◌≤◌, Bool, true, false, List, length, get_or, set, Option, Some, None, refl, sym, ap, ◌∙◌, subst, inl, inr, ⊎_elim, arith, rules, replicate}
+use Rattle.std.proofs.Common.{All, ◌≡◌, ◌⊎◌, ◌||◌, ℕ, ◌<◌, ◌≤◌, Bool, true, false, List, length, get_or, set, Option, Some, None, refl, sym, ap, ◌∙◌, subst, inl, inr, ⊎_elim, arith, rules, replicate}
 use Rattle.plan_rules.proofs.Common.{same_Some, none-some, list_any, ordering_then, nat_tests, cases_eq, cases_lt, or_cases, or_left, or_right, both_ways, get_or_past, Graph, riders_at, cost_at, row_vehicle, has_rider, choice_at, IsGoodGraph, IsTaken, IsApart, IsTriedBefore, IsGreedy, rank_value, rank_of, parts_of, AreRanks, IsSelection, IsInTheWay}
 use Rattle.std.specs.Ordering.{nat_cmp, is_lt}
 use Rattle.std.proofs.lemmas.List.{get_or-set_same, get_or-set_other, length-set, get_or-replicate, length-replicate}

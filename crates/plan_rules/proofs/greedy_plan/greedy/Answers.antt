@@ -1,4 +1,4 @@
-use Rattle.std.proofs.Common.{None, false, replicate, sym, ap, ◌∙◌, subst, ◌≡◌, length, arith}
+use Rattle.std.proofs.Common.{None, false, replicate, ap, ◌∙◌, ◌≡◌, length, arith}
 use Rattle.plan_rules.proofs.Common.{row_vehicle}
 use Rattle.plan_rules.proofs.lemmas.GraphLemmas.{on_err}
 use Rattle.plan_rules.proofs.lemmas.GreedyLemmas.{selection_first, none_taken}

@@ -4,6 +4,7 @@ use Rattle.std.proofs.lemmas.List.{take_at}
 use Rattle.plan_rules.proofs.lemmas.HeldLemmas.{holds_more}
 use Rattle.plan_rules.proofs.lemmas.PlanLemmas.{held_lawful}
 use Rattle.plan_rules.proofs.lemmas.ServedLemmas.{served_at_first}
+use Rattle.plan_rules.proofs.lemmas.GraphLemmas.{on_err}
 use Rattle.plan_rules.proofs.held.mark_held.Goals as goal
 
 pub loop-vehicle-init : goal.loop-vehicle-init
@@ -34,3 +35,15 @@ returns-then-not-mark_held_by-clause-fault c =
       wrong = λ holds. both_ways _ c.if-not-mark_held_by.true (c.mark_held_by.ensures.variant.1 holds);
       before = c.loop-vehicle.invariant.holds;
     })
+
+pub returns-in_err-marks-clause-marks : goal.returns-in_err-marks-clause-marks
+returns-in_err-marks-clause-marks c = on_err c.from_residual.result _ c.from_residual.ensures.0
+
+pub returns-in_err-marks-clause-held : goal.returns-in_err-marks-clause-held
+returns-in_err-marks-clause-held c = on_err c.from_residual.result _ c.from_residual.ensures.0
+
+pub mark_held_by-requires-clause-rows : goal.mark_held_by-requires-clause-rows
+mark_held_by-requires-clause-rows c = c.requires.rows
+
+pub mark_held_by-requires-clause-starts : goal.mark_held_by-requires-clause-starts
+mark_held_by-requires-clause-starts c = c.requires.starts

@@ -1,4 +1,4 @@
-use Rattle.std.proofs.Common.{◌≡◌, ◌+◌, ◌<◌, ◌≤◌, ◌∷◌, ◌++◌, [], subst, sym, ◌∙◌, arith, All}
+use Rattle.std.proofs.Common.{◌≡◌, ◌<◌, ◌≤◌, ◌∷◌, ◌++◌, [], subst, sym, ◌∙◌, arith, All}
 use Rattle.stop_orders.proofs.Common.{All-push, point_count, travel_time, left_count, task_riders, task_passengers, labels_of, IsLabelPlaced, IsLabelDone, route_of, Priced}
 use Rattle.stop_orders.proofs.lemmas.PlainLemmas.{IsAllDone-at, IsAllDone-not_at}
 use Rattle.std.proofs.lemmas.Bool.{true≢false}
