@@ -58,11 +58,3 @@ is_any_marked-requires c =
     let within = plan_rows g c.args.chosen.now c.requires.plan c.loop-choice.choice-index k c.in-Some.is in
     let read = sym c.index-rows-row.is ∙ row_read g c.rows-rows.result.now k c.index-rows-row.result c.rows-rows.ensures.value within c.index-rows-row.is in
     riders_read g k _ _ _ (c.rows-rows.ensures.good.rows k within) read c.as_slice-riders.ensures.value c.loop-choice.invariant.marked.sized
-
-pub mark_riders-requires : goal.mark_riders-requires
-mark_riders-requires c =
-    let g = c.args.graph.now in
-    let k = c.in-Some.row in
-    let within = plan_rows g c.args.chosen.now c.requires.plan c.loop-choice.choice-index k c.in-Some.is in
-    let read = sym c.index-rows-row.is ∙ row_read g c.rows-rows.result.now k c.index-rows-row.result c.rows-rows.ensures.value within c.index-rows-row.is in
-    riders_read g k _ _ _ (c.rows-rows.ensures.good.rows k within) read c.as_slice-riders.ensures.value c.loop-choice.invariant.marked.sized
