@@ -1,6 +1,6 @@
 use Rattle.std.proofs.lemmas.Bool.Decides.{nat_tests}
-use Rattle.std.proofs.Common.{◌≡◌, ℕ, zero, suc, ◌+◌, ◌-◌, ◌<◌, ◌≤◌, Bool, true, false, List, [], ◌∷◌, refl, sym, ◌∙◌, subst, arith, inl, inr, rules}
-use Rattle.stop_orders.proofs.Common.{cases_eq, never, IsTravelTime, Leg, Task, Stop, Pick, Drop, Alight, place_of, lateness, leg_at, visit_at, has, IsNextStop, sum_below, Label, task_riders, task_passengers, CanVisit, next_label, second_at, GoesOn, rest_delay, CanStill, late_at_once, RiderCan, rider_late, PassengerCan, passenger_late, least_ahead}
+use Rattle.std.proofs.Common.{◌≡◌, ℕ, zero, suc, ◌+◌, ◌-◌, ◌<◌, ◌≤◌, Bool, true, false, List, [], ◌∷◌, refl, sym, ◌∙◌, subst, arith, inl, inr, rules, length, get_or, ap, add-one}
+use Rattle.stop_orders.proofs.Common.{cases_eq, never, IsTravelTime, Leg, Task, Stop, Pick, Drop, Alight, place_of, lateness, leg_at, visit_at, has, IsNextStop, sum_below, Label, task_riders, task_passengers, CanVisit, next_label, second_at, GoesOn, rest_delay, CanStill, late_at_once, RiderCan, rider_late, PassengerCan, passenger_late, least_ahead, get_or_default, no_leg}
 use Rattle.stop_orders.proofs.lemmas.DoneLemmas.{has-with_same, has-with_other, Completes-front, IsAllDone-from_nil, sum_below-le}
 use Rattle.stop_orders.proofs.lemmas.ClockLemmas.{AtLeastAsSoon}
 
@@ -32,6 +32,31 @@ still_dropped tau dwell leg picked dropped picked' dropped' p f q g e h h' reach
 
 still_out : (tau : ℕ → ℕ → ℕ) (dwell : ℕ) (leg : Leg) (picked dropped : Bool) (p f : ℕ) → dropped ≡ true → CanStill tau dwell leg picked dropped p f × (late_at_once tau dwell leg picked dropped p f ≤ 0)
 still_out tau dwell leg picked dropped p f h = rw h (tt, omega arith)
+
+-- a leg that is read from a slice
+pub leg_read : (items slice : List Leg) (i : ℕ) (leg : Leg) → slice ≡ items → leg ≡ get_or slice i leg → i < length items → leg ≡ leg_at items i
+leg_read items slice i leg e read h = read ∙ ap (λ xs. get_or xs i leg) e ∙ get_or_default items i leg no_leg h
+
+-- one rider or passenger more in the sum, or none can be served
+module _ (tau : ℕ → ℕ → ℕ) (task : Task) (label : Label) (i : ℕ) (leg : Leg) (dropped : Bool) where
+  pub rider_more : (picked : Bool) (delay late : ℕ) → leg ≡ leg_at task.riders.items i → picked ≡ has label.done i → dropped ≡ has label.done (6 + i) → late ≡ late_at_once tau task.dwell leg picked dropped label.place label.free
+      → delay ≡ sum_below (rider_late tau task label) i → delay + late ≡ sum_below (rider_late tau task label) (i + 1)
+  rider_more picked delay late e p d is so_far =
+      let own : late ≡ rider_late tau task label i = is ∙ rw (e, p, d) refl in
+      rw (add-one i) (omega (arith, own, so_far))
+
+  pub rider_stuck : (picked : Bool) → leg ≡ leg_at task.riders.items i → picked ≡ has label.done i → dropped ≡ has label.done (6 + i) → (CanStill tau task.dwell leg picked dropped label.place label.free → ⊥)
+      → RiderCan tau task label i → ⊥
+  rider_stuck picked e p d never can = never (rw (e, p, d) can)
+
+  pub passenger_more : (delay late riders : ℕ) → leg ≡ leg_at task.aboard.items i → dropped ≡ has label.done (12 + i) → late ≡ late_at_once tau task.dwell leg true dropped label.place label.free
+      → delay ≡ riders + sum_below (passenger_late tau task label) i → delay + late ≡ riders + sum_below (passenger_late tau task label) (i + 1)
+  passenger_more delay late riders e d is so_far =
+      let own : late ≡ passenger_late tau task label i = is ∙ rw (e, d) refl in
+      rw (add-one i) (omega (arith, own, so_far))
+
+  pub passenger_stuck : leg ≡ leg_at task.aboard.items i → dropped ≡ has label.done (12 + i) → (CanStill tau task.dwell leg true dropped label.place label.free → ⊥) → PassengerCan tau task label i → ⊥
+  passenger_stuck e d never can = never (rw (e, d) can)
 
 -- everyone left can still be served, and no way on has less delay than the sum of those at once
 pub record IsAhead (tau : ℕ → ℕ → ℕ) (task : Task) (label : Label) (rest : List Stop) : Type 0 where

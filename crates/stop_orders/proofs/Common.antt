@@ -32,9 +32,9 @@ pub use Rattle.stop_orders.specs.work.Rest.{stop_with}
 pub use Rattle.stop_orders.specs.declared.candidate.Candidate.{Candidate}
 pub use Rattle.stop_orders.specs.declared.label.Label.{Label}
 pub use Rattle.stop_orders.specs.work.Ahead.{CanStill, PassengerCan, RiderCan, late_at_once, least_ahead, passenger_late, rider_late}
-pub use Rattle.stop_orders.specs.work.Cost.{IsCostFound, IsNextOf, IsOnlyStop, IsPersonTried, Priced, route_of}
+pub use Rattle.stop_orders.specs.work.Cost.{IsCostFound, IsNextOf, IsPersonTried, Priced, route_of}
 pub use Rattle.stop_orders.specs.work.Kept.{IsDominated, IsLabelPlaced, labels_of, no_label}
 pub use Rattle.stop_orders.specs.work.Label.{CanVisit, GoesOn, IsRoutable, IsRoutableLeg, IsSmallLabel, first_label, label_at, next_label, rest_delay, second_at, task_passengers, task_riders}
-pub use Rattle.stop_orders.specs.work.Search.{AddsStop, AreCandidates, IsCandidate, IsExhausted, IsLabelDone, IsTried, LeadsTo, Searched}
+pub use Rattle.stop_orders.specs.work.Search.{AreCandidates, IsCandidate, IsExhausted, IsLabelDone, IsOnlyStop, IsTried, LeadsTo, Searched, person_of}
 pub use Rattle.stop_orders.specs.work.Unlimited.{without_latest, without_limits}
 pub use Rattle.stop_orders.specs.declared.leg.Leg.{Leg}

@@ -1,9 +1,10 @@
-use Rattle.std.proofs.Common.{◌≡◌, ℕ, ◌+◌, ◌<◌, ◌≤◌, List, [], ◌∷◌, ◌++◌, Option, None, Some, refl, sym, ap, ◌∙◌, subst, inl, inr, arith, All, IfSome, IfNone, rules}
-use Rattle.stop_orders.proofs.Common.{cases_lt, IsTravelTime, Route, Task, Stop, ServesFrom, visits_of, free_seats, order_delay, IsServable, IsLeastDelay, IsNextStop, IsAllDone, left_count, NoneBetter, StaysGood, Label, IsRoutable, task_riders, task_passengers, first_label, CanVisit, second_at, label_at, next_label, rest_delay, IsSmallLabel, RiderCan, PassengerCan, LeadsTo, IsExhausted, IsTried, IsLabelDone, route_of, IsCostFound, IsOnlyStop, IsPersonTried, IsNextOf, Priced}
+use Rattle.std.proofs.Common.{◌≡◌, ℕ, ◌+◌, ◌<◌, ◌≤◌, List, [], ◌∷◌, ◌++◌, Option, None, Some, refl, sym, ap, ◌∙◌, subst, inl, inr, arith, All, IfSome, IfNone}
+use Rattle.stop_orders.proofs.Common.{cases_lt, IsTravelTime, Route, Task, Stop, ServesFrom, visits_of, free_seats, order_delay, IsServable, IsLeastDelay, IsNextStop, IsAllDone, with_stop, left_count, NoneBetter, StaysGood, Label, IsRoutable, task_riders, task_passengers, first_label, CanVisit, second_at, label_at, next_label, rest_delay, IsSmallLabel, RiderCan, PassengerCan, LeadsTo, IsExhausted, IsTried, IsLabelDone, route_of, IsCostFound, IsOnlyStop, person_of, IsPersonTried, IsNextOf, Priced}
 use Rattle.stop_orders.proofs.lemmas.DoneLemmas.{IsAllDone-from_nil, left_count-falls}
 use Rattle.stop_orders.proofs.lemmas.PlainLemmas.{MakesOrders-all}
 use Rattle.std.proofs.lemmas.List.{append-nil}
-use Rattle.stop_orders.proofs.LabelLemmas.{leads_first, leads_next, small_next}
+use Rattle.stop_orders.proofs.AheadLemmas.{goes_on_next}
+use Rattle.stop_orders.proofs.LabelLemmas.{person_next, leads_first, leads_next, small_next}
 use Rattle.stop_orders.proofs.SearchLemmas.{good_better, settled_good, exhausted_all, exhausted_none, tried_exhausted, least_none}
 
 -- what holds in the loop over the persons
@@ -27,7 +28,11 @@ module _ (points : ℕ) (tau : ℕ → ℕ → ℕ) (t : IsTravelTime points tau
   pub next_small : (label next : Label) (s : Stop) → IsSmallLabel points (left_count (task_riders task) (task_passengers task) label.done) label → IsNextStop (task_riders task) (task_passengers task) label.done s → CanVisit tau task label s
       → next ≡ next_label tau task label s
       → IsSmallLabel points (left_count (task_riders task) (task_passengers task) next.done) next × (left_count (task_riders task) (task_passengers task) next.done + 1 ≤ left_count (task_riders task) (task_passengers task) label.done)
-  next_small label next s small is can e = search (rules, left_count-falls, small_next, left_count)
+  next_small label next s small is can e =
+      let left = left_count (task_riders task) (task_passengers task) label.done in
+      let fall = left_count-falls (task_riders task) (task_passengers task) label.done valid.rider_count s is in
+      subst (λ l. IsSmallLabel points (left_count (task_riders task) (task_passengers task) l.done) l × (left_count (task_riders task) (task_passengers task) l.done + 1 ≤ left)) (sym e)
+      (small_next points tau t task valid label s left (left_count (task_riders task) (task_passengers task) (with_stop label.done s)) small fall is can, fall)
 
   -- somebody more was tried, so no way on by her stop is better
   pub prices_more : (label : Label) (person : ℕ) (first best : Option ℕ) (labels : List Label) → IsPersonTried tau task (route_of best) label person → PricesAll points tau task label person first best labels
@@ -57,7 +62,9 @@ module _ (points : ℕ) (tau : ℕ → ℕ → ℕ) (t : IsTravelTime points tau
   pub exhausted_persons : (label : Label) (persons : ℕ) (best : Option Route) → (IsAllDone (task_riders task) (task_passengers task) label.done → ⊥) → task_riders task + task_passengers task ≤ persons
       → ((k : ℕ) → k < persons → IsPersonTried tau task best label k) → IsExhausted tau task best label
   exhausted_persons label persons best more all tried [] way = absurd (more (IsAllDone-from_nil (task_riders task) (task_passengers task) label.done way.completes))
-  exhausted_persons label persons best more all tried (s ∷ rest) way = search rules
+  exhausted_persons label persons best more all tried (s ∷ rest) way =
+      let on = goes_on_next points tau t task valid.rider_count label s rest way in
+      tried (person_of (task_riders task) s) (omega (arith, person_next (task_riders task) (task_passengers task) label.done s on.0, all)) s on.0 refl rest way
 
   -- all are dropped, with less delay than what was found
   pub priced_better : (label : Label) (old : Option ℕ) (labels : List Label) → IsAllDone (task_riders task) (task_passengers task) label.done → (NoneBetter (route_of old) label.delay → ⊥)

@@ -1,16 +1,21 @@
-use Rattle.std.proofs.Common.{◌≡◌, ℕ, ◌+◌, ◌<◌, ◌≤◌, List, [], ◌∷◌, length, map, get_or, take, Option, Some, None, Result, Ok, Err, OnOk, sym, ap, ◌∙◌, subst, arith, inl, inr, All, rules}
-use Rattle.stop_orders.proofs.Common.{cases_lt, All-weaker, All-more, All-map, All-contains, IsTravelTime, Route, Task, Stop, ServesFrom, visits_of, free_seats, order_delay, Serves, IsAllDone, Completes, IsFound, NoneBetter, StaysGood, Label, Candidate, IsRoutable, task_riders, task_passengers, CanVisit, next_label, GoesOn, rest_delay, RiderCan, PassengerCan, least_ahead, IsDominated, LeadsTo, IsExhausted, IsTried, IsLabelDone, AreCandidates, Searched}
+use Rattle.std.proofs.Common.{◌≡◌, ℕ, ◌+◌, ◌<◌, ◌≤◌, List, [], ◌∷◌, length, map, get_or, take, Option, Some, None, Result, Ok, Err, OnOk, sym, ap, ◌∙◌, subst, arith, inl, inr, All, rules, IfOk, IsErr}
+use Rattle.stop_orders.proofs.Common.{cases_lt, All-weaker, All-more, All-map, All-contains, IsTravelTime, Route, Task, Stop, ServesFrom, visits_of, free_seats, order_delay, Serves, IsAllDone, Completes, IsFound, NoneBetter, StaysGood, Label, Candidate, IsRoutable, task_riders, task_passengers, CanVisit, next_label, GoesOn, rest_delay, RiderCan, PassengerCan, least_ahead, IsDominated, LeadsTo, IsExhausted, IsTried, IsLabelDone, AreCandidates, Searched, false≢true}
 use Rattle.stop_orders.proofs.lemmas.ClockLemmas.{soon_over, ServesFrom-soon}
 use Rattle.stop_orders.proofs.lemmas.DoneLemmas.{IsAllDone-from_nil, Completes-none}
 use Rattle.stop_orders.proofs.lemmas.PlainLemmas.{MakesOrders-all}
 use Rattle.std.proofs.lemmas.List.{append-nil}
 use Rattle.stop_orders.proofs.AheadLemmas.{is_ahead, goes_on_next}
-use Rattle.stop_orders.proofs.LabelLemmas.{known_next}
+use Rattle.stop_orders.proofs.LabelLemmas.{person_next}
 
 -- what follows from a result's fact follows where the result is one
 pub on_ok : {A E : Type 0} (r : Result A E) (P Q : Type 0) → (P → Q) → OnOk r P → OnOk r Q
 on_ok (Ok x) P Q f p = f p
 on_ok (Err e) P Q f p = tt
+
+-- nothing is said of what failed
+pub on_err : {A E : Type 0} (r : Result A E) (P : A → Type 0) → IsErr r → IfOk r P
+on_err (Ok x) P is = absurd (false≢true is)
+on_err (Err e) P is = tt
 
 -- a greater delay is no better either
 NoneBetter-more : (best : Option Route) (a b : ℕ) → a ≤ b → NoneBetter best a → NoneBetter best b
@@ -82,12 +87,12 @@ module _ (points : ℕ) (tau : ℕ → ℕ → ℕ) (t : IsTravelTime points tau
   tried_never label s best never = λ rest way. absurd (never (goes_on_next points tau t task valid.rider_count label s rest way).1)
 
   -- where all candidates were tried
-  pub exhausted_tried : (label : Label) (best : Option Route) (candidates : List Candidate) → (IsAllDone (task_riders task) (task_passengers task) label.done → ⊥) → AreCandidates tau task label (task_riders task) (task_passengers task) candidates
+  pub exhausted_tried : (label : Label) (best : Option Route) (candidates : List Candidate) → (IsAllDone (task_riders task) (task_passengers task) label.done → ⊥) → AreCandidates tau task label (task_riders task + task_passengers task) candidates
       → All (λ c. IsTried tau task best label c.stop) candidates → IsExhausted tau task best label
   exhausted_tried label best candidates more are tried [] way = absurd (more (IsAllDone-from_nil (task_riders task) (task_passengers task) label.done way.completes))
   exhausted_tried label best candidates more are tried (s ∷ rest) way =
       let on = goes_on_next points tau t task valid.rider_count label s rest way in
-      let listed = are.whole s on.0 (known_next (task_riders task) (task_passengers task) label.done s on.0) on.1 in
+      let listed = are.whole s on.0 (person_next (task_riders task) (task_passengers task) label.done s on.0) on.1 in
       All-contains (IsTried tau task best label) (map (λ c. c.stop) candidates) s (All-map (IsTried tau task best label) (λ c. c.stop) candidates tried) listed rest way
 
 -- what holds in the loop over the candidates

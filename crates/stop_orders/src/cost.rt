@@ -1,20 +1,17 @@
-ghost use Rattle.std.specs.Prelude.{◌≡◌, ◌+◌, ◌<◌, ◌≤◌, ◌↔◌, All, IfOk, IfSome, IfNone, IsFalse, MatchOption, OnOk, length};
+ghost use Rattle.std.specs.Prelude.{◌≡◌, ◌+◌, ◌<◌, ◌≤◌, ◌↔◌, All, IfOk, IfSome, IfNone, IsFalse, MatchOption, OnOk};
 ghost use Rattle.pool_base.specs.Times.{point_count, travel_time};
-ghost use Rattle.stop_orders.specs.Task.{persons, IsTask, IsServable, IsLeastDelay};
+ghost use Rattle.stop_orders.specs.Task.{IsTask, IsServable, IsLeastDelay};
 ghost use Rattle.stop_orders.specs.lemmas.Rest.{left_count};
 ghost use Rattle.stop_orders.specs.lemmas.Plain.{NoneBetter};
-ghost use Rattle.stop_orders.specs.work.Label.{IsRoutable, IsSmallLabel, task_riders, task_passengers, first_label};
+ghost use Rattle.stop_orders.specs.work.Label.{IsRoutable, IsSmallLabel, task_riders, task_passengers};
 ghost use Rattle.stop_orders.specs.work.Kept.{labels_of};
 ghost use Rattle.stop_orders.specs.work.Search.{IsLabelDone};
-ghost use Rattle.stop_orders.specs.work.Cost.{route_of, HasNoStop, IsOnlyStop, IsPersonTried, IsNextOf, Priced};
+ghost use Rattle.stop_orders.specs.work.Cost.{route_of, IsPersonTried, IsNextOf, Priced};
 
 use crate::Workspace;
 use crate::ahead::look_ahead;
-use crate::done::Done;
 use crate::kept::Kept;
-use crate::label::{Label, label_after, second_of};
-use crate::position::free_seats_of;
-use crate::stop::Stop;
+use crate::label::{Label, first_label_of, label_after, next_stop, second_of};
 use crate::task::Task;
 use pool_base::{OutOfMemory, Steps, Times};
 use std::sync::ledger::Ledger;
@@ -44,21 +41,6 @@ pub fn least_cost_with<L: Ledger>(
     let mut best = None;
     try_costs(task, times, &label, &mut best, kept)?;
     Ok(best)
-}
-
-/// The label before the first stop.
-fn first_label_of(task: &Task) -> Label
-    requires seated { persons task.now.aboard.items ≤ task.now.seats }
-    requires few { length task.now.aboard.items ≤ 10 }
-    ensures { result ≡ first_label task.now }
-{
-    Label {
-        done: Done::none(),
-        place: task.start,
-        free: task.ready,
-        room: free_seats_of(task),
-        delay: 0,
-    }
 }
 
 /// Tries all ways on from a label, depth first, but for those from labels that are hopeless.
@@ -127,32 +109,6 @@ fn label_by(
         return None;
     }
     Some(next)
-}
-
-/// The next stop of a person, riders first; `None` exactly where the person was dropped.
-#[inline(always)]
-fn next_stop(task: &Task, label: &Label, person: usize) -> Option<Stop>
-    requires riders { task_riders task.now ≤ 6 }
-    requires passengers { task_passengers task.now ≤ 10 }
-    requires person { person < task_riders task.now + task_passengers task.now }
-    ensures { MatchOption result (HasNoStop (task_riders task.now) (task_passengers task.now) label.now.done person)
-        (IsOnlyStop (task_riders task.now) (task_passengers task.now) label.now.done person) }
-{
-    let riders = task.riders.len();
-    if person >= riders {
-        let passenger = person - riders;
-        if label.done.is_out(passenger) {
-            return None;
-        }
-        return Some(Stop::Alight(passenger as u8));
-    }
-    if label.done.is_dropped(person) {
-        return None;
-    }
-    if label.done.is_picked(person) {
-        return Some(Stop::Drop(person as u8));
-    }
-    Some(Stop::Pick(person as u8))
 }
 
 /// Whether this delay is less than what was found.

@@ -49,8 +49,8 @@ impl Kept {
     {
         self.entries.clear();
         self.chains = chain_count(stops);
-        for _chain in self.heads.len()..self.chains {
-            self.heads.push(usize::MAX)?;
+        if self.heads.len() < self.chains {
+            self.heads.resize(self.chains, usize::MAX)?;
         }
         Ok(())
     }

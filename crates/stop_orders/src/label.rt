@@ -1,15 +1,16 @@
-ghost use Rattle.std.specs.Prelude.{◌≡◌, ◌+◌, ◌<◌, ◌≤◌, MatchOption};
+ghost use Rattle.std.specs.Prelude.{◌≡◌, ◌+◌, ◌<◌, ◌≤◌, MatchOption, length};
 ghost use Rattle.pool_base.specs.Times.{point_count, travel_time};
 ghost use Rattle.pool_base.specs.TravelTime.{never};
 ghost use Rattle.stop_orders.specs.Order.{IsKnown};
-ghost use Rattle.stop_orders.specs.Task.{visit_at};
+ghost use Rattle.stop_orders.specs.Task.{persons, visit_at};
 ghost use Rattle.stop_orders.specs.Visit.{boarding_of};
 ghost use Rattle.stop_orders.specs.declared.visit.Visit.TheVariants.{Dropoff};
-ghost use Rattle.stop_orders.specs.work.Label.{IsRoutable, CanVisit, second_at, label_at, task_riders, task_passengers};
+ghost use Rattle.stop_orders.specs.work.Label.{IsRoutable, CanVisit, second_at, label_at, first_label, task_riders, task_passengers};
+ghost use Rattle.stop_orders.specs.work.Search.{HasNoStop, IsOnlyStop};
 
 use crate::done::Done;
 use crate::leg::Leg;
-use crate::position::arrival;
+use crate::position::{arrival, free_seats_of};
 use crate::stop::Stop;
 use crate::task::Task;
 use pool_base::Times;
@@ -25,16 +26,45 @@ pub struct Label {
     pub delay: u64,
 }
 
-impl Default for Label {
-    fn default() -> Label {
-        Label {
-            done: Done::none(),
-            place: 0,
-            free: 0,
-            room: 0,
-            delay: 0,
-        }
+/// The label before the first stop.
+pub(crate) fn first_label_of(task: &Task) -> Label
+    requires seated { persons task.now.aboard.items ≤ task.now.seats }
+    requires few { length task.now.aboard.items ≤ 10 }
+    ensures { result ≡ first_label task.now }
+{
+    Label {
+        done: Done::none(),
+        place: task.start,
+        free: task.ready,
+        room: free_seats_of(task),
+        delay: 0,
     }
+}
+
+/// The next stop of a person, riders first; `None` exactly where the person was dropped.
+#[inline(always)]
+pub(crate) fn next_stop(task: &Task, label: &Label, person: usize) -> Option<Stop>
+    requires riders { task_riders task.now ≤ 6 }
+    requires passengers { task_passengers task.now ≤ 10 }
+    requires person { person < task_riders task.now + task_passengers task.now }
+    ensures { MatchOption result (HasNoStop (task_riders task.now) (task_passengers task.now) label.now.done person)
+        (IsOnlyStop (task_riders task.now) (task_passengers task.now) label.now.done person) }
+{
+    let riders = task.riders.len();
+    if person >= riders {
+        let passenger = person - riders;
+        if label.done.is_out(passenger) {
+            return None;
+        }
+        return Some(Stop::Alight(passenger as u8));
+    }
+    if label.done.is_dropped(person) {
+        return None;
+    }
+    if label.done.is_picked(person) {
+        return Some(Stop::Drop(person as u8));
+    }
+    Some(Stop::Pick(person as u8))
 }
 
 /// The second at which a stop is reached; `None` exactly where it can't be reached, is late, or finds too few seats.

@@ -5,10 +5,8 @@ ghost use Rattle.stop_orders.specs.Task.{IsTask, Serves, order_delay};
 ghost use Rattle.stop_orders.specs.work.Label.{IsRoutable};
 
 use crate::Workspace;
-use crate::done::Done;
 use crate::kept::Kept;
-use crate::label::Label;
-use crate::position::free_seats_of;
+use crate::label::first_label_of;
 use crate::route::Route;
 use crate::search::{is_hopeless, try_all};
 use crate::task::Task;
@@ -69,13 +67,7 @@ pub(crate) fn least_route(
     ensures none { IfOk result (λ found. IfNone found ((stops : List OneStop) → Serves (travel_time times.now) task.now stops → ⊥)) }
 {
     kept.begin(task.riders.len() * 2 + task.aboard.len())?;
-    let label = Label {
-        done: Done::none(),
-        place: task.start,
-        free: task.ready,
-        room: free_seats_of(task),
-        delay: 0,
-    };
+    let label = first_label_of(task);
     let mut best = None;
     if is_hopeless(task, times, &label, &best, kept) {
         return Ok(None);

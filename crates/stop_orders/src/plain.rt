@@ -1,4 +1,4 @@
-ghost use Rattle.std.specs.Prelude.{◌≡◌, ◌+◌, ◌<◌, ◌≤◌, ◌↔◌, IsFalse, List, IfSome, IfNone, length};
+ghost use Rattle.std.specs.Prelude.{◌≡◌, ◌+◌, ◌<◌, ◌≤◌, List, IfSome, IfNone, length};
 ghost use Rattle.pool_base.specs.Times.{point_count, travel_time};
 ghost use Rattle.stop_orders.specs.declared.stop.Stop.{Stop as OneStop};
 ghost use Rattle.stop_orders.specs.Task.{IsTask, IsOrderOf, Serves, order_delay};
@@ -8,6 +8,7 @@ ghost use Rattle.stop_orders.specs.work.Plain.{AllTried};
 
 use crate::done::stop_of;
 use crate::route::copy_of_stops;
+use crate::search::is_better;
 use crate::{Done, Route, Stop, Task, delay_of, serves};
 use arrayvec::ArrayVec;
 use pool_base::Times;
@@ -83,14 +84,5 @@ fn keep_better(task: &Task, times: &Times, stops: &[Stop], best: &mut Option<Rou
                 delay,
             });
         }
-    }
-}
-
-fn is_better(delay: u64, best: &Option<Route>) -> bool
-    ensures { IsFalse result ↔ NoneBetter best.now delay }
-{
-    match best {
-        None => true,
-        Some(route) => delay < route.delay,
     }
 }

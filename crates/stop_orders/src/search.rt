@@ -89,7 +89,7 @@ pub(crate) fn is_hopeless(
 
 /// Whether this delay is less than that of what was found.
 #[inline(always)]
-fn is_better(delay: u64, best: &Option<Route>) -> bool
+pub(crate) fn is_better(delay: u64, best: &Option<Route>) -> bool
     ensures { IsFalse result ↔ NoneBetter best.now delay }
 {
     match best {

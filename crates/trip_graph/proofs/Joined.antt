@@ -1,4 +1,4 @@
-use Rattle.std.proofs.Common.{◌≡◌, ℕ, ◌+◌, ◌-◌, ◌<◌, ◌≤◌, inl, inr, List, [], ◌∷◌, ◌++◌, length, get_or, arith, rules}
+use Rattle.std.proofs.Common.{◌≡◌, ℕ, ◌+◌, ◌<◌, ◌≤◌, inl, inr, List, [], ◌∷◌, ◌++◌, length, get_or, arith, rules}
 use Rattle.trip_graph.proofs.Common.{cases_lt, length-map, map-append, get_or_append_left, get_or-append_right, get_or-map, nil_from_length, All-append, All-nil, All-cons, Contains-append_left, Contains-append_right, IsRising, trips_of, IsLevelRow, IsLevel, AreRowsWithin, HasMoreOfLevel, HasMoreWithin, TripOf}
 use Rattle.std.specs.List.{All, Contains}
 use Rattle.std.proofs.lemmas.List.{length-append}

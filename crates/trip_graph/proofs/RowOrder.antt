@@ -1,6 +1,6 @@
 -- The rows stand by vehicle, then size, then riders.
 use Rattle.std.proofs.lemmas.Bool.Decides.{nat_tests}
-use Rattle.std.proofs.Common.{◌≡◌, ℕ, suc, ◌+◌, ◌-◌, ◌<◌, ◌≤◌, inl, inr, List, [], ◌∷◌, ◌++◌, length, get_or, map, refl, sym, ◌∙◌, subst, arith, rules}
+use Rattle.std.proofs.Common.{◌≡◌, ℕ, suc, ◌+◌, ◌<◌, ◌≤◌, inl, inr, List, [], ◌∷◌, ◌++◌, length, get_or, map, refl, sym, ◌∙◌, subst, arith, rules}
 use Rattle.trip_graph.proofs.Common.{cases_lt, length-map, get_or_append_left, get_or-append_right, get_or-map, All-append, All-nil, flat_map-cons, Settled, TripRow, no_row, row_cmp, TripOf, IsLower, ComesBefore, AreSomeRows, trip_row, vehicle_rows}
 use Rattle.std.specs.declared.cmp.Ordering.TheVariants.{Less, Equal}
 use Rattle.std.specs.Ordering.{nat_cmp}

@@ -1,14 +1,13 @@
-use Rattle.std.specs.Prelude.{◌≡◌, ℕ, ◌+◌, All, List, [], Option, None, Some, IfSome}
+use Rattle.std.specs.Prelude.{◌≡◌, ℕ, All, List, [], Option, None, Some, IfSome}
 use Rattle.stop_orders.specs.declared.route.Route.{Route}
 use Rattle.stop_orders.specs.declared.stop.Stop.{Stop}
-use Rattle.stop_orders.specs.declared.stop.Stop.TheVariants.{Pick, Drop, Alight}
 use Rattle.stop_orders.specs.declared.task.Task.{Task}
 use Rattle.stop_orders.specs.Done.{IsNextStop}
 use Rattle.stop_orders.specs.Task.{Serves, order_delay}
 use Rattle.stop_orders.specs.lemmas.Plain.{StaysGood}
 use Rattle.stop_orders.specs.declared.label.Label.{Label}
 use Rattle.stop_orders.specs.work.Label.{task_riders, task_passengers, CanVisit, next_label}
-use Rattle.stop_orders.specs.work.Search.{LeadsTo, IsExhausted, IsTried, IsLabelDone}
+use Rattle.stop_orders.specs.work.Search.{LeadsTo, IsExhausted, IsTried, IsLabelDone, person_of, IsOnlyStop}
 
 -- a delay that was found, as a route without its stops
 abbrev pub route_of : Option ℕ → Option Route
@@ -18,21 +17,6 @@ route_of (Some delay) = Some (record { stops = record { items = [] }; delay = de
 -- some order that serves has the delay that was found
 abbrev pub IsCostFound : (ℕ → ℕ → ℕ) → Task → Option ℕ → Type 0
 IsCostFound tau task best = IfSome best (λ delay. (stops : List Stop) × Serves tau task stops × (order_delay tau task stops ≡ delay))
-
--- whose stop it is, riders first
-abbrev pub person_of : ℕ → Stop → ℕ
-person_of riders (Pick i) = i
-person_of riders (Drop i) = i
-person_of riders (Alight j) = riders + j
-
--- the person was dropped
-abbrev pub HasNoStop : ℕ → ℕ → ℕ → ℕ → Type 0
-HasNoStop riders passengers done person = (s : Stop) → IsNextStop riders passengers done s → person_of riders s ≡ person → ⊥
-
--- the stop is the person's next one
-pub record IsOnlyStop (riders passengers done person : ℕ) (stop : Stop) : Type 0 where
-  pub next : IsNextStop riders passengers done stop
-  pub only : (s : Stop) → IsNextStop riders passengers done s → person_of riders s ≡ person → s ≡ stop
 
 -- no way on from the label by the person's next stop is better than what was found
 abbrev pub IsPersonTried : (ℕ → ℕ → ℕ) → Task → Option Route → Label → ℕ → Type 0

@@ -1,12 +1,11 @@
-use Rattle.std.specs.Prelude.{◌≡◌, ℕ, ◌+◌, ◌≤◌, ◌⊎◌, All, Contains, List, ◌∷◌, ◌++◌, Option, length, map}
-use Rattle.std.specs.List.Sorted.{IsPermutation}
+use Rattle.std.specs.Prelude.{◌≡◌, ℕ, ◌+◌, ◌<◌, ◌≤◌, All, Contains, List, ◌∷◌, ◌++◌, Option, length, map}
 use Rattle.stop_orders.specs.declared.route.Route.{Route}
 use Rattle.stop_orders.specs.declared.task.Task.{Task}
 use Rattle.stop_orders.specs.declared.stop.Stop.{Stop}
+use Rattle.stop_orders.specs.declared.stop.Stop.TheVariants.{Pick, Drop, Alight}
 use Rattle.stop_orders.specs.Visit.{ServesFrom}
 use Rattle.stop_orders.specs.Task.{visits_of, order_delay}
 use Rattle.stop_orders.specs.lemmas.Named.{free_seats}
-use Rattle.stop_orders.specs.Order.{IsKnown}
 use Rattle.stop_orders.specs.Done.{IsNextStop}
 use Rattle.stop_orders.specs.lemmas.Plain.{IsFound, NoneBetter, StaysGood, MakesOrders}
 use Rattle.stop_orders.specs.declared.label.Label.{Label}
@@ -40,18 +39,27 @@ pub record IsCandidate (tau : ℕ → ℕ → ℕ) (task : Task) (label : Label)
   pub can : CanVisit tau task label candidate.stop
   pub second : candidate.second ≡ second_at tau task label candidate.stop
 
--- the candidates are all stops that may come next and can be served, of so many riders and passengers
-pub record AreCandidates (tau : ℕ → ℕ → ℕ) (task : Task) (label : Label) (riders passengers : ℕ) (candidates : List Candidate) : Type 0 where
-  pub few : length candidates ≤ riders + passengers
-  pub each : All (IsCandidate tau task label) candidates
-  pub whole : (s : Stop) → IsNextStop (task_riders task) (task_passengers task) label.done s → IsKnown riders passengers s → CanVisit tau task label s
-      → Contains (map (λ candidate. candidate.stop) candidates) s
+-- whose stop it is, riders first
+abbrev pub person_of : ℕ → Stop → ℕ
+person_of riders (Pick i) = i
+person_of riders (Drop i) = i
+person_of riders (Alight j) = riders + j
 
--- the stop was added to the candidates, or it can't be served and they stayed the same
-abbrev pub AddsStop : (ℕ → ℕ → ℕ) → Task → Label → Stop → List Candidate → List Candidate → Type 0
-AddsStop tau task label stop before after =
-    ((CanVisit tau task label stop → ⊥) × (after ≡ before))
-    ⊎ ((candidate : Candidate) × (candidate.stop ≡ stop) × IsCandidate tau task label candidate × IsPermutation (candidate ∷ before) after)
+-- the person was dropped
+abbrev pub HasNoStop : ℕ → ℕ → ℕ → ℕ → Type 0
+HasNoStop riders passengers done person = (s : Stop) → IsNextStop riders passengers done s → person_of riders s ≡ person → ⊥
+
+-- the stop is the person's next one
+pub record IsOnlyStop (riders passengers done person : ℕ) (stop : Stop) : Type 0 where
+  pub next : IsNextStop riders passengers done stop
+  pub only : (s : Stop) → IsNextStop riders passengers done s → person_of riders s ≡ person → s ≡ stop
+
+-- the candidates are all stops that may come next and can be served, of the first so many persons
+pub record AreCandidates (tau : ℕ → ℕ → ℕ) (task : Task) (label : Label) (persons : ℕ) (candidates : List Candidate) : Type 0 where
+  pub few : length candidates ≤ persons
+  pub each : All (IsCandidate tau task label) candidates
+  pub whole : (s : Stop) → IsNextStop (task_riders task) (task_passengers task) label.done s → person_of (task_riders task) s < persons → CanVisit tau task label s
+      → Contains (map (λ candidate. candidate.stop) candidates) s
 
 -- what a search from a label leaves: what was found is right, as good as before, and no way on is better
 pub record Searched (points : ℕ) (tau : ℕ → ℕ → ℕ) (task : Task) (label : Label) (old new : Option Route) (labels : List Label) : Type 0 where

@@ -1,8 +1,8 @@
-use Rattle.std.proofs.Common.{◌≡◌, ◌+◌, ◌<◌, ◌≤◌, ◌∷◌, ◌++◌, [], subst, sym, ◌∙◌, arith, All}
+use Rattle.std.proofs.Common.{◌≡◌, ◌<◌, ◌≤◌, ◌∷◌, ◌++◌, [], subst, sym, ◌∙◌, arith, All}
 use Rattle.stop_orders.proofs.Common.{All-push, point_count, travel_time, left_count, task_riders, task_passengers, labels_of, IsLabelPlaced, IsLabelDone, route_of, Priced}
 use Rattle.stop_orders.proofs.lemmas.PlainLemmas.{IsAllDone-at, IsAllDone-not_at}
 use Rattle.std.proofs.lemmas.Bool.{true≢false}
-use Rattle.stop_orders.proofs.SearchLemmas.{on_ok}
+use Rattle.stop_orders.proofs.SearchLemmas.{on_ok, exhausted_all}
 use Rattle.stop_orders.proofs.CostLemmas.{next_small, prices_more, prices_searched, exhausted_persons, priced_better}
 use Rattle.stop_orders.proofs.cost.+try_costs.Goals as goal
 
@@ -67,3 +67,13 @@ returns t c =
       exhausted = exhausted;
       settled = subst (λ ls. All (IsLabelDone points tau task (route_of best)) ls) (sym e) (All-push (IsLabelDone points tau task (route_of best)) (labels_of c.loop-person.kept) label inv.settled settled);
     }) c.keep.ensures
+
+pub returns-else-is_less : goal.returns-else-is_less
+returns-else-is_less t c =
+    let task = c.args.task.now in
+    let all = IsAllDone-at _ _ (task_riders task) (task_passengers task) c.args.label.now.done c.len.ensures.value c.len-2.ensures.value (c.is_all.ensures.0 c.if-is_all.true) in
+    let exhausted = exhausted_all (point_count c.args.times.now) (travel_time c.args.times.now) c.args.times.now.table.times c.args.task.now c.requires.valid c.args.label.now (route_of c.args.best.now) all (c.is_less.ensures.0 c.if-is_less.false) in
+    record { found = λ path leads was. was; good = λ d n. n; exhausted = exhausted; settled = c.requires.settled }
+
+pub loop-person-init : goal.loop-person-init
+loop-person-init t c = record { found = λ path leads was. was; good = λ d n. n; tried = λ k h. absurd (omega (arith, h)); settled = c.requires.settled }

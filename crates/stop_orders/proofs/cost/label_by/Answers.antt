@@ -76,3 +76,18 @@ returns c =
       can = c.in-Some-second_of.ensures.0;
       is = c.label_after-next.ensures ∙ ap (λ n. label_at c.args.task.now c.args.label.now c.in-Some.stop n) c.in-Some-second_of.ensures.1;
     }
+
+pub overflow_add-next : goal.overflow_add-next
+overflow_add-next c =
+    let same : c.label_after-next.result ≡ next_label (travel_time c.args.times.now) c.args.task.now c.args.label.now c.in-Some.stop = c.label_after-next.ensures ∙ ap (λ n. label_at c.args.task.now c.args.label.now c.in-Some.stop n) c.in-Some-second_of.ensures.1 in
+    let small = (next_small (point_count c.args.times.now) (travel_time c.args.times.now) c.args.times.now.table.times c.args.task.now c.requires.valid c.args.label.now c.label_after-next.result c.in-Some.stop c.requires.small c.in-Some.ensures.next c.in-Some-second_of.ensures.0 same).0 in
+    record { fits = omega (arith, small.delay, c.in-Some-look_ahead.ensures.small) }
+
+pub dominates-requires-clause-placed : goal.dominates-requires-clause-placed
+dominates-requires-clause-placed c = λ k d h. (c.requires.settled k d h).placed
+
+pub dominates-requires-clause-place : goal.dominates-requires-clause-place
+dominates-requires-clause-place c =
+    let same : c.label_after-next.result ≡ next_label (travel_time c.args.times.now) c.args.task.now c.args.label.now c.in-Some.stop = c.label_after-next.ensures ∙ ap (λ n. label_at c.args.task.now c.args.label.now c.in-Some.stop n) c.in-Some-second_of.ensures.1 in
+    let small = (next_small (point_count c.args.times.now) (travel_time c.args.times.now) c.args.times.now.table.times c.args.task.now c.requires.valid c.args.label.now c.label_after-next.result c.in-Some.stop c.requires.small c.in-Some.ensures.next c.in-Some-second_of.ensures.0 same).0 in
+    small.place

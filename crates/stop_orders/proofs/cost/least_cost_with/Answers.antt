@@ -1,7 +1,8 @@
-use Rattle.std.proofs.Common.{subst, sym, refl}
-use Rattle.stop_orders.proofs.Common.{point_count, travel_time, left_count, free_seats, task_riders, task_passengers, IsSmallLabel, labels_of}
+use Rattle.std.proofs.Common.{subst, sym, refl, None, arith, All}
+use Rattle.stop_orders.proofs.Common.{point_count, travel_time, left_count, free_seats, task_riders, task_passengers, IsSmallLabel, labels_of, IsLabelDone}
 use Rattle.stop_orders.proofs.LabelLemmas.{routable, small_first}
 use Rattle.stop_orders.proofs.CostLemmas.{never_first, priced_least, priced_none}
+use Rattle.stop_orders.proofs.SearchLemmas.{on_err}
 use Rattle.stop_orders.proofs.cost.least_cost_with.Goals as goal
 
 pub returns-in_default-clause-none : goal.returns-in_default-clause-none
@@ -29,3 +30,18 @@ returns-clause-none g c =
     let points = point_count c.args.times.now in
     let valid = routable points c.args.task.now c.requires.valid in
     priced_none points (travel_time c.args.times.now) c.args.times.now.table.times c.args.task.now valid c.first_label_of-label.result c.try_costs.new.best (labels_of c.try_costs.new.kept) c.first_label_of-label.ensures c.in_ok-try_costs.ensures
+
+pub look_ahead-requires-clause-valid : goal.look_ahead-requires-clause-valid
+look_ahead-requires-clause-valid g c = routable (point_count c.args.times.now) c.args.task.now c.requires.valid
+
+pub try_costs-requires-clause-valid : goal.try_costs-requires-clause-valid
+try_costs-requires-clause-valid g c = routable (point_count c.args.times.now) c.args.task.now c.requires.valid
+
+pub try_costs-requires-clause-settled : goal.try_costs-requires-clause-settled
+try_costs-requires-clause-settled g c = subst (λ labels. All (IsLabelDone (point_count c.args.times.now) (travel_time c.args.times.now) c.args.task.now None) labels) (sym c.in_ok-begin.ensures) (λ k d h. absurd (omega (arith, h)))
+
+pub returns-in_err-try_costs-clause-least : goal.returns-in_err-try_costs-clause-least
+returns-in_err-try_costs-clause-least g c = on_err c.from_residual-in_err-try_costs.result _ c.from_residual-in_err-try_costs.ensures.0
+
+pub returns-in_err-try_costs-clause-none : goal.returns-in_err-try_costs-clause-none
+returns-in_err-try_costs-clause-none g c = on_err c.from_residual-in_err-try_costs.result _ c.from_residual-in_err-try_costs.ensures.0

@@ -1,5 +1,5 @@
-use Rattle.std.proofs.Common.{◌≡◌, ◌<◌, ◌≤◌, ◌+◌, ◌∷◌, ◌++◌, [], List, length, length-append, Option, subst, sym, ap, ◌∙◌, arith, inl, inr, ℕ}
-use Rattle.stop_orders.proofs.Common.{cases_eq, travel_time, Stop, Route, Task, IsOrderOf, Serves, order_delay, bit_of, IsNextStop, with_stop, left_count, stop_with, NoneBetter, MakesOrders, StaysGood, IsFound, AllTried}
+use Rattle.std.proofs.Common.{◌≡◌, ◌<◌, ◌≤◌, ◌+◌, ◌∷◌, ◌++◌, [], List, length, length-append, Option, subst, sym, ap, ◌∙◌, arith, inl, inr, ℕ, refl}
+use Rattle.stop_orders.proofs.Common.{cases_eq, travel_time, Stop, Route, Task, IsOrderOf, Serves, order_delay, bit_of, IsNextStop, with_stop, left_count, stop_with, NoneBetter, MakesOrders, StaysGood, IsFound, AllTried, IsKnown, Pick, Drop, Alight}
 use Rattle.stop_orders.proofs.lemmas.DoneLemmas.{left_count-falls}
 use Rattle.stop_orders.proofs.lemmas.PlainLemmas.{MakesOrders-all, MakesOrders-next, AllTried-all, AllTried-next, AllTried-kept, IsNextStop-at, IsNextStop-not_at, IsAllDone-at, IsAllDone-not_at, stop_with-bit_of, path_back}
 use Rattle.stop_orders.proofs.plain.+try_rests.Invariants.{NextTried}
@@ -49,6 +49,12 @@ try_rests-requires t c =
         ),
       ),
     )
+
+-- a next stop is known in any task
+known_wide : (riders passengers done : ℕ) (s : Stop) → riders ≤ 6 → passengers ≤ 10 → IsNextStop riders passengers done s → IsKnown 6 10 s
+known_wide riders passengers done (Pick i) few fewer next = omega (arith, next.0)
+known_wide riders passengers done (Drop i) few fewer next = omega (arith, next.0)
+known_wide riders passengers done (Alight j) few fewer next = omega (arith, next.0)
 
 -- one more stop is tried
 next_tried : (tau : ℕ → ℕ → ℕ) (task : Task) (done k : ℕ) (path before after : List Stop) (first old new : Option Route) → length task.riders.items ≤ 6 → length task.aboard.items ≤ 10 → after ≡ path → IsFound tau task new → StaysGood old new
@@ -102,3 +108,12 @@ returns-clause-tried t c =
     let more = IsAllDone-not_at _ _ _ _ _ c.args.done c.len-riders.ensures.value c.len-passengers.ensures.value c.is_all.ensures c.if-is_all.false in
     AllTried-next task c.requires.valid.rider_count tau c.args.done c.args.path.now.items c.loop-k.best more (λ s next.
     c.loop-k.invariant.tried s next (omega (arith, (stop_with-bit_of (length task.riders.items) (length task.aboard.items) c.args.done c.requires.valid.rider_count c.requires.valid.passenger_count s next).1, c.loop-k-test.false)))
+
+pub loop-k-init : goal.loop-k-init
+loop-k-init t c = record { same = refl; found = c.requires.found; kept = λ d g. g; tried = λ s next below. absurd (omega (arith, below)) }
+
+pub with-requires : goal.with-requires
+with-requires t c =
+    let task = c.args.task.now in
+    let next = IsNextStop-at _ _ (length task.riders.items) (length task.aboard.items) c.args.done c.stop_of-stop.result c.len-riders.ensures.value c.len-passengers.ensures.value (c.is_next.ensures.0 c.if-is_next.true) in
+    known_wide (length task.riders.items) (length task.aboard.items) c.args.done c.stop_of-stop.result c.requires.valid.rider_count c.requires.valid.passenger_count next

@@ -5,7 +5,7 @@ use Rattle.stop_orders.proofs.lemmas.PlainLemmas.{IsAllDone-at, IsAllDone-not_at
 use Rattle.std.proofs.lemmas.Bool.{true≢false}
 use Rattle.std.proofs.lemmas.List.{take_all}
 use Rattle.stop_orders.proofs.LabelLemmas.{known_next, second_most, small_next, leads_next}
-use Rattle.stop_orders.proofs.SearchLemmas.{on_ok, searched_better, exhausted_tried, tried_exhausted, tries_more}
+use Rattle.stop_orders.proofs.SearchLemmas.{on_ok, searched_better, exhausted_tried, tried_exhausted, tries_more, exhausted_all, on_err}
 use Rattle.stop_orders.proofs.search.+try_all.Goals as goal
 
 -- what is read where there is no such candidate
@@ -181,3 +181,49 @@ returns-clause-searched t c =
       exhausted = exhausted;
       settled = subst (λ ls. All (IsLabelDone points tau task best) ls) (sym e) (All-push (IsLabelDone points tau task best) (labels_of c.loop-candidate.kept) label inv.settled settled);
     }) c.keep.ensures
+
+pub returns-else-is_better-clause-searched : goal.returns-else-is_better-clause-searched
+returns-else-is_better-clause-searched t c =
+    let task = c.args.task.now in
+    let all = IsAllDone-at _ _ (task_riders task) (task_passengers task) c.args.label.now.done c.len.ensures.value c.len-2.ensures.value (c.is_all.ensures.0 c.if-is_all.true) in
+    let exhausted = exhausted_all (point_count c.args.times.now) (travel_time c.args.times.now) c.args.times.now.table.times c.args.task.now c.requires.valid c.args.label.now c.args.best.now all (c.is_better.ensures.0 c.if-is_better.false) in
+    record { found = c.requires.found; good = λ d n. n; exhausted = exhausted; settled = c.requires.settled }
+
+pub loop-candidate-init : goal.loop-candidate-init
+loop-candidate-init t c = record { same = refl; found = c.requires.found; good = λ d n. n; settled = c.requires.settled; tried = λ k d h. absurd (omega (arith, h)) }
+
+pub is_hopeless-requires-clause-valid : goal.is_hopeless-requires-clause-valid
+is_hopeless-requires-clause-valid t c = c.requires.valid
+
+pub returns-in_err-try_all-clause-path : goal.returns-in_err-try_all-clause-path
+returns-in_err-try_all-clause-path t c = on_err c.from_residual.result _ c.from_residual.ensures.0
+
+pub returns-in_err-try_all-clause-searched : goal.returns-in_err-try_all-clause-searched
+returns-in_err-try_all-clause-searched t c = on_err c.from_residual.result _ c.from_residual.ensures.0
+
+pub returns-clause-path : goal.returns-clause-path
+returns-clause-path t c = on_ok c.keep.result _ (c.loop-candidate.path.items ≡ c.args.path.now.items) (λ _. c.loop-candidate.invariant.same) c.keep.ensures
+
+pub list_candidates-requires-clause-valid : goal.list_candidates-requires-clause-valid
+list_candidates-requires-clause-valid t c = c.requires.valid
+
+pub bounds-candidate-items-candidate-index : goal.bounds-candidate-items-candidate-index
+bounds-candidate-items-candidate-index t c = c.loop-candidate-test.true
+
+pub label_after-next-requires-clause-few : goal.label_after-next-requires-clause-few
+label_after-next-requires-clause-few t c = c.requires.valid.rider_count
+
+pub label_after-next-requires-clause-fewer : goal.label_after-next-requires-clause-fewer
+label_after-next-requires-clause-fewer t c = c.requires.valid.passenger_count
+
+pub label_after-next-requires-clause-dwell : goal.label_after-next-requires-clause-dwell
+label_after-next-requires-clause-dwell t c = c.requires.valid.dwell
+
+pub label_after-next-requires-clause-room : goal.label_after-next-requires-clause-room
+label_after-next-requires-clause-room t c = omega (arith, c.requires.small.room)
+
+pub label_after-next-requires-clause-delay : goal.label_after-next-requires-clause-delay
+label_after-next-requires-clause-delay t c = omega (arith, c.requires.small.delay)
+
+pub is_hopeless-requires-clause-settled : goal.is_hopeless-requires-clause-settled
+is_hopeless-requires-clause-settled t c = c.loop-candidate.invariant.settled

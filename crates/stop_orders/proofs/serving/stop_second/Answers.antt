@@ -91,3 +91,11 @@ ends points tau task stops k i place free to r valid h most least scan there arr
 pub returns : goal.returns
 returns c = ends (point_count c.args.times.now) (travel_time c.args.times.now) c.args.task.now c.args.stops.now c.args.k c.loop-stop.stop-index c.loop-stop.place c.loop-stop.free c.place.result c.arrival-2.result
     c.requires.valid c.requires.within c.loop-stop.auto.stop-index-end c.loop-stop-test.false c.loop-stop.invariant (c.place.ensures ∙ ap (λ v. place_of v) c.visit_of-2.ensures) c.arrival-2.ensures
+
+pub arrival-requires-clause-to : goal.arrival-requires-clause-to
+arrival-requires-clause-to c =
+    let task = c.args.task.now in
+    let stops = c.args.stops.now in
+    let within = within_both c.args.k c.loop-stop.stop-index stops c.loop-stop-test.true in
+    let there = visited task stops c.args.k c.loop-stop.stop-index _ _ within.0 c.visit_of.ensures c.place-to.ensures in
+    subst (λ n. n < point_count c.args.times.now) (sym there) (visit_place _ task c.requires.valid (get_or stops c.loop-stop.stop-index (Pick 0)) (known_at task stops c.loop-stop.stop-index c.requires.order.known within.1))

@@ -1,6 +1,7 @@
 use Rattle.std.proofs.Common.{◌≡◌, ℕ, ◌+◌, ◌-◌, ◌<◌, List, [], ◌∷◌, ◌++◌, length, get_or, refl, sym, ap, ◌∙◌, subst, arith}
 use Rattle.trip_graph.proofs.Common.{travel_time, get_or_default, Settled, TripOf, AreLevelsUpTo, AreLevels}
 use Rattle.trip_graph.proofs.LevelSteps as step
+use Rattle.trip_graph.proofs.Lists.{on_err}
 use Rattle.trip_graph.proofs.all_levels.all_levels.Goals as goal
 
 read_level : (tau : ℕ → ℕ → ℕ) (settled : Settled) (sizes k at : ℕ) (levels : List (List (List TripOf))) (lists : List (List TripOf)) → AreLevels tau settled sizes levels → k < sizes → at ≡ k
@@ -56,3 +57,17 @@ loop-size-preserved g c =
       counted = rw items (let t = step.total_level levels lists in let h = inv.counted in let g = went.1 in omega arith);
       fits = omega arith;
     }
+
+pub returns-in_err-push : goal.returns-in_err-push
+returns-in_err-push g c = on_err c.from_residual-in_err-push.result _ c.from_residual-in_err-push.ensures.0
+
+pub returns-in_err-more : goal.returns-in_err-more
+returns-in_err-more g c = on_err c.from_residual-in_err-more.result _ c.from_residual-in_err-more.ensures.0
+
+pub returns-in_err-push-2 : goal.returns-in_err-push-2
+returns-in_err-push-2 g c = on_err c.from_residual-in_err-push-2.result _ c.from_residual-in_err-push-2.ensures.0
+
+pub overflow_add-total : goal.overflow_add-total
+overflow_add-total g c =
+    let went = rw c.in-Some.is at c.in_ok-more.ensures in
+    record { fits = omega (arith, went.2, c.loop-size.invariant.fits, c.ranges.room.fits) }

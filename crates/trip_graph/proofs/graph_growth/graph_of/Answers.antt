@@ -1,8 +1,9 @@
-use Rattle.std.proofs.Common.{◌≡◌, ℕ, ◌+◌, ◌<◌, ◌≤◌, List, ◌++◌, length, get_or, sym, ap, ◌∙◌, subst, arith}
+use Rattle.std.proofs.Common.{◌≡◌, ℕ, ◌+◌, ◌<◌, ◌≤◌, List, ◌++◌, length, get_or, sym, ap, ◌∙◌, subst, arith, length-append}
 use Rattle.trip_graph.proofs.Common.{get_or_default, point_count, travel_time, SettledVehicle, vehicle_at, no_vehicle, AreRowsUpTo, HoldRows, vehicle_rows}
 use Rattle.trip_graph.proofs.RowOrder.{none_in_order, more_in_order}
 use Rattle.trip_graph.proofs.GraphSteps as step
 use Rattle.trip_graph.proofs.GraphFaults as faults
+use Rattle.trip_graph.proofs.Lists.{on_err}
 use Rattle.trip_graph.proofs.graph_growth.graph_of.Goals as goal
 
 pub loop-vehicle-init : goal.loop-vehicle-init
@@ -103,3 +104,12 @@ returns-in-Ok c =
     (subst (λ (n : ℕ). AreRowsUpTo settings.trip tau settled n rows) e inv.exact)
     (subst (λ (n : ℕ). HoldRows settled n rows c.loop-vehicle.held.items) e inv.hold)
     (omega (arith, c.requires.few, inv.total, step.total_few c.args.levels.now c.loop-vehicle.vehicle))
+
+pub returns-in_err-add_vehicle : goal.returns-in_err-add_vehicle
+returns-in_err-add_vehicle c = on_err c.from_residual-in_err-add_vehicle.result _ c.from_residual-in_err-add_vehicle.ensures.0
+
+pub returns-in_err-push : goal.returns-in_err-push
+returns-in_err-push c = on_err c.from_residual-in_err-push.result _ c.from_residual-in_err-push.ensures.0
+
+pub held_row-requires-clause-from : goal.held_row-requires-clause-from
+held_row-requires-clause-from c = omega (arith, c.len-from.ensures, c.loop-vehicle.rows.ok.0, ap length (c.deref.ensures.value ∙ c.in_ok-add_vehicle.ensures), length-append c.loop-vehicle.rows.items (vehicle_rows c.args.levels.now c.loop-vehicle.vehicle))

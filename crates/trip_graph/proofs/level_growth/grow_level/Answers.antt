@@ -2,6 +2,7 @@ use Rattle.std.proofs.Common.{◌-◌}
 use Rattle.trip_graph.proofs.Common.{point_count, travel_time}
 use Rattle.trip_graph.proofs.AllRows.{below_of_rows, more_of_level}
 use Rattle.trip_graph.proofs.Rule.{rule_of, edge_of}
+use Rattle.trip_graph.proofs.Lists.{on_err}
 use Rattle.trip_graph.proofs.level_growth.grow_level.Goals as goal
 
 pub grow_size-requires-clause-can : goal.grow_size-requires-clause-can
@@ -21,3 +22,15 @@ grow_size-requires-clause-below g c =
 pub returns-clause-level : goal.returns-clause-level
 returns-clause-level g c =
     more_of_level (travel_time c.args.times.now) c.args.settled.now c.args.vehicle c.args.level c.args.room (rw c.if-all.false at c.in_ok-all.ensures.answer)
+
+pub returns-in_err-all-clause-level : goal.returns-in_err-all-clause-level
+returns-in_err-all-clause-level g c = on_err c.from_residual.result _ c.from_residual.ensures.0
+
+pub returns-in_err-all-clause-steps : goal.returns-in_err-all-clause-steps
+returns-in_err-all-clause-steps g c = rw c.rows.ensures at c.grow_size.ensures.steps
+
+pub returns-then-all-clause-steps : goal.returns-then-all-clause-steps
+returns-then-all-clause-steps g c = rw c.rows.ensures at c.grow_size.ensures.steps
+
+pub returns-clause-steps : goal.returns-clause-steps
+returns-clause-steps g c = rw c.rows.ensures at c.grow_size.ensures.steps

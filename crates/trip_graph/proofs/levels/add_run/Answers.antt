@@ -1,9 +1,10 @@
-use Rattle.std.proofs.Common.{◌≡◌, ℕ, ◌+◌, ◌-◌, ◌<◌, ◌∷◌, [], ◌++◌, length, get_or, drop, ap, ◌∙◌, subst, arith}
+use Rattle.std.proofs.Common.{◌≡◌, ℕ, ◌+◌, ◌-◌, ◌<◌, ◌∷◌, [], ◌++◌, length, get_or, drop, ap, ◌∙◌, subst, arith, sym}
 use Rattle.trip_graph.proofs.Common.{length_push, AreRowsOfSize, IsLevelOf, batch_of, tau_of, AreLevelsUpTo, row_total, AreNext}
 use Rattle.std.proofs.lemmas.Iterator.Adapters.{YieldsList-from_vec}
 use Rattle.std.proofs.lemmas.Iterator.Consumers.{YieldsList-turn, YieldsList-end}
 use Rattle.trip_graph.proofs.Runs.{IsFirst, next_end, next_first, next_last}
 use Rattle.trip_graph.proofs.LevelSteps as step
+use Rattle.trip_graph.proofs.Lists.{on_err}
 use Rattle.trip_graph.proofs.levels.add_run.Goals as goal
 
 pub skip_to-requires-clause-on : goal.skip_to-requires-clause-on
@@ -133,3 +134,15 @@ skip_to-requires-clause-within c =
     let t = YieldsList-turn (YieldsList-from_vec {s = c.into_iter-level-iterator.result} c.args.levels.items gives.0 (gives.1 ∙ c.args.levels.ok.0)) c.loop-level.yielded c.loop-level.level-iterator c.loop-level.yielded_by c.next.result c.next.new.self c.in-Some.level c.in-Some.is c.next.ensures.steps in
     let known = c.requires.vehicles c.loop-level.number (omega (arith, t.0, c.requires.levels.count, inv.number)) in
     omega (arith, known)
+
+pub returns-in_err-skip_to : goal.returns-in_err-skip_to
+returns-in_err-skip_to c = on_err c.from_residual.result _ c.from_residual.ensures.0
+
+pub returns-in_err-push : goal.returns-in_err-push
+returns-in_err-push c = on_err c.from_residual-in_err-push.result _ c.from_residual-in_err-push.ensures.0
+
+pub returns-in_err-skip_to-2 : goal.returns-in_err-skip_to-2
+returns-in_err-skip_to-2 c = on_err c.from_residual-in_err-skip_to-2.result _ c.from_residual-in_err-skip_to-2.ensures.0
+
+pub returns : goal.returns
+returns c = (c.in_ok-skip_to-2.ensures.level, c.loop-level.invariant.counted ∙ sym c.in_ok-skip_to-2.ensures.total, c.loop-level.invariant.fits)

@@ -1,6 +1,7 @@
 use Rattle.std.proofs.Common.{ℕ, ◌+◌, length, refl, ap, arith}
 use Rattle.trip_graph.proofs.Common.{travel_time, IsRrEdge}
 use Rattle.trip_graph.proofs.lemmas.Listing.{lists_taken, lists_passed, lists_next, lists_skipped}
+use Rattle.trip_graph.proofs.Lists.{on_err}
 use Rattle.trip_graph.proofs.rider_rider_graph.add_first.Goals as goal
 
 pub loop-second-init : goal.loop-second-init
@@ -29,3 +30,15 @@ returns g c =
     let all = ap length c.as_slice-second-end.ensures in
     lists_next (ℕ × ℕ) (λ p. p) (λ a b. (a, b)) (0, 0) (IsRrEdge (travel_time c.args.times.now) c.args.settled.now) c.args.first c.loop-second.second c.loop-second.pairs.items
     (λ d e. let over = e.within in omega arith) c.loop-second.invariant.upto
+
+pub is_edge-requires-clause-sound : goal.is_edge-requires-clause-sound
+is_edge-requires-clause-sound g c = c.requires.sound
+
+pub returns-in_err-is_edge : goal.returns-in_err-is_edge
+returns-in_err-is_edge g c = on_err c.from_residual.result _ c.from_residual.ensures.0
+
+pub returns-in_err-push : goal.returns-in_err-push
+returns-in_err-push g c = on_err c.from_residual-in_err-push.result _ c.from_residual-in_err-push.ensures.0
+
+pub is_edge-requires-clause-within : goal.is_edge-requires-clause-within
+is_edge-requires-clause-within g c = omega (arith, c.loop-second-test.true, ap length c.as_slice-second-end.ensures)

@@ -1,9 +1,10 @@
-use Rattle.std.proofs.Common.{◌<◌, ℕ, ap, sym, subst, inl, arith}
+use Rattle.std.proofs.Common.{◌<◌, ℕ, ap, sym, subst, inl, arith, length}
 use Rattle.trip_graph.proofs.Common.{point_count, travel_time, IsServable, pair_task, rider_at, IsRrEdge}
 use Rattle.std.specs.Bool.{MatchBool}
 use Rattle.std.specs.Result.{IfOk}
 use Rattle.std.proofs.lemmas.Result.{IfOk-weaker}
 use Rattle.trip_graph.proofs.PairTasks.{rider_read, pair_needs_seats, pair_valid, origins_within, no_edge_from, rr_answer}
+use Rattle.trip_graph.proofs.Lists.{on_err}
 use Rattle.trip_graph.proofs.rider_rider_graph.is_edge.Goals as goal
 
 pub returns-then-settled-smaller_party-clause-edge : goal.returns-then-settled-smaller_party-clause-edge
@@ -50,3 +51,12 @@ returns-clause-edge g c =
     IfOk-weaker c.starts_at-2.result (λ serves. MatchBool serves (IsServable tau (pair_task settled (rider_at settled b).leg.origin a b)) (IsServable tau (pair_task settled (rider_at settled b).leg.origin a b) → ⊥))
     (λ edge. MatchBool edge (IsRrEdge tau settled a b) (IsRrEdge tau settled a b → ⊥))
     (λ answer h. rr_answer tau settled a b answer c.requires.below c.requires.within never h) found
+
+pub returns-in_err-starts_at-clause-task : goal.returns-in_err-starts_at-clause-task
+returns-in_err-starts_at-clause-task g c = on_err c.from_residual.result _ c.from_residual.ensures.0
+
+pub bounds-as_slice-second : goal.bounds-as_slice-second
+bounds-as_slice-second g c = omega (arith, ap length c.as_slice-2.ensures, c.requires.within)
+
+pub bounds-as_slice-second-else-branch : goal.bounds-as_slice-second-else-branch
+bounds-as_slice-second-else-branch g c = omega (arith, ap length c.as_slice-2.ensures, c.requires.within)

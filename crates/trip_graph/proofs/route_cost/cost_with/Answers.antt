@@ -1,4 +1,4 @@
-use Rattle.std.proofs.Common.{◌≡◌, ℕ, ◌+◌, ◌-◌, List, [], ◌∷◌, ◌++◌, length, take, ap, ◌∙◌, subst, sym, arith, IfNone, length-append}
+use Rattle.std.proofs.Common.{◌≡◌, ◌-◌, List, [], ◌∷◌, ◌++◌, length, take, ap, ◌∙◌, subst, arith, IfNone, length-append}
 use Rattle.std.proofs.Math.Seq.{take-append_seam}
 use Rattle.stop_orders.specs.declared.leg.Leg.{Leg}
 use Rattle.trip_graph.proofs.Common.{travel_time, IsServable, Task}

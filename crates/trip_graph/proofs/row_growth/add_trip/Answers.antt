@@ -2,6 +2,7 @@ use Rattle.std.proofs.Common.{ℕ, ◌<◌, [], ◌∷◌, ◌++◌, length, sym
 use Rattle.trip_graph.proofs.Common.{length-map, length_push, Task, point_count, travel_time, IsTask, IsBelow, IsServable, IsLeastDelay, serves, costs, rider_count}
 use Rattle.trip_graph.proofs.GrownLevels.{taken, passed}
 use Rattle.trip_graph.proofs.RowGrowth.{last_rider, row_of, one_too_many, longer_task}
+use Rattle.trip_graph.proofs.Lists.{on_err}
 use Rattle.trip_graph.proofs.row_growth.add_trip.Goals as goal
 
 pub returns-then-not-may_share-clause-answer : goal.returns-then-not-may_share-clause-answer
@@ -85,3 +86,15 @@ cost_with-requires-clause-room g c = subst (λ (t : Task). length t.riders.items
 
 pub offset_bounds-as_slice-rider : goal.offset_bounds-as_slice-rider
 offset_bounds-as_slice-rider g c = record { fits = omega (arith, last_rider _ _ _ c.requires.trip, ap length c.as_slice.ensures, c.as_slice.type_inv.1) }
+
+pub returns-in_err-cost-clause-answer : goal.returns-in_err-cost-clause-answer
+returns-in_err-cost-clause-answer g c = on_err c.from_residual.result _ c.from_residual.ensures.0
+
+pub returns-in_err-cost-clause-task : goal.returns-in_err-cost-clause-task
+returns-in_err-cost-clause-task g c = on_err c.from_residual.result _ c.from_residual.ensures.0
+
+pub returns-in_err-push-clause-answer : goal.returns-in_err-push-clause-answer
+returns-in_err-push-clause-answer g c = on_err c.from_residual-in_err-push.result _ c.from_residual-in_err-push.ensures.0
+
+pub returns-in_err-push-clause-task : goal.returns-in_err-push-clause-task
+returns-in_err-push-clause-task g c = on_err c.from_residual-in_err-push.result _ c.from_residual-in_err-push.ensures.0

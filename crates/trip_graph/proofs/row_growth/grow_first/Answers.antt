@@ -1,8 +1,9 @@
-use Rattle.std.proofs.Common.{[], ◌∷◌, ◌<◌, ℕ, length, subst, arith, ap}
+use Rattle.std.proofs.Common.{[], ◌∷◌, ◌<◌, ℕ, length, subst, arith, ap, ◌∙◌}
 use Rattle.trip_graph.proofs.Common.{serves, costs, rider_count, IsLevelUpTo}
 use Rattle.std.proofs.lemmas.Bool.Decides.{nat_tests}
 use Rattle.trip_graph.proofs.GrownLevels.{first_begun, ended}
 use Rattle.trip_graph.proofs.RowGrowth.{none_first, at_least_once, one_alone}
+use Rattle.trip_graph.proofs.Lists.{on_err}
 use Rattle.trip_graph.proofs.row_growth.grow_first.Goals as goal
 
 pub returns-then-is_empty-clause-answer : goal.returns-then-is_empty-clause-answer
@@ -48,3 +49,14 @@ returns-clause-steps g c =
 
 pub add_trip-requires-clause-trip : goal.add_trip-requires-clause-trip
 add_trip-requires-clause-trip g c = one_alone (rider_count c.args.growth.now) c.loop-rider.rider (omega (arith, ap length c.as_slice-rider-end.ensures))
+
+pub returns-in_err-add_trip-clause-answer : goal.returns-in_err-add_trip-clause-answer
+returns-in_err-add_trip-clause-answer g c = on_err c.from_residual.result _ c.from_residual.ensures.0
+
+pub returns-then-not-branch-clause-answer : goal.returns-then-not-branch-clause-answer
+returns-then-not-branch-clause-answer g c = rw c.if-not-branch.true at c.in_ok-add_trip.ensures.answer
+
+pub loop-rider-preserved : goal.loop-rider-preserved
+loop-rider-preserved g c =
+    let went = rw c.if-not-branch.false at c.in_ok-add_trip.ensures.answer in
+    record { upto = went.0; room = went.1; task = c.in_ok-add_trip.ensures.task ∙ c.loop-rider.invariant.task; cost = omega (arith, c.add_trip.ensures.steps, c.loop-rider.invariant.cost) }

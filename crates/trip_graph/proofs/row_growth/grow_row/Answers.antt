@@ -2,6 +2,7 @@ use Rattle.std.proofs.Common.{◌+◌, ℕ, List, length, take, sym, ap, subst, 
 use Rattle.trip_graph.proofs.Common.{IsTrip, serves, costs, rider_count}
 use Rattle.trip_graph.proofs.lemmas.TripSearch.{size_of}
 use Rattle.trip_graph.proofs.RowGrowth.{opened_at, advanced_at, closed_at, siblings_rise, last_within, upto_as_read, upto_as_stored, more_as_stored, below_as_read, trip_as_read, read_at, same_front}
+use Rattle.trip_graph.proofs.Lists.{on_err}
 use Rattle.trip_graph.proofs.row_growth.grow_row.Goals as goal
 
 pub returns-then-not-has_sibling-clause-answer : goal.returns-then-not-has_sibling-clause-answer
@@ -147,3 +148,9 @@ returns-clause-steps g c =
 
 pub task_of-task-requires-clause-trip : goal.task_of-task-requires-clause-trip
 task_of-task-requires-clause-trip g c = subst (IsTrip (rider_count c.args.growth.now)) (sym c.as_slice-riders.ensures.value) (c.requires.below.served c.args.row _ c.requires.row).riders
+
+pub add_trip-requires-clause-can : goal.add_trip-requires-clause-can
+add_trip-requires-clause-can g c = c.requires.can
+
+pub returns-in_err-add_trip-clause-answer : goal.returns-in_err-add_trip-clause-answer
+returns-in_err-add_trip-clause-answer g c = on_err c.from_residual.result _ c.from_residual.ensures.0

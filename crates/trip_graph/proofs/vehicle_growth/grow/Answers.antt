@@ -4,6 +4,7 @@ use Rattle.std.proofs.lemmas.List.{length-append}
 use Rattle.trip_graph.proofs.AllRows.{level_of_rows, level_of_more, more_within}
 use Rattle.trip_graph.proofs.Joined.{smaller_none, smaller_joined, more_joined}
 use Rattle.trip_graph.proofs.StepBound.{at_most_one, steps_so_far, more_steps, rows_of_all}
+use Rattle.trip_graph.proofs.Lists.{on_err}
 use Rattle.trip_graph.proofs.vehicle_growth.grow.Goals as goal
 
 pub loop-size-init : goal.loop-size-init
@@ -97,3 +98,21 @@ returns-then-rows-room-clause-grown g c =
       some = record { right = some.right; sized = λ k d h. (let sized = some.sized k d h in omega arith); rising = some.rising };
       more = omega (arith, ap length c.rows.ensures);
     }
+
+pub empty_level-requires-clause-sound : goal.empty_level-requires-clause-sound
+empty_level-requires-clause-sound g c = c.requires.sound
+
+pub grow_level-requires-clause-sound : goal.grow_level-requires-clause-sound
+grow_level-requires-clause-sound g c = c.requires.sound
+
+pub returns-in_err-next-clause-grown : goal.returns-in_err-next-clause-grown
+returns-in_err-next-clause-grown g c = on_err c.from_residual-in_err-next.result _ c.from_residual-in_err-next.ensures.0
+
+pub returns-in_err-append-clause-grown : goal.returns-in_err-append-clause-grown
+returns-in_err-append-clause-grown g c = on_err c.from_residual-in_err-append.result _ c.from_residual-in_err-append.ensures.0
+
+pub returns-in_err-append-2-clause-grown : goal.returns-in_err-append-2-clause-grown
+returns-in_err-append-2-clause-grown g c = on_err c.from_residual-in_err-append-2.result _ c.from_residual-in_err-append-2.ensures.0
+
+pub overflow_sub-left : goal.overflow_sub-left
+overflow_sub-left g c = omega (arith, c.len.ensures, c.loop-size.smaller.ok.0, ap length c.rows-in-loop-size.ensures, c.loop-size.invariant.room)

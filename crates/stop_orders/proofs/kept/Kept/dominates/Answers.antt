@@ -1,6 +1,7 @@
 use Rattle.std.proofs.Common.{◌≡◌, ℕ, ◌<◌, List, length, map, get_or, sym, ap, ◌∙◌, subst, arith, All}
-use Rattle.stop_orders.proofs.Common.{get_or-map, length-map, no_label, IsLabelPlaced}
+use Rattle.stop_orders.proofs.Common.{get_or-map, length-map, no_label, IsLabelPlaced, false≢true, travel_time}
 use Rattle.stop_orders.specs.declared.kept.Entry.{Entry}
+use Rattle.stop_orders.specs.work.Kept.{Dominates}
 use Rattle.stop_orders.proofs.kept.Kept.dominates.Goals as goal
 
 -- the label of an entry is among the labels
@@ -12,3 +13,17 @@ placed_at points entries at entry h read all = subst (λ label. IsLabelPlaced po
 
 pub dominates-requires-clause-kept : goal.dominates-requires-clause-kept
 dominates-requires-clause-kept c = placed_at _ c.args.self.now.entries.items c.loop-entry.at c.index.result.now (omega (arith, c.args.self.now.entries.ok.0)) c.index.ensures c.requires.placed
+
+pub returns-then-at-len : goal.returns-then-at-len
+returns-then-at-len c = λ f. absurd (false≢true f)
+
+pub returns-then-dominates : goal.returns-then-dominates
+returns-then-dominates c =
+    let entries = c.args.self.now.entries.items in
+    let at = c.loop-entry.at in
+    let within : at < length entries = omega (arith, c.if-at-len.false, c.len.ensures, c.args.self.now.entries.ok.0) in
+    let here = subst (λ l. Dominates (travel_time c.args.times.now) l c.args.label.now) (sym (label_at entries at c.index.result.now within c.index.ensures)) (c.dominates.ensures c.if-dominates.true) in
+    λ _. (at, subst (λ n. at < n) (sym (length-map entries (λ e. e.label))) within, here)
+
+pub returns : goal.returns
+returns c = λ f. absurd (false≢true f)
