@@ -1,6 +1,6 @@
 -- Riders of rows, and how often riders are served.
-use Rattle.std.proofs.Common.{◌≡◌, ◌==◌, ℕ, zero, suc, ◌+◌, ◌<◌, ◌≤◌, Bool, true, false, List, [], ◌∷◌, length, get_or, Option, Some, None, refl, ap, ◌∙◌, subst, arith, add-one, eq-eqb, rules, sym, All, Result, Ok, Err, IfOk, IsErr}
-use Rattle.plan_rules.proofs.Common.{list_any, IsStrictlyIncreasing, both_ways, list_any_at, get_or_read, count_below, TripRow, Graph, no_row, row_at, riders_at, has_rider, IsRowOf, HasNoRow, choice_at, is_in, times_served, IsGraphRow, HoldsRightly, IsStartOf, nat_tests, false_from_ne_true, get_or_default}
+use Rattle.std.proofs.Common.{◌≡◌, ◌==◌, ℕ, zero, suc, ◌+◌, ◌<◌, ◌≤◌, Bool, true, false, List, [], ◌∷◌, length, get_or, Option, Some, None, refl, ap, ◌∙◌, subst, arith, add-one, eq-eqb, rules}
+use Rattle.plan_rules.proofs.Common.{list_any, IsStrictlyIncreasing, both_ways, list_any_at, get_or_read, count_below, TripRow, Graph, no_row, row_at, riders_at, has_rider, IsRowOf, HasNoRow, choice_at, is_in, times_served, IsGraphRow, HoldsRightly, IsStartOf, nat_tests, false_from_ne_true}
 use Rattle.plan_rules.proofs.lemmas.SumLemmas.{flag, count_below_more, count_below_none, count_below_some, count_below_found}
 
 -- ---- lists of riders
@@ -102,16 +102,6 @@ held_once g (suc n) r low holds = grind (arith, nat_tests, (is_in g), (add-one n
 -- a row that was read is the graph's
 pub row_read : (g : Graph) (rows : List TripRow) (k : ℕ) (x : TripRow) → rows ≡ g.rows → k < length g.rows → x ≡ get_or rows k x → x ≡ row_at g k
 row_read g rows k x e l is = get_or_read g.rows k x l (is ∙ ap (λ (r : List TripRow). get_or r k x) e) no_row
-
--- the riders of a row that was read are below the number of riders
-pub riders_read : (g : Graph) (k n : ℕ) (x : TripRow) (xs : List ℕ) → IsGraphRow g.vehicles g.riders (row_at g k) → x ≡ row_at g k → xs ≡ x.riders.items → g.riders ≤ n → All (λ r. r < n) xs
-riders_read g k n x xs row read is count =
-    subst (λ ys. All (λ r. r < n) ys) (sym (is ∙ ap (λ (r : TripRow). r.riders.items) read)) (λ i d h. omega (arith, row.below i h, get_or_default (riders_at g k) i d 0 h, count))
-
--- nothing is said of what failed
-pub on_err : {A E : Type 0} (r : Result A E) (P : A → Type 0) → IsErr r → IfOk r P
-on_err (Ok x) P is = absurd (both_ways false refl is)
-on_err (Err e) P is = tt
 
 -- what is not none is some
 pub some_choice : (o : Option ℕ) → (o ≡ None → ⊥) → (k : ℕ) × (o ≡ Some k)

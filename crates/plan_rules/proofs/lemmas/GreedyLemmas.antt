@@ -1,8 +1,8 @@
 -- Greedy plans: ranks, and what taking a row keeps.
-use Rattle.std.proofs.Common.{All, ◌≡◌, ◌⊎◌, ◌||◌, ℕ, ◌<◌, ◌≤◌, Bool, true, false, List, length, get_or, set, Option, Some, None, refl, sym, ap, ◌∙◌, subst, inl, inr, ⊎_elim, arith, rules, replicate}
+use Rattle.std.proofs.Common.{All, ◌≡◌, ◌⊎◌, ◌||◌, ℕ, ◌-◌, ◌<◌, ◌≤◌, Bool, true, false, List, length, get_or, set, Option, Some, None, refl, sym, ap, ◌∙◌, subst, inl, inr, ⊎_elim, arith, rules}
 use Rattle.plan_rules.proofs.Common.{same_Some, none-some, list_any, ordering_then, nat_tests, cases_eq, cases_lt, or_cases, or_left, or_right, both_ways, get_or_past, Graph, riders_at, cost_at, row_vehicle, has_rider, choice_at, IsGoodGraph, IsTaken, IsApart, IsTriedBefore, IsGreedy, rank_value, rank_of, parts_of, AreRanks, IsSelection, IsInTheWay}
 use Rattle.std.specs.Ordering.{nat_cmp, is_lt}
-use Rattle.std.proofs.lemmas.List.{get_or-set_same, get_or-set_other, length-set, get_or-replicate, length-replicate}
+use Rattle.std.proofs.lemmas.List.{get_or-set_same, get_or-set_other, length-set}
 use Rattle.plan_rules.proofs.lemmas.GraphLemmas.{rider_below}
 use Rattle.plan_rules.proofs.lemmas.MarkLemmas.{any_marked, marked_one}
 
@@ -32,32 +32,6 @@ pub of_rows : (g : Graph) (ranks : List (ℕ × ℕ × ℕ)) → AreRanks g rank
 of_rows g ranks are k d l = search rules
 
 -- ---- taking a row
-
--- before the first row none is taken
-pub none_taken : (g : Graph) (chosen : List (Option ℕ)) → chosen ≡ replicate g.vehicles None → (v k : ℕ) → choice_at chosen v ≡ Some k → ⊥
-none_taken g chosen e v k taken =
-    let long : length chosen ≡ g.vehicles = ap length e ∙ length-replicate g.vehicles None in
-    ⊎_elim
-    (λ (low : v < g.vehicles). none-some k (sym (ap (λ (cs : List (Option ℕ)). choice_at cs v) e ∙ get_or-replicate g.vehicles v None None low) ∙ taken))
-    (λ (high : g.vehicles ≤ v). none-some k (sym (get_or_past chosen v None (omega (arith, long, high))) ∙ taken))
-    (cases_lt v g.vehicles)
-
-pub selection_first : (g : Graph) (chosen : List (Option ℕ)) (served : List Bool) → chosen ≡ replicate g.vehicles None → served ≡ replicate g.riders false → IsSelection g chosen served
-selection_first g chosen served e f =
-    let long : length served ≡ g.riders = ap length f ∙ length-replicate g.riders false in
-    let not_served : (r : ℕ) → get_or served r false ≡ true → ⊥ = λ r is.
-    ⊎_elim
-    (λ (low : r < g.riders). both_ways false refl (sym (ap (λ bs. get_or bs r false) f ∙ get_or-replicate g.riders r false false low) ∙ is))
-    (λ (high : g.riders ≤ r). both_ways false refl (sym (get_or_past served r false (omega (arith, long, high))) ∙ is))
-    (cases_lt r g.riders) in
-    record {
-      sized = ap length e ∙ length-replicate g.vehicles None;
-      marked = long;
-      own = λ v k low is. absurd (none_taken g chosen e v k is);
-      apart = λ j k lj lk ne a b. absurd (none_taken g chosen e (row_vehicle g j) j a);
-      serves = λ j r lj a is. absurd (none_taken g chosen e (row_vehicle g j) j a);
-      served_by = λ r is. absurd (not_served r is);
-    }
 
 module _ (g : Graph) (chosen : List (Option ℕ)) (served : List Bool) (row : ℕ) (good : IsGoodGraph g) (within : row < length g.rows) (selection : IsSelection g chosen served) (free : choice_at chosen (row_vehicle g row) ≡ None) where
   inside : row_vehicle g row < length chosen

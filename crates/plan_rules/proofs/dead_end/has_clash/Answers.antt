@@ -56,6 +56,3 @@ returns-clause-value c =
       λ e. absurd (false≢true e),
       λ clash. absurd (no_clash g u c.loop-vehicle.marks c.vehicle_count-vehicle-end.ensures.good (subst (λ (n : ℕ). MarksSole g u n c.loop-vehicle.marks) ended c.loop-vehicle.invariant.marked) clash),
     )
-
-pub returns-then-is_any_marked-clause-marks : goal.returns-then-is_any_marked-clause-marks
-returns-then-is_any_marked-clause-marks c = c.loop-vehicle.auto.marks

@@ -9,6 +9,3 @@ returns c = (
   λ s. absurd (not_stranded c.args.graph.now (usable_of c.args.allowed.now) c.rider_count-rider-end.ensures.good
       (λ r l must. c.loop-rider.invariant r (omega (arith, l, c.rider_count-rider-end.ensures.value)) must) s),
 )
-
-pub loop-rider-init : goal.loop-rider-init
-loop-rider-init c = λ r h. absurd (omega (arith, h))

@@ -1,7 +1,7 @@
-use Rattle.std.proofs.Common.{◌≡◌, ◌==◌, ◌||◌, ℕ, false, List, get_or, set, Some, None, sym, ap, ◌∙◌, subst, inr, length, arith}
-use Rattle.plan_rules.proofs.Common.{list_any, both_ways, row_at, riders_at, row_vehicle, choice_at, IsSelection, TripRow, IsTaken}
-use Rattle.plan_rules.proofs.lemmas.GraphLemmas.{row_read, some_choice, riders_read}
-use Rattle.plan_rules.proofs.lemmas.GreedyLemmas.{selection_more, way_by_vehicle, way_by_rider, taken_stays}
+use Rattle.std.proofs.Common.{◌≡◌, ◌==◌, ◌||◌, ℕ, false, List, get_or, set, Some, None, sym, ap, ◌∙◌, subst, inr}
+use Rattle.plan_rules.proofs.Common.{list_any, both_ways, row_at, riders_at, row_vehicle, choice_at, IsSelection, TripRow}
+use Rattle.plan_rules.proofs.lemmas.GraphLemmas.{row_read, some_choice}
+use Rattle.plan_rules.proofs.lemmas.GreedyLemmas.{selection_more, way_by_vehicle, way_by_rider}
 use Rattle.plan_rules.proofs.greedy_plan.take_row.Goals.{else-is_free-via-then-is_free+else-not-is_any_marked, else-is_free-via-else-is_free}
 use Rattle.plan_rules.proofs.greedy_plan.take_row.Goals as goal
 
@@ -35,53 +35,3 @@ returns-else-is_free-clause-settled c =
           let taken = some_choice (choice_at c.args.chosen.now x.vehicle) (λ (e : choice_at c.args.chosen.now x.vehicle ≡ None). both_ways _ w.if-is_free.false (c.is_free.ensures.1 e)) in
           inr (way_by_vehicle g c.args.chosen.now c.args.served.now row (taken.0) c.rows.ensures.good c.requires.row c.requires.selection (ap (choice_at c.args.chosen.now) (sym v) ∙ taken.1))
     ]
-
-pub is_free-requires : goal.is_free-requires
-is_free-requires c =
-    let g = c.args.graph.now in
-    let row = c.args.row in
-    let x = c.index-rows-row.result in
-    let read = row_read g c.rows.result.now row x c.rows.ensures.value c.requires.row c.index-rows-row.is in
-    omega (arith, (c.rows.ensures.good.rows row c.requires.row).vehicle, ap (λ (r : TripRow). r.vehicle) read, c.requires.selection.sized)
-
-pub is_any_marked-requires : goal.is_any_marked-requires
-is_any_marked-requires c =
-    let g = c.args.graph.now in
-    let row = c.args.row in
-    let x = c.index-rows-row.result in
-    let read = row_read g c.rows.result.now row x c.rows.ensures.value c.requires.row c.index-rows-row.is in
-    riders_read g row (length c.args.served.now) x c.as_slice-riders.result.now (c.rows.ensures.good.rows row c.requires.row) read c.as_slice-riders.ensures.value (omega (arith, c.requires.selection.marked))
-
-pub offset_bounds-chosen-trip : goal.offset_bounds-chosen-trip
-offset_bounds-chosen-trip c =
-    let g = c.args.graph.now in
-    let row = c.args.row in
-    let x = c.index-rows-row.result in
-    let read = row_read g c.rows.result.now row x c.rows.ensures.value c.requires.row c.index-rows-row.is in
-    record { fits = omega (arith, (c.rows.ensures.good.rows row c.requires.row).vehicle, ap (λ (r : TripRow). r.vehicle) read, c.rows.ensures.good.vehicles) }
-
-pub bounds-chosen-trip : goal.bounds-chosen-trip
-bounds-chosen-trip c =
-    let g = c.args.graph.now in
-    let row = c.args.row in
-    let x = c.index-rows-row.result in
-    let read = row_read g c.rows.result.now row x c.rows.ensures.value c.requires.row c.index-rows-row.is in
-    omega (arith, (c.rows.ensures.good.rows row c.requires.row).vehicle, ap (λ (r : TripRow). r.vehicle) read, c.requires.selection.sized)
-
-pub mark_riders-requires : goal.mark_riders-requires
-mark_riders-requires c =
-    let g = c.args.graph.now in
-    let row = c.args.row in
-    let x = c.index-rows-row.result in
-    let read = row_read g c.rows.result.now row x c.rows.ensures.value c.requires.row c.index-rows-row.is in
-    riders_read g row (length c.args.served.now) x c.as_slice-riders.result.now (c.rows.ensures.good.rows row c.requires.row) read c.as_slice-riders.ensures.value (omega (arith, c.requires.selection.marked))
-
-pub returns-then-not-is_any_marked-clause-keeps : goal.returns-then-not-is_any_marked-clause-keeps
-returns-then-not-is_any_marked-clause-keeps c =
-    let g = c.args.graph.now in
-    let row = c.args.row in
-    let x = c.index-rows-row.result in
-    let read = row_read g c.rows.result.now row x c.rows.ensures.value c.requires.row c.index-rows-row.is in
-    let v = ap (λ (r : TripRow). r.vehicle) read in
-    let free = ap (choice_at c.args.chosen.now) (sym v) ∙ c.is_free.ensures.0 c.if-is_free.true in
-    λ j taken. subst (λ (w : ℕ). IsTaken g (set c.args.chosen.now w (Some row)) j) (sym v) (taken_stays g c.args.chosen.now c.args.served.now row c.rows.ensures.good c.requires.row c.requires.selection free j taken)

@@ -47,9 +47,3 @@ returns-clause-greedy c =
     subst (IsTaken g c.loop-rank.chosen) number
     (c.loop-rank.invariant.settled (w.0) (omega (arith, w.1))
     (λ j low early taken. subst (IsApart g j) (sym number) (apart j low (subst (IsTriedBefore g j) number early) taken))))
-
-pub loop-rank-init : goal.loop-rank-init
-loop-rank-init c = record { selection = c.requires.selection; earlier = λ j i low taken. absurd (c.requires.none j taken); settled = λ i h. absurd (omega (arith, h)) }
-
-pub take_row-requires-clause-row : goal.take_row-requires-clause-row
-take_row-requires-clause-row c = c.requires.ranking.within c.loop-rank.rank-index (0, 0, 0) c.loop-rank-test.true

@@ -1,9 +1,8 @@
-use Rattle.std.proofs.Common.{◌≡◌, ◌==◌, ◌||◌, ℕ, ◌+◌, ◌<◌, false, true, List, length, Option, Some, None, get_or, slice_index, refl, sym, ap, ◌∙◌, arith, ◌≤◌}
-use Rattle.plan_rules.proofs.Common.{list_any, false≢true, get_or_read, row_at, riders_at, choice_at, is_in, graph_of, TripRow, HoldsRightly}
-use Rattle.plan_rules.proofs.lemmas.GraphLemmas.{row_between, row_read, riders_read, between_row}
+use Rattle.std.proofs.Common.{◌≡◌, ◌==◌, ◌||◌, ℕ, ◌+◌, ◌<◌, false, true, List, length, Option, Some, None, get_or, slice_index, refl, sym, ap, ◌∙◌, arith}
+use Rattle.plan_rules.proofs.Common.{list_any, false≢true, get_or_read, row_at, riders_at, choice_at, is_in, graph_of, TripRow}
+use Rattle.plan_rules.proofs.lemmas.GraphLemmas.{row_between, row_read}
 use Rattle.plan_rules.proofs.lemmas.HeldLemmas.{unmarked_apart, marked_held, holds_at, held_at}
 use Rattle.plan_rules.proofs.lemmas.ServedLemmas.{served_more, served_kept}
-use Rattle.plan_rules.proofs.held.mark_held_by.Goals.{then-row-first-via-then-row-first, then-row-first-via-else-row-first+then-end-row}
 use Rattle.plan_rules.proofs.held.mark_held_by.Goals as goal
 
 pub returns-then-is_any_marked-clause-variant : goal.returns-then-is_any_marked-clause-variant
@@ -56,38 +55,3 @@ returns-else-is_any_marked-clause-marked c = λ _.
     (λ r l. c.mark_riders.ensures.marked r l
     ∙ ap (λ (xs : List ℕ). get_or c.args.marks.now r false || list_any (λ y. y == r) xs) riders
     ∙ ap (λ (o : Option ℕ). get_or c.args.marks.now r false || is_in g o r) (sym choice))
-
-pub is_any_marked-requires : goal.is_any_marked-requires
-is_any_marked-requires c =
-    let g = graph_of c.args.parts.now in
-    let v = c.args.vehicle in
-    let k = c.in-Some.row in
-    let starts = c.args.starts.now in
-    let own = row_between g v k (slice_index starts v) (slice_index starts (v + 1)) (c.requires.starts.starts v (omega (arith, c.requires.vehicle))) (c.requires.starts.starts (v + 1) (omega (arith, c.requires.vehicle))) c.if-row-first.false c.if-end-row.false in
-    let read = row_read g g.rows k c.index-in-Some.result.now refl own.within c.index-in-Some.ensures in
-    riders_read g k (length c.args.marks.now) c.index-in-Some.result.now c.as_slice-riders.result.now (c.requires.rows k own.within) read c.as_slice-riders.ensures.value c.requires.marked.sized
-
-pub mark_riders-requires : goal.mark_riders-requires
-mark_riders-requires c =
-    let g = graph_of c.args.parts.now in
-    let v = c.args.vehicle in
-    let k = c.in-Some.row in
-    let starts = c.args.starts.now in
-    let own = row_between g v k (slice_index starts v) (slice_index starts (v + 1)) (c.requires.starts.starts v (omega (arith, c.requires.vehicle))) (c.requires.starts.starts (v + 1) (omega (arith, c.requires.vehicle))) c.if-row-first.false c.if-end-row.false in
-    let read = row_read g g.rows k c.index-in-Some.result.now refl own.within c.index-in-Some.ensures in
-    riders_read g k (length c.args.marks.now) c.index-in-Some.result.now c.as_slice-riders.result.now (c.requires.rows k own.within) read c.as_slice-riders.ensures.value c.requires.marked.sized
-
-pub returns-then-row-first-clause-variant : goal.returns-then-row-first-clause-variant
-returns-then-row-first-clause-variant c =
-    let g = graph_of c.args.parts.now in
-    let v = c.args.vehicle in
-    let choice : choice_at g.held v ≡ Some c.in-Some.row = sym (get_or_read g.held v c.index.result.now c.requires.held c.index.ensures None) ∙ c.in-Some.is in
-    let first = c.requires.starts.starts v (omega (arith, c.requires.vehicle)) in
-    let next = c.requires.starts.starts (v + 1) (omega (arith, c.requires.vehicle)) in
-    let outside : HoldsRightly g v → (slice_index c.args.starts.now v ≤ c.in-Some.row) × (c.in-Some.row < slice_index c.args.starts.now (v + 1)) = λ holds. between_row g v c.in-Some.row (slice_index c.args.starts.now v) (slice_index c.args.starts.now (v + 1)) first next (held_at g v (Some c.in-Some.row) choice holds).0 in (
-      λ e. absurd (false≢true e),
-      λ holds. elim c.then-row-first.branch [
-        | then-row-first-via-then-row-first w ↦ absurd (omega (arith, w.if-row-first.true, (outside holds).0))
-        | then-row-first-via-else-row-first+then-end-row w ↦ absurd (omega (arith, w.if-end-row.true, (outside holds).1))
-      ],
-    )

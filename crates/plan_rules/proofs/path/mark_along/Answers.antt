@@ -1,9 +1,8 @@
 use Rattle.std.proofs.Common.{List, Bool, false, length, get_or, sym, ap, ◌∙◌, arith}
-use Rattle.plan_rules.proofs.Common.{Standing, Decision, standing_of}
+use Rattle.plan_rules.proofs.Common.{Standing, Decision}
 use Rattle.std.proofs.Math.ListN.{length-set}
 use Rattle.plan_rules.proofs.lemmas.PathLemmas.{standing_start, along_alone, along_without}
 use Rattle.plan_rules.proofs.path.mark_along.Goals.{then-decision, else-decision}
-use Rattle.std.proofs.lemmas.List.{take_all}
 use Rattle.plan_rules.proofs.path.mark_along.Goals as goal
 
 pub loop-decision-init : goal.loop-decision-init
@@ -31,6 +30,3 @@ loop-decision-preserved c =
             usable = λ k l. ap (λ (us : List Bool). get_or us k false) w.usable-is ∙ along_without g path i n d c.loop-decision.usable (omega arith) w.if-decision.false (omega (arith, own.1.within, c.loop-decision.invariant.len)) c.loop-decision.invariant.usable k l;
           }
     ]
-
-pub returns-clause-usable : goal.returns-clause-usable
-returns-clause-usable c = λ k l. c.loop-decision.invariant.usable k l ∙ ap (λ p. (standing_of c.args.graph.now p).usable k) (take_all c.loop-decision.decision-index c.args.path.now c.loop-decision-test.false)

@@ -1,7 +1,6 @@
-use Rattle.std.proofs.Common.{◌≡◌, ◌+◌, ℕ, arith, ap, ◌∙◌, length}
+use Rattle.std.proofs.Common.{◌≡◌, ◌+◌, ℕ, arith, ap, ◌∙◌}
 use Rattle.plan_rules.proofs.Common.{choice_at, sum_below, left_out, choice_size}
 use Rattle.plan_rules.proofs.lemmas.ServedLemmas.{served_or_left}
-use Rattle.plan_rules.proofs.lemmas.PlanLemmas.{plan_rows}
 use Rattle.plan_rules.proofs.rules.count_served.Goals as goal
 
 pub returns : goal.returns
@@ -12,6 +11,3 @@ returns c =
     let end : c.loop-choice.choice-index ≡ g.vehicles = omega (arith, c.loop-choice-test.false, c.loop-choice.auto.choice-index-end, c.requires.plan.sized) in
     let value : c.loop-choice.served ≡ sum_below g.vehicles (λ v. choice_size g (choice_at chosen v)) = c.loop-choice.invariant.value ∙ ap (λ (n : ℕ). sum_below n (λ v. choice_size g (choice_at chosen v))) end in
     omega arith
-
-pub bounds-rows-row : goal.bounds-rows-row
-bounds-rows-row c = omega (arith, plan_rows c.args.graph.now c.args.chosen.now c.requires.plan c.loop-choice.choice-index c.in-Some.row c.in-Some.is, ap length c.rows-rows.ensures.value)

@@ -1,5 +1,5 @@
-use Rattle.std.proofs.Common.{refl, subst, arith, ◌≡◌, ◌<◌, nat_lt, sym, ap, ◌∙◌}
-use Rattle.plan_rules.proofs.Common.{IsPlan, IsServedOnce, false≢true, times_served}
+use Rattle.std.proofs.Common.{refl, subst, arith}
+use Rattle.plan_rules.proofs.Common.{IsPlan, IsServedOnce}
 use Rattle.plan_rules.proofs.lemmas.PlanLemmas.{lawful_from}
 use Rattle.plan_rules.proofs.lemmas.ServedLemmas.{served_at_first}
 use Rattle.plan_rules.proofs.rules.is_lawful.Goals as goal
@@ -16,19 +16,4 @@ returns c =
       λ _. lawful_from g c.args.plan.now c.rider_count-riders.ensures.good plan (λ r _. once r)
           (λ r l must. c.loop-rider.invariant r (omega (arith, l, c.rider_count-riders.ensures.value, c.loop-rider-test.false)) must),
       λ _. refl,
-    )
-
-pub serves_once-requires-clause-plan : goal.serves_once-requires-clause-plan
-serves_once-requires-clause-plan c = c.is_plan.ensures.0 c.if-not-is_plan.false
-
-pub returns-then-not-served-rider : goal.returns-then-not-served-rider
-returns-then-not-served-rider c =
-    let g = c.args.graph.now in
-    let r = c.loop-rider.rider in
-    let low : r < g.riders = omega (arith, c.loop-rider-test.true, c.rider_count-riders.ensures.value) in
-    let marks = (c.serves_once.ensures.marked c.if-not-serves_once.false).marks r low in (
-      λ f. absurd (false≢true f),
-      λ lawful.
-          let times = subst (λ p. times_served g p g.vehicles r ≡ 1) (sym c.chosen-chosen.ensures) (lawful.kept r (sym c.must.ensures ∙ c.if-must.true)) in
-          absurd (false≢true (sym c.if-not-served-rider.true ∙ marks ∙ ap (λ n. nat_lt 0 n) times)),
     )

@@ -1,6 +1,6 @@
 use Rattle.std.proofs.Common.{◌≡◌, ◌==◌, ◌||◌, ◌+◌, ◌<◌, ℕ, true, false, List, length, get_or, Option, Some, sym, ap, ◌∙◌, subst, arith}
 use Rattle.plan_rules.proofs.Common.{list_any, false≢true, row_at, riders_at, choice_at, is_in, MarksServed, TripRow}
-use Rattle.plan_rules.proofs.lemmas.GraphLemmas.{row_read, riders_read}
+use Rattle.plan_rules.proofs.lemmas.GraphLemmas.{row_read}
 use Rattle.plan_rules.proofs.lemmas.PlanLemmas.{plan_rows}
 use Rattle.plan_rules.proofs.lemmas.ServedLemmas.{once_at_first, served_more, served_kept, once_kept, once_apart, served_twice}
 use Rattle.plan_rules.proofs.rules.serves_once.Goals.{in-Some+else-is_any_marked, in_default}
@@ -50,11 +50,3 @@ loop-choice-preserved c =
         once = once_kept g chosen n c.loop-choice.invariant.once w.in_default.is;
       }
     ]
-
-pub is_any_marked-requires : goal.is_any_marked-requires
-is_any_marked-requires c =
-    let g = c.args.graph.now in
-    let k = c.in-Some.row in
-    let within = plan_rows g c.args.chosen.now c.requires.plan c.loop-choice.choice-index k c.in-Some.is in
-    let read = sym c.index-rows-row.is ∙ row_read g c.rows-rows.result.now k c.index-rows-row.result c.rows-rows.ensures.value within c.index-rows-row.is in
-    riders_read g k _ _ _ (c.rows-rows.ensures.good.rows k within) read c.as_slice-riders.ensures.value c.loop-choice.invariant.marked.sized

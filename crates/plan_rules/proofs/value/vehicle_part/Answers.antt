@@ -1,7 +1,7 @@
-use Rattle.std.proofs.Common.{◌≡◌, ℕ, Option, Some, IfSome, ℤ, pos, sym, ap, ◌∙◌, subst, arith, to_z, of_z, unwrap_or, length, refl}
+use Rattle.std.proofs.Common.{◌≡◌, ℕ, Option, Some, IfSome, ℤ, pos, sym, ap, ◌∙◌, subst, arith, to_z, of_z, unwrap_or}
 use Rattle.plan_rules.proofs.Common.{w128, least_below, lesser, row_at, usable_of, is_usable_by, reduced_cost, TripRow, IsSmall}
 use Rattle.std.proofs.lemmas.Int.{to_z-of_z}
-use Rattle.plan_rules.proofs.lemmas.GraphLemmas.{row_read, row_between, riders_read}
+use Rattle.plan_rules.proofs.lemmas.GraphLemmas.{row_read, row_between}
 use Rattle.plan_rules.specs.work.Size.{reduced_cost_of}
 use Rattle.plan_rules.proofs.lemmas.ValueLemmas.{starts_rise, none_before, none_after, least_taken, least_passed}
 use Rattle.plan_rules.proofs.value.vehicle_part.Goals.{then-allowed-row, else-allowed-row}
@@ -49,30 +49,3 @@ returns-clause-value c =
     back ∙ c.unwrap_or.ensures
     ∙ ap (λ (o : Option ℤ). unwrap_or o (pos 0))
     (c.loop-row.invariant.value ∙ ap (λ (j : ℕ). least_below j (is_usable_by g u v) f) ended ∙ sym (none_after g u f v c.first_row-row-end.result c.first_row-row-end.ensures))
-
-pub reduced_cost-requires-clause-few : goal.reduced_cost-requires-clause-few
-reduced_cost-requires-clause-few c =
-    let g = c.args.graph.now in
-    let k = c.loop-row.row in
-    let own = row_between g c.args.vehicle k c.first_row-row.result c.first_row-row-end.result c.first_row-row.ensures c.first_row-row-end.ensures (omega arith) (omega arith) in
-    let read : c.index-rows-row.result ≡ row_at g k = row_read g c.rows-rows.result.now k c.index-rows-row.result c.rows-rows.ensures.value own.within c.index-rows-row.is in
-    let row = c.rows-rows.ensures.good.rows k own.within in
-    omega (arith, row.few, ap (λ (r : TripRow). length r.riders.items) read)
-
-pub reduced_cost-requires-clause-cheap : goal.reduced_cost-requires-clause-cheap
-reduced_cost-requires-clause-cheap c =
-    let g = c.args.graph.now in
-    let k = c.loop-row.row in
-    let own = row_between g c.args.vehicle k c.first_row-row.result c.first_row-row-end.result c.first_row-row.ensures c.first_row-row-end.ensures (omega arith) (omega arith) in
-    let read : c.index-rows-row.result ≡ row_at g k = row_read g c.rows-rows.result.now k c.index-rows-row.result c.rows-rows.ensures.value own.within c.index-rows-row.is in
-    let row = c.rows-rows.ensures.good.rows k own.within in
-    omega (arith, row.cheap, ap (λ (r : TripRow). r.cost) read)
-
-pub reduced_cost-requires-clause-riders : goal.reduced_cost-requires-clause-riders
-reduced_cost-requires-clause-riders c =
-    let g = c.args.graph.now in
-    let k = c.loop-row.row in
-    let own = row_between g c.args.vehicle k c.first_row-row.result c.first_row-row-end.result c.first_row-row.ensures c.first_row-row-end.ensures (omega arith) (omega arith) in
-    let read : c.index-rows-row.result ≡ row_at g k = row_read g c.rows-rows.result.now k c.index-rows-row.result c.rows-rows.ensures.value own.within c.index-rows-row.is in
-    let row = c.rows-rows.ensures.good.rows k own.within in
-    riders_read g k (length c.args.multipliers.now) c.index-rows-row.result c.index-rows-row.result.riders.items row read refl (omega (arith, c.requires.multipliers))

@@ -1,5 +1,5 @@
-use Rattle.std.proofs.Common.{◌-◌, ℕ, List, false, get_or, set, take, ◌∷◌, sym, ap, ◌∙◌, arith, ◌≡◌, inl, inr}
-use Rattle.plan_rules.proofs.Common.{Usable, Standing, standing_of, Decision, cases_lt, get_or_default}
+use Rattle.std.proofs.Common.{◌-◌, ℕ, List, false, get_or, set, take, ◌∷◌, sym, ap, ◌∙◌, arith}
+use Rattle.plan_rules.proofs.Common.{Usable, Standing, standing_of, Decision}
 use Rattle.plan_rules.proofs.lemmas.PathLemmas.{standing_start, coming_left, leave_next}
 use Rattle.plan_rules.proofs.path.Path.leave.Goals.{then-loop-depth-test+else-not-index, else-loop-depth-test}
 use Rattle.plan_rules.proofs.path.Path.leave.Goals as goal
@@ -26,17 +26,3 @@ returns-clause-next c = λ g.
       | else-loop-depth-test w ↦ absurd (omega arith)
     ]
     ∙ ap cut (sym c.truncate.ensures.items)
-
-pub loop-depth-preserved : goal.loop-depth-preserved
-loop-depth-preserved c =
-    let path = c.self.inside.decisions.items in
-    let depth = c.loop-depth.depth in
-    record {
-      within = omega (arith, c.loop-depth.invariant.within);
-      dropped = λ k d h l. elim (cases_lt k depth) [
-        | inl less ↦
-            let last : k ≡ depth - 1 = omega (arith, h, less) in
-            ap (λ (e : Decision). e.alone) (ap (λ n. get_or path n d) last ∙ get_or_default path (depth - 1) d c.index.result.now (omega (arith, h, less, l)) ∙ sym c.index.ensures) ∙ c.if-not-index.true
-        | inr more ↦ c.loop-depth.invariant.dropped k d more l
-      ];
-    }
