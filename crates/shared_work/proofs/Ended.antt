@@ -28,8 +28,11 @@ module _ {O : Type 0} where
   pub Matches-one : (pieces : ℕ) (numbers : List ℕ) (done : List (Done O)) (last : ℕ) → pieces ≤ last → numbers ≡ pieces_of done ++ last ∷ [] → Matches pieces numbers done
   Matches-one pieces numbers done last le is = search (rules, sum_by_push, sum-pieces)
 
-  pub Matches-both : (pieces : ℕ) (ns ms : List ℕ) (ds es : List (Done O)) → Matches pieces ns ds → Matches pieces ms es → Matches pieces (ns ++ ms) (ds ++ es)
+  Matches-both : (pieces : ℕ) (ns ms : List ℕ) (ds es : List (Done O)) → Matches pieces ns ds → Matches pieces ms es → Matches pieces (ns ++ ms) (ds ++ es)
   Matches-both pieces ns ms ds es a b = search (rules, sum_by-append)
+
+  pub Matches-joined : (pieces : ℕ) (ns ms ks : List ℕ) (ds es fs : List (Done O)) (last : ℕ) → ks ≡ ns ++ ms → fs ≡ ds ++ es → Matches pieces ns ds → pieces ≤ last → ms ≡ pieces_of es ++ last ∷ [] → Matches pieces ks fs
+  Matches-joined pieces ns ms ks ds es fs last numbers done first le is = subst (λ (z : List ℕ × List (Done O)). Matches pieces z.0 z.1) (λ i. (sym numbers i, sym done i)) (Matches-both pieces ns ms ds es first (Matches-one pieces ms es last le is))
 
 -- a draw adds its number to those of the seat
 pub drew_one : (m m' : Me (Unit {0}) Drawn) (ns : List ℕ) (n : ℕ) → m ≡ (draws 1 ns, []) → m' ≡ (draws m.0.parts (m.0.numbers ++ n ∷ []), m.1) → m' ≡ (draws 1 (ns ++ n ∷ []), [])
