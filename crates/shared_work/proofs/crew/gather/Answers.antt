@@ -1,4 +1,4 @@
-use Rattle.std.proofs.Common.{rules, ◌≡◌, true, ℕ, ◌<◌, Some, sym, ap, ◌∙◌, subst, arith}
+use Rattle.std.proofs.Common.{rules, ◌≡◌, true, ◌<◌, Some, sym, ap, ◌∙◌, subst, arith}
 use Rattle.std.proofs.lemmas.List.Elements.{All-append, All-pop}
 use Rattle.shared_work.specs.declared.worker.Done.{Done}
 use Rattle.shared_work.specs.work.Workers.{HasWorked, AreDoneRight}
