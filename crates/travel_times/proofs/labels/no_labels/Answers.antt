@@ -1,4 +1,4 @@
-use Rattle.std.proofs.Common.{[], ◌∙◌, arith}
+use Rattle.std.proofs.Common.{◌≡◌, [], ◌∙◌, arith}
 use Rattle.travel_times.proofs.Common.{replicate_more}
 use Rattle.travel_times.proofs.labels.no_labels.Goals as goal
 
@@ -8,3 +8,6 @@ loop-preserved c = let e = c.push_reserved.ensures in let i = c.loop.invariant i
   len = omega (arith, e.len, i.len);
   room = e.capacity ∙ i.room;
 }
+
+pub returns : goal.returns
+returns c = let ended : c.loop.counter ≡ c.args.nodes = omega arith in rw ended at c.loop.invariant.items
