@@ -1,5 +1,5 @@
 use Rattle.std.proofs.lemmas.Bool.Decides.{nat_tests}
-use Rattle.std.proofs.Common.{rules, ◌≡◌, ℕ, zero, suc, ◌+◌, ◌*◌, ◌<◌, ◌≤◌, Bool, cond, ltb, List, [], ◌∷◌, Some, None, Ok, map, length, take, get_or, ◌-◌, refl, ap, ◌∙◌, arith}
+use Rattle.std.proofs.Common.{rules, ◌≡◌, ℕ, zero, suc, ◌+◌, ◌*◌, ◌<◌, ◌≤◌, Bool, cond, ltb, List, [], ◌∷◌, Some, None, Ok, map, length, take, get_or, refl, ap, ◌∙◌, arith}
 use Rattle.input_rows.proofs.Common.{option_or, length-map, get_or-map, mod_below, length-distinct, first_fault-all, most_nodes, longest_arc, greatest_name, nodes_of, field_refusal, refusal_at, network_of, names_in, roads_of, LoadShape, Field, draw, both, draws_of, nothing, arcs_right, arcs_down, arcs_of_row, network_part, node_id, arcs_between}
 use Rattle.std.specs.List.{flat_map}
 use Rattle.std.proofs.lemmas.Bool.{le-ltb}

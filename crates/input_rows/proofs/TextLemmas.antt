@@ -1,6 +1,6 @@
 use Rattle.std.proofs.lemmas.Bool.Decides.{nat_tests}
 use Rattle.std.proofs.Common.{rules, ◌≡◌, ◌≢◌, ℕ, zero, suc, ◌+◌, ◌<◌, ◌≤◌, true, not, cond, eqb, List, [], ◌∷◌, ◌++◌, Some, None, Ok, map, length, refl, ap, ◌∙◌, add-one, arith}
-use Rattle.input_rows.proofs.Common.{position_from, length-map, next_record, default_config, records_from, records, strip_bom, table_of, Field, field_text, text_under, csv_line, csv_lines, script_header, fleet_header, network_header}
+use Rattle.input_rows.proofs.Common.{position_from, length-map, next_record, default_config, records_from, strip_bom, table_of, Field, field_text, text_under, csv_line, csv_lines, script_header, fleet_header, network_header}
 use Rattle.std.proofs.lemmas.Bool.{eq-eqb}
 use Rattle.std.proofs.lemmas.List.{length-append}
 use Rattle.pool_io.specs.lemmas.Records.{header_fields, records_of, is_record}

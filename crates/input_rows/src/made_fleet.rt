@@ -27,8 +27,7 @@ fn put_vehicle(
             Field::Number(node),
             Field::Number(0),
         ],
-    )?;
-    Ok(())
+    )
 }
 
 /// The vehicles.

@@ -32,8 +32,7 @@ fn put_arcs(text: &mut Vec<u8>, rng: &mut SplitMix64, a: u64, b: u64) -> Result<
     put_row(
         text,
         &[Field::Number(b), Field::Number(a), Field::Number(seconds)],
-    )?;
-    Ok(())
+    )
 }
 
 #[tactic(auto, unfolding(crate::specs::lemmas::Parts::arcs_right))]
@@ -49,11 +48,10 @@ fn put_right(
     requires column { j < side }
     ensures { OnOk result (Writes (arcs_right side i j) text.old.items text.new.items (draws_of rng.old) (draws_of rng.new)) }
 {
-    if j + 1 < side {
-        put_arcs(text, rng, node_id(side, i, j), node_id(side, i, j + 1))?;
+    if j + 1 >= side {
         return Ok(());
     }
-    Ok(())
+    put_arcs(text, rng, node_id(side, i, j), node_id(side, i, j + 1))
 }
 
 #[tactic(auto, unfolding(crate::specs::lemmas::Parts::arcs_down))]
@@ -69,11 +67,10 @@ fn put_down(
     requires column { j < side }
     ensures { OnOk result (Writes (arcs_down side i j) text.old.items text.new.items (draws_of rng.old) (draws_of rng.new)) }
 {
-    if i + 1 < side {
-        put_arcs(text, rng, node_id(side, i, j), node_id(side, i + 1, j))?;
+    if i + 1 >= side {
         return Ok(());
     }
-    Ok(())
+    put_arcs(text, rng, node_id(side, i, j), node_id(side, i + 1, j))
 }
 
 #[tactic(auto, unfolding(crate::specs::lemmas::Parts::arcs_of_row))]

@@ -33,8 +33,7 @@ fn put_report(
             Field::Number(60 * k),
             Field::Empty,
         ],
-    )?;
-    Ok(())
+    )
 }
 
 #[tactic(auto, unfolding(crate::specs::lemmas::Parts::all_reports))]
@@ -63,11 +62,10 @@ fn put_reports(
     requires { k < 100 }
     ensures { OnOk result (Writes (reports shape.now k) text.old.items text.new.items (draws_of rng.old) (draws_of rng.new)) }
 {
-    if k > 0 {
-        put_all_reports(text, rng, shape, k)?;
+    if k == 0 {
         return Ok(());
     }
-    Ok(())
+    put_all_reports(text, rng, shape, k)
 }
 
 /// The node that a number names, the origin left out.
@@ -106,8 +104,7 @@ fn put_submit(
             Field::Number(destination),
             Field::Number(60 * k + second),
         ],
-    )?;
-    Ok(())
+    )
 }
 
 #[tactic(auto, unfolding(crate::specs::lemmas::Parts::submits))]

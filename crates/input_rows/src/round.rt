@@ -81,9 +81,9 @@ impl Round {
     {
         let mut lanes = Vec::with_capacity(alloc, Round::LANES)?;
         for _ in 0..Round::LANES {
-            lanes.push(Lane {
+            lanes.push_reserved(Lane {
                 commands: Vec::new(alloc),
-            })?;
+            });
         }
         Ok(Round { number, lanes })
     }

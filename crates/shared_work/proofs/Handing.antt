@@ -1,11 +1,12 @@
 -- Passes as they are handed out and taken back.
 use Rattle.std.proofs.lemmas.Bool.Decides.{nat_tests}
-use Rattle.std.proofs.Common.{rules, ◌≡◌, ℕ, zero, suc, ◌+◌, ◌-◌, ◌<◌, List, [], ◌∷◌, ◌++◌, map, length, get_or, All, Option, Some, ap, ◌∙◌, subst, arith}
+use Rattle.std.proofs.Common.{rules, ◌≡◌, ℕ, zero, suc, ◌+◌, ◌-◌, ◌<◌, List, [], ◌∷◌, ◌++◌, map, length, get_or, All, Option, Some, sym, ap, ◌∙◌, subst, arith}
 use Rattle.std.specs.List.{Contains}
 use Rattle.std.proofs.lemmas.List.{get_or_append_left, length-map}
 use Rattle.std.proofs.lemmas.List.Elements.{All-contains, Contains-append_left, Contains-push}
 use Rattle.std.proofs.Math.Seq.{get_or-append_seam}
-use Rattle.shared_work.proofs.Common.{Me, LoggedCall, View, Idle, PassValue, calls_of, calls_in, lane_view, lanes_view, lane_given, lanes_kept, pass_value, IsPass, Claimed, Laned, claim_of}
+use Rattle.shared_work.proofs.Common.{Me, LoggedCall, View, Idle, PassValue, calls_of, calls_in, lane_view, lanes_view, lane_given, lanes_kept, pass_value, IsPass, Claimed, Laned, claim_of, new_pass}
+use Rattle.shared_work.specs.Values.{LockValue, IsNew, AreAllPasses}
 use Rattle.atomic_table.specs.declared.shared.Seat.{Seat}
 
 module _ {A : Type 0} where
@@ -19,6 +20,10 @@ module _ {A : Type 0} where
 
   pub some_mapped : {D : Type 0} (f : A → D) (xs : List A) → 0 < length xs → 0 < length (map f xs)
   some_mapped f xs h = omega (arith, length-map xs f)
+
+-- a list has one value alone
+pub same_alone : {B : Type 0} (xs : List (Option B)) (a b : B) → xs ≡ Some a ∷ [] → xs ≡ Some b ∷ [] → a ≡ b
+same_alone xs a b p q = let both : Some a ∷ [] ≡ Some b ∷ [] = sym p ∙ q in cc
 
 module _ {B C R : Type 0} where
   -- the seat of one lane is the seat of a pass
@@ -38,6 +43,18 @@ module _ {B C R : Type 0} where
 
   pub kept_is : (m m' : Me (Option B) (View B C R)) (start : B) (lane lanes : ℕ) → m ≡ (lanes_view start lane (lanes - lane), []) → lane < lanes → m' ≡ (lanes_kept m.0, m.1) → m' ≡ (lanes_view start (lane + 1) (lanes - (lane + 1)), [])
   kept_is m m' start lane lanes is lt e = grind (arith, nat_tests, (lanes_left m start lane lanes is lt))
+
+  -- passes that were handed out are all passes of the lock, and new
+  pub all_new : (lock : LockValue B) (lanes : ℕ) (passes : List (PassValue B C R)) → lock.lanes ≡ lanes → length passes ≡ lanes → ((k : ℕ) (d : PassValue B C R) → k < lanes → get_or passes k d ≡ new_pass lock.table lock.start k) → AreAllPasses lock passes × All IsNew passes
+  all_new lock lanes passes is len each =
+      let at : (k : ℕ) (d : PassValue B C R) → k < length passes → get_or passes k d ≡ new_pass lock.table lock.start k = λ k d lt. each k d (omega (arith, len, lt)) in (
+        record {
+          len = len ∙ sym is;
+          own = λ k d lt. (ap (λ p. p.table) (at k d lt), ap (λ p. p.start) (at k d lt));
+          lanes = λ k d lt. ap (λ p. p.lane) (at k d lt);
+        },
+        λ k d lt. (ap (λ p. p.calls) (at k d lt), ap (λ p. p.seen) (at k d lt)),
+      )
 
   -- the claims of passes, one by one
   pub claimed_each : (entries : List (LoggedCall C R)) (passes : List (PassValue B C R)) → Claimed entries (map claim_of passes) → (k : ℕ) (d : PassValue B C R) → k < length passes → (get_or passes k d).calls ≡ calls_of (get_or passes k d).lane entries

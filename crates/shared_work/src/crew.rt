@@ -79,20 +79,18 @@ pub(crate) fn gather<J: Job>(
     let Some(mut all) = crew.pop() else {
         unreachable!()
     };
-    if !all.ended {
-        return Err(OutOfMemory);
-    }
     while let Some(worker) = crew.pop() {
         let Worker {
             hand,
             mut done,
             ended,
         } = worker;
-        if !ended {
-            return Err(OutOfMemory);
-        }
         claims.shared.join_seat::<Parts>(&mut all.hand, hand);
         all.done.append(&mut done)?;
+        all.ended &= ended;
+    }
+    if !all.ended {
+        return Err(OutOfMemory);
     }
     Ok(all)
 }

@@ -1,5 +1,5 @@
 //! Outs in the order of their pieces.
-ghost use Rattle.std.specs.Prelude.{◌≡◌, ℕ, IfOk, map, vec_len};
+ghost use Rattle.std.specs.Prelude.{◌≡◌, ℕ, IfOk, vec_len};
 ghost use Rattle.shared_work.specs.Outs.{AreRight};
 ghost use Rattle.shared_work.specs.work.Workers.{AreDoneRight, EachDoneOnce};
 
@@ -17,13 +17,6 @@ pub(crate) fn in_order<J: Job>(
         → IfOk result (λ outs. (vec_len outs ≡ pieces) × AreRight (J.right job) outs.items) }
 {
     done.sort_unstable_by_key(|d| d.piece);
-    let outs = outs_of(alloc, done)?;
-    Ok(outs)
-}
-
-fn outs_of<O: Drop>(alloc: Global, done: Vec<Done<O>>) -> Result<Vec<O>, OutOfMemory>
-    ensures { IfOk result (λ outs. outs.items ≡ map (λ d. d.out) done.items) }
-{
     let outs = done.into_iter().map(|d| d.out).collect(alloc)?;
     Ok(outs)
 }

@@ -35,8 +35,7 @@ pub fn run_pieces<J: Job, G: Gate, R: Threads + Sync>(
     let mut crew = hire(alloc, &claims, first, workers)?;
     work_all(rt, alloc, &claims, pieces, job, gate, &mut crew);
     let all = gather::<J>(&claims, crew)?;
-    let outs = in_order::<J>(alloc, close(claims, all))?;
-    Ok(outs)
+    in_order::<J>(alloc, close(claims, all))
 }
 
 // No more workers than pieces, and at least one.

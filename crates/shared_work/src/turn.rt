@@ -43,13 +43,13 @@ impl<B: Logged> SeatLock<B> {
         let ticket = draw(&self.queue, place);
         wait_turn(rt, &self.queue, &self.bells, place, ticket);
         let mut value = take_out(&self.queue, place);
-        let Ok(reply) = value.play(alloc, lane, call) else {
-            put_back(&self.queue, place, value);
+        let played = value.play(alloc, lane, call);
+        put_back(&self.queue, place, value);
+        let Ok(reply) = played else {
             serve(&self.queue, place);
             self.bells.ring(ticket.wrapping_add(1));
             return Err(OutOfMemory);
         };
-        put_back(&self.queue, place, value);
         let position = note(&self.queue, place);
         serve(&self.queue, place);
         self.bells.ring(ticket.wrapping_add(1));

@@ -49,8 +49,8 @@ pub(crate) fn work<J: Job, G: Gate>(
         let Ok(out) = job.run(alloc, piece) else {
             return;
         };
-        if worker.done.push(Done { piece, out }).is_err() {
+        let Ok(()) = worker.done.push(Done { piece, out }) else {
             return;
-        }
+        };
     }
 }

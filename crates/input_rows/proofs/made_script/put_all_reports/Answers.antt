@@ -1,5 +1,5 @@
-use Rattle.std.proofs.Common.{◌+◌}
-use Rattle.input_rows.proofs.Common.{report_row}
+use Rattle.std.proofs.Common.{◌+◌, ◌≡◌, arith}
+use Rattle.input_rows.proofs.Common.{report_row, all_reports}
 use Rattle.input_rows.proofs.WrittenLemmas.{Writes-none, Writes-next}
 use Rattle.input_rows.proofs.made_script.put_all_reports.Goals as goal
 
@@ -8,3 +8,7 @@ loop-n-init c = Writes-none (λ n. report_row c.args.shape.now c.args.k (n + 1))
 
 pub loop-n-preserved : goal.loop-n-preserved
 loop-n-preserved c = Writes-next (λ n. report_row c.args.shape.now c.args.k (n + 1)) c.loop-n.n _ _ _ _ _ _ c.loop-n.invariant c.in_ok-put_report.ensures
+
+pub returns : goal.returns
+unfolding all_reports
+returns c = let ended : c.loop-n.n ≡ c.args.shape.now.vehicles = omega (arith, c.from-n-end.ensures) in rw ended at c.loop-n.invariant

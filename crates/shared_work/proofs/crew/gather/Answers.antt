@@ -1,9 +1,9 @@
-use Rattle.std.proofs.Common.{rules, ℕ, ◌<◌, List, Some, sym, ap, ◌∙◌, subst, arith}
+use Rattle.std.proofs.Common.{rules, ◌≡◌, true, ◌<◌, Some, sym, ap, ◌∙◌, subst, arith}
 use Rattle.std.proofs.lemmas.List.Elements.{All-append, All-pop}
 use Rattle.shared_work.specs.declared.worker.Done.{Done}
-use Rattle.shared_work.specs.work.Workers.{HasWorked, AreDoneRight, Matches}
+use Rattle.shared_work.specs.work.Workers.{HasWorked, AreDoneRight}
 use Rattle.shared_work.proofs.Keeps.{glues}
-use Rattle.shared_work.proofs.Ended.{Matches-one, Matches-both}
+use Rattle.shared_work.proofs.Ended.{Matches-one, Matches-joined}
 use Rattle.shared_work.proofs.crew.gather.Goals as goal
 
 pub loop-worker-init : goal.loop-worker-init
@@ -11,11 +11,11 @@ loop-worker-init g c =
     let pieces = c.args.claims.now.shared.key.pieces in
     let e = c.in-Some.ensures in
     let h = All-pop (HasWorked c.args.claims.now.shared.table_id pieces) _ _ (Some _) e.items c.requires.worked in
-    let ended = h.1.ended c.if-not-all.false in record {
+    record {
       own = h.1.own;
       parts = omega (arith, h.1.part, e.cases);
       empty_handed = h.1.empty_handed;
-      matches = Matches-one pieces _ _ ended.0 ended.1 ended.2;
+      matches = λ on. let ended = h.1.ended on in Matches-one pieces _ _ ended.0 ended.1 ended.2;
       worked = h.0;
       right = λ job all. let p = All-pop (λ w. AreDoneRight pieces (g.J.Job.right job) w.done.items) _ _ (Some _) e.items all in (p.1, p.0);
     }
@@ -32,13 +32,12 @@ loop-worker-preserved g c =
     let i = c.loop-worker.invariant in
     let e = c.in-Some-pop.ensures in
     let h = All-pop (HasWorked c.args.claims.now.shared.table_id pieces) _ _ (Some _) e.items i.worked in
-    let ended = h.1.ended c.if-not-ended.false in
     let j = c.join_seat.ensures in
     let items = c.in_ok-append.ensures.items in record {
       own = j.0 ∙ i.own;
       parts = omega (arith, h.1.part, e.cases, i.parts, ap (λ m. m.0.parts) j.2);
       empty_handed = ap (λ m. m.1) j.2 ∙ i.empty_handed;
-      matches = subst (λ (z : List ℕ × List (Done _)). Matches pieces z.0 z.1) (λ k. (sym (ap (λ m. m.0.numbers) j.2) k, sym items k)) (Matches-both pieces _ _ _ _ i.matches (Matches-one pieces _ _ ended.0 ended.1 ended.2));
+      matches = λ on. let was : c.loop-worker.all.ended ≡ true = search rules in let ends : c.in-Some-pop.worker.ended ≡ true = search rules in let ended = h.1.ended ends in Matches-joined pieces _ _ _ _ _ _ ended.0 (ap (λ m. m.0.numbers) j.2) items (i.matches was) ended.1 ended.2;
       worked = h.0;
       right = λ job all.
           let r = i.right job all in
