@@ -75,10 +75,6 @@ pub record IsWriting (arcs : List Arc) (points : List ℕ) (from count row : ℕ
   pub computed : (i : ℕ) → i < row → IsRowAt arcs points from cells i
   pub rest : (k : ℕ) → row * length points ≤ k → k < length cells → slice_index cells k ≡ never
 
--- a row has room before the end
-pub row_room : (n row count : ℕ) → 0 < n → row < count → row * n + n ≤ count * n
-row_room n row count some lt = omega (arith, mul-add-lt row n (n - 1) count lt (omega (arith, some)))
-
 module _ (arcs : List Arc) (points : List ℕ) (start : ℕ) (before : List ℕ) (some : 0 < length points) (piece : IsPiece (length points) start before) where
   -- what is read off the numbers of a piece
   numbers_of : (from count : ℕ) → start ≡ from * length points → length before ≡ count * length points → (start / length points ≡ from) × (length before / length points ≡ count)

@@ -31,7 +31,7 @@ impl<'a> Arcs<'a> {
         let mut hops = Vec::with_capacity(alloc, network.arc_count())?;
         for node in 0..nodes {
             push_hops(&mut hops, network.arcs_from(node))?;
-            ends.push_reserved(hops.len());
+            ends.push(hops.len())?;
         }
         Ok(Arcs {
             network,

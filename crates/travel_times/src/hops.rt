@@ -53,7 +53,7 @@ fn no_hops(alloc: Global, nodes: usize) -> Result<Vec<NodeHops>, OutOfMemory>
 {
     let mut hops = Vec::with_capacity(alloc, nodes)?;
     for _ in 0..nodes {
-        hops.push_reserved(NodeHops::empty(alloc));
+        hops.push(NodeHops::empty(alloc))?;
     }
     Ok(hops)
 }

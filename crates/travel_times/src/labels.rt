@@ -215,7 +215,7 @@ fn no_labels(alloc: Global, nodes: usize) -> Result<Vec<ShortLabel>, OutOfMemory
 {
     let mut labels = Vec::with_capacity(alloc, nodes)?;
     for _ in 0..nodes {
-        labels.push_reserved(ShortLabel::empty(alloc));
+        labels.push(ShortLabel::empty(alloc))?;
     }
     Ok(labels)
 }

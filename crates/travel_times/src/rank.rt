@@ -46,7 +46,7 @@ fn leaving_counts(alloc: Global, network: &Network) -> Result<Vec<u32>, OutOfMem
     let nodes = network.node_count();
     let mut counts = Vec::with_capacity(alloc, nodes)?;
     for node in 0..nodes {
-        counts.push_reserved(network.arcs_from(node).len() as u32);
+        counts.push(network.arcs_from(node).len() as u32)?;
     }
     Ok(counts)
 }
@@ -71,7 +71,7 @@ fn keys_of(alloc: Global, degrees: &[u32]) -> Result<Vec<Key>, OutOfMemory>
 {
     let mut keys = Vec::with_capacity(alloc, degrees.len())?;
     for (node, degree) in degrees.iter().enumerate() {
-        keys.push_reserved((MOST - *degree, node as u32));
+        keys.push((MOST - *degree, node as u32))?;
     }
     Ok(keys)
 }
@@ -82,7 +82,7 @@ fn nodes_of(alloc: Global, keys: &[Key]) -> Result<Vec<u32>, OutOfMemory>
 {
     let mut nodes = Vec::with_capacity(alloc, keys.len())?;
     for key in keys {
-        nodes.push_reserved(key.1);
+        nodes.push(key.1)?;
     }
     Ok(nodes)
 }

@@ -90,7 +90,7 @@ fn empty_buckets(alloc: Global) -> Result<Vec<Vec<u32>>, OutOfMemory>
 {
     let mut buckets = Vec::with_capacity(alloc, BUCKETS)?;
     for _ in 0..BUCKETS {
-        buckets.push_reserved(Vec::new(alloc));
+        buckets.push(Vec::new(alloc))?;
     }
     Ok(buckets)
 }

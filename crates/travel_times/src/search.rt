@@ -29,10 +29,10 @@ impl Search {
     /// Room that grows with the first search.
     pub fn new(alloc: Global) -> Result<Search, OutOfMemory> {
         Ok(Search {
-            ring: Ring::new(alloc)?,
             alloc,
             seconds: Vec::new(alloc),
             waiting: Vec::new(alloc),
+            ring: Ring::new(alloc)?,
         })
     }
 

@@ -36,9 +36,9 @@ impl Space {
         Ok(Space {
             seconds: no_ways(alloc, nodes)?,
             waiting: none_waiting(alloc, nodes)?,
+            taken: Vec::new(alloc),
             via: no_ways(alloc, nodes)?,
             ring: Ring::new(alloc)?,
-            taken: Vec::new(alloc),
         })
     }
 }

@@ -95,7 +95,7 @@ pub fn indexes_of(
 {
     let mut points = Vec::with_capacity(alloc, nodes.len())?;
     for &node in nodes {
-        points.push_reserved(network.index_of(node).unwrap());
+        points.push(network.index_of(node).unwrap())?;
     }
     Ok(points)
 }
@@ -124,12 +124,12 @@ fn cells_between(
     requires few { length points.now ≤ 12500 }
     ensures { IfOk result (λ cells. AreRows network.now.arcs points.now 0 (length points.now) cells.items) }
 {
-    let count = points.len();
-    if count == 0 {
-        return Ok(Vec::new(alloc));
-    }
     let arcs = Arcs::of(alloc, network)?;
+    let count = points.len();
     let mut cells = no_ways(alloc, count * count)?;
+    if count == 0 {
+        return Ok(cells);
+    }
     let is_small = count.saturating_mul(network.node_count()) < SMALL;
     let rows = rows_of_a_piece(count, threads, is_small);
     write_pieces(rt, alloc, &arcs, points, rows, &mut cells);

@@ -63,26 +63,3 @@ returns-clause-found c = λ arcs among are. prune_end (c.loop-node.invariant.pru
 
 pub returns-clause-noted : goal.returns-clause-noted
 returns-clause-noted c = all_noted (c.loop-node.invariant.pruning c.requires.hops.0 c.requires.hops.1 c.requires.hops.2) (rw (← c.in_default.ensures.unchanged) (returns-clause-none c))
-
-pub next_near-requires : goal.next_near-requires
-next_near-requires c = omega (arith, c.loop-node.invariant.waiting, c.loop-node.invariant.seconds)
-
-pub is_told-requires : goal.is_told-requires
-is_told-requires c =
-    let inv = c.loop-node.invariant in
-    let node = c.in-Some.node in
-    let next : IsNextTaken c.loop-node.waiting c.next_near.new.waiting node = c.in-Some.ensures.some in
-    let below : c.in-Some.node < length c.args.known.now.labels.now = let l : c.in-Some.node < length c.loop-node.waiting = next.within in omega (arith, l, inv.waiting, c.requires.labels) in
-    let label : c.as_slice.result.now ≡ get_or c.args.known.now.labels.now node [] = c.as_slice.ensures ∙ sym c.index-known-node.is ∙ get_or_read c.args.known.now.labels.now node c.index-known-node.result below c.index-known-node.is [] in
-    rw label (c.requires.hubs node [] below)
-
-pub relax-requires-clause-few : goal.relax-requires-clause-few
-relax-requires-clause-few c = omega (arith, c.loop-node.invariant.seconds, c.requires.few)
-
-pub relax-requires-clause-lengths : goal.relax-requires-clause-lengths
-relax-requires-clause-lengths c =
-    let next : IsNextTaken c.loop-node.waiting c.next_near.new.waiting c.in-Some.node = c.in-Some.ensures.some in
-    omega (arith, next.same_length, c.loop-node.invariant.waiting, c.loop-node.invariant.seconds)
-
-pub returns-clause-taken : goal.returns-clause-taken
-returns-clause-taken c = rw c.loop-node.invariant.seconds c.loop-node.invariant.taken

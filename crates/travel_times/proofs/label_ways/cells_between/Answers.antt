@@ -20,8 +20,3 @@ returns-clause-size g c =
     let size = c.write_table.auto.cells in
     let same : take c.in_ok-cells.cells.len (new ++ drop (length new) items) ≡ new = take_at new (drop (length new) items) c.in_ok-cells.cells.len (omega arith) in
     omega (arith, ap length same, size, ap length c.in_ok-cells.ensures, length-replicate {A = ℕ} (n * n) never)
-
-pub write_table-requires-clause-size : goal.write_table-requires-clause-size
-write_table-requires-clause-size g c κs within =
-    let n = length c.args.points.now in
-    rw (c.deref_mut.ensures.value, c.in_ok-cells.ensures) (length-replicate {A = ℕ} (n * n) never)

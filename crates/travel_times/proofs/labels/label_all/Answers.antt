@@ -1,4 +1,4 @@
-use Rattle.std.proofs.Common.{◌≡◌, length, ap, ◌∙◌, arith}
+use Rattle.std.proofs.Common.{◌≡◌, length, ap, ◌∙◌}
 use Rattle.std.proofs.lemmas.Result.{on_ok_weaker}
 use Rattle.travel_times.proofs.Building.{made_from}
 use Rattle.travel_times.proofs.labels.label_all.Goals as goal
@@ -15,21 +15,3 @@ returns g c =
     let each : length c.deref.result.now ≡ length c.args.network.now.nodes = ap length c.deref.ensures.value ∙ c.in_ok-ahead.ensures.each in
     on_ok_weaker c.label_by_rank.result (λ labelled rank ranks. rw each at (labelled roads.arcs rank (rw (c.deref.ensures.value, c.deref-2.ensures.value)
     (made_from roads.arcs c.args.order.now rank c.in_ok-ahead.ahead.items c.in_ok-back.back.items (length roads.nodes) c.node_count.ensures.kept.arcs c.in_ok-ahead.ensures c.in_ok-back.ensures ranks)))) c.label_by_rank.ensures
-
-pub label_by_rank-requires-clause-clean : goal.label_by_rank-requires-clause-clean
-label_by_rank-requires-clause-clean g c κs within =
-    let each : length c.deref.result.now ≡ length c.args.network.now.nodes = ap length c.deref.ensures.value ∙ c.in_ok-ahead.ensures.each in
-    rw each (rw c.node_count.ensures.count at c.in_ok-space.ensures)
-
-pub label_by_rank-requires-clause-few : goal.label_by_rank-requires-clause-few
-label_by_rank-requires-clause-few g c κs within = omega (arith, ap length c.deref.ensures.value, c.in_ok-ahead.ensures.each, c.node_count.ensures.kept.few_nodes)
-
-pub label_by_rank-requires-clause-forward : goal.label_by_rank-requires-clause-forward
-label_by_rank-requires-clause-forward g c κs within =
-    let each : length c.deref.result.now ≡ length c.args.network.now.nodes = ap length c.deref.ensures.value ∙ c.in_ok-ahead.ensures.each in
-    rw each c.requires.forward
-
-pub label_by_rank-requires-clause-backward : goal.label_by_rank-requires-clause-backward
-label_by_rank-requires-clause-backward g c κs within =
-    let each : length c.deref.result.now ≡ length c.args.network.now.nodes = ap length c.deref.ensures.value ∙ c.in_ok-ahead.ensures.each in
-    rw each c.requires.backward

@@ -1,5 +1,5 @@
-use Rattle.std.proofs.Common.{◌≡◌, [], replicate, vec_len, vec_capacity}
+use Rattle.std.proofs.Common.{◌≡◌, [], replicate}
 use Rattle.travel_times.proofs.labels.no_labels.Given as goal
 
 abbrev pub invariant-loop : goal.invariant-loop
-invariant-loop l = record { items : l.labels.items ≡ replicate l.counter []; len : vec_len l.labels ≡ l.counter; room : vec_capacity l.labels ≡ l.nodes }
+invariant-loop l = l.labels.items ≡ replicate l.counter []

@@ -11,11 +11,3 @@ loop-start-preserved c =
     let row : AreRows c.args.network.now.arcs points i 1 (map (λ point. slice_index c.in_ok-seconds.seconds.items point) points) = AreRows-one c.args.network.now.arcs points (length c.args.network.now.nodes) i c.in_ok-seconds.seconds.items c.requires.known c.in_ok-seconds.ensures.times in
     rw (c.in_ok-push_row.ensures, c.deref.ensures.value)
     (AreRows-append c.args.network.now.arcs points 0 i 1 c.loop-start.cells.items _ c.loop-start.invariant (rw at row))
-
-pub push_row-requires : goal.push_row-requires
-push_row-requires c = rw (c.deref.ensures.value, c.in_ok-seconds.ensures.length) c.requires.known
-
-pub returns : goal.returns
-returns c =
-    let ended : c.loop-start.start-index ≡ length c.args.points.now = omega arith in
-    rw ended at c.loop-start.invariant

@@ -28,8 +28,3 @@ loop-hop-preserved c =
             | else-through-seconds-via-else-through-seconds v ↦ inl (omega (arith, v.if-through-seconds.false))
           ]))
     ]
-
-pub returns : goal.returns
-returns c =
-    let ended : c.loop-hop.hop-index ≡ length c.args.hops.now = omega arith in
-    rw ended at c.loop-hop.invariant

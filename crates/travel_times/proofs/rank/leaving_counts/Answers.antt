@@ -15,9 +15,8 @@ loop-node-preserved c =
     let i = c.loop-node.node in
     let inv = c.loop-node.invariant in
     let here : length c.arcs_from.result.now ≡ length (leaving c.loop-node.node c.args.network.now.arcs) = ap length c.arcs_from.ensures ∙ length-map (leaving i arcs) hop_of in
-    rw c.push_reserved.ensures.items (record {
+    rw c.in_ok-push.ensures.items (record {
       network = inv.network;
-      room = c.push_reserved.ensures.capacity ∙ inv.room;
       each = omega (arith, length_push c.loop-node.counts.items (length c.arcs_from.result.now), inv.each);
       counted = push_more (λ k count. count ≡ length (leaving k arcs)) c.loop-node.counts.items i (length c.arcs_from.result.now) inv.each inv.counted here;
     })

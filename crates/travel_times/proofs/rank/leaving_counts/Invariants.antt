@@ -1,4 +1,4 @@
-use Rattle.std.proofs.Common.{◌≡◌, ℕ, ◌<◌, length, slice_index, vec_capacity}
+use Rattle.std.proofs.Common.{◌≡◌, ℕ, ◌<◌, length, slice_index}
 use Rattle.travel_times.proofs.Common.{IsNetwork, leaving}
 use Rattle.travel_times.proofs.rank.leaving_counts.Given as goal
 
@@ -6,6 +6,5 @@ abbrev pub invariant-loop-node : goal.invariant-loop-node
 invariant-loop-node l = record {
   network : IsNetwork l.network;
   each : length l.counts.items ≡ l.node;
-  room : vec_capacity l.counts ≡ l.nodes;
   counted : (node : ℕ) → node < l.node → slice_index l.counts.items node ≡ length (leaving node l.network.arcs);
 }

@@ -1,5 +1,5 @@
-use Rattle.std.proofs.Common.{◌≡◌, vec_len, vec_capacity}
+use Rattle.std.proofs.Common.{◌≡◌, vec_len}
 use Rattle.travel_times.proofs.ring.empty_buckets.Given as goal
 
 abbrev pub invariant-loop : goal.invariant-loop
-invariant-loop l = (vec_len l.buckets ≡ l.counter) × (vec_capacity l.buckets ≡ 16384)
+invariant-loop l = vec_len l.buckets ≡ l.counter

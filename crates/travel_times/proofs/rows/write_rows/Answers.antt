@@ -1,5 +1,5 @@
 use Rattle.std.proofs.Common.{◌+◌, ◌/◌, length, arith}
-use Rattle.travel_times.proofs.Pieces.{writing_none, writing_more, writing_ends, row_within, row_room}
+use Rattle.travel_times.proofs.Pieces.{writing_none, writing_more, writing_ends, row_within}
 use Rattle.travel_times.proofs.rows.write_rows.Goals as goal
 
 pub returns-in_default : goal.returns-in_default
@@ -38,23 +38,3 @@ pub returns : goal.returns
 returns c =
     writing_ends c.args.arcs.now.network.now.arcs c.args.points.now c.args.start c.args.cells.now c.requires.some c.requires.piece c.loop-row.row c.loop-row.cells
     (let lt = c.loop-row.auto.row-end in omega arith) c.loop-row.invariant
-
-pub nonzero_div-from : goal.nonzero_div-from
-nonzero_div-from c = omega (arith, c.requires.some)
-
-pub nonzero_div-count : goal.nonzero_div-count
-nonzero_div-count c = omega (arith, c.requires.some)
-
-pub overflow_add-from : goal.overflow_add-from
-overflow_add-from c = omega (arith, c.requires.few, row_within c.args.arcs.now.network.now.arcs c.args.points.now c.args.start c.args.cells.now c.requires.some c.requires.piece c.loop-row.row c.loop-row-test.true)
-
-pub offset_bounds-points-from : goal.offset_bounds-points-from
-offset_bounds-points-from c = omega (arith, c.requires.few, row_within c.args.arcs.now.network.now.arcs c.args.points.now c.args.start c.args.cells.now c.requires.some c.requires.piece c.loop-row.row c.loop-row-test.true)
-
-pub write_row-requires-clause-known : goal.write_row-requires-clause-known
-write_row-requires-clause-known c = rw (c.deref.ensures.value, c.in-Ok-run.ensures.size) c.requires.known
-
-pub write_row-requires-clause-room : goal.write_row-requires-clause-room
-write_row-requires-clause-room c =
-    let n = length c.args.points.now in
-    omega (arith, row_room n c.loop-row.row (length c.args.cells.now / n) c.requires.some c.loop-row-test.true, c.loop-row.invariant.size)

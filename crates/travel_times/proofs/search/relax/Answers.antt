@@ -29,8 +29,3 @@ loop-hop-preserved c =
             | else-through-seconds-via-else-through-seconds v ↦ inl (let far = rw c.to-to.ensures at v.if-through-seconds.false in omega (arith, through, far))
           ]))
     ]
-
-pub returns-clause-relaxes : goal.returns-clause-relaxes
-returns-clause-relaxes c =
-    let ended : c.loop-hop.hop-index ≡ length c.args.hops.now = omega arith in
-    rw ended at c.loop-hop.invariant

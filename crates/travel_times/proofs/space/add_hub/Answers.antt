@@ -74,32 +74,3 @@ hand_over-requires-clause-hubs c =
     let via_n : length c.spread.new.via ≡ length c.args.hops.now = omega (arith, c.spread.auto.via, ap length c.deref_mut.ensures.value, c.requires.clean.via_each) in
     let via' : c.deref-3.result.now ≡ c.spread.new.via = c.deref-3.ensures.value ∙ held s.via.len c.spread.new.via s.via.items via_each in
     subst (λ (n : ℕ). All (λ (label : List Hub). All (λ (hub : Hub). hub.node < n) label) c.args.labels.now) (sym (ap length via' ∙ via_n)) c.requires.labels.1
-
-pub search-requires-clause-seconds : goal.search-requires-clause-seconds
-search-requires-clause-seconds c = rw c.deref_mut-2.ensures.value (c.requires.clean.seconds_each, c.requires.clean.seconds_none)
-
-pub search-requires-clause-waiting : goal.search-requires-clause-waiting
-search-requires-clause-waiting c = rw c.deref_mut-3.ensures.value (c.requires.clean.waiting_each, c.requires.clean.waiting_none)
-
-pub search-requires-clause-hubs : goal.search-requires-clause-hubs
-search-requires-clause-hubs c =
-    let s = c.args.space.now in
-    let via_each : length c.spread.new.via ≡ c.args.space.now.via.len = omega (arith, c.spread.auto.via, ap length c.deref_mut.ensures.value, s.via.ok.0) in
-    let via_n : length c.spread.new.via ≡ length c.args.hops.now = omega (arith, c.spread.auto.via, ap length c.deref_mut.ensures.value, c.requires.clean.via_each) in
-    let via : c.deref.result.now ≡ c.spread.new.via = c.deref.ensures.value ∙ held s.via.len c.spread.new.via s.via.items via_each in
-    subst (λ (n : ℕ). All (λ (label : List Hub). All (λ (hub : Hub). hub.node < n) label) c.args.labels.now) (sym (ap length via ∙ via_n)) c.requires.labels.1
-
-pub hand_over-requires-clause-labels : goal.hand_over-requires-clause-labels
-hand_over-requires-clause-labels c =
-    let s = c.args.space.now in
-    let seconds_each : length c.search.new.seconds ≡ c.args.space.now.seconds.len = omega (arith, c.search.auto.seconds, ap length c.deref_mut-2.ensures.value, s.seconds.ok.0) in
-    let seconds : c.deref_mut-4.result.now ≡ c.search.new.seconds = c.deref_mut-4.ensures.value ∙ held s.seconds.len c.search.new.seconds s.seconds.items seconds_each in
-    omega (arith, ap length seconds, seconds_each, s.seconds.ok.0, c.requires.clean.seconds_each, c.requires.labels.0)
-
-pub hand_over-requires-clause-start : goal.hand_over-requires-clause-start
-hand_over-requires-clause-start c =
-    let s = c.args.space.now in
-    let via_each : length c.spread.new.via ≡ c.args.space.now.via.len = omega (arith, c.spread.auto.via, ap length c.deref_mut.ensures.value, s.via.ok.0) in
-    let via_n : length c.spread.new.via ≡ length c.args.hops.now = omega (arith, c.spread.auto.via, ap length c.deref_mut.ensures.value, c.requires.clean.via_each) in
-    let via' : c.deref-3.result.now ≡ c.spread.new.via = c.deref-3.ensures.value ∙ held s.via.len c.spread.new.via s.via.items via_each in
-    omega (arith, ap length via', via_n, c.requires.start)

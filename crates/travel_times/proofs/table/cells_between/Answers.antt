@@ -32,8 +32,9 @@ returns g c =
 
 pub returns-then-count-eq0 : goal.returns-then-count-eq0
 returns-then-count-eq0 g c =
+    let n = length c.args.points.now in
     let none : length c.args.points.now ≡ 0 = omega arith in
     record {
-      size = ap length c.new.ensures.items ∙ ap (λ n. n * n) (sym none);
+      size = ap length c.in_ok-cells.ensures ∙ length-replicate {A = ℕ} (n * n) never;
       times = λ i j lt less. absurd (omega (arith, none, lt));
     }

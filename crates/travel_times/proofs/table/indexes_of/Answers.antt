@@ -18,10 +18,8 @@ loop-node-preserved c =
     let i = c.loop-node.node-index in
     let index : index_in nodes node ≡ c.unwrap.result = position-is (nat_eq node) nodes c.unwrap.result (sym c.index_of.ensures.value ∙ c.unwrap.ensures) in
     let below : c.unwrap.result < length nodes = rw c.unwrap.ensures at c.index_of.ensures.within in (
-      rw (c.push_reserved.ensures.items, c.loop-node.invariant.0, map_more (index_in nodes) c.args.nodes.now i node within, ← c.node-item.is, index) refl,
-      rw c.push_reserved.ensures.items (All-push (λ point. point < length nodes) c.loop-node.points.items c.unwrap.result c.loop-node.invariant.1 below),
-      omega (arith, c.push_reserved.ensures.len, c.loop-node.invariant.2),
-      c.push_reserved.ensures.capacity ∙ c.loop-node.invariant.3,
+      rw (c.in_ok-push.ensures.items, c.loop-node.invariant.0, map_more (index_in nodes) c.args.nodes.now i node within, ← c.node-item.is, index) refl,
+      rw c.in_ok-push.ensures.items (All-push (λ point. point < length nodes) c.loop-node.points.items c.unwrap.result c.loop-node.invariant.1 below),
     )
 
 pub returns-clause-indexes : goal.returns-clause-indexes

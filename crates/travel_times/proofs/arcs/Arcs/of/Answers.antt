@@ -1,4 +1,4 @@
-use Rattle.std.proofs.Common.{◌≤◌, length, ◌∙◌, arith}
+use Rattle.std.proofs.Common.{◌≤◌, length, arith}
 use Rattle.travel_times.proofs.ArcLemmas.{AreCopied-push}
 use Rattle.travel_times.proofs.lemmas.SearchLemmas.{hops_among}
 use Rattle.travel_times.proofs.arcs.Arcs.of.Goals as goal
@@ -16,9 +16,7 @@ pub loop-node-preserved : goal.loop-node-preserved
 loop-node-preserved c =
     let ends = c.loop-node.ends.items in
     let hops = c.loop-node.hops.items in (
-      rw (c.push_reserved.ensures.items, c.len.ensures, c.push_hops.new.hops.ok.0, c.in_ok-push_hops.ensures, c.arcs_from.ensures)
+      rw (c.in_ok-push.ensures.items, c.len.ensures, c.push_hops.new.hops.ok.0, c.in_ok-push_hops.ensures, c.arcs_from.ensures)
           (AreCopied-push c.args.network.now.arcs c.loop-node.node ends hops c.loop-node.invariant.0),
       c.loop-node.invariant.1,
-      omega (arith, c.push_reserved.ensures.len, c.loop-node.invariant.2),
-      c.push_reserved.ensures.capacity ∙ c.loop-node.invariant.3,
     )

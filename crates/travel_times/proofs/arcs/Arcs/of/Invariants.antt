@@ -1,7 +1,6 @@
-use Rattle.std.proofs.Common.{◌≡◌, vec_len, vec_capacity}
 use Rattle.travel_times.proofs.Common.{IsNetwork}
 use Rattle.travel_times.proofs.ArcLemmas.{AreCopied}
 use Rattle.travel_times.proofs.arcs.Arcs.of.Given as goal
 
 abbrev pub invariant-loop-node : goal.invariant-loop-node
-invariant-loop-node l = AreCopied l.network.arcs l.node l.ends.items l.hops.items × IsNetwork l.network × (vec_len l.ends ≡ l.node) × (vec_capacity l.ends ≡ l.nodes)
+invariant-loop-node l = AreCopied l.network.arcs l.node l.ends.items l.hops.items × IsNetwork l.network

@@ -1,5 +1,5 @@
 use Rattle.std.proofs.Common.{All, Contains, sym, subst}
-use Rattle.travel_times.proofs.Common.{Roads, length-map}
+use Rattle.travel_times.proofs.Common.{Roads}
 use Rattle.travel_times.proofs.CellLemmas.{times_of_cells}
 use Rattle.travel_times.proofs.label_ways.LabelWaysWays.table.Goals as goal
 
@@ -12,15 +12,3 @@ table_of_times-requires-clause-times g c = λ i j hi hj.
     (rw c.deref-2.ensures.value (rw c.deref.ensures.value at c.in_ok-cells.ensures.size))
     (rw c.deref-2.ensures.value (rw c.deref.ensures.value at (c.in_ok-cells.ensures.times c.self.inside.network.now c.self.invariant)))
     i j hi hj
-
-pub cells_between-requires-clause-known : goal.cells_between-requires-clause-known
-cells_between-requires-clause-known g c κs within = rw (c.deref.ensures.value, c.self.invariant.forward_each) c.in_ok-points.ensures.within
-
-pub cells_between-requires-clause-few : goal.cells_between-requires-clause-few
-cells_between-requires-clause-few g c κs within = rw (c.deref.ensures.value, c.in_ok-points.ensures.indexes, length-map) c.requires.few
-
-pub table_of_times-requires-clause-known : goal.table_of_times-requires-clause-known
-table_of_times-requires-clause-known g c = rw c.deref-2.ensures.value c.in_ok-points.ensures.within
-
-pub table_of_times-requires-clause-size : goal.table_of_times-requires-clause-size
-table_of_times-requires-clause-size g c = rw c.deref-2.ensures.value (rw c.deref.ensures.value at c.in_ok-cells.ensures.size)

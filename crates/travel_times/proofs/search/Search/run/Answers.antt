@@ -86,20 +86,3 @@ loop-node-smaller c =
     let waiting_length' : length c.relax.new.waiting ≡ s.waiting.len = omega (arith, c.in_ok-relax.ensures.waiting_length, ap length waiting_is, waiting_length) in
     rw (with_items_is s.seconds c.relax.new.seconds seconds_length, with_items_is (with_items s.waiting c.next_near.new.waiting) c.relax.new.waiting waiting_length')
     (omega (arith, less, taken.fewer))
-
-pub next_near-requires : goal.next_near-requires
-next_near-requires c = omega (arith, ap length c.deref_mut.ensures.value, ap length c.deref.ensures.value, c.loop-node.invariant.0.waiting_length, c.loop-node.invariant.0.seconds_length)
-
-pub relax-requires-clause-few : goal.relax-requires-clause-few
-relax-requires-clause-few c = omega (arith, ap length c.deref_mut-in-Some.ensures.value, c.loop-node.invariant.0.seconds_length, c.loop-node.invariant.1.few_nodes)
-
-pub relax-requires-clause-lengths : goal.relax-requires-clause-lengths
-relax-requires-clause-lengths c =
-    let s = c.loop-node.self in
-    let taken : IsNextTaken s.waiting.items c.next_near.new.waiting c.in-Some.node = rw c.deref_mut.ensures.value at c.in-Some.ensures.some in
-    let waiting_length : length c.next_near.new.waiting ≡ s.waiting.len = omega (arith, taken.same_length, s.waiting.ok.0) in
-    let waiting_is : c.deref_mut-in-Some-2.result.now ≡ c.next_near.new.waiting = c.deref_mut-in-Some-2.ensures.value ∙ with_items_is s.waiting c.next_near.new.waiting waiting_length in
-    omega (arith, ap length waiting_is, taken.same_length, ap length c.deref_mut-in-Some.ensures.value, c.loop-node.invariant.0.waiting_length, c.loop-node.invariant.0.seconds_length)
-
-pub returns-clause-size : goal.returns-clause-size
-returns-clause-size c = c.loop-node.invariant.0.seconds_length

@@ -8,7 +8,7 @@ pub returns : goal.returns
 returns c =
     let n = c.args.nodes in
     let none = All-replicate (λ (s : ℕ). s ≡ never) n never refl in
-    rw (c.in_ok-no_ways.ensures, c.in_ok-none_waiting.ensures, c.in_ok-no_ways-2.ensures, c.new-2.ensures.items)
+    rw (c.in_ok-no_ways.ensures, c.in_ok-none_waiting.ensures, c.in_ok-no_ways-2.ensures, c.new.ensures.items)
     (record {
       seconds_each = length-replicate {A = ℕ} n never;
       seconds_none = none;
