@@ -1,4 +1,4 @@
-ghost use Rattle.std.specs.Prelude.{◌≡◌, ◌==◌, ◌++◌, [], OnOk, codes, decimal, if◌then◌else◌};
+ghost use Rattle.std.specs.Prelude.{◌≡◌, ◌==◌, ◌++◌, [], OnOk, codes, if◌then◌else◌};
 ghost use Rattle.dispatch_report.specs.Entry.{command_text, entry_line};
 ghost use Rattle.dispatch_report.specs.Fits.{IsCommand, IsReply, TellsEnd};
 ghost use Rattle.dispatch_report.specs.Words.{numbered, spaced};
@@ -6,7 +6,7 @@ ghost use Rattle.request_book.specs.declared.command.Command.TheVariants.{Submit
 
 use crate::reply::put_reply;
 use crate::words::{put_fields, put_numbered, put_spaced};
-use pool_base::{NodeId, OutOfMemory, Party, RiderId, Second, put_bytes, put_number};
+use pool_base::{NodeId, OutOfMemory, Party, RiderId, Second};
 use request_book::{Command, Entry};
 
 /// Appends the line of an entry at its position, without its end. It fails only for want of memory.
