@@ -107,3 +107,6 @@ returns c =
     let made = c.requires in
     let placed = subst (λ (ps : List Place). All (λ (p : Place). IsFairNode g c.args.bound.now p.usable p.node) ps) (places_are g nodes made.0 made.1) fair in
     (λ t. record { tree = made.0; shape = made.1; fair = placed }, λ f. refl)
+
+pub is_fair_node-requires-clause-limit : goal.is_fair_node-requires-clause-limit
+is_fair_node-requires-clause-limit c = c.in_ok-limit.ensures
