@@ -13,8 +13,8 @@ loop-node-init c = record {
   fair = λ k d l. absurd (omega arith);
 }
 
-pub returns-then-walk : goal.returns-then-walk
-returns-then-walk c =
+pub unreachable-requires : goal.unreachable-requires
+unreachable-requires c =
     let g = c.args.graph.now in
     let nodes : List Node = c.args.tree.now in
     let i = c.loop-node.node-index in
