@@ -1,12 +1,12 @@
 -- Lines that are put together from pieces.
-use Rattle.std.proofs.Common.{rules, ◌≡◌, ℕ, List, [], ◌++◌, codes, decimal, Option, Some, None, refl, sym, ap, ◌∙◌, append_assoc}
+use Rattle.std.proofs.Common.{rules, ◌≡◌, ℕ, List, [], ◌++◌, codes, decimal, Option, refl, ap, ◌∙◌, append_assoc}
 use Rattle.std.specs.Option.{option_map_or}
-use Rattle.dispatch_report.specs.Entry.{command_text, refusal_text, reply_text}
+use Rattle.dispatch_report.specs.Entry.{refusal_text}
 use Rattle.dispatch_report.specs.Words.{numbered, spaced}
 use Rattle.dispatch_report.specs.lemmas.Named.{spaced_or_none}
 use Rattle.dispatch_report.specs.work.Named.{refusal_words, told_number}
 use Rattle.request_book.specs.declared.reply.BookRefusal.{BookRefusal}
-use Rattle.request_book.specs.declared.reply.BookRefusal.TheVariants.{IsAboard, Ended, TimeBack, BatchOpen, ClockBack}
+use Rattle.request_book.specs.declared.reply.BookRefusal.TheVariants.{Ended}
 use Rattle.request_book.specs.declared.rider.Status.TheVariants.{Waiting, Promised, Aboard, Cancelled, Delivered, Expired}
 
 -- a line behind two pieces

@@ -1,4 +1,4 @@
-use Rattle.std.proofs.Common.{◌≡◌, ◌↔◌, Bool, true, false, IsTrue, Result, Ok, Err, IfOk, sym, ap, ◌∙◌, of_z}
+use Rattle.std.proofs.Common.{◌≡◌, ◌↔◌, Bool, false, IsTrue, Result, Ok, Err, IfOk, sym, ap, ◌∙◌, of_z}
 use Rattle.std.proofs.lemmas.Bool.{false≢true}
 use Rattle.report_audit.proofs.Common.{ShowsBound, IsRefusal}
 use mir.Syntax.{w128}

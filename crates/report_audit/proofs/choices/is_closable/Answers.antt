@@ -1,4 +1,4 @@
-use Rattle.std.proofs.Common.{◌≡◌, ◌≤◌, ℕ, false, true, sym, ap, ◌∙◌, arith}
+use Rattle.std.proofs.Common.{◌≡◌, ◌≤◌, ℕ, sym, ap, ◌∙◌, arith}
 use Rattle.std.proofs.lemmas.Bool.{false≢true}
 use Rattle.report_audit.proofs.Common.{nat_tests, every_row, choice_count, product_below}
 use Rattle.report_audit.proofs.lemmas.ChoiceLemmas.{row_choices, choices_all, choices_more}

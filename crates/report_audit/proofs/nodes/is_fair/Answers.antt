@@ -1,4 +1,4 @@
-use Rattle.std.proofs.Common.{◌≡◌, ◌∷◌, [], ◌++◌, ◌+◌, ◌<◌, Bool, true, false, List, length, get_or, take, All, refl, sym, ap, ◌∙◌, subst, arith, take_all}
+use Rattle.std.proofs.Common.{◌≡◌, ◌∷◌, [], ◌++◌, ◌+◌, ◌<◌, Bool, false, List, length, get_or, take, All, refl, sym, ap, ◌∙◌, subst, arith, take_all}
 use Rattle.std.proofs.lemmas.Bool.{false≢true}
 use Rattle.report_audit.proofs.Common.{both_ways, take_more, with_items_is, Usable, usable_of, standing_of, ReadsTo, places_read, every_row, Place, Node, reads_push, places_are, Agree, agree_back, IsFairNode, coming_of, coming_start, path_none}
 use Rattle.report_audit.proofs.lemmas.FaultLemmas.{whole_of_value}

@@ -1,6 +1,4 @@
-use Rattle.std.proofs.Common.{ap, ◌++◌, ◌∷◌, [], ◌∙◌, arith, append_assoc}
-use Rattle.std.specs.List.{flat_map}
-use Rattle.std.proofs.lemmas.List.{take_all}
+use Rattle.std.proofs.Common.{◌∷◌, [], arith}
 use Rattle.request_book.specs.declared.passenger.Passenger.{Passenger}
 use Rattle.request_book.proofs.PointLemmas.{named-more}
 use Rattle.request_book.proofs.points.name_vehicle.Goals as goal
