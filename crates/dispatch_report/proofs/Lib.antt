@@ -1,4 +1,5 @@
 pub mod LineLemmas
+pub mod ReplyLemmas
 pub mod EntryLemmas
 pub mod SummaryLemmas
 pub mod Common

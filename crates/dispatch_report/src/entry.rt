@@ -1,4 +1,4 @@
-ghost use Rattle.std.specs.Prelude.{◌≡◌, ◌==◌, ◌++◌, [], OnOk, codes, decimal, if◌then◌else◌};
+ghost use Rattle.std.specs.Prelude.{◌≡◌, ◌==◌, ◌++◌, [], OnOk, codes, if◌then◌else◌};
 ghost use Rattle.dispatch_report.specs.Entry.{command_text, entry_line};
 ghost use Rattle.dispatch_report.specs.Fits.{IsCommand, IsReply, TellsEnd};
 ghost use Rattle.dispatch_report.specs.Words.{numbered, spaced};
@@ -6,7 +6,7 @@ ghost use Rattle.request_book.specs.declared.command.Command.TheVariants.{Submit
 
 use crate::reply::put_reply;
 use crate::words::{put_fields, put_numbered, put_spaced};
-use pool_base::{NodeId, OutOfMemory, Party, RiderId, Second, put_bytes, put_number};
+use pool_base::{NodeId, OutOfMemory, Party, RiderId, Second};
 use request_book::{Command, Entry};
 
 /// Appends the line of an entry at its position, without its end. It fails only for want of memory.
@@ -15,23 +15,15 @@ pub fn put_entry(line: &mut Vec<u8>, position: u64, entry: &Entry) -> Result<(),
     ensures command { OnOk result (IsCommand entry.now.command) }
     ensures reply { OnOk result (TellsEnd entry.now.reply → IsReply entry.now.reply) }
 {
-    put_place(line, position, entry.lane)?;
+    put_fields(line, &[(b"", position), (b" ", u64::from(entry.lane))])?;
     put_command(line, &entry.command)?;
-    put_bytes(line, b" ")?;
-    put_reply(line, entry.reply)
+    put_reply(line, &entry.reply)
 }
 
-/// Appends the position and the lane, each with a space behind it.
-fn put_place(line: &mut Vec<u8>, position: u64, lane: u8) -> Result<(), OutOfMemory>
-    ensures { OnOk result (line.new.items ≡ line.old.items ++ (decimal position ++ spaced lane ++ codes " ")) }
-{
-    put_number(line, position)?;
-    put_spaced(line, u64::from(lane))?;
-    put_bytes(line, b" ")
-}
-
+/// Appends a space and a command.
+#[tactic(auto, unfolding(crate::specs::Words::numbered))]
 fn put_command(line: &mut Vec<u8>, command: &Command) -> Result<(), OutOfMemory>
-    ensures printed { OnOk result (line.new.items ≡ line.old.items ++ command_text command.now) }
+    ensures printed { OnOk result (line.new.items ≡ line.old.items ++ (codes " " ++ command_text command.now)) }
     ensures fits { OnOk result (IsCommand command.now) }
 {
     match command {
@@ -42,24 +34,24 @@ fn put_command(line: &mut Vec<u8>, command: &Command) -> Result<(), OutOfMemory>
             time,
             party,
         } => put_submit(line, *rider, *origin, *destination, *time, *party),
-        Command::Cancel { rider } => put_numbered(line, b"cancel ", u64::from(rider.get())),
+        Command::Cancel { rider } => put_numbered(line, b" cancel ", u64::from(rider.get())),
         Command::Report {
             vehicle,
             node,
             time,
-        } => put_three(line, b"report ", vehicle.get(), node.get(), time.get()),
+        } => put_three(line, b" report ", vehicle.get(), node.get(), time.get()),
         Command::Pickup {
             vehicle,
             rider,
             time,
-        } => put_three(line, b"pickup ", vehicle.get(), rider.get(), time.get()),
+        } => put_three(line, b" pickup ", vehicle.get(), rider.get(), time.get()),
         Command::Dropoff {
             vehicle,
             rider,
             time,
-        } => put_three(line, b"dropoff ", vehicle.get(), rider.get(), time.get()),
-        Command::Seal { now } => put_numbered(line, b"seal ", u64::from(now.get())),
-        Command::Close { batch, .. } => put_numbered(line, b"close ", *batch),
+        } => put_three(line, b" dropoff ", vehicle.get(), rider.get(), time.get()),
+        Command::Seal { now } => put_numbered(line, b" seal ", u64::from(now.get())),
+        Command::Close { batch, .. } => put_numbered(line, b" close ", *batch),
     }
 }
 
@@ -71,13 +63,13 @@ fn put_submit(
     time: Second,
     party: Party,
 ) -> Result<(), OutOfMemory>
-    ensures printed { OnOk result (line.new.items ≡ line.old.items ++ (numbered (codes "submit ") rider ++ spaced origin ++ spaced destination ++ spaced time ++ (if party == 1 then [] else spaced party))) }
+    ensures printed { OnOk result (line.new.items ≡ line.old.items ++ (numbered (codes " submit ") rider ++ spaced origin ++ spaced destination ++ spaced time ++ (if party == 1 then [] else spaced party))) }
     ensures fits { OnOk result (IsCommand (Submit rider origin destination time party)) }
 {
     put_fields(
         line,
         &[
-            (b"submit ", u64::from(rider.get())),
+            (b" submit ", u64::from(rider.get())),
             (b" ", u64::from(origin.get())),
             (b" ", u64::from(destination.get())),
             (b" ", u64::from(time.get())),

@@ -84,8 +84,7 @@ fn name_vehicle(nodes: &mut Vec<NodeId>, vehicle: &Vehicle) -> Result<(), OutOfM
 {
     nodes.push(vehicle.node)?;
     for passenger in vehicle.aboard.as_slice() {
-        nodes.push(passenger.origin)?;
-        nodes.push(passenger.destination)?;
+        nodes.extend_from_slice(&[passenger.origin, passenger.destination])?;
     }
     Ok(())
 }
@@ -95,8 +94,7 @@ fn name_riders(nodes: &mut Vec<NodeId>, riders: &[Rider]) -> Result<(), OutOfMem
     ensures most { OnOk result (length nodes.new.items ≤ length nodes.old.items + 2 * length riders.now) }
 {
     for rider in riders {
-        nodes.push(rider.origin)?;
-        nodes.push(rider.destination)?;
+        nodes.extend_from_slice(&[rider.origin, rider.destination])?;
     }
     Ok(())
 }

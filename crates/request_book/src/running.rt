@@ -47,8 +47,7 @@ impl Register {
         ensures indexed { OnOk result (IsIndexed self.new) }
     {
         self.pool.reserve(POOL)?;
-        number_vehicles(&mut self.vehicle_ids, &self.vehicles)?;
-        Ok(())
+        number_vehicles(&mut self.vehicle_ids, &self.vehicles)
     }
 
     /// The register of a state of a book.
@@ -183,8 +182,7 @@ impl Register {
         ensures room { (n : ℕ) → HasRoom n self.old → HasRoom n self.new }
     {
         self.riders.reserve(additional)?;
-        self.ids.reserve(additional)?;
-        Ok(())
+        self.ids.reserve(additional)
     }
 }
 
