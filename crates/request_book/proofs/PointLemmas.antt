@@ -1,8 +1,7 @@
-use Rattle.std.proofs.Common.{◌≡◌, ℕ, ◌+◌, ◌<◌, ◌≤◌, List, ◌++◌, ◌∷◌, [], length, get_or, take, slice_get, Some, Ok, Err, Result, MatchResult, Contains, arith, ◌∙◌, inl, inr, ap, sym}
-use Rattle.std.specs.List.{flat_map}
+use Rattle.std.proofs.Common.{◌≡◌, ℕ, ◌<◌, ◌≤◌, List, length, get_or, slice_get, Some, Ok, Err, Result, MatchResult, Contains, arith, ◌∙◌, inl, inr, ap}
 use Rattle.std.specs.List.Sorted.{IsStrictlyIncreasing, IsBinarySearchResult}
 use Rattle.std.specs.Ordering.{nat_cmp}
-use Rattle.std.proofs.lemmas.List.{flat_map_more, get_or_default, take_more}
+use Rattle.std.proofs.lemmas.List.{get_or_default}
 use Rattle.std.proofs.lemmas.Bool.{cases_lt}
 use Rattle.std.proofs.lemmas.List.Kept.{AllPairs-from_increasing}
 use Rattle.std.proofs.lemmas.List.Sorted.{searched}
@@ -25,8 +24,3 @@ found_place xs x (Err i) h up =
       | inl lt ↦ (let below : get_or xs has.0 0 < x = is.1 has.0 lt in absurd (omega (arith, below, at)))
       | inr ge ↦ (let above : x < get_or xs has.0 0 = is.2 has.0 ge has.1 in absurd (omega (arith, above, at)))
     ]
-
--- a list that a loop makes, some nodes for each element
-pub named-more : {X : Type 0} (f : X → List ℕ) (xs : List X) (i : ℕ) (x : X) (start old new : List ℕ) → i < length xs → x ≡ get_or xs i x → old ≡ start ++ flat_map f (take i xs) → new ≡ old ++ f x → new ≡ start ++ flat_map f (take (i + 1) xs)
-named-more f xs i x start old new within read so_far made =
-    made ∙ ap (λ ys. ys ++ f x) so_far ∙ flat_map_more f start (take i xs) x ∙ ap (λ ys. start ++ flat_map f ys) (ap (λ y. take i xs ++ y ∷ []) read ∙ sym (take_more xs i x within))

@@ -56,24 +56,24 @@ impl Command {
         ensures { result ≡ self.now }
     {
         match self {
-            &Command::Submit {
+            Command::Submit {
                 rider,
                 origin,
                 destination,
                 time,
                 party,
             } => Command::Submit {
-                rider,
-                origin,
-                destination,
-                time,
-                party,
+                rider: *rider,
+                origin: *origin,
+                destination: *destination,
+                time: *time,
+                party: *party,
             },
-            &Command::Cancel { rider } => Command::Cancel { rider },
+            Command::Cancel { rider } => Command::Cancel { rider: *rider },
             Command::Report { .. } => self.copied_of_vehicle(),
             Command::Pickup { .. } => self.copied_of_vehicle(),
             Command::Dropoff { .. } => self.copied_of_vehicle(),
-            &Command::Seal { now } => Command::Seal { now },
+            Command::Seal { now } => Command::Seal { now: *now },
             Command::Close { .. } => unreachable!(),
         }
     }
@@ -83,32 +83,32 @@ impl Command {
         ensures { result ≡ self.now }
     {
         match self {
-            &Command::Report {
+            Command::Report {
                 vehicle,
                 node,
                 time,
             } => Command::Report {
-                vehicle,
-                node,
-                time,
+                vehicle: *vehicle,
+                node: *node,
+                time: *time,
             },
-            &Command::Pickup {
+            Command::Pickup {
                 vehicle,
                 rider,
                 time,
             } => Command::Pickup {
-                vehicle,
-                rider,
-                time,
+                vehicle: *vehicle,
+                rider: *rider,
+                time: *time,
             },
-            &Command::Dropoff {
+            Command::Dropoff {
                 vehicle,
                 rider,
                 time,
             } => Command::Dropoff {
-                vehicle,
-                rider,
-                time,
+                vehicle: *vehicle,
+                rider: *rider,
+                time: *time,
             },
             Command::Submit { .. } => unreachable!(),
             Command::Cancel { .. } => unreachable!(),

@@ -84,7 +84,8 @@ fn name_vehicle(nodes: &mut Vec<NodeId>, vehicle: &Vehicle) -> Result<(), OutOfM
 {
     nodes.push(vehicle.node)?;
     for passenger in vehicle.aboard.as_slice() {
-        nodes.extend_from_slice(&[passenger.origin, passenger.destination])?;
+        nodes.push(passenger.origin)?;
+        nodes.push(passenger.destination)?;
     }
     Ok(())
 }
@@ -94,7 +95,8 @@ fn name_riders(nodes: &mut Vec<NodeId>, riders: &[Rider]) -> Result<(), OutOfMem
     ensures most { OnOk result (length nodes.new.items ≤ length nodes.old.items + 2 * length riders.now) }
 {
     for rider in riders {
-        nodes.extend_from_slice(&[rider.origin, rider.destination])?;
+        nodes.push(rider.origin)?;
+        nodes.push(rider.destination)?;
     }
     Ok(())
 }

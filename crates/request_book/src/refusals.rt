@@ -2,7 +2,7 @@
 
 ghost use Rattle.std.specs.Prelude.{◌≡◌, ◌+◌, ◌<◌, ◌≤◌, ◌*◌, Option, Some, None, nat_le, length, sum_by, IfNone, if◌then◌else◌};
 ghost use Rattle.request_book.specs.Vehicle.{persons_aboard};
-ghost use Rattle.request_book.specs.lemmas.Refusals.{first_of, unknown_node, aboard_refusal, ended_refusal, promise_refusal, seat_refusal, time_back, vehicle_full, batch_open, clock_back, not_this_batch};
+ghost use Rattle.request_book.specs.lemmas.Refusals.{first_of, duplicate_rider, unknown_node, same_place, aboard_refusal, ended_refusal, promise_refusal, seat_refusal, time_back, vehicle_full, batch_open, clock_back, not_this_batch};
 
 use crate::passenger::Passenger;
 use crate::reply::BookRefusal;
@@ -29,18 +29,53 @@ pub(crate) fn first_of(refusals: &[Option<BookRefusal>]) -> Option<BookRefusal>
     None
 }
 
-/// This refusal, where it holds.
-pub(crate) fn refusal_if(holds: bool, refusal: BookRefusal) -> Option<BookRefusal>
-    ensures { result ≡ (if holds then Some refusal else None) }
+pub(crate) fn duplicate_rider(found: Option<BookRider>) -> Option<BookRefusal>
+    ensures { result ≡ duplicate_rider found }
 {
-    if holds { Some(refusal) } else { None }
+    match found {
+        Some(_) => Some(BookRefusal::DuplicateRider),
+        None => None,
+    }
 }
 
 pub(crate) fn unknown_node(nodes: &Numbering, node: NodeId) -> Option<BookRefusal>
     ensures { result ≡ unknown_node nodes.now.names node }
 {
-    let unknown = nodes.number_of(node.get()).is_none();
-    refusal_if(unknown, BookRefusal::UnknownNode)
+    if nodes.number_of(node.get()).is_some() {
+        None
+    } else {
+        Some(BookRefusal::UnknownNode)
+    }
+}
+
+pub(crate) fn same_place(origin: NodeId, destination: NodeId) -> Option<BookRefusal>
+    ensures { result ≡ same_place origin destination }
+{
+    if origin == destination {
+        Some(BookRefusal::SamePlace)
+    } else {
+        None
+    }
+}
+
+pub(crate) fn pool_full(pool: usize) -> Option<BookRefusal>
+    ensures { result ≡ (if nat_le 1000 pool then Some BookRefusal.PoolFull else None) }
+{
+    if pool >= POOL {
+        Some(BookRefusal::PoolFull)
+    } else {
+        None
+    }
+}
+
+pub(crate) fn book_full(riders: usize) -> Option<BookRefusal>
+    ensures { result ≡ (if nat_le 100000 riders then Some BookRefusal.BookFull else None) }
+{
+    if riders >= RIDERS {
+        Some(BookRefusal::BookFull)
+    } else {
+        None
+    }
 }
 
 pub(crate) fn is_aboard(status: Status) -> Option<BookRefusal>

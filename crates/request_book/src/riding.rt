@@ -11,8 +11,8 @@ ghost use Rattle.request_book.specs.lemmas.Table.{submit_refusal, submit_step, c
 
 use crate::passenger::Passenger;
 use crate::refusals::{
-    POOL, RIDERS, first_of, has_ended, is_aboard, not_aboard, not_promised, refusal_if, time_back,
-    unknown_node, vehicle_full,
+    book_full, duplicate_rider, first_of, has_ended, is_aboard, not_aboard, not_promised,
+    pool_full, same_place, time_back, unknown_node, vehicle_full,
 };
 use crate::register::Register;
 use crate::reply::{BookRefusal, Reply};
@@ -45,12 +45,12 @@ impl Register {
         ensures { result ≡ submit_refusal nodes.now.names (state_of self.now) new.now }
     {
         let refusals = [
-            refusal_if(self.rider(new.id).is_some(), BookRefusal::DuplicateRider),
+            duplicate_rider(self.rider(new.id)),
             unknown_node(nodes, new.origin),
             unknown_node(nodes, new.destination),
-            refusal_if(new.origin == new.destination, BookRefusal::SamePlace),
-            refusal_if(self.pool.len() >= POOL, BookRefusal::PoolFull),
-            refusal_if(self.riders.len() >= RIDERS, BookRefusal::BookFull),
+            same_place(new.origin, new.destination),
+            pool_full(self.pool.len()),
+            book_full(self.riders.len()),
         ];
         first_of(&refusals)
     }

@@ -47,7 +47,8 @@ impl Register {
         ensures indexed { OnOk result (IsIndexed self.new) }
     {
         self.pool.reserve(POOL)?;
-        number_vehicles(&mut self.vehicle_ids, &self.vehicles)
+        number_vehicles(&mut self.vehicle_ids, &self.vehicles)?;
+        Ok(())
     }
 
     /// The register of a state of a book.
@@ -182,7 +183,8 @@ impl Register {
         ensures room { (n : ℕ) → HasRoom n self.old → HasRoom n self.new }
     {
         self.riders.reserve(additional)?;
-        self.ids.reserve(additional)
+        self.ids.reserve(additional)?;
+        Ok(())
     }
 }
 

@@ -1,11 +1,11 @@
 -- The batch of a seal: what it shows, and what it keeps.
 use Rattle.std.proofs.Common.{◌≡◌, ◌≢◌, ℕ, zero, suc, ◌+◌, ◌≤◌, Bool, true, false, cond, List, [], ◌∷◌, ◌++◌, length, map, Option, Some, None, refl, sym, ap, subst, ◌∙◌, arith, is_some, option_map, option_and_then, count_by, rules}
-use Rattle.request_book.proofs.Common.{cons_option, nat_tests, IsStrictlyIncreasing, length-map, sum_by-cons, IsKept, riders_aboard, Passenger, Rider, Vehicle, BookRider, Expired, State, IsConsistent, seat_in, look_up, by_key, KeysRise, KeysDiffer, changed_in_turn, is_active, with_status, is_over, after_seal, batch_of, asking, over_id, find_rider, find_vehicle, find_passenger}
+use Rattle.request_book.proofs.Common.{cons_option, nat_tests, IsStrictlyIncreasing, length-map, sum_by-cons, IsKept, riders_aboard, Passenger, Rider, Vehicle, BookRider, Expired, State, IsConsistent, seat_in, look_up, by_key, KeysRise, KeysDiffer, changed_in_turn, pool_id, is_active, with_status, is_over, after_seal, batch_of, asking, over_id, find_rider, find_vehicle, find_passenger}
 use Rattle.std.specs.List.{filter_map, All, AllPairs}
 use Rattle.std.proofs.lemmas.List.{map-id, get_or-map}
-use Rattle.request_book.proofs.lemmas.IndexLemmas.{IsPool}
+use Rattle.request_book.proofs.lemmas.IndexLemmas.{IsPool, pool_id-keeps}
 use Rattle.request_book.proofs.lemmas.SealLemmas.{changed_in_turn-marked, marked, map-agree}
-use Rattle.request_book.proofs.lemmas.KeyedLemmas.{IsOrderOf, look_up-here, look_up-later, look_up-nil, look_up-key, look_up-at, pairs_from_rise, look_up-keys, differ-keys, look_up-filter_map, KeysDiffer-filter_map, KeysDiffer-from_rise, by_key-order, filter_map-by_key, length-by_key, length-filter_map, All-from_look_up, All-look_up}
+use Rattle.request_book.proofs.lemmas.KeyedLemmas.{IsOrderOf, look_up-here, look_up-later, look_up-nil, look_up-key, look_up-at, pairs_from_rise, look_up-keys, differ-keys, look_up-filter_map, KeysDiffer-filter_map, KeysDiffer-from_rise, by_key-order, filter_map-by_key, made-rise, made-found, look_up-map, length-by_key, length-filter_map, All-from_look_up, All-look_up}
 
 -- what is made of changed elements
 filter_map-map : {X Y Z : Type 0} (h : Y → Option Z) (g : X → Y) (xs : List X) → filter_map h (map g xs) ≡ filter_map (λ x. h (g x)) xs

@@ -1,5 +1,5 @@
 -- What a snapshot keeps, as proofs above cite it.
-use Rattle.std.proofs.Common.{rules, ◌≡◌, ℕ, ◌+◌, List, ◌++◌, map, length, get_or}
+use Rattle.std.proofs.Common.{rules, ◌≡◌, ℕ, ◌+◌, ◌-◌, List, ◌++◌, map, length, get_or}
 use Rattle.std.proofs.lemmas.List.{get_or-append_right, length-append}
 use Rattle.request_book.specs.Batch.{Batch}
 use Rattle.request_book.specs.Kept.{IsKept}

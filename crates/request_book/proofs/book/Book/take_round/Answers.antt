@@ -21,11 +21,3 @@ invariant_of-self c =
       room = no-room b.register;
       entries = omega (arith, c.replace-entries.new.dest.ok.1);
     }
-
-pub returns-clause-journal : goal.returns-clause-journal
-returns-clause-journal c =
-    let view = c.self.view_is in
-    let first = c.replace-first.ensures.value ∙ ap (λ (v : BookView). v.first) view in
-    let base = c.replace-base.ensures.value ∙ ap (λ (v : BookView). v.base) view in
-    let entries = c.of.ensures ∙ ap (λ (v : Vec Entry). v.items) c.replace-entries.ensures.value ∙ ap (λ (v : BookView). v.entries) view in
-    λ i. record { first = first i; base = base i; entries = entries i }

@@ -1,5 +1,6 @@
-use Rattle.std.proofs.Common.{◌≡◌, ◌+◌, ◌-◌, ◌<◌, ◌++◌, ◌∷◌, [], None, length, take, sym, ap, subst, ◌∙◌, arith}
+use Rattle.std.proofs.Common.{◌≡◌, ℕ, ◌+◌, ◌-◌, ◌<◌, ◌++◌, ◌∷◌, [], List, None, length, take, sym, ap, subst, ◌∙◌, arith}
 use Rattle.request_book.proofs.Common.{take_more, State, BookRider, find_rider, pool_count, state_of, HasRoom}
+use Rattle.std.proofs.lemmas.List.{take_all}
 use Rattle.request_book.proofs.lemmas.KeyedLemmas.{look_up-take}
 use Rattle.request_book.proofs.lemmas.IndexLemmas.{pool_count-more}
 use Rattle.request_book.proofs.register.Register.place_all.Goals as goal
