@@ -1,14 +1,10 @@
 -- What comes next within a round.
-use Rattle.std.proofs.Common.{◌≡◌, ℕ, ◌<◌, true, List, [], ◌∷◌, ◌++◌, length, set, refl, sym, ap, ◌∙◌, subst, append-nil, append_assoc, length-append, arith, rules}
-use Rattle.report_audit.proofs.Common.{of_lane, IsCloseOf, IsLaneBeginning, journal_of, entry_line, lines_text, entry_block, IsNextLine, LaneStand, stand_at, stand_after, HaveCome, IsNext, come_more, one_more, BookView, IsApplied, IsBook, next_position, state_after, step, Command, Close, Entry, Journal, Outcome, Reply, applied-book, Settings, Roads, NumberedLanes, lane_at, IsFirstLine, MayComeNext, position_behind, state_behind, with_entry, entries_text, IsBookOf}
+use Rattle.std.proofs.Common.{◌≡◌, ℕ, ◌<◌, true, List, [], ◌∷◌, ◌++◌, length, set, refl, sym, ap, ◌∙◌, subst, append-nil, append_assoc, arith, rules}
+use Rattle.report_audit.proofs.Common.{of_lane, IsCloseOf, IsLaneBeginning, journal_of, entry_line, lines_text, entry_block, IsNextLine, LaneStand, stand_at, stand_after, HaveCome, IsNext, come_more, one_more, BookView, IsApplied, IsBook, state_after, step, Command, Close, Entry, Journal, Outcome, Reply, applied-book, Settings, Roads, NumberedLanes, lane_at, IsFirstLine, MayComeNext, position_behind, state_behind, with_entry, entries_text, IsBookOf}
 use Rattle.report_audit.proofs.lemmas.NextLemmas.{one_kind}
 use Rattle.report_audit.specs.declared.next.NextLine.TheVariants.{Entry as EntryOf}
 use Rattle.report_audit.proofs.LaneLemmas.{begins_next, come_begins}
 use Rattle.report_audit.proofs.TextLemmas.{entries-more, entries-none}
-
--- the position behind one more entry
-pub push-position : (p : ℕ) (es : List Entry) (e : Entry) → one_more (next_position p es) ≡ next_position p (es ++ e ∷ [])
-push-position p es e = omega (arith, length-append es (e ∷ []))
 
 -- a book's state is the one behind its journal
 module _ (settings : Settings) (roads : Roads) (b : BookView) (of : IsBookOf settings roads b) where

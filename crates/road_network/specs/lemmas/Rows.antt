@@ -1,7 +1,6 @@
 -- Parts of the network that rows give, as proofs call them.
-use Rattle.std.specs.Prelude.{ℕ, ◌-◌, ◌^◌, List, [], ◌∷◌, Option, Some, None, is_none, Result, Ok, Err, length, map, nat_lt, if◌then◌else◌}
+use Rattle.std.specs.Prelude.{ℕ, ◌-◌, ◌^◌, List, [], ◌∷◌, Option, Some, None, is_none, length, map, nat_lt, if◌then◌else◌}
 use Rattle.std.specs.List.{flat_map, range_with_len}
-use Rattle.std.specs.Option.{option_map_or}
 use Rattle.pool_base.specs.InOrder.{first_fault}
 use Rattle.pool_base.specs.Numeral.{number_up_to, number_at}
 use Rattle.pool_io.specs.Table.{field_at}
@@ -41,7 +40,3 @@ field_refusal row fields =
 -- the first refusal among rows
 abbrev pub first_refusal : List (List (List ℕ)) → Option NetworkFault
 first_refusal rows = first_fault (refusal_at rows) (length rows)
-
--- the network, where nothing is refused
-abbrev pub unless_refused : Option NetworkFault → Roads → Result Roads NetworkFault
-unless_refused refusal roads = option_map_or (λ fault. Err fault) refusal (Ok roads)
