@@ -61,7 +61,7 @@
 //!
 //! Main clauses: `run_round`: `run`, `same`, `ready`; `Progress::at_start`: `come`; `Progress::take`: `come`;
 //! `Progress::are_done`; `SharedBook::call`: `pass`, `call`, `refused`, `light`; `SharedBook::finish`: `finished`, `calls`,
-//! `kept`; `sealed_by_command`: `snapshot`; `solve_batch`: its one clause, `IsGoodOutcome`; `settle`: `settled`, `sound`;
+//! `kept`; `sealed_by_command`: `snapshot`; of `solve_batch` its one clause, `IsGoodOutcome`; `settle`: `settled`, `sound`;
 //! `rebalance`: `best`, `rising`, `total` and `potentials`, which README.md quotes.
 #![tactic(auto)]
 
