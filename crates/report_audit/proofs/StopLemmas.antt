@@ -66,6 +66,10 @@ pub stop_item : IsItem stop_text FitsStop
 unfolding numbered
 stop_item = search (rules, stop_once)
 
+pub order_no_delay : {text : List ℕ} → text ≢ codes " none" → BeginsWithNone spaced (λ n. n ≤ 18446744073709551615) text → (order : ℕ × Option (List PlannedStop)) → IsOrder order → text ≢ order_text order
+order_no_delay other none (delay, None) is e = other e
+order_no_delay other none (delay, Some stops) is e = none delay (flat_map stop_text stops) (record { whole = e; lawful = omega (arith, is.0); ends = many_end stop_item stops })
+
 pub order_no_stops : {text : List ℕ} → text ≢ codes " none" → {given : ℕ} {after : List ℕ} → BeginsWith spaced (λ n. n ≤ 18446744073709551615) text given after → ((stops : List PlannedStop) → All FitsStop stops → after ≢ flat_map stop_text stops) → (order : ℕ × Option (List PlannedStop)) → IsOrder order → text ≢ order_text order
 order_no_stops other b none (delay, None) is e = other e
 order_no_stops other b none (delay, Some stops) is e =

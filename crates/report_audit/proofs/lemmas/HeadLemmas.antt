@@ -1,5 +1,5 @@
 -- The line of the settings.
-use Rattle.std.proofs.Common.{◌≡◌, ◌≢◌, ℕ, Bool, true, false, if◌then◌else◌, codes, List, [], ◌∷◌, ◌++◌, refl, sym, ap, ◌∙◌, append_assoc, arith, rules}
+use Rattle.std.proofs.Common.{◌≡◌, ◌≢◌, ℕ, zero, suc, Bool, true, false, if◌then◌else◌, nat_eq, length, codes, List, [], ◌∷◌, ◌++◌, refl, sym, ap, ◌∙◌, append_assoc, arith, rules}
 use Rattle.std.proofs.lemmas.Bool.Decides.{nat_tests}
 use Rattle.report_audit.proofs.Common.{is_ascii_digit, numbered, IsShortNumber, settings_text, AreSettings, BeginsWith, BeginsWithNone, ends_number, both_texts, BothAre, SettingsText, dwell_text}
 use Rattle.report_audit.proofs.lemmas.ReadingLemmas.{EndsOnce, StandsApart, TextIsOfOne, both_once, numbered_once, of_one, pair_is}
@@ -15,8 +15,16 @@ dwell_ends : (dwell : ℕ) → ends_number (dwell_text dwell) ≡ true
 unfolding numbered
 dwell_ends dwell = grind (arith, nat_tests)
 
+dwell_told : (dwell : ℕ) → dwell ≢ 0 → dwell_text dwell ≡ numbered (codes " dwell=") dwell
+dwell_told dwell some = grind (arith, nat_tests)
+
 dwell_number : TextIsOfOne (numbered (codes " dwell=")) IsShortNumber
 dwell_number = of_one (short_once (codes " dwell="))
+
+-- no dwell is told as 0
+pub dwell_not_zero : (text : List ℕ) (told : ℕ) → nat_eq (length text) 0 ≡ false → told ≡ 0 → text ≡ numbered (codes " dwell=") told → (dwell : ℕ) → IsShortNumber dwell → text ≢ dwell_text dwell
+dwell_not_zero text told some zero_told is zero within e = search rules
+dwell_not_zero text told some zero_told is (suc dwell) within e = search (rules, dwell_text, dwell_told, dwell_number)
 
 dwell_of_one : (a b : ℕ) → IsShortNumber a → IsShortNumber b → dwell_text a ≡ dwell_text b → a ≡ b
 unfolding numbered
