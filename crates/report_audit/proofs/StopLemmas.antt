@@ -79,7 +79,3 @@ pub order_ends : (order : ℕ × Option (List PlannedStop)) → ends_number (ord
 unfolding numbered
 order_ends (delay, None) = refl
 order_ends (delay, Some stops) = refl
-
-pub stop_some : {text : List ℕ} {pick : Bool} {rider node second : ℕ} {rest : List ℕ} (r n : ℕ) → r ≡ rider → n ≡ node → BeginsWith parts_text AreParts text (((pick, rider), node), second) rest
-    → BeginsWith stop_text FitsStop text (record { pick = pick; rider = r; node = n; second = second }) rest
-stop_some {text} {pick} {rider} {node} {second} {rest} r n rider_is node_is b = search rules

@@ -1,11 +1,10 @@
-ghost use Rattle.std.specs.Prelude.{◌≡◌, ℕ, ◌≤◌, List, [], ◌∷◌, ◌++◌, drop, IfOk, IfErr, MatchOption, MatchResult, ◌<◌, ◌^◌, true};
+ghost use Rattle.std.specs.Prelude.{◌≡◌, ℕ, ◌≤◌, List, [], ◌∷◌, drop, IfOk, IfErr, MatchResult, ◌<◌, ◌^◌, true};
 ghost use Rattle.report_audit.specs.HeadFault.{HeadFails, LinesFail, head_lines, sizes_of, HeadLine};
 ghost use Rattle.report_audit.specs.Head.{BeginsWithHead};
 ghost use Rattle.report_audit.specs.HeadLines.{AreSizes, settings_text, AreSettings, sizes_text};
 ghost use Rattle.report_audit.specs.work.Head.{HasHead, HasLines, LinesThen, fleet_line, sizes_lines, dwell_text, IsShortNumber, told_of};
 ghost use Rattle.rider_limits.specs.declared.settings.Settings.{Settings};
-ghost use Rattle.report_audit.specs.Reading.{BeginsWith, BeginsWithNone, BothAre, IsReadAs, both_texts, ends_number};
-ghost use Rattle.dispatch_report.specs.Words.{numbered};
+ghost use Rattle.report_audit.specs.Reading.{IsReadAs};
 ghost use Rattle.report_audit.specs.Settings.{AreSettingsOf, AreLawful};
 
 use crate::head_fault::HeadFault;
@@ -140,9 +139,12 @@ pub struct SettingsText {
 pub fn read_settings(line: &[u8]) -> Option<SettingsText>
     ensures { IsReadAs settings_text AreSettings line.now result }
 {
-    let ((wait, delay), after_delay) = two_first(line, b"settings wait=", b" delay=")?;
-    let ((trip, penalty), after_penalty) = two_first(after_delay, b" trip=", b" penalty=")?;
-    let ((budget, pairs), after_pairs) = two_first(after_penalty, b" budget=", b" pairs=")?;
+    let (wait, after_wait) = numbered_first(line, b"settings wait=", MOST)?;
+    let (delay, after_delay) = numbered_first(after_wait, b" delay=", MOST)?;
+    let (trip, after_trip) = numbered_first(after_delay, b" trip=", MOST)?;
+    let (penalty, after_penalty) = numbered_first(after_trip, b" penalty=", MOST)?;
+    let (budget, after_budget) = numbered_first(after_penalty, b" budget=", MOST)?;
+    let (pairs, after_pairs) = numbered_first(after_budget, b" pairs=", MOST)?;
     let (proof, rest) = numbered_first(after_pairs, b" proof=", MOST)?;
     let dwell = read_dwell(rest)?;
     Some(SettingsText {
@@ -155,18 +157,6 @@ pub fn read_settings(line: &[u8]) -> Option<SettingsText>
         proof,
         dwell,
     })
-}
-
-/// Two numbers, each behind its words, and what follows them.
-fn two_first<'a>(text: &'a [u8], words: &[u8], others: &[u8]) -> Option<((u64, u64), &'a [u8])>
-    requires apart { (rest : List ℕ) → ends_number (others.now ++ rest) ≡ true }
-    ensures { MatchOption result
-        (BeginsWithNone (both_texts (numbered words.now) (numbered others.now)) (BothAre IsShortNumber IsShortNumber) text.now)
-        (λ r. BeginsWith (both_texts (numbered words.now) (numbered others.now)) (BothAre IsShortNumber IsShortNumber) text.now r.0 r.1.now) }
-{
-    let (first, after) = numbered_first(text, words, MOST)?;
-    let (second, rest) = numbered_first(after, others, MOST)?;
-    Some(((first, second), rest))
 }
 
 /// The numbers of nodes and arcs that the line of the network tells.

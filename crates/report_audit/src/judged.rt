@@ -95,7 +95,7 @@ fn planned(told: BlockTold, parts: Parts) -> Outcome
 fn lates_of(alloc: Global, lines: &[LateText]) -> Result<Vec<LateVehicle>, OutOfMemory>
     ensures { IfOk result (λ items. items.items ≡ map late_of lines.now) }
 {
-    let items = lines.iter().map(late_of).collect(alloc)?;
+    let items = lines.iter().map(|line| late_of(line)).collect(alloc)?;
     Ok(items)
 }
 
@@ -115,7 +115,7 @@ fn late_of(late: &LateText) -> LateVehicle
 fn rows_of(alloc: Global, lines: &[RowText]) -> Result<Vec<RowLine>, OutOfMemory>
     ensures { IfOk result (λ items. items.items ≡ map row_of lines.now) }
 {
-    let items = lines.iter().map(row_of).collect(alloc)?;
+    let items = lines.iter().map(|line| row_of(line)).collect(alloc)?;
     Ok(items)
 }
 
@@ -132,7 +132,7 @@ fn row_of(row: &RowText) -> RowLine
 fn trips_of(alloc: Global, lines: &[TripText]) -> Result<Vec<ChosenTrip>, OutOfMemory>
     ensures { IfOk result (λ items. items.items ≡ map trip_of lines.now) }
 {
-    let items = lines.iter().map(trip_of).collect(alloc)?;
+    let items = lines.iter().map(|line| trip_of(line)).collect(alloc)?;
     Ok(items)
 }
 

@@ -38,7 +38,7 @@ pub fn is_fair(
     };
     for node in tree.nodes() {
         if walk.ended {
-            unreachable!();
+            return Ok(false);
         }
         walk.path.mark_usable(graph, &mut usable);
         if !is_fair_node(alloc, graph, &index, &usable, node, bound, limit)? {

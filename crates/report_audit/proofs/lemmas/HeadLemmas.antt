@@ -1,8 +1,8 @@
 -- The line of the settings.
 use Rattle.std.proofs.Common.{◌≡◌, ◌≢◌, ℕ, zero, suc, Bool, true, false, if◌then◌else◌, nat_eq, length, codes, List, [], ◌∷◌, ◌++◌, refl, sym, ap, ◌∙◌, append_assoc, arith, rules}
 use Rattle.std.proofs.lemmas.Bool.Decides.{nat_tests}
-use Rattle.report_audit.proofs.Common.{is_ascii_digit, numbered, IsShortNumber, settings_text, AreSettings, BeginsWith, BeginsWithNone, ends_number, both_texts, BothAre, SettingsText, dwell_text}
-use Rattle.report_audit.proofs.lemmas.ReadingLemmas.{EndsOnce, StandsApart, TextIsOfOne, both_once, numbered_once, of_one, pair_is}
+use Rattle.report_audit.proofs.Common.{is_ascii_digit, numbered, IsShortNumber, settings_text, AreSettings, BeginsWith, BeginsWithNone, ends_number, SettingsText, dwell_text}
+use Rattle.report_audit.proofs.lemmas.ReadingLemmas.{EndsOnce, TextIsOfOne, numbered_once, of_one, pair_is}
 
 short_once : (words : List ℕ) → EndsOnce (numbered words) IsShortNumber
 short_once words = numbered_once words 4294967295 (omega arith)
@@ -79,38 +79,6 @@ none_behind {w} {ws} {text} {n} {after} b none =
 
 pub field_behind : (w : List ℕ) {Is : ℕ → Type 0} {text after rest : List ℕ} {n : ℕ} → BeginsWith (numbered w) Is text n after → after ≡ rest → text ≡ numbered w n ++ rest
 field_behind w {Is} {text} {after} {rest} {n} b e = b.whole ∙ ap (λ r. numbered w n ++ r) e
-
--- two numbers at once
-abbrev pub TwoBegin : List ℕ → List ℕ → List ℕ → ℕ × ℕ → List ℕ → Type 0
-TwoBegin w v text p after = BeginsWith (both_texts (numbered w) (numbered v)) (BothAre IsShortNumber IsShortNumber) text p after
-
-stands_apart : (v : List ℕ) (ws : List (List ℕ)) → are_apart (v ∷ ws) ≡ true → StandsApart (numbered v)
-unfolding numbered
-stands_apart [] ws apart = cc
-stands_apart (c ∷ cs) ws apart = record { apart = λ n rest ends. grind (arith, nat_tests) }
-
-begins_two : (w v : List ℕ) (ws : List (List ℕ)) (text : List ℕ) (ns : Numbers (w ∷ v ∷ ws)) (dwell : ℕ) → are_apart (w ∷ v ∷ ws) ≡ true → AreShort (w ∷ v ∷ ws) ns → text ≡ fields_text (w ∷ v ∷ ws) ns dwell → TwoBegin w v text (ns.0, ns.1.0) (fields_text ws ns.1.1 dwell)
-begins_two w v ws text ns dwell apart short e =
-    record {
-      whole = e ∙ sym (append_assoc (numbered w ns.0) (numbered v ns.1.0) (fields_text ws ns.1.1 dwell));
-      lawful = (short.0, short.1.0);
-      ends = fields_end ws ns.1.1 dwell (apart_behind v ws (apart_behind w (v ∷ ws) apart));
-    }
-
-pub none_of_two : {w v : List ℕ} {ws : List (List ℕ)} {text : List ℕ} → ((p : ℕ × ℕ) (rest : List ℕ) → TwoBegin w v text p rest → ⊥) → IsNoFields (w ∷ v ∷ ws) text
-none_of_two {w} {v} {ws} {text} none = record { never = λ apart ns dwell short is e. none _ _ (begins_two w v ws text ns dwell apart short e) }
-
-pub none_behind_two : {w v : List ℕ} {ws : List (List ℕ)} {text : List ℕ} {p : ℕ × ℕ} {after : List ℕ} → TwoBegin w v text p after → IsNoFields ws after → IsNoFields (w ∷ v ∷ ws) text
-none_behind_two {w} {v} {ws} {text} {p} {after} b none =
-    record {
-      never = λ apart ns dwell short is e.
-          let behind = apart_behind w (v ∷ ws) apart in
-          let once = both_once (stands_apart v ws behind) (short_once w) (short_once v) in
-          none.never (apart_behind v ws behind) ns.1.1 dwell short.1.1 is (once.once text p (ns.0, ns.1.0) after (fields_text ws ns.1.1 dwell) b (begins_two w v ws text ns dwell apart short e)).1;
-    }
-
-pub two_behind : (w v : List ℕ) {text after rest : List ℕ} {p : ℕ × ℕ} → TwoBegin w v text p after → after ≡ rest → text ≡ numbered w p.0 ++ (numbered v p.1 ++ rest)
-two_behind w v {text} {after} {rest} {p} b e = b.whole ∙ append_assoc (numbered w p.0) (numbered v p.1) after ∙ ap (λ r. numbered w p.0 ++ (numbered v p.1 ++ r)) e
 
 -- the same text is that of the same numbers
 same_fields : (ws : List (List ℕ)) (ns ms : Numbers ws) (d e : ℕ) → are_apart ws ≡ true → AreShort ws ns → AreShort ws ms → IsShortNumber d → IsShortNumber e → fields_text ws ns d ≡ fields_text ws ms e → (ns ≡ ms) × (d ≡ e)

@@ -1,20 +1,15 @@
 -- Late vehicles, and orders of their passengers.
 use Rattle.std.proofs.Common.{IsTrue, ◌↔◌, ◌≡◌, ℕ, true, false, not, eqb, ⊎_elim, List, [], refl, sym, ap, ◌∙◌, subst, arith, rules}
 use Rattle.report_audit.proofs.Common.{PlannedStop, Settled, Stop, Task, trip_task, IsOrderOf, ReachesAll, order_delay, told_stops, IsLateOrder, IsLeast}
-use Rattle.std.proofs.lemmas.Bool.{eq-eqb, false≢true, true≢false}
 use Rattle.std.proofs.lemmas.Bool.Decides.{eqb_tells}
 
 -- no is said of what isn't so
 pub rightly_no : {A : Type 0} → (A → ⊥) → IsTrue false ↔ A
-rightly_no none = (λ no. absurd (false≢true no), λ is. absurd (none is))
+rightly_no none = (λ no. absurd (let f : false ≡ true = no in cc), λ is. absurd (none is))
 
 -- ids that don't differ are the same
 pub same_id : (a b : ℕ) → false ≡ not (eqb a b) → a ≡ b
-same_id a b e = ⊎_elim (λ yes. yes.1) (λ no. absurd (false≢true (e ∙ ap not no.0))) (eqb_tells a b)
-
--- an id that differs from a vehicle's is no id of it
-pub other_id : (a b d : ℕ) → true ≡ not (eqb a b) → b ≡ d → a ≡ d → ⊥
-other_id a b d e same is = true≢false (e ∙ ap not (eq-eqb a b (is ∙ sym same)))
+same_id a b e = ⊎_elim (λ yes. yes.1) (λ no. absurd (let f : false ≡ true = e ∙ ap not no.0 in cc)) (eqb_tells a b)
 
 module _ (points : List ℕ) (tau : ℕ → ℕ → ℕ) (settled : Settled) (v : ℕ) (task : Task) (same : task ≡ trip_task settled v []) where
   pub late_order_of : (delay : ℕ) (lines : List PlannedStop) (late : IsLateOrder points tau settled v delay lines) → IsOrderOf task late.stops

@@ -1,7 +1,5 @@
 -- The first line of a text, and what fails of it.
-use Rattle.std.proofs.Common.{◌≡◌, ℕ, ◌+◌, ◌-◌, ◌<◌, true, List, [], ◌∷◌, ◌++◌, length, get_or, take, drop, sym, ap, ◌∙◌, subst, append_assoc, arith}
-use Rattle.std.proofs.lemmas.Bool.Decides.{nat_tests}
-use Rattle.std.proofs.lemmas.List.{drop-drop, drop_more, take-append-drop, take_more, take_rest}
+use Rattle.std.proofs.Common.{◌≡◌, ℕ, true, List, [], ◌∷◌, ◌++◌, sym, ◌∙◌, subst, append_assoc}
 use Rattle.report_audit.proofs.Common.{HeadLine, HasForm, FitsLine, LineFails, IsFirstLine, HeadFault, is_one_line}
 use Rattle.report_audit.specs.declared.head_fault.HeadFault.TheVariants.{Cut, Form, Head}
 use Rattle.report_audit.proofs.lemmas.OneBlock.{cut_once, no_one_line}
@@ -25,18 +23,3 @@ line_no_fault form number text (Head n) (at, first, behind, has, its_form, other
 -- a line, and the lines that follow it
 pub line_more : (a ys rest : List ℕ) → ((a ++ 10 ∷ []) ++ ys) ++ rest ≡ a ++ 10 ∷ (ys ++ rest)
 line_more a ys rest = append_assoc (a ++ 10 ∷ []) ys rest ∙ append_assoc a (10 ∷ []) (ys ++ rest)
-
--- a text up to a line feed
-pub one_line_more : (text : List ℕ) (i : ℕ) → i < length text → (get_or text i 0 ≡ 10 → ⊥) → is_one_line (take i text) ≡ true → is_one_line (take (i + 1) text) ≡ true
-one_line_more text i within other one = rw (take_more text i 0 within) (pushed (take i text) (get_or text i 0) one other)
-  where
-    pushed : (xs : List ℕ) (c : ℕ) → is_one_line xs ≡ true → (c ≡ 10 → ⊥) → is_one_line (xs ++ c ∷ []) ≡ true
-    pushed [] c one other = grind (arith, nat_tests)
-    pushed (x ∷ xs) c one other = grind (arith, nat_tests, λ (e : is_one_line xs ≡ true). pushed xs c e other)
-
-pub cut_line : (text line rest : List ℕ) (i : ℕ) → line ≡ take i text → rest ≡ drop i text → i < length text → get_or text i 0 ≡ 10 → is_one_line (take i text) ≡ true
-    → (text ≡ line ++ 10 ∷ take (length rest - 1) (drop 1 rest)) × (is_one_line line ≡ true)
-cut_line text line rest i front back within feed one =
-    let behind = sym (take_rest rest 1 ∙ ap (λ r. drop 1 r) back ∙ drop-drop 1 i text) in
-    let after = drop_more text i 0 within ∙ ap (λ c. c ∷ drop (i + 1) text) feed ∙ ap (λ r. 10 ∷ r) behind in
-    (sym (take-append-drop i text) ∙ ap (λ l. l ++ drop i text) (sym front) ∙ ap (λ r. line ++ r) after, ap is_one_line front ∙ one)

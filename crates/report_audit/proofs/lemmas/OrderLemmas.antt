@@ -1,5 +1,5 @@
 -- Orders are read back from what is told of them.
-use Rattle.std.proofs.Common.{◌≡◌, ℕ, ◌+◌, ◌<◌, ◌≤◌, List, [], ◌∷◌, ◌++◌, length, get_or, map, zip, take, Option, Some, None, refl, sym, ap, ◌∙◌, subst, arith, rules}
+use Rattle.std.proofs.Common.{◌≡◌, ℕ, ◌+◌, ◌<◌, ◌≤◌, List, [], ◌∷◌, ◌++◌, length, get_or, map, zip, take, refl, sym, ap, ◌∙◌, subst, arith, rules}
 use Rattle.report_audit.proofs.Common.{get_or-map, length-map, AllByRecursion, take_more, length_push, PlannedStop, Settled, Stop, Pick, IsKnown, trip_task, vehicle_at, rider_at, IsOrderOf, seconds_of, told_stop, told_stops}
 use Rattle.std.proofs.lemmas.List.{take_all}
 use Rattle.std.proofs.lemmas.List.Elements.{All-from_recursion}
@@ -85,10 +85,3 @@ module _ (settled : Settled) (v : ℕ) (trip : List ℕ) (told : List PlannedSto
   read_all order done points tau stops o is =
       let long : length told ≡ length stops = ap (λ (xs : List PlannedStop). length xs) is ∙ told_long points tau settled v trip stops in
       done.back points tau stops o is ∙ take_all (length told) stops (omega (arith, long))
-
--- an option is of one kind, and holds one thing
-pub none_some : {X : Type 0} (r : Option X) (x : X) → r ≡ None → r ≡ Some x → ⊥
-none_some r x none some = cc
-
-pub same_some : {X : Type 0} (r : Option X) (x y : X) → r ≡ Some x → r ≡ Some y → x ≡ y
-same_some r x y one other = cc

@@ -1,5 +1,4 @@
-use Rattle.std.proofs.Common.{◌≡◌, ◌↔◌, Bool, false, IsTrue, Result, Ok, Err, IfOk, sym, ap, ◌∙◌, of_z}
-use Rattle.std.proofs.lemmas.Bool.{false≢true}
+use Rattle.std.proofs.Common.{◌≡◌, ◌↔◌, Bool, true, false, IsTrue, Result, Ok, Err, IfOk, sym, ap, ◌∙◌, of_z}
 use Rattle.report_audit.proofs.Common.{ShowsBound, IsRefusal}
 use mir.Syntax.{w128}
 use Rattle.report_audit.proofs.lemmas.FaultLemmas.{one_value, whole_of_value, no_tree}
@@ -8,7 +7,7 @@ use Rattle.report_audit.proofs.bound.shows_bound.Goals as goal
 
 pub returns-then-value-bound : goal.returns-then-value-bound
 returns-then-value-bound c = (
-  λ is. absurd (false≢true is),
+  λ is. absurd (let no : false ≡ true = is in cc),
   λ has. absurd (c.if-value-bound.true (ap (of_z w128) (one_value c.args.graph.now c.args.tree.now c.in-Ok.value c.args.bound.now c.in-Ok.ensures.tree has.tree))),
 )
 
@@ -18,6 +17,6 @@ returns-in-Err c = by c.refused.result c.refused.ensures
     by : (r : Result Bool NoMemory) → IfOk r (λ told. (told ≡ false) × IsRefusal c.in-Err.fault) → IfOk r (λ told. IsTrue told ↔ ShowsBound c.args.graph.now c.args.budget c.args.bound.now c.args.tree.now)
     by (Err e) h = tt
     by (Ok told) h = (
-      λ is. absurd (false≢true (sym h.0 ∙ is)),
+      λ is. absurd (let no : true ≡ false = sym is ∙ h.0 in cc),
       λ has. absurd (no_tree c.args.graph.now c.args.tree.now c.in-Err.fault h.1 c.in-Err.ensures.fault (whole_of_value c.args.graph.now c.args.tree.now c.args.bound.now has.tree)),
     )

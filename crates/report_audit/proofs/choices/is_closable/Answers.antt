@@ -1,5 +1,4 @@
-use Rattle.std.proofs.Common.{◌≡◌, ◌≤◌, ℕ, sym, ap, ◌∙◌, arith}
-use Rattle.std.proofs.lemmas.Bool.{false≢true}
+use Rattle.std.proofs.Common.{◌≡◌, ◌≤◌, ℕ, false, true, sym, ap, ◌∙◌, arith}
 use Rattle.report_audit.proofs.Common.{nat_tests, every_row, choice_count, product_below}
 use Rattle.report_audit.proofs.lemmas.ChoiceLemmas.{row_choices, choices_all, choices_more}
 use Rattle.report_audit.proofs.choices.is_closable.Goals as goal
@@ -12,7 +11,7 @@ returns-then-choices-budget c =
     let product = c.loop-vehicle.invariant.product in
     let over = c.if-choices-budget.true in
     let same = c.from-budget.ensures in
-    (λ no. absurd (false≢true no), λ few. absurd (omega (arith, more, product, over, same, few)))
+    (λ no. absurd (let f : false ≡ true = no in cc), λ few. absurd (omega (arith, more, product, over, same, few)))
 
 pub returns : goal.returns
 returns c =

@@ -1,36 +1,33 @@
-use Rattle.std.proofs.Common.{sym, ◌∙◌}
-use Rattle.report_audit.proofs.lemmas.HeadLemmas.{no_settings_line, none_here, none_behind, none_of_two, none_behind_two, field_behind, two_behind, settings_fields}
+use Rattle.std.proofs.Common.{rules, sym, ◌∙◌}
+use Rattle.report_audit.proofs.lemmas.HeadLemmas.{no_settings_line, none_here, none_behind, field_behind, settings_fields}
 use Rattle.report_audit.proofs.head.read_settings.Goals as goal
 
 pub returns-in_err-wait : goal.returns-in_err-wait
-returns-in_err-wait c = rw c.from_residual.ensures (no_settings_line (none_of_two c.in_err-wait.ensures))
+returns-in_err-wait c = rw c.from_residual.ensures (no_settings_line (none_here c.in_err-wait.ensures))
+
+pub returns-in_err-delay : goal.returns-in_err-delay
+returns-in_err-delay c = rw c.from_residual-in_err-delay.ensures (no_settings_line (none_behind c.in_ok-wait.ensures (none_here c.in_err-delay.ensures)))
 
 pub returns-in_err-trip : goal.returns-in_err-trip
-returns-in_err-trip c = rw c.from_residual-in_err-trip.ensures (no_settings_line (none_behind_two c.in_ok-wait.ensures (none_of_two c.in_err-trip.ensures)))
+returns-in_err-trip c = rw c.from_residual-in_err-trip.ensures (no_settings_line (none_behind c.in_ok-wait.ensures (none_behind c.in_ok-delay.ensures (none_here c.in_err-trip.ensures))))
+
+pub returns-in_err-penalty : goal.returns-in_err-penalty
+returns-in_err-penalty c = rw c.from_residual-in_err-penalty.ensures (no_settings_line (none_behind c.in_ok-wait.ensures (none_behind c.in_ok-delay.ensures (none_behind c.in_ok-trip.ensures (none_here c.in_err-penalty.ensures)))))
 
 pub returns-in_err-budget : goal.returns-in_err-budget
-returns-in_err-budget c = rw c.from_residual-in_err-budget.ensures (no_settings_line (none_behind_two c.in_ok-wait.ensures (none_behind_two c.in_ok-trip.ensures (none_of_two c.in_err-budget.ensures))))
+returns-in_err-budget c = rw c.from_residual-in_err-budget.ensures (no_settings_line (none_behind c.in_ok-wait.ensures (none_behind c.in_ok-delay.ensures (none_behind c.in_ok-trip.ensures (none_behind c.in_ok-penalty.ensures (none_here c.in_err-budget.ensures))))))
+
+pub returns-in_err-pairs : goal.returns-in_err-pairs
+returns-in_err-pairs c = rw c.from_residual-in_err-pairs.ensures (no_settings_line (none_behind c.in_ok-wait.ensures (none_behind c.in_ok-delay.ensures (none_behind c.in_ok-trip.ensures (none_behind c.in_ok-penalty.ensures (none_behind c.in_ok-budget.ensures (none_here c.in_err-pairs.ensures)))))))
 
 pub returns-in_err-proof : goal.returns-in_err-proof
-returns-in_err-proof c = rw c.from_residual-in_err-proof.ensures (no_settings_line (none_behind_two c.in_ok-wait.ensures (none_behind_two c.in_ok-trip.ensures (none_behind_two c.in_ok-budget.ensures (none_here c.in_err-proof.ensures)))))
+returns-in_err-proof c = rw c.from_residual-in_err-proof.ensures (no_settings_line (none_behind c.in_ok-wait.ensures (none_behind c.in_ok-delay.ensures (none_behind c.in_ok-trip.ensures (none_behind c.in_ok-penalty.ensures (none_behind c.in_ok-budget.ensures (none_behind c.in_ok-pairs.ensures (none_here c.in_err-proof.ensures))))))))
 
 pub returns-in_err-dwell : goal.returns-in_err-dwell
-returns-in_err-dwell c = rw c.from_residual-in_err-dwell.ensures (no_settings_line (none_behind_two c.in_ok-wait.ensures (none_behind_two c.in_ok-trip.ensures (none_behind_two c.in_ok-budget.ensures (none_behind c.in_ok-proof.ensures (record { never = λ apart ns dwell short is. c.in_err-dwell.ensures dwell is }))))))
+returns-in_err-dwell c = rw c.from_residual-in_err-dwell.ensures (no_settings_line (none_behind c.in_ok-wait.ensures (none_behind c.in_ok-delay.ensures (none_behind c.in_ok-trip.ensures (none_behind c.in_ok-penalty.ensures (none_behind c.in_ok-budget.ensures (none_behind c.in_ok-pairs.ensures (none_behind c.in_ok-proof.ensures (record { never = λ apart ns dwell short is. c.in_err-dwell.ensures dwell is })))))))))
 
 pub returns : goal.returns
-returns c =
-    let first = c.in_ok-wait.ensures in
-    let second = c.in_ok-trip.ensures in
-    let third = c.in_ok-budget.ensures in (
-      record {
-        wait = first.lawful.0;
-        delay = first.lawful.1;
-        trip = second.lawful.0;
-        penalty = second.lawful.1;
-        budget = third.lawful.0;
-        pairs = third.lawful.1;
-        proof = c.in_ok-proof.ensures.lawful;
-        dwell = c.in_ok-dwell.ensures.0;
-      },
-      two_behind _ _ first (two_behind _ _ second (two_behind _ _ third (field_behind _ c.in_ok-proof.ensures c.in_ok-dwell.ensures.1))) ∙ sym (settings_fields _),
-    )
+returns c = (
+  search rules,
+  field_behind _ c.in_ok-wait.ensures (field_behind _ c.in_ok-delay.ensures (field_behind _ c.in_ok-trip.ensures (field_behind _ c.in_ok-penalty.ensures (field_behind _ c.in_ok-budget.ensures (field_behind _ c.in_ok-pairs.ensures (field_behind _ c.in_ok-proof.ensures c.in_ok-dwell.ensures.1)))))) ∙ sym (settings_fields _),
+)

@@ -1,7 +1,7 @@
-use Rattle.std.proofs.Common.{◌≡◌, List, refl, sym, ap, ◌∙◌, subst}
-use Rattle.report_audit.proofs.Common.{PlannedStop, valid_task, vehicle_read, point_count, travel_time, Stop, Task, SettledVehicle, IsOrderOf, ReachesAll, IsLateOrder, HasNoOrder}
+use Rattle.std.proofs.Common.{List, refl, ap, ◌∙◌, subst}
+use Rattle.report_audit.proofs.Common.{valid_task, vehicle_read, point_count, travel_time, Stop, Task, SettledVehicle, IsOrderOf, ReachesAll, IsLateOrder, HasNoOrder}
 use Rattle.std.proofs.lemmas.Bool.{eq-eqb, eqb-true}
-use Rattle.report_audit.proofs.lemmas.LateLemmas.{rightly_no, other_id, same_id, late_order_of, late_reaches, one_late_delay}
+use Rattle.report_audit.proofs.lemmas.LateLemmas.{rightly_no, same_id, late_order_of, late_reaches, one_late_delay}
 use Rattle.report_audit.proofs.late.is_late.Goals as goal
 
 pub least_delay_unlimited-requires-clause-valid : goal.least_delay_unlimited-requires-clause-valid
@@ -47,19 +47,3 @@ returns-in-None-stops-2 c =
     let told = rw c.in-None-stops-2.is at late.stops in
     told.0 c.in-Some.route.stops.items (subst (λ (t : Task). IsOrderOf t c.in-Some.route.stops.items) c.task_of-task.ensures (rw c.in-Some.is at found.order))
     (subst (λ (t : Task). ReachesAll tau t c.in-Some.route.stops.items) c.task_of-task.ensures (rw c.in-Some.is at found.reaches)))
-
-pub returns-then-ne : goal.returns-then-ne
-returns-then-ne c =
-    rightly_no (λ late. other_id c.args.late.now.vehicle _ _ c.if-ne.ensures (ap (λ (one : SettledVehicle). one.id) (vehicle_read c.args.instance.now.settled.now c.as_slice.result.now c.args.vehicle _ c.as_slice.ensures c.requires.vehicle)) late.vehicle)
-
-pub returns-else-late-route : goal.returns-else-late-route
-returns-else-late-route c =
-    let instance = c.args.instance.now in let points = instance.points.now in let tau = travel_time instance.times.now in let settled = instance.settled.now in let v = c.args.vehicle in
-    let order = c.is_late_order.ensures in
-    let told : c.as_slice-told.result.now ≡ c.in-Some-stops-2.told.items = c.as_slice-told.ensures.value in (
-      λ yes. record {
-        vehicle = same_id c.args.late.now.vehicle _ c.if-ne.ensures ∙ ap (λ (one : SettledVehicle). one.id) (vehicle_read settled c.as_slice.result.now v _ c.as_slice.ensures c.requires.vehicle);
-        stops = rw c.in-Some-stops-2.is (subst (λ (lines : List PlannedStop). IsLateOrder points tau settled v c.args.late.now.delay lines) told (order.0 yes));
-      },
-      λ late. order.1 (subst (λ (lines : List PlannedStop). IsLateOrder points tau settled v c.args.late.now.delay lines) (sym told) (rw c.in-Some-stops-2.is at late.stops)),
-    )

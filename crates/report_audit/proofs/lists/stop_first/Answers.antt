@@ -1,6 +1,6 @@
 use Rattle.std.proofs.Common.{◌≤◌}
 use Rattle.report_audit.proofs.Common.{IsId}
-use Rattle.report_audit.proofs.StopLemmas.{mark_apart, placed_once, stop_none, stop_some, visit_once}
+use Rattle.report_audit.proofs.StopLemmas.{mark_apart, placed_once, stop_none, visit_once}
 use Rattle.report_audit.proofs.lemmas.ReadingLemmas.{both_none_first, both_none_second, both_some}
 use Rattle.report_audit.proofs.lists.stop_first.Goals as goal
 
@@ -16,6 +16,3 @@ pub returns-in_err-second : goal.returns-in_err-second
 returns-in_err-second c =
     rw c.from_residual-in_err-second.ensures
     (stop_none c.args.text.now (both_none_second (λ n. n ≤ 18446744073709551615) mark_apart.1 placed_once (both_some c.in_ok-pick.ensures c.in_ok-place.ensures) c.in_err-second.ensures))
-
-pub returns : goal.returns
-returns c = stop_some c.rider.result c.node.result c.rider.ensures c.node.ensures (both_some (both_some c.in_ok-pick.ensures c.in_ok-place.ensures) c.in_ok-second.ensures)

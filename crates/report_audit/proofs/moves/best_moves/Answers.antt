@@ -1,4 +1,4 @@
-use Rattle.std.proofs.Common.{◌<◌, ℕ, List, length, ap}
+use Rattle.std.proofs.Common.{◌<◌, ℕ, List, length, sym, ap}
 use Rattle.report_audit.proofs.Common.{All-map, point_count, rider_at, vehicle_at}
 use Rattle.report_audit.proofs.moves.best_moves.Goals as goal
 

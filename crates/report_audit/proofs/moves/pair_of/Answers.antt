@@ -1,6 +1,5 @@
-use Rattle.std.proofs.Common.{◌≡◌, ◌<◌, ℕ, [], get_or, sym, ap, ◌∙◌, subst}
-use Rattle.report_audit.proofs.Common.{IsPairWithin, MoveLine, SettledRider, SettledVehicle, point_count, travel_time, vehicle_read}
-use Rattle.trip_graph.proofs.PairTasks.{rider_read}
+use Rattle.std.proofs.Common.{◌≡◌, ℕ, [], sym, ap, ◌∙◌}
+use Rattle.report_audit.proofs.Common.{IsPairWithin, MoveLine, point_count, travel_time}
 use Rattle.report_audit.proofs.lemmas.MatchLemmas.{seconds_read}
 use Rattle.report_audit.proofs.moves.pair_of.Goals as goal
 
@@ -27,18 +26,3 @@ returns-else-seconds-step c = λ pair within is.
     let first : pair.0 ≡ here.0 = places.own_vehicles pair.0 here.0 within.0 c.in-Some.ensures.0 (sym (ap (λ (m : MoveLine). m.vehicle) is) ∙ sym c.in-Some.ensures.1) in
     let second : pair.1 ≡ here.1 = places.own_riders pair.1 here.1 within.1 c.in-Some-place_of_rider.ensures.0 (sym (ap (λ (m : MoveLine). m.rider) is) ∙ sym c.in-Some-place_of_rider.ensures.1) in
     c.if-seconds-step.false (c.seconds.ensures ∙ read ∙ sym (rw (first, second) at (ap (λ (m : MoveLine). m.seconds) is)))
-
-pub seconds-requires-clause-from : goal.seconds-requires-clause-from
-seconds-requires-clause-from c =
-    let places = c.requires.places in
-    let within = c.in-Some.ensures.0 in
-    let read = vehicle_read c.args.settled.now c.as_slice.result.now (get_or c.args.idle.now c.in-Some.place 0) c.index-as_slice-idle.result c.as_slice.ensures (places.vehicles c.in-Some.place 0 within) in
-    subst (λ (v : SettledVehicle). v.start < point_count c.args.times.now) (sym read) (places.starts c.in-Some.place 0 within)
-
-pub seconds-requires-clause-to : goal.seconds-requires-clause-to
-seconds-requires-clause-to c =
-    let places = c.requires.places in
-    let wanted = c.in-Some-place_of_rider.wanted in
-    let within = c.in-Some-place_of_rider.ensures.0 in
-    let read = rider_read c.args.settled.now c.as_slice-2.result.now (get_or c.args.left.now wanted 0) c.index-as_slice-left.result c.as_slice-2.ensures (places.riders wanted 0 within) in
-    subst (λ (r : SettledRider). r.leg.origin < point_count c.args.times.now) (sym read) (places.origins wanted 0 within)

@@ -1,13 +1,11 @@
-use Rattle.std.proofs.Common.{◌↔◌, IsTrue, ap, subst, sym, arith}
-use Rattle.std.proofs.lemmas.Bool.{false≢true}
-use Rattle.std.proofs.lemmas.List.{nil_from_length}
+use Rattle.std.proofs.Common.{ap, subst, sym, arith}
 use Rattle.report_audit.proofs.Common.{IsToldBy, fields_of}
 use Rattle.report_audit.proofs.EntryLineLemmas.{told_first}
 use Rattle.report_audit.proofs.next.+is_told_by.Goals as goal
 
 pub returns-then-n-least : goal.returns-then-n-least
 returns-then-n-least t c = (
-  λ on. absurd (false≢true on),
+  λ on. absurd cc,
   λ told.
       let first = told_first _ _ (omega arith) c.in-Some-numbered_first.ensures (subst (λ fs. IsToldBy fs c.args.text.now) (ap fields_of c.in-Some.ensures.cases.0) told) in
       absurd (omega (arith, first.0)),
@@ -22,6 +20,3 @@ returns t c = (
       c.is_told_by.ensures.1
       (told_first _ _ (omega arith) c.in-Some-numbered_first.ensures (subst (λ fs. IsToldBy fs c.args.text.now) (ap fields_of c.in-Some.ensures.cases.0) told)).1,
 )
-
-pub returns-in_default : goal.returns-in_default
-returns-in_default t c = subst (λ fs. IsTrue c.is_reply.result ↔ IsToldBy fs c.args.text.now) (sym (ap fields_of (nil_from_length c.args.fields.now c.in_default.ensures.cases))) c.is_reply.ensures

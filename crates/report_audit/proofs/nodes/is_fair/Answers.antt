@@ -1,5 +1,4 @@
-use Rattle.std.proofs.Common.{◌≡◌, ◌∷◌, [], ◌++◌, ◌+◌, ◌<◌, Bool, false, List, length, get_or, take, All, refl, sym, ap, ◌∙◌, subst, arith, take_all}
-use Rattle.std.proofs.lemmas.Bool.{false≢true}
+use Rattle.std.proofs.Common.{◌≡◌, ◌∷◌, [], ◌++◌, ◌+◌, ◌<◌, Bool, true, false, List, length, get_or, take, All, rules, sym, ap, ◌∙◌, subst, arith, take_all}
 use Rattle.report_audit.proofs.Common.{both_ways, take_more, with_items_is, Usable, usable_of, standing_of, ReadsTo, places_read, every_row, Place, Node, reads_push, places_are, Agree, agree_back, IsFairNode, coming_of, coming_start, path_none}
 use Rattle.report_audit.proofs.lemmas.FaultLemmas.{whole_of_value}
 use Rattle.report_audit.proofs.lemmas.NodeLemmas.{has_multipliers, fair_agrees, fair_at, sound_at, places_more}
@@ -13,8 +12,8 @@ loop-node-init c = record {
   fair = λ k d l. absurd (omega arith);
 }
 
-pub unreachable-requires : goal.unreachable-requires
-unreachable-requires c =
+pub returns-then-walk : goal.returns-then-walk
+returns-then-walk c =
     let g = c.args.graph.now in
     let nodes : List Node = c.args.tree.now in
     let i = c.loop-node.node-index in
@@ -59,7 +58,7 @@ returns-then-not-branch c =
     let long : length us ≡ length g.rows = c.mark_usable.ensures.len ∙ ap length c.deref_mut.ensures.value ∙ sized in
     let items = with_items_is c.loop-node.usable us (omega (arith, long, sized, c.loop-node.usable.ok.0)) in
     let agree : Agree g (usable_of c.deref.result.now) u = λ k l. ap (λ (xs : List Bool). get_or xs k false) (c.deref.ensures.value ∙ items) ∙ c.mark_usable.ensures.usable k l in (
-      λ no. absurd (false≢true no),
+      λ no. absurd (let f : false ≡ true = no in cc),
       λ fair.
           let read = sym (places_are g nodes fair.tree fair.shape) in
           let own : IsFairNode g bound u node = fair_at g (λ (p : Place). IsFairNode g bound p.usable p.node) nodes i u later node low here reads (subst (λ (ps : List Place). All (λ (p : Place). IsFairNode g bound p.usable p.node) ps) read fair.fair) in
@@ -106,7 +105,4 @@ returns c =
     let fair : All (λ p. IsFairNode g c.args.bound.now p.usable p.node) (places_read g nodes) = subst (λ (xs : List Node). All (λ p. IsFairNode g c.args.bound.now p.usable p.node) (places_read g xs)) whole c.loop-node.invariant.fair in
     let made = c.requires in
     let placed = subst (λ (ps : List Place). All (λ (p : Place). IsFairNode g c.args.bound.now p.usable p.node) ps) (places_are g nodes made.0 made.1) fair in
-    (λ t. record { tree = made.0; shape = made.1; fair = placed }, λ f. refl)
-
-pub is_fair_node-requires-clause-limit : goal.is_fair_node-requires-clause-limit
-is_fair_node-requires-clause-limit c = c.in_ok-limit.ensures
+    (λ t. record { tree = made.0; shape = made.1; fair = placed }, λ f. search rules)

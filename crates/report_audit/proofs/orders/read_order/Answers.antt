@@ -1,6 +1,6 @@
 use Rattle.std.proofs.Common.{◌≡◌, ℕ, ◌<◌, length, sym, ◌∙◌, subst, arith}
 use Rattle.std.proofs.lemmas.Bool.{eqb-true}
-use Rattle.report_audit.proofs.lemmas.OrderLemmas.{ReadsBack, none_some, same_some, read_next, read_stuck, read_too_many, read_all}
+use Rattle.report_audit.proofs.lemmas.OrderLemmas.{ReadsBack, read_next, read_stuck, read_too_many, read_all}
 use Rattle.report_audit.proofs.orders.read_order.Goals as goal
 
 pub returns-then-is_full : goal.returns-then-is_full
@@ -13,14 +13,14 @@ returns-then-is_full c = λ points tau stops o is.
 pub returns-in_default : goal.returns-in_default
 returns-in_default c = λ points tau stops o is.
     read_stuck c.args.settled.now c.args.vehicle c.args.trip.now c.args.told.now c.loop-stop.stop-index c.stop-item.result c.loop-stop-test.true
-    (λ nodes stop second known same. none_some c.read_stop.result stop c.in_default.is (c.read_stop.ensures nodes stop second known (c.stop-item.is ∙ same)))
+    (λ nodes stop second known same. let found = c.read_stop.ensures nodes stop second known (c.stop-item.is ∙ same) in let none = c.in_default.is in cc)
     points tau stops o is
 
 pub loop-stop-preserved : goal.loop-stop-preserved
 loop-stop-preserved c =
     rw c.push.ensures.items
     (read_next c.args.settled.now c.args.vehicle c.args.trip.now c.args.told.now c.loop-stop.stop-index c.stop-item.result c.loop-stop.order.items c.in-Some.next c.loop-stop-test.true c.loop-stop.invariant
-    (λ nodes stop second known same. same_some c.read_stop.result c.in-Some.next stop c.in-Some.is (c.read_stop.ensures nodes stop second known (c.stop-item.is ∙ same))))
+    (λ nodes stop second known same. let found = c.read_stop.ensures nodes stop second known (c.stop-item.is ∙ same) in let some = c.in-Some.is in cc))
 
 pub returns : goal.returns
 returns c = λ points tau stops o is.

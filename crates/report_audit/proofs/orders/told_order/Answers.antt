@@ -1,4 +1,4 @@
-use Rattle.std.proofs.Common.{◌≡◌, List, sym, ap, ◌∙◌, subst, arith}
+use Rattle.std.proofs.Common.{◌≡◌, List, sym, ap, ◌∙◌, subst}
 use Rattle.report_audit.proofs.Common.{both_ways, travel_time, Stop, Task, trip_task, IsOrderOf, told_stops}
 use Rattle.report_audit.proofs.orders.told_order.Goals as goal
 
@@ -27,8 +27,3 @@ pub returns-clause-only : goal.returns-clause-only
 returns-clause-only c = λ stops o is.
     let own : IsOrderOf (trip_task c.args.instance.now.settled.now c.args.vehicle c.args.trip.now) stops = subst (λ (t : Task). IsOrderOf t stops) c.requires.task o in
     rw c.in-Some.is at (c.read_order.ensures c.args.instance.now.points.now (travel_time c.args.instance.now.times.now) stops own is)
-
-pub tell_stops-stops-requires : goal.tell_stops-stops-requires
-tell_stops-stops-requires c =
-    let order = subst (λ (xs : List Stop). IsOrderOf c.args.task.now xs) (c.as_slice.ensures.value ∙ sym c.as_slice-2.ensures.value) (c.is_order.ensures.0 c.if-not-is_order.false) in
-    (omega arith, (c.requires.vehicle, (c.requires.trip.within, (c.requires.task, (c.requires.valid, (order, omega (arith, c.as_slice-2.ensures.fits)))))))

@@ -2,9 +2,8 @@ use Rattle.std.proofs.Common.{◌≡◌, List, sym, ap, ◌∙◌, subst}
 use Rattle.report_audit.proofs.Common.{row_read, vehicle_read, both_ways, TripRow, riders_at, travel_time, SettledVehicle, Stop, ReachesAll, Serves, order_delay}
 use Rattle.std.proofs.lemmas.Bool.{eq-eqb, eqb-true}
 use Rattle.stop_orders.proofs.lemmas.PlainLemmas.{ReachesAll-from_serves}
-use Rattle.report_audit.proofs.lemmas.LateLemmas.{rightly_no, other_id, same_id}
+use Rattle.report_audit.proofs.lemmas.LateLemmas.{rightly_no, same_id}
 use Rattle.report_audit.proofs.lemmas.TellsLemmas.{tells_serves, tells_delay, tells_told, tells_from}
-use Rattle.report_audit.proofs.trips.tells_row.Goals.{then-ne-via-then-ne, then-ne-via-else-ne+then-trip-one}
 use Rattle.report_audit.proofs.trips.tells_row.Goals as goal
 
 pub returns-in_default : goal.returns-in_default
@@ -55,12 +54,3 @@ returns c =
           let only = c.in-Some.ensures.only tells.stops serves.order (c.as_slice-stops.ensures.value ∙ told) in
           eq-eqb c.in-Some-delay_of.delay trip.cost (has ∙ ap (λ (stops : List Stop). order_delay tau task stops) (c.as_slice-3.ensures.value ∙ only) ∙ delay),
     )
-
-pub returns-then-ne : goal.returns-then-ne
-returns-then-ne c =
-    let graph = c.args.graphs.now.graph.now in
-    let settled = c.args.graphs.now.instance.now.settled.now in
-    elim c.then-ne.branch [
-      | then-ne-via-then-ne w ↦ rightly_no (λ tells. other_id c.args.trip.now.vehicle _ _ w.if-ne.ensures (ap (λ (one : SettledVehicle). one.id) (vehicle_read settled c.as_slice.result.now c.args.vehicle _ c.as_slice.ensures c.requires.vehicle)) tells.vehicle)
-      | then-ne-via-else-ne+then-trip-one w ↦ rightly_no (λ tells. w.if-trip-one.true (tells.cost ∙ sym (ap (λ (one : TripRow). one.cost) (row_read graph c.rows.result.now c.args.row c.index-rows-row.result c.rows.ensures.value c.requires.row.within c.index-rows-row.is))))
-    ]

@@ -1,5 +1,4 @@
 use Rattle.std.proofs.Common.{◌≡◌, decimal, ap, ◌∙◌, sym, arith}
-use Rattle.std.proofs.lemmas.Bool.{false≢true}
 use Rattle.report_audit.proofs.Common.{value_of}
 use Rattle.report_audit.proofs.lemmas.NumeralLemmas.{begins_with_large, begins_with_other}
 use Rattle.report_audit.proofs.words.wide_first.Goals as goal
@@ -14,4 +13,5 @@ pub returns-else-is_numeral_of : goal.returns-else-is_numeral_of
 returns-else-is_numeral_of c =
     begins_with_other c.args.text.now c.digits_first.result.0.now c.digits_first.result.1.now c.args.most (omega arith) c.digits_first.ensures (λ e.
     let n : c.in_ok-n.n ≡ value_of c.digits_first.result.0.now = c.in_ok-n.ensures in
-    false≢true (sym c.if-is_numeral_of.false ∙ c.is_numeral_of.ensures.whole (e ∙ ap decimal (sym n))))
+    let yes = c.is_numeral_of.ensures.whole (e ∙ ap decimal (sym n)) in
+    cc)
