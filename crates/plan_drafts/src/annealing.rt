@@ -6,10 +6,10 @@
 
 use crate::allowance::Allowance;
 use crate::beside::{Beside, mark_of};
-use crate::plans::Plans;
 use crate::present::Present;
 use crate::regrets::Regrets;
-use row_tables::fixed_point::{item, put, reset, set_at, write_over};
+use crate::{Plan, whole};
+use row_tables::fixed_point::{item, reset, set_at, write_over};
 use row_tables::lists::short;
 use row_tables::{Draws, Made};
 use std::alloc::Global;
@@ -35,10 +35,8 @@ const SEED: u64 = 1500;
 /// More than any move saves.
 const UNKNOWN: i64 = 1 << 50;
 
-/// How many riders a row has at most, and how many rows a move replaces.
+/// How many riders a row has at most.
 const MOST_RIDERS: usize = 6;
-
-const MOST_LOGGED: usize = 128;
 
 /// A plan under way and the best one so far, with what moves need.
 #[derive(Drop)]
@@ -50,29 +48,27 @@ struct Annealing<'a> {
     /// For each vehicle marks of the riders who can be added to its row, and all of these marks.
     marks: Vec<u64>,
     open: u64,
-    /// The rows that the move at hand replaces first, each with its next one; what it costs, in seconds; all rows that
-    /// it replaced, and how many these are.
+    /// The rows that the move at hand replaces first, each with its next one; what it costs, in seconds; and all rows
+    /// that it replaced.
     steps: Vec<(u32, u32)>,
     change: i64,
     log: Vec<u32>,
-    logged: usize,
     /// What the plan costs above the one at the start, and the least that there was.
     above: i64,
     least: i64,
     found: Vec<Option<u32>>,
 }
 
-/// Takes as the present plan the best one of many moves from this one, or the last one where none was better than the
-/// first. What is drawn follows from the seed.
-pub fn anneal(
+/// The best plan of many moves from this one, or the last one where none was better than the first. What is drawn
+/// follows from the seed.
+pub fn anneal<'a>(
     alloc: Global,
-    regrets: &Regrets,
-    beside: &Beside,
+    regrets: &'a Regrets<'a>,
+    beside: &'a Beside,
     rows: &[Option<u32>],
     seed: u64,
     allowance: &mut Allowance,
-    plans: &mut Plans,
-) -> Made<()> {
+) -> Made<Plan> {
     let mut annealing = Annealing {
         regrets,
         beside,
@@ -83,22 +79,19 @@ pub fn anneal(
         steps: Vec::new(alloc),
         change: 0,
         log: Vec::new(alloc),
-        logged: 0,
         above: 0,
         least: 0,
         found: Vec::new(alloc),
     };
     let done = annealing.run(rows, allowance);
-    done.and(plans.adopt(regrets, &annealing.found))
+    whole(annealing.found, done)
 }
 
 impl Annealing<'_> {
     /// Makes all moves from these rows while it cools.
     fn run(&mut self, rows: &[Option<u32>], allowance: &mut Allowance) -> Made<()> {
-        self.present
-            .begin(self.regrets.table)
-            .and(reset(&mut self.log, MOST_LOGGED, 0))
-            .and(reset(&mut self.marks, self.regrets.table.vehicle_count(), 0))?;
+        self.present.begin(self.regrets.table)?;
+        reset(&mut self.marks, self.regrets.table.vehicle_count(), 0)?;
         for row in rows {
             if let Some(row) = row {
                 self.replace(*row);
@@ -144,24 +137,19 @@ impl Annealing<'_> {
         if least > most {
             return Ok(());
         }
-        self.make(old, marks);
+        self.make(old, marks)?;
         if least <= 0 && self.change > 0 {
             most = self.most_loss(temperature);
         }
-        if self.change > most {
-            for place in (0..self.logged).rev() {
-                let row = item(&self.log, place, 0);
+        if self.change <= most {
+            return self.accept();
+        }
+        for _ in 0..self.log.len() {
+            if let Some(row) = self.log.pop() {
                 self.replace(row);
             }
-            return Ok(());
         }
-        self.note_open();
-        self.above = self.above.saturating_add(self.change);
-        if self.above >= self.least {
-            return Ok(());
-        }
-        self.least = self.above;
-        write_over(&mut self.found, &self.present.rows)
+        Ok(())
     }
 
     /// A row with a rider, who is left out half the time. Rows of less regret are drawn more often.
@@ -206,11 +194,12 @@ impl Annealing<'_> {
                 let Some(narrower) = narrower else {
                     return Ok(false);
                 };
-                put(&mut self.steps, (before, narrower))?;
+                self.steps.push((before, narrower))?;
             }
         }
         let before = self.row_behind(vehicle);
-        put(&mut self.steps, (before, row)).and(Ok(true))
+        self.steps.push((before, row))?;
+        Ok(true)
     }
 
     /// The row of the vehicle, which has one, behind the steps so far.
@@ -260,25 +249,26 @@ impl Annealing<'_> {
 
     /// Makes the move: takes its first steps, and mends the rest. The riders of the row before may be served again, if
     /// they have one of these marks.
-    fn make(&mut self, old: u32, marks: u64) {
+    fn make(&mut self, old: u32, marks: u64) -> Made<()> {
         self.change = 0;
-        self.logged = 0;
+        self.log.clear();
         for place in 0..self.steps.len() {
             let step = item(&self.steps, place, (0, 0));
-            self.set_row(step.1);
+            self.set_row(step.1)?;
         }
         for rider in self.regrets.table.riders_of(old as usize) {
             if marks & mark_of(*rider) != 0 && self.present.server(*rider).is_none() {
                 if let Some(row) = self.best_with(*rider) {
-                    self.set_row(row);
+                    self.set_row(row)?;
                 }
             }
         }
         for place in 0..self.steps.len() {
             let step = item(&self.steps, place, (0, 0));
             let vehicle = self.regrets.table.vehicle(step.1 as usize);
-            self.fill(vehicle);
+            self.fill(vehicle)?;
         }
+        Ok(())
     }
 
     /// The row that serves this rider too and costs the least more, if that is less than to leave her out.
@@ -301,14 +291,15 @@ impl Annealing<'_> {
     }
 
     /// Adds riders to the vehicle's row as long as that saves something.
-    fn fill(&mut self, vehicle: usize) {
+    fn fill(&mut self, vehicle: usize) -> Made<()> {
         for _ in 0..MOST_RIDERS {
             let row = self.present.row(vehicle).unwrap_or(u32::MAX);
             match self.best_wider(row) {
                 None => break,
-                Some(row) => self.set_row(row),
+                Some(row) => self.set_row(row)?,
             }
         }
+        Ok(())
     }
 
     /// The row with one rider more than this one that saves most.
@@ -330,12 +321,12 @@ impl Annealing<'_> {
     }
 
     /// Gives the row to its vehicle, which has one.
-    fn set_row(&mut self, row: u32) {
+    fn set_row(&mut self, row: u32) -> Made<()> {
         if let Some(old) = self.replace(row) {
-            set_at(&mut self.log, self.logged, old);
-            self.logged = self.logged.saturating_add(1);
+            self.log.push(old)?;
             self.change = self.change.saturating_add(self.beside.change(old, row));
         }
+        Ok(())
     }
 
     /// Gives the row to its vehicle in place of another. The other one.
@@ -346,6 +337,16 @@ impl Annealing<'_> {
         self.present.give(self.regrets.table, row);
         set_at(&mut self.marks, vehicle, self.beside.marks(row));
         old
+    }
+
+    fn accept(&mut self) -> Made<()> {
+        self.note_open();
+        self.above = self.above.saturating_add(self.change);
+        if self.above >= self.least {
+            return Ok(());
+        }
+        self.least = self.above;
+        write_over(&mut self.found, &self.present.rows)
     }
 
     /// Notes who can be added to a row.

@@ -1,6 +1,6 @@
 //! Which rows of a vehicle have one rider less than a row, or one more.
 
-use row_tables::fixed_point::{append, item, part, put, write_over};
+use row_tables::fixed_point::{item, part, write_over};
 use row_tables::lists::Lists;
 use row_tables::{Made, RowTable};
 use std::alloc::Global;
@@ -34,45 +34,40 @@ impl Beside {
     /// Lists for each row and each of its riders the row of the same vehicle without her, or one past the last row. A
     /// vehicle's rows stand by size, then riders.
     fn list_without(&mut self, table: &RowTable) -> Made<()> {
-        let mut made = Ok(());
         for row in 0..table.row_count() {
             let riders = table.riders_of(row);
             for skipped in 0..riders.len() {
                 let rest = part(riders, skipped.saturating_add(1), riders.len());
-                made = made
-                    .and(write_over(&mut self.trip, part(riders, 0, skipped)))
-                    .and(append(&mut self.trip, rest))
-                    .and(self.without.push(find(table, row, &self.trip)));
+                write_over(&mut self.trip, part(riders, 0, skipped))?;
+                self.trip.extend_from_slice(rest)?;
+                self.without.push(find(table, row, &self.trip))?;
             }
-            made = made.and(self.without.end());
+            self.without.end()?;
         }
-        made
+        Ok(())
     }
 
     /// Lists the narrower rows, the wider ones, and who is added: those of a row stand by rising riders, as the rows of
     /// a vehicle do.
     pub fn fill(&mut self, table: &RowTable) -> Made<()> {
-        let mut made = self
-            .list_without(table)
-            .and(self.wider.transpose(&self.without, table.row_count()));
+        self.list_without(table)?;
+        self.wider.transpose(&self.without, table.row_count())?;
         for row in 0..table.row_count() {
             let mut marks = 0;
             for wider in self.wider.list(row) {
                 let rider = first_other(table.riders_of(*wider as usize), table.riders_of(row));
-                made = made.and(put(&mut self.added, rider));
+                self.added.push(rider)?;
                 marks |= mark_of(rider);
             }
-            made = made.and(put(&mut self.rows, (worth(table, row), marks)));
+            self.rows.push((worth(table, row), marks))?;
         }
-        made
+        Ok(())
     }
 
     /// The row without this rider of its own, if there is one.
     pub fn without(&self, table: &RowTable, row: u32, rider: u32) -> Option<u32> {
         let riders = table.riders_of(row as usize);
-        let Ok(place) = riders.binary_search(&rider) else {
-            return None;
-        };
+        let place = riders.binary_search(&rider).ok()?;
         let narrower = item(self.without.list(row as usize), place, u32::MAX);
         if (narrower as usize) < table.row_count() {
             Some(narrower)
@@ -104,9 +99,7 @@ impl Beside {
     /// The row with this rider too, if there is one.
     pub fn with(&self, row: u32, rider: u32) -> Option<u32> {
         let (added, wider) = self.wider(row);
-        let Ok(place) = added.binary_search(&rider) else {
-            return None;
-        };
+        let place = added.binary_search(&rider).ok()?;
         wider.get(place).copied()
     }
 }

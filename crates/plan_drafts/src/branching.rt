@@ -3,8 +3,8 @@
 //! Of the rows that the relaxation chooses most nearly by half some are tried: the dual simplex takes some columns in
 //! with the row taken and with the row forbidden, over the rows at hand, and the greatest product of the two rises
 //! wins.
-use crate::relaxation::{Basis, Ended, MANY_CONDITIONS, Relaxation, Share, in_prices};
-use row_tables::fixed_point::{ONE, item, put};
+use crate::relaxation::{Ended, MANY_CONDITIONS, Relaxation, Saved, Share, in_prices};
+use row_tables::fixed_point::{ONE, item};
 use row_tables::{Decision, Made, RowTable};
 use std::alloc::Global;
 
@@ -23,7 +23,7 @@ pub struct Branching {
     idle: usize,
     pivots: u64,
     /// Where the relaxation stood when the last choice was made.
-    pub saved: Basis,
+    pub saved: Saved,
     /// The rows that may be tried, behind how far they lie from one half.
     ranks: Vec<(i64, u32)>,
 }
@@ -39,7 +39,7 @@ impl Branching {
             candidates,
             idle,
             pivots,
-            saved: Basis::new(alloc),
+            saved: Saved::new(alloc),
             ranks: Vec::new(alloc),
         }
     }
@@ -56,10 +56,9 @@ impl Branching {
         tries: bool,
     ) -> Made<Option<usize>> {
         let limit = in_prices(limit, relaxation.scale);
-        let rest = limit.saturating_sub(relaxation.cost_of_all(&relaxation.basis.levels));
-        self.saved
-            .copy_from(&relaxation.basis)
-            .and(self.rank(table, shares))?;
+        let rest = limit.saturating_sub(relaxation.cost());
+        relaxation.save(&mut self.saved)?;
+        self.rank(table, shares)?;
         if self.ranks.is_empty() {
             return Ok(any_open_row(table, relaxation));
         }
@@ -72,17 +71,16 @@ impl Branching {
 
     /// Ranks these rows, those that are chosen most nearly by half first, as many as may be tried.
     fn rank(&mut self, table: &RowTable, shares: &[Share]) -> Made<()> {
-        let mut made = Ok(());
         self.ranks.clear();
         for share in shares {
             let distance = share.0.0.wrapping_sub(ONE / 2).saturating_abs();
             let riders = table.riders_of(share.1 as usize).len().min(6) as i64;
             let rank = distance.wrapping_sub(A_RIDER.wrapping_mul(riders));
-            made = made.and(put(&mut self.ranks, (rank, share.1)));
+            self.ranks.push((rank, share.1))?;
         }
         self.ranks.as_mut_slice().sort_unstable();
         self.ranks.truncate(self.candidates);
-        made
+        Ok(())
     }
 
     /// Tries one row after the other, until some in a row are no better. The place of the best one. A row that can't be
@@ -126,9 +124,9 @@ impl Branching {
         let count = relaxation.forbidden_count;
         relaxation.decide(table, decision);
         let (ended, rise) = relaxation.pivot_dual(table, self.pivots, most)?;
+        relaxation.go_back(&self.saved)?;
         relaxation.allow_after(count);
-        let rise = if ended == Ended::Failed { most } else { rise };
-        relaxation.basis.copy_from(&self.saved).and(Ok(rise))
+        Ok(if ended == Ended::Failed { most } else { rise })
     }
 }
 

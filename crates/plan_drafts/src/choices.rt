@@ -7,7 +7,7 @@
 use crate::present::Present;
 use crate::regrets::Regrets;
 use row_tables::Made;
-use row_tables::fixed_point::{at, item, put, set_at, write_over};
+use row_tables::fixed_point::{at, item, set_at, write_over};
 use row_tables::lists::short;
 use std::alloc::Global;
 
@@ -106,9 +106,9 @@ impl Choices {
         for vehicle in vehicles {
             present.release(regrets.table, *vehicle as usize);
         }
-        let found = self.find_turns(regrets, present, vehicles);
+        self.find_turns(regrets, present, vehicles)?;
         let left = self.look_ahead(regrets);
-        let before = found.and(self.begin(regrets, present, vehicles, left))?;
+        let before = self.begin(regrets, present, vehicles, left)?;
         let after = self.search(regrets, before.saturating_add(1), most_steps)?;
         for row in &self.best {
             present.give(regrets.table, *row);
@@ -121,43 +121,43 @@ impl Choices {
         self.fits.clear();
         self.sizes.clear();
         self.work = 0;
-        let mut made = Ok(());
         for vehicle in vehicles {
             let first = self.fits.len();
-            let added = self.add_fits(regrets, present, *vehicle as usize);
+            self.add_fits(regrets, present, *vehicle as usize)?;
             let size = self.fits.len().saturating_sub(first);
-            made = made.and(added).and(put(&mut self.sizes, (size, first)));
+            self.sizes.push((size, first))?;
         }
         self.sizes.as_mut_slice().sort_unstable();
         self.turns.clear();
         for (size, first) in &self.sizes {
-            let turn = Turn {
+            self.turns.push(Turn {
                 first: *first,
                 end: first.saturating_add(*size),
                 next: *first,
-                ..NO_TURN
-            };
-            made = made.and(put(&mut self.turns, turn));
+                sum: 0,
+                served: 0,
+                least: 0,
+                left: 0,
+            })?;
         }
-        made
+        Ok(())
     }
 
     fn add_fits(&mut self, regrets: &Regrets, present: &Present, vehicle: usize) -> Made<()> {
         let rows = regrets.rows.list(vehicle);
         let looks = (rows.len() as u64).saturating_mul(A_ROW);
         self.work = self.work.saturating_add(looks);
-        let mut made = Ok(());
         for row in rows {
             if present.is_free(regrets.table, *row) {
-                let fit = Fit {
+                self.fits.push(Fit {
                     row: *row,
                     above: regrets.above(*row),
-                    ..NO_FIT
-                };
-                made = made.and(put(&mut self.fits, fit));
+                    last: 0,
+                    marks: 0,
+                })?;
             }
         }
-        made
+        Ok(())
     }
 
     /// The turn of this number, an empty one behind the last.
@@ -229,15 +229,14 @@ impl Choices {
         left: i64,
     ) -> Made<i64> {
         let mut regret = left;
-        let mut made = Ok(());
         self.best.clear();
         for vehicle in vehicles {
             if let Some(row) = present.row(*vehicle as usize) {
-                made = made.and(put(&mut self.best, row));
+                self.best.push(row)?;
                 regret = regret.saturating_add(regret_of(regrets, row));
             }
         }
-        made.and(Ok(regret))
+        Ok(regret)
     }
 
     /// Searches for choices of a lesser regret than this; the least one found, or this. It is broken off
@@ -293,18 +292,18 @@ impl Choices {
         if sum.saturating_add(self.turn(number).least) >= *limit {
             return Ok(false);
         }
+        self.picks.push(fit.row)?;
         if let Some(below) = self.turns.get_mut(number) {
             below.sum = sum;
             below.served = turn.served | fit.marks;
             below.next = below.first;
             self.count_left(regrets, fit.row, -1);
-            put(&mut self.picks, fit.row).and(Ok(true))
         } else {
             *limit = sum;
-            write_over(&mut self.best, &self.picks)
-                .and(put(&mut self.best, fit.row))
-                .and(Ok(true))
+            write_over(&mut self.best, &self.picks)?;
+            self.picks.pop();
         }
+        Ok(true)
     }
 
     /// Counts it to the turns so many times what it costs to leave out the row's riders.

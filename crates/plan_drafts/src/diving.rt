@@ -1,9 +1,7 @@
 //! A plan from the relaxation: rows that it chooses nearly whole are taken, and it is solved again.
 use crate::Plan;
-use crate::plans::Plans;
-use crate::regrets::Regrets;
 use crate::relaxation::{Relaxation, Share};
-use row_tables::fixed_point::{put, set_at};
+use row_tables::fixed_point::set_at;
 use row_tables::{Draws, Made, RowTable};
 use std::alloc::Global;
 use std::cmp::Reverse;
@@ -25,50 +23,45 @@ const MOST_ROWS: usize = 10;
 
 const MOST_PASSES: u32 = 3;
 
-/// Takes as the present plan one that starts at this basis, if it comes to one; whether it does. But for number 0 the
-/// first row is left out now and then, as is drawn from the number.
+/// A plan that starts at this basis, if it comes to one. But for number 0 the first row is left out now and then, as is
+/// drawn from the number.
 pub fn dive(
     alloc: Global,
-    regrets: &Regrets,
+    table: &RowTable,
     relaxation: &mut Relaxation,
     basis: &[u32],
     number: u64,
-    plans: &mut Plans,
-) -> Made<bool> {
+) -> Made<Option<Plan>> {
     relaxation.is_held = false;
-    relaxation.go_to(regrets.table, basis)?;
+    relaxation.go_to(table, basis)?;
     let mut open: Vec<Share> = Vec::new(alloc);
-    let found = descend(alloc, regrets, relaxation, number, &mut open, plans);
+    let plan = descend(alloc, table, relaxation, number, &mut open);
     drop(open);
-    found
+    plan
 }
 
 /// The same from where the relaxation stands. The open rows are work space.
 fn descend(
     alloc: Global,
-    regrets: &Regrets,
+    table: &RowTable,
     relaxation: &mut Relaxation,
     number: u64,
     open: &mut Vec<Share>,
-    plans: &mut Plans,
-) -> Made<bool> {
-    let table = regrets.table;
+) -> Made<Option<Plan>> {
     let mut draws = Draws::new(number);
     for _ in 0..table.vehicle_count().saturating_mul(2) {
-        relaxation
-            .solve(table, i64::MAX, MOST_ROWS, MOST_PASSES)
-            .and(relaxation.find_shares(table, i64::MAX))?;
+        relaxation.solve(table, i64::MAX, MOST_ROWS, MOST_PASSES)?;
+        relaxation.find_shares(table, i64::MAX)?;
         if relaxation.is_tired() || !list_open(table, relaxation, open)? {
             break;
         }
         if are_whole(&relaxation.shares) {
-            let plan = whole_plan(alloc, table, &relaxation.shares)?;
-            return plans.adopt(regrets, &plan).and(Ok(true));
+            return Ok(Some(whole_plan(alloc, table, &relaxation.shares)?));
         }
         let skips = number > 0 && draws.below(4) == 0;
         take_first(table, relaxation, open, skips);
     }
-    Ok(false)
+    Ok(None)
 }
 
 /// Whether all rows are chosen whole.
@@ -81,7 +74,6 @@ fn are_whole(shares: &[Share]) -> bool {
 
 /// Lists the rows whose vehicles have another choice. False where a forbidden row is chosen.
 fn list_open(table: &RowTable, relaxation: &Relaxation, open: &mut Vec<Share>) -> Made<bool> {
-    let mut made = Ok(());
     open.clear();
     for share in &relaxation.shares {
         let row = share.1 as usize;
@@ -89,10 +81,10 @@ fn list_open(table: &RowTable, relaxation: &Relaxation, open: &mut Vec<Share>) -
             return Ok(false);
         }
         if relaxation.has_choice(table, row) {
-            made = made.and(put(open, *share));
+            open.push(*share)?;
         }
     }
-    made.and(Ok(true))
+    Ok(true)
 }
 
 /// The rows of which more than half is chosen.

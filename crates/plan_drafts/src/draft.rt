@@ -3,13 +3,12 @@ use crate::Plan;
 use crate::allowance::Allowance;
 use crate::beside::Beside;
 use crate::branching::FEW_CONDITIONS;
-use crate::costs::UNLAWFUL;
 use crate::diving::dive;
-use crate::merge::{Merge, renumber};
+use crate::merge::{Merge, renumbered};
 use crate::plans::Plans;
 use crate::regrets::Regrets;
 use crate::relaxation::Relaxation;
-use crate::scout::Scout;
+use crate::scout::{Scout, Start};
 use crate::tree::DraftTree;
 use pool_base::OutOfMemory;
 use row_tables::{Draft, Drafter, Made, RowTable, ascend, first_multipliers};
@@ -106,26 +105,22 @@ impl Drafter for RelaxationDrafter {
         let rows = (table.row_count() as u64).saturating_mul(A_ROW);
         allowance.spend(rows.saturating_mul(budget.min(MERGE_NODES) as u64));
         let mut drafting = Drafting::new(alloc, table, workers, allowance);
-        let made = drafting.make(rt, held, budget);
-        let none = DraftTree::new(alloc, allowance);
-        let tree = replace(&mut drafting.tree, none);
+        let draft = drafting.make(rt, held, budget);
         drop(drafting);
-        made.and(Ok(tree.draft))
+        draft
     }
 }
 
 /// A draft in the making.
 #[derive(Drop)]
-pub struct Drafting<'a> {
-    pub alloc: Global,
+struct Drafting<'a> {
+    alloc: Global,
     workers: u8,
     /// The rows, with their regrets under the multipliers that are the best for all of them.
-    pub regrets: Regrets<'a>,
-    pub relaxation: Relaxation,
-    pub tree: DraftTree,
+    regrets: Regrets<'a>,
+    relaxation: Relaxation,
+    tree: DraftTree,
     plans: Plans,
-    /// The rows beside each row, which scouts need who anneal.
-    pub beside: Beside,
 }
 
 impl<'a> Drafting<'a> {
@@ -138,74 +133,80 @@ impl<'a> Drafting<'a> {
             relaxation: Relaxation::new(alloc),
             tree: DraftTree::new(alloc, allowance),
             plans: Plans::new(alloc, 0),
-            beside: Beside::new(alloc),
         }
     }
 
-    /// Solves the relaxation from this lawful plan on, begins the tree there, finds the regrets, and makes plans. What
-    /// the first plan costs counts where it is known.
-    fn begin(&mut self, held: &[Option<u32>], cost: i64) -> Made<()> {
+    /// Solves the relaxation from this lawful plan on, begins the tree there, and finds the regrets.
+    fn begin(&mut self, held: &[Option<u32>]) -> Made<()> {
         let table = self.regrets.table;
         let share = self.tree.allowance.share(FIRST_SHARE);
         let relaxation = &mut self.relaxation;
-        relaxation
-            .begin(table, held, &[], share)
-            .and(solve(self.alloc, table, relaxation))?;
-        let rooted = self.tree.root(table, relaxation);
+        relaxation.begin(table, held, &[], share)?;
+        solve(self.alloc, table, relaxation)?;
+        self.tree.root(table, relaxation)?;
         self.tree.allowance.settle(share, relaxation.allowance());
-        rooted
-            .and(self.regrets.fill(self.tree.multipliers(0)))
-            .and(self.tree.offer(held, cost))?;
-        self.make_plans()
+        self.regrets.fill(self.tree.multipliers(0))
     }
 
-    /// Makes the draft from this lawful plan on, with a tree of so many nodes at most.
-    fn make<R: Threads + Sync>(&mut self, rt: &R, held: &[Option<u32>], budget: usize) -> Made<()> {
-        self.begin(held, UNLAWFUL)?;
+    /// Makes the draft from this lawful plan on, with a tree of so many nodes at most, and hands it out.
+    fn make<R: Threads + Sync>(
+        &mut self,
+        rt: &R,
+        held: &[Option<u32>],
+        budget: usize,
+    ) -> Made<Draft> {
+        self.begin(held)?;
+        self.make_plans()?;
         let first = self.tree.draft.bound;
         self.grow(rt, budget.min(PROBE))?;
         let closed = self.tree.draft.bound.saturating_sub(first);
         if closed.saturating_mul(3) >= self.tree.gap(first) {
             self.grow(rt, budget)?;
         }
-        if !self.tree.is_open() {
-            return Ok(());
+        if self.tree.is_open() {
+            self.make_more_plans(rt)?;
+            if !self.is_near() {
+                self.grow(rt, budget)?;
+            }
         }
-        self.make_more_plans(rt)?;
-        if self.is_near() {
-            return Ok(());
-        }
-        self.grow(rt, budget)
+        let none = DraftTree::new(self.alloc, self.tree.allowance);
+        Ok(replace(&mut self.tree, none).draft)
     }
 
     /// Makes a plan from the solution and one by a dive.
     fn make_plans(&mut self) -> Made<()> {
-        let (regrets, relaxation) = (&self.regrets, &mut self.relaxation);
-        relaxation
-            .find_shares(regrets.table, i64::MAX)
-            .and(self.plans.round(regrets, &relaxation.shares))
-            .and(self.better())?;
+        let table = self.regrets.table;
+        self.relaxation.find_shares(table, i64::MAX)?;
+        self.plans.round(&self.regrets, &self.relaxation.shares)?;
+        self.better()?;
         if !self.tree.is_open() || self.relaxation.is_tired() {
             return Ok(());
         }
+        let Some(plan) = self.dive()? else {
+            return Ok(());
+        };
+        self.plans.adopt(&self.regrets, &plan)?;
+        self.better()
+    }
+
+    /// A plan by a dive from the solution, if it comes to one.
+    fn dive(&mut self) -> Made<Option<Plan>> {
         let share = self.tree.allowance.share(DIVE_SHARE);
-        let (regrets, relaxation) = (&self.regrets, &mut self.relaxation);
-        relaxation.allowance = share;
+        self.relaxation.allowance = share;
+        let relaxation = &mut self.relaxation;
         let basis = self.tree.root_basis();
-        let found = dive(self.alloc, regrets, relaxation, basis, 0, &mut self.plans);
-        relaxation.allow_after(0);
-        self.tree.allowance.settle(share, relaxation.allowance());
-        if found? {
-            return self.better();
-        }
-        Ok(())
+        let plan = dive(self.alloc, self.regrets.table, relaxation, basis, 0)?;
+        self.relaxation.allow_after(0);
+        let left = self.relaxation.allowance();
+        self.tree.allowance.settle(share, left);
+        Ok(plan)
     }
 
     /// Betters the plan at hand by neighbourhoods, and takes it where it is the best so far.
     fn better(&mut self) -> Made<()> {
         let (bound, plans) = (self.tree.draft.bound, &mut self.plans);
-        let done = plans.better(&self.regrets, bound, IDLE, STEPS, &mut self.tree.allowance);
-        done.and(self.tree.offer(&plans.present.rows, plans.cost))
+        plans.better(&self.regrets, bound, IDLE, STEPS, &mut self.tree.allowance)?;
+        self.tree.offer(&plans.present.rows, plans.cost)
     }
 
     /// Grows the tree to so many nodes, at first without the rows whose reduced cost exceeds a part of the gap.
@@ -229,18 +230,26 @@ impl<'a> Drafting<'a> {
         self.tree.gap(draft.bound).saturating_mul(NEAR_PART) <= draft.cost
     }
 
-    /// Has scouts look for plans, and merges these. Where the gap is so wide that a rider more might be served, there are
-    /// many, of whom most anneal, as long as a better plan is found each time.
+    /// Has scouts look for plans, and merges these. Scouts anneal where the gap is so wide that a rider more might be
+    /// served.
     fn make_more_plans<R: Threads + Sync>(&mut self, rt: &R) -> Made<()> {
         if self.tree.gap(self.tree.draft.bound) < self.regrets.table.penalty() / 4 {
             let count = if self.is_near() { FEW_SCOUTS } else { SCOUTS };
-            return self.scout(rt, false, 0..count);
+            return self.scout(rt, None, 0..count);
         }
-        self.beside.fill(self.regrets.table)?;
+        let mut beside = Beside::new(self.alloc);
+        let made = self.scout_often(rt, &mut beside);
+        drop(beside);
+        made
+    }
+
+    /// Has many scouts look for plans, of whom most anneal, as long as a better plan is found each time.
+    fn scout_often<R: Threads + Sync>(&mut self, rt: &R, beside: &mut Beside) -> Made<()> {
+        beside.fill(self.regrets.table)?;
         for time in 0..MOST_TIMES {
             let cost = self.tree.draft.cost;
             let first = MANY_SCOUTS.saturating_mul(time);
-            self.scout(rt, true, first..first.saturating_add(MANY_SCOUTS))?;
+            self.scout(rt, Some(beside), first..first.saturating_add(MANY_SCOUTS))?;
             if self.tree.draft.cost >= cost {
                 break;
             }
@@ -249,77 +258,77 @@ impl<'a> Drafting<'a> {
     }
 
     /// Has the scouts of these numbers look for plans, and merges these.
-    fn scout<R: Threads + Sync>(&mut self, rt: &R, anneals: bool, numbers: Range<u64>) -> Made<()> {
-        let share = self.tree.allowance.share(SCOUT_SHARE);
-        let mut scouts = Vec::new(self.alloc);
-        let sent = self.send_scouts(rt, anneals, share, numbers, &mut scouts);
-        let scouted = sent.and(self.merge(rt, share, &scouts));
-        drop(scouts);
-        scouted
-    }
-
-    /// Has the scouts of these numbers, who each may do so much work, look for plans.
-    fn send_scouts<R: Threads + Sync>(
-        &self,
+    fn scout<R: Threads + Sync>(
+        &mut self,
         rt: &R,
-        anneals: bool,
-        share: Allowance,
+        beside: Option<&Beside>,
         numbers: Range<u64>,
-        scouts: &mut Vec<Scout>,
     ) -> Made<()> {
-        for number in numbers {
-            scouts.push(Scout::new(self.alloc, number))?;
-        }
-        let workers = usize::from(self.workers).max(1);
-        let look = |_: usize, scout: &mut Scout| {
-            scout.is_done = scout.look(self, anneals, share).is_ok()
+        let share = self.tree.allowance.share(SCOUT_SHARE);
+        let start = Start {
+            regrets: &self.regrets,
+            relaxation: &self.relaxation,
+            tree: &self.tree,
+            beside,
+            share,
         };
-        thread::for_each_mut(rt, scouts, workers, &look);
-        Ok(())
-    }
-
-    /// Takes the best plan of these scouts, who each had so much work to do, and then the best one of the rows that it
-    /// and theirs choose, as a small draft finds it.
-    fn merge<R: Threads + Sync>(&mut self, rt: &R, share: Allowance, scouts: &[Scout]) -> Made<()> {
-        let mut made = Ok(());
+        let scouts = send_scouts(rt, self.alloc, start, numbers, self.workers)?;
         let mut left = share;
-        for scout in scouts {
+        for scout in &scouts {
             if !scout.is_done {
                 return Err(OutOfMemory);
             }
             left.rest = left.rest.min(scout.left.rest);
-            let rows = &scout.plans.present.rows;
-            made = made.and(self.tree.offer(rows, scout.plans.cost));
+            self.tree
+                .offer(&scout.plans.present.rows, scout.plans.cost)?;
         }
         let work = share.rest.saturating_sub(left.rest);
         let times = scouts.len().div_ceil(SCOUTS as usize) as u64;
         self.tree.allowance.spend(work.saturating_mul(times));
-        let mut merge = Merge::new(self.alloc, self.regrets.table.penalty());
-        let filled = merge.fill(&self.regrets, &self.tree.draft.plan, scouts);
-        let share = self.tree.allowance.share(MERGE_SHARE);
-        let mut part = Drafting::new(self.alloc, &merge.part, self.workers, share);
-        let taken = self.take(rt, &mut part, &mut merge.plan, &merge.wholes);
-        drop(part);
-        drop(merge);
-        made.and(filled).and(taken)
+        self.merge(rt, &scouts)
     }
 
-    /// Takes the best plan of a part of the rows, of which these are the numbers, if it is better, as a draft of the
-    /// part finds it. The plan is the best so far.
-    fn take<R: Threads + Sync>(
-        &mut self,
-        rt: &R,
-        part: &mut Drafting,
-        plan: &mut Plan,
-        numbers: &[Option<u32>],
-    ) -> Made<()> {
+    /// Takes the best plan of the rows that the best one and those of scouts choose, as a small draft finds it.
+    fn merge<R: Threads + Sync>(&mut self, rt: &R, scouts: &[Scout]) -> Made<()> {
+        let merge = Merge::new(self.alloc, &self.regrets, &self.tree.draft.plan, scouts)?;
         let share = self.tree.allowance.share(MERGE_SHARE);
-        part.begin(plan, self.tree.draft.cost)?;
+        let mut part = Drafting::new(self.alloc, &merge.part, self.workers, share);
+        let taken = self.take(rt, &mut part, &merge);
+        drop(part);
+        drop(merge);
+        taken
+    }
+
+    /// Takes the best plan of a merge, if it is better, as a draft of its rows finds it.
+    fn take<R: Threads + Sync>(&mut self, rt: &R, part: &mut Drafting, merge: &Merge) -> Made<()> {
+        let share = self.tree.allowance.share(MERGE_SHARE);
+        part.begin(&merge.plan)?;
+        part.tree.offer(&merge.plan, self.tree.draft.cost)?;
+        part.make_plans()?;
         part.grow(rt, MERGE_NODES)?;
         self.tree.allowance.settle(share, part.tree.allowance);
         let draft = &part.tree.draft;
-        renumber(&draft.plan, numbers, plan).and(self.tree.offer(plan, draft.cost))
+        let plan = renumbered(self.alloc, &draft.plan, &merge.wholes)?;
+        self.tree.offer(&plan, draft.cost)
     }
+}
+
+/// Has the scouts of these numbers look for plans, by at most so many workers.
+fn send_scouts<R: Threads + Sync>(
+    rt: &R,
+    alloc: Global,
+    start: Start,
+    numbers: Range<u64>,
+    workers: u8,
+) -> Made<Vec<Scout>> {
+    let mut scouts: Vec<Scout> = Vec::new(alloc);
+    for number in numbers {
+        scouts.push(Scout::new(alloc, number))?;
+    }
+    let workers = usize::from(workers).max(1);
+    let look = |_: usize, scout: &mut Scout| scout.is_done = scout.look(alloc, start).is_ok();
+    thread::for_each_mut(rt, &mut scouts, workers, &look);
+    Ok(scouts)
 }
 
 /// Solves the relaxation, at first with little to pay for a rider who is left out. If it tires before it is solved, an
@@ -331,17 +340,16 @@ fn solve(alloc: Global, table: &RowTable, relaxation: &mut Relaxation) -> Made<(
     let turns = if is_long { MORE_TURNS } else { TURNS };
     let first = first_multipliers(alloc, table, turns)?;
     relaxation.count_looks(rows.saturating_mul(turns as usize));
-    let filled = relaxation.fill_pool(table, &first, MOST_ROWS);
+    relaxation.fill_pool(table, &first, MOST_ROWS)?;
     relaxation.set_costs_left(table, &first, BOX);
-    let pivoted = relaxation.pivot_on(table);
+    relaxation.pivot_on(table)?;
     relaxation.set_costs_left(table, &[], i64::MAX);
-    let solved = relaxation.solve(table, i64::MAX, MOST_ROWS, u32::MAX);
-    let mut done = filled.and(pivoted).and(solved);
+    relaxation.solve(table, i64::MAX, MOST_ROWS, u32::MAX)?;
     if relaxation.is_tired() {
-        let tried = try_multipliers(table, relaxation, &first);
-        done = done.and(tried).and(ascend_on(alloc, table, relaxation));
+        try_multipliers(table, relaxation, &first)?;
+        return ascend_on(alloc, table, relaxation);
     }
-    done
+    Ok(())
 }
 
 /// Goes on from a relaxation's multipliers by an ascent.
@@ -357,7 +365,7 @@ fn ascend_on(alloc: Global, table: &RowTable, relaxation: &mut Relaxation) -> Ma
 
 /// Has a relaxation take these multipliers where they are better than its own.
 fn try_multipliers(table: &RowTable, relaxation: &mut Relaxation, multipliers: &[i64]) -> Made<()> {
-    let filled = relaxation.fill_pool(table, multipliers, 0);
+    relaxation.fill_pool(table, multipliers, 0)?;
     relaxation.pass(table, 0)?;
-    filled
+    Ok(())
 }

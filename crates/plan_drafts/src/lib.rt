@@ -40,6 +40,13 @@ mod scout;
 mod tree;
 
 pub use draft::RelaxationDrafter;
+use row_tables::Made;
 
 /// For each vehicle its row, if it has one.
 type Plan = Vec<Option<u32>>;
+
+/// A value that was begun empty, if it could be filled.
+fn whole<T: Drop>(value: T, done: Made<()>) -> Made<T> {
+    done?;
+    Ok(value)
+}

@@ -1,8 +1,8 @@
 //! The rows that some plans choose, as a table of their own.
-use crate::Plan;
 use crate::regrets::Regrets;
 use crate::scout::Scout;
-use row_tables::fixed_point::{item, put, reset, set_at, write_over};
+use crate::{Plan, whole};
+use row_tables::fixed_point::{item, reset, set_at};
 use row_tables::lists::short;
 use row_tables::{Made, RowTable};
 use std::alloc::Global;
@@ -20,59 +20,71 @@ pub struct Merge {
 }
 
 impl Merge {
-    /// No rows.
-    pub fn new(alloc: Global, penalty: i64) -> Self {
-        Merge {
-            part: RowTable::new(alloc, penalty, Vec::new(alloc)),
+    /// The rows that these scouts' plans or this one, the best so far, choose, and those without regret.
+    pub fn new(
+        alloc: Global,
+        regrets: &Regrets,
+        plan: &[Option<u32>],
+        scouts: &[Scout],
+    ) -> Made<Self> {
+        let mut must = Vec::new(alloc);
+        for rider in 0..regrets.table.rider_count() {
+            must.push(regrets.table.must(rider))?;
+        }
+        let mut merge = Merge {
+            part: RowTable::new(alloc, regrets.table.penalty(), must),
             wholes: Vec::new(alloc),
             parts: Vec::new(alloc),
             plan: Vec::new(alloc),
-        }
+        };
+        let done = merge.fill(alloc, regrets, plan, scouts);
+        whole(merge, done)
     }
 
-    /// Puts in the rows that these scouts' plans or this one, the best so far, choose, and those without regret.
-    pub fn fill(&mut self, regrets: &Regrets, plan: &[Option<u32>], scouts: &[Scout]) -> Made<()> {
+    fn fill(
+        &mut self,
+        alloc: Global,
+        regrets: &Regrets,
+        plan: &[Option<u32>],
+        scouts: &[Scout],
+    ) -> Made<()> {
         let table = regrets.table;
-        self.part
-            .copy_riders(table)
-            .and(reset(&mut self.parts, table.row_count(), None))?;
+        reset(&mut self.parts, table.row_count(), None)?;
         mark(plan, &mut self.parts);
         for scout in scouts {
             mark(&scout.plans.present.rows, &mut self.parts);
         }
-        let mut made = Ok(());
         for vehicle in 0..table.vehicle_count() {
-            made = made.and(self.put_vehicle(regrets, vehicle));
+            self.put_vehicle(regrets, vehicle)?;
         }
-        made.and(renumber(plan, &self.parts, &mut self.plan))
-            .and(self.part.index())
+        self.plan = renumbered(alloc, plan, &self.parts)?;
+        self.part.index()
     }
 
     fn put_vehicle(&mut self, regrets: &Regrets, vehicle: usize) -> Made<()> {
         let table = regrets.table;
-        let mut made = Ok(());
         for row in table.rows_of(vehicle) {
             if item(&self.parts, row, None).is_some() || regrets.above(short(row)) <= 0 {
                 let number = short(self.wholes.len());
+                self.part.push_row(table.cost(row), table.riders_of(row))?;
+                self.wholes.push(Some(short(row)))?;
                 set_at(&mut self.parts, row, Some(number));
-                made = made
-                    .and(self.part.push_row(table.cost(row), table.riders_of(row)))
-                    .and(put(&mut self.wholes, Some(short(row))));
             }
         }
-        made.and(self.part.end_vehicle())
+        self.part.end_vehicle()
     }
 }
 
-/// Writes a plan with these numbers in place of its rows.
-pub fn renumber(plan: &[Option<u32>], numbers: &[Option<u32>], rows: &mut Plan) -> Made<()> {
-    let written = write_over(rows, plan);
-    for row in rows.iter_mut() {
-        if let Some(number) = *row {
-            *row = item(numbers, number as usize, None);
-        }
+/// A plan with these numbers in place of its rows.
+pub fn renumbered(alloc: Global, plan: &[Option<u32>], numbers: &[Option<u32>]) -> Made<Plan> {
+    let mut rows = Vec::new(alloc);
+    for row in plan {
+        rows.push(match row {
+            None => None,
+            Some(row) => item(numbers, *row as usize, None),
+        })?;
     }
-    written
+    Ok(rows)
 }
 
 /// Marks a plan's rows.

@@ -6,7 +6,7 @@
 use crate::choices::Choices;
 use crate::present::Present;
 use crate::regrets::Regrets;
-use row_tables::fixed_point::{append, item, put, reset, set_at};
+use row_tables::fixed_point::{item, reset, set_at};
 use row_tables::lists::short;
 use row_tables::{Draws, Made, RowTable};
 use std::alloc::Global;
@@ -36,11 +36,8 @@ impl Neighbourhood {
 
     /// Makes room for walks over the rows of this table.
     pub fn begin(&mut self, table: &RowTable) -> Made<()> {
-        reset(&mut self.is_in, table.vehicle_count(), false).and(reset(
-            &mut self.choices.closings,
-            table.rider_count(),
-            None,
-        ))
+        reset(&mut self.is_in, table.vehicle_count(), false)?;
+        reset(&mut self.choices.closings, table.rider_count(), None)
     }
 
     /// Chooses the rows of so many vehicles near each other anew, if there are enough. What that saves, in 1/1024
@@ -52,28 +49,25 @@ impl Neighbourhood {
         size: usize,
         most_steps: u32,
     ) -> Made<i64> {
-        let mut made = Ok(());
         self.vehicles.clear();
         self.frontier.clear();
         self.is_in.as_mut_slice().fill(false);
         let left = self.left_rider(regrets, present);
         if let Some(rider) = left {
-            made = put(&mut self.frontier, rider);
+            self.frontier.push(rider)?;
         }
         if left.is_none() || self.draws.below(3) == 0 {
             let vehicle = self.regretted(regrets, present);
-            made = made.and(self.add(regrets, present, vehicle));
+            self.add(regrets, present, vehicle)?;
         }
         for _ in 0..size.saturating_mul(6) {
             if self.vehicles.len() >= size {
                 break;
             }
-            made = made.and(self.step(regrets, present, size));
+            self.step(regrets, present, size)?;
         }
-        made.and(
-            self.choices
-                .choose(regrets, present, &self.vehicles, most_steps),
-        )
+        self.choices
+            .choose(regrets, present, &self.vehicles, most_steps)
     }
 
     /// A rider who is left out and could be served, if one is soon found.
@@ -115,18 +109,18 @@ impl Neighbourhood {
         let most = self.draws.below(rows.len()).saturating_add(4);
         let most = self.draws.below(most.min(rows.len())).saturating_add(1);
         let row = item(rows, self.draws.below(most), 0) as usize;
-        let mut made = self.add(regrets, present, regrets.table.vehicle(row));
+        self.add(regrets, present, regrets.table.vehicle(row))?;
         for rider in regrets.table.riders_of(row) {
             match present.server(*rider) {
-                None => made = made.and(put(&mut self.frontier, *rider)),
+                None => self.frontier.push(*rider)?,
                 Some(server) => {
                     if self.vehicles.len() < size {
-                        made = made.and(self.add(regrets, present, server as usize));
+                        self.add(regrets, present, server as usize)?;
                     }
                 }
             }
         }
-        made
+        Ok(())
     }
 
     /// Takes in a vehicle that has a row, and its riders.
@@ -134,11 +128,9 @@ impl Neighbourhood {
         if let Some(row) = present.row(vehicle) {
             if !item(&self.is_in, vehicle, true) {
                 set_at(&mut self.is_in, vehicle, true);
-                let riders = regrets.table.riders_of(row as usize);
-                return put(&mut self.vehicles, short(vehicle)).and(append(
-                    &mut self.frontier,
-                    riders,
-                ));
+                self.vehicles.push(short(vehicle))?;
+                self.frontier
+                    .extend_from_slice(regrets.table.riders_of(row as usize))?;
             }
         }
         Ok(())

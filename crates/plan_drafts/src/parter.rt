@@ -1,10 +1,10 @@
 //! The parting of a node: it is branched on a row, and its two ends are solved.
-use crate::Plan;
 use crate::allowance::Allowance;
 use crate::branching::{Branching, decision};
 use crate::diving::whole_plan;
 use crate::relaxation::Relaxation;
 use crate::tree::{DraftTree, Standing};
+use crate::{Plan, whole};
 use row_tables::fixed_point::{ONE, write_over};
 use row_tables::{Decision, DraftNode, Made, RowTable};
 use std::alloc::Global;
@@ -50,13 +50,11 @@ impl End {
 
     /// Notes where the relaxation stands.
     pub fn note(&mut self, table: &RowTable, relaxation: &mut Relaxation) -> Made<()> {
-        let found = relaxation.find_shares(table, MOST_PART);
-        let (standing, multipliers) = (&mut self.standing, &mut self.node.multipliers);
-        standing.value = relaxation.value;
-        found
-            .and(write_over(&mut standing.basis, &relaxation.basis.columns))
-            .and(write_over(&mut standing.shares, &relaxation.shares))
-            .and(write_over(multipliers, &relaxation.multipliers))
+        relaxation.find_shares(table, MOST_PART)?;
+        self.standing.value = relaxation.value;
+        write_over(&mut self.standing.basis, &relaxation.basis.columns)?;
+        write_over(&mut self.standing.shares, &relaxation.shares)?;
+        write_over(&mut self.node.multipliers, &relaxation.multipliers)
     }
 }
 
@@ -103,28 +101,32 @@ impl Parter {
     }
 
     /// Parts the node at hand of this tree.
-    pub fn part(&mut self, table: &RowTable, tree: &DraftTree) -> Made<()> {
+    pub fn part(&mut self, table: &RowTable, tree: &DraftTree) {
         self.branch = None;
-        let number = self.node.unwrap_or(usize::MAX);
+        self.is_done = match self.node {
+            None => true,
+            Some(number) => self.branch(table, tree, number).is_ok(),
+        };
+    }
+
+    fn branch(&mut self, table: &RowTable, tree: &DraftTree, number: usize) -> Made<()> {
         let Some(standing) = tree.standings.get(number) else {
             return Ok(());
         };
         self.forbid_above(table, tree, number);
         let relaxation = &mut self.relaxation;
-        relaxation
-            .go_to(table, &standing.basis)
-            .and(relaxation.pivot_on(table))?;
+        relaxation.go_to(table, &standing.basis)?;
+        relaxation.pivot_on(table)?;
         let conditions = table.condition_count() as u64;
         let tries = relaxation.pivots.saturating_mul(conditions) < MOST_WORK as u64;
         let cost = tree.draft.cost;
         let branching = &mut self.branching;
         self.branch = branching.choose(table, relaxation, &standing.shares, cost, tries)?;
-        match self.branch {
-            None => Ok(()),
-            Some(row) => self
-                .add(table, tree, decision(number, row, true))
-                .and(self.add(table, tree, decision(number, row, false))),
+        if let Some(row) = self.branch {
+            self.add(table, tree, decision(number, row, true))?;
+            self.add(table, tree, decision(number, row, false))?;
         }
+        Ok(())
     }
 
     /// Forbids what the decisions above the node forbid.
@@ -148,12 +150,17 @@ impl Parter {
         let relaxation = &mut self.relaxation;
         let count = relaxation.forbidden_count;
         relaxation.decide(table, decision);
-        relaxation.solve_dual(table, &self.branching.saved, most, MOST_ROWS)?;
+        if !relaxation.solve_dual(table, most, MOST_ROWS)? {
+            relaxation.go_back(&self.branching.saved)?;
+            relaxation.is_held = false;
+            relaxation.solve(table, most, MOST_ROWS, u32::MAX)?;
+            relaxation.is_held = true;
+        }
         let mut end = End::new(self.alloc, Some(decision));
-        let filled = self.fill(table, tree, decision.parent, &mut end, most);
-        self.ends.insert(0, end)?;
+        let done = self.fill(table, tree, decision.parent, &mut end, most);
+        self.ends.insert(0, whole(end, done)?)?;
         self.relaxation.allow_after(count);
-        filled.and(self.relaxation.basis.copy_from(&self.branching.saved))
+        self.relaxation.go_back(&self.branching.saved)
     }
 
     /// Fills an end that is solved up to this value. It has the value and the multipliers of the node above where those
@@ -168,9 +175,8 @@ impl Parter {
     ) -> Made<()> {
         end.note(table, &mut self.relaxation)?;
         if end.standing.shares.is_empty() && end.standing.value < most {
-            let found = self.relaxation.find_shares(table, i64::MAX);
-            let plan = whole_plan(self.alloc, table, &self.relaxation.shares);
-            end.plan = Some(found.and(plan)?);
+            self.relaxation.find_shares(table, i64::MAX)?;
+            end.plan = Some(whole_plan(self.alloc, table, &self.relaxation.shares)?);
         }
         let above = tree.value(parent);
         if end.standing.value >= above {

@@ -39,7 +39,7 @@ impl Plans {
     /// Makes a plan of the relaxation's shares: the rows in their order, then those of each vehicle by rising regret,
     /// where they still fit.
     pub fn round(&mut self, regrets: &Regrets, shares: &[Share]) -> Made<()> {
-        let begun = self.present.begin(regrets.table);
+        self.present.begin(regrets.table)?;
         for share in shares {
             self.present.offer(regrets.table, share.1);
         }
@@ -48,18 +48,18 @@ impl Plans {
                 self.present.offer(regrets.table, *row);
             }
         }
-        begun.and(self.count(regrets))
+        self.count(regrets)
     }
 
     /// Takes this plan as the present one.
     pub fn adopt(&mut self, regrets: &Regrets, rows: &[Option<u32>]) -> Made<()> {
-        let begun = self.present.begin(regrets.table);
+        self.present.begin(regrets.table)?;
         for row in rows {
             if let Some(row) = row {
                 self.present.give(regrets.table, *row);
             }
         }
-        begun.and(self.count(regrets))
+        self.count(regrets)
     }
 
     /// Chooses the rows of a few vehicles anew, over and over, until the plan costs no more than the bound, or nothing
@@ -72,7 +72,7 @@ impl Plans {
         most_steps: u32,
         allowance: &mut Allowance,
     ) -> Made<()> {
-        let begun = self.neighbourhood.begin(regrets.table);
+        self.neighbourhood.begin(regrets.table)?;
         let mut idle: u32 = 0;
         for attempt in 0..MOST_ATTEMPTS {
             if self.cost <= bound || idle > most_idle || allowance.rest == 0 {
@@ -85,7 +85,7 @@ impl Plans {
             self.cost = self.cost.saturating_sub(saved / 1024);
             idle = if saved > 0 { 0 } else { idle.saturating_add(1) };
         }
-        begun.and(self.count(regrets))
+        self.count(regrets)
     }
 
     fn count(&mut self, regrets: &Regrets) -> Made<()> {

@@ -22,11 +22,8 @@ impl Present {
 
     /// Begins with the vehicles of a table, none of which has a row.
     pub fn begin(&mut self, table: &RowTable) -> Made<()> {
-        reset(&mut self.rows, table.vehicle_count(), None).and(reset(
-            &mut self.servers,
-            table.rider_count(),
-            None,
-        ))
+        reset(&mut self.rows, table.vehicle_count(), None)?;
+        reset(&mut self.servers, table.rider_count(), None)
     }
 
     /// The vehicle's row.

@@ -4,8 +4,8 @@
 //! cost of its row lies above the vehicle's least, and for each rider who is left out what that costs above
 //! her multiplier. Of each vehicle's rows only those of least regret are looked at.
 
-use row_tables::fixed_point::{at, item, put, reset, set_at};
-use row_tables::lists::Lists;
+use row_tables::fixed_point::{at, item, reset, set_at};
+use row_tables::lists::{Lists, short};
 use row_tables::{Made, RowTable};
 use std::alloc::Global;
 
@@ -49,39 +49,32 @@ impl<'a> Regrets<'a> {
 
     /// Finds the regrets under these multipliers, in 1/1024 second.
     pub fn fill(&mut self, multipliers: &[i64]) -> Made<()> {
-        self.price_riders(multipliers)
-            .and(reset(&mut self.is_listed, self.table.row_count(), true))?;
-        let mut made = Ok(());
+        self.price_riders(multipliers)?;
         for vehicle in 0..self.table.vehicle_count() {
-            made = made
-                .and(self.reduce(vehicle))
-                .and(self.list_vehicle(vehicle));
+            self.reduce(vehicle)?;
         }
-        made.and(self.list_riders())
+        self.list()
     }
 
     /// What each rider is worth: her multiplier, and at most what it costs to leave her out.
     fn price_riders(&mut self, multipliers: &[i64]) -> Made<()> {
-        let mut made = Ok(());
         for rider in 0..self.table.rider_count() {
             let cost = self.table.cost_left(rider).saturating_mul(1024);
             let price = at(multipliers, rider).min(cost);
-            made = made
-                .and(put(&mut self.prices, price))
-                .and(put(&mut self.left, cost.saturating_sub(price)));
+            self.prices.push(price)?;
+            self.left.push(cost.saturating_sub(price))?;
         }
-        made
+        Ok(())
     }
 
     /// Notes the regrets of a vehicle's rows.
     fn reduce(&mut self, vehicle: usize) -> Made<()> {
         let least = self.least_cost(vehicle);
-        let mut made = Ok(());
         for row in self.table.rows_of(vehicle) {
             let cost = self.table.reduced_cost(&self.prices, row);
-            made = made.and(put(&mut self.above, cost.saturating_sub(least)));
+            self.above.push(cost.saturating_sub(least))?;
         }
-        made
+        Ok(())
     }
 
     /// The least reduced cost of a vehicle's rows.
@@ -93,46 +86,63 @@ impl<'a> Regrets<'a> {
         least
     }
 
-    /// Lists the vehicle's rows of least regret and its first one, and marks the others as left out.
+    /// Lists the rows that are looked at.
+    fn list(&mut self) -> Made<()> {
+        reset(&mut self.is_listed, self.table.row_count(), false)?;
+        for vehicle in 0..self.table.vehicle_count() {
+            self.rank_vehicle(vehicle)?;
+            self.list_vehicle(vehicle)?;
+        }
+        self.list_riders()
+    }
+
+    /// All rows of the vehicle by rising regret.
+    fn rank_vehicle(&mut self, vehicle: usize) -> Made<()> {
+        self.ranks.clear();
+        for row in self.table.rows_of(vehicle) {
+            let rank = (self.above(short(row)), short(row));
+            self.ranks.push(rank)?;
+        }
+        self.ranks.as_mut_slice().sort_unstable();
+        Ok(())
+    }
+
+    /// Lists the vehicle's rows of least regret and its first one, and marks them.
     fn list_vehicle(&mut self, vehicle: usize) -> Made<()> {
         let first = self.table.rows_of(vehicle).start;
-        let mut made = self.rank(self.table.rider_count().saturating_add(vehicle));
         for (place, rank) in self.ranks.iter().enumerate() {
             let row = rank.1 as usize;
             if place < MOST_ROWS || row == first {
-                made = made.and(self.rows.push(row));
-            } else {
-                set_at(&mut self.is_listed, row, false);
+                self.rows.push(row)?;
+                set_at(&mut self.is_listed, row, true);
             }
         }
-        made.and(self.rows.end())
+        self.rows.end()
     }
 
-    /// Lists for each rider the rows that have her, but for those that are left out.
+    /// Lists for each rider the marked rows that have her.
     fn list_riders(&mut self) -> Made<()> {
-        let mut made = Ok(());
         for rider in 0..self.table.rider_count() {
-            made = made.and(self.rank(rider));
+            self.rank_rider(rider)?;
             for rank in &self.ranks {
-                made = made.and(self.with.push(rank.1 as usize));
+                self.with.push(rank.1 as usize)?;
             }
-            made = made.and(self.with.end());
+            self.with.end()?;
         }
-        made
+        Ok(())
     }
 
-    /// The rows under a condition by rising regret, but for those that are left out.
-    fn rank(&mut self, condition: usize) -> Made<()> {
-        let mut made = Ok(());
+    /// The marked rows that have the rider, by rising regret.
+    fn rank_rider(&mut self, rider: usize) -> Made<()> {
         self.ranks.clear();
-        for row in self.table.rows_with(condition) {
+        for row in self.table.rows_with(rider) {
             if item(&self.is_listed, *row as usize, false) {
                 let rank = (self.above(*row), *row);
-                made = made.and(put(&mut self.ranks, rank));
+                self.ranks.push(rank)?;
             }
         }
         self.ranks.as_mut_slice().sort_unstable();
-        made
+        Ok(())
     }
 
     /// The regret of this row.

@@ -17,11 +17,12 @@ mod solution;
 mod sparse;
 
 use crate::allowance::Allowance;
+use crate::relaxation::basis::Basis;
 use crate::relaxation::pool::Pool;
 use crate::relaxation::sparse::Sparse;
-pub use basis::{Basis, MANY_CONDITIONS};
+pub use basis::MANY_CONDITIONS;
 pub use dual::Ended;
-use row_tables::fixed_point::{at, copy, reset, set_at};
+use row_tables::fixed_point::{at, copy, reset, set_at, write_over};
 use row_tables::{Made, RowTable};
 use std::alloc::Global;
 use std::cmp::Reverse;
@@ -45,6 +46,23 @@ const A_LOOK: u64 = 2;
 /// How much of a row is chosen, in units of 2^-32, and the row: what is chosen more stands first.
 pub type Share = (Reverse<i64>, u32);
 
+/// A basis with its factors and prices, to come back to.
+#[derive(Drop)]
+pub struct Saved {
+    basis: Basis,
+    prices: Vec<i64>,
+}
+
+impl Saved {
+    /// No basis.
+    pub fn new(alloc: Global) -> Self {
+        Saved {
+            basis: Basis::new(alloc),
+            prices: Vec::new(alloc),
+        }
+    }
+}
+
 /// A solution of the relaxation of some rows, and the work space for the next one.
 ///
 /// A number of a column is that of a row, or behind the rows a single condition's: a rider's who is left out, or that
@@ -61,6 +79,8 @@ pub struct Relaxation {
     pub is_held: bool,
     /// What each column costs, in the units of prices.
     costs: Vec<i64>,
+    /// The prices of the conditions, in units of 2^-32 of 2^scale seconds.
+    prices: Vec<i64>,
     pub scale: u32,
     /// How much each place costs, or how much of it is chosen.
     parts: Vec<i64>,
@@ -98,6 +118,7 @@ impl Relaxation {
             forbidden_count: 0,
             is_held: false,
             costs: Vec::new(alloc),
+            prices: Vec::new(alloc),
             scale: 0,
             parts: Vec::new(alloc),
             row: Sparse::new(alloc),
@@ -125,31 +146,31 @@ impl Relaxation {
     ) -> Made<()> {
         self.allowance = allowance;
         self.scale = scale_of(table);
-        self.basis.begin(table, start).and(self.make_space(table))?;
+        self.basis.begin(table, start)?;
+        self.make_space(table)?;
         self.set_costs_left(table, &[], i64::MAX);
-        let mut made = Ok(());
         for rider in 0..table.rider_count() {
             let column = table.row_count().saturating_add(rider);
             let cost = at(&self.costs, column);
-            made = made.and(self.pool.add(table, column, cost));
+            self.pool.add(table, column, cost)?;
         }
-        made.and(self.add_all(table, columns))
+        self.add_all(table, columns)
     }
 
     fn make_space(&mut self, table: &RowTable) -> Made<()> {
         let conditions = table.condition_count();
-        let made = reset(&mut self.pool.is_in, table.column_count(), false)
-            .and(reset(&mut self.is_forbidden, table.row_count(), false))
-            .and(reset(&mut self.forbidden, table.row_count(), 0))
-            .and(reset(&mut self.costs, table.column_count(), 0))
-            .and(reset(&mut self.parts, conditions, 0))
-            .and(self.row.make_space(conditions))
-            .and(reset(&mut self.multipliers, table.rider_count(), 0))
-            .and(reset(&mut self.tried, table.rider_count(), 0));
+        reset(&mut self.pool.is_in, table.column_count(), false)?;
+        reset(&mut self.is_forbidden, table.row_count(), false)?;
+        reset(&mut self.forbidden, table.row_count(), 0)?;
+        reset(&mut self.costs, table.column_count(), 0)?;
         for row in 0..table.row_count() {
             set_at(&mut self.costs, row, in_prices(table.cost(row), self.scale));
         }
-        made
+        reset(&mut self.prices, conditions, 0)?;
+        reset(&mut self.parts, conditions, 0)?;
+        self.row.make_space(conditions)?;
+        reset(&mut self.multipliers, table.rider_count(), 0)?;
+        reset(&mut self.tried, table.rider_count(), 0)
     }
 
     /// Has it cost as much to leave out a rider as the table says, but no more than her multiplier, in 1/1024 second,
@@ -179,10 +200,10 @@ impl Relaxation {
     ) -> Made<()> {
         self.value = i64::MIN;
         for pass in 0..most_passes.min(MOST_PASSES) {
-            let pivoted = self.pivot_on(table);
+            self.pivot_on(table)?;
             self.reprice();
             self.find_multipliers(table);
-            let added = pivoted.and(self.pass(table, most_rows))?;
+            let added = self.pass(table, most_rows)?;
             if self.value >= most_value || added == 0 || self.is_tired() {
                 return Ok(());
             }
@@ -193,27 +214,20 @@ impl Relaxation {
         Ok(())
     }
 
-    /// The same from a solution where fewer rows were forbidden, which is saved, by the dual simplex. Where that fails
-    /// forbidden rows leave as those that cost so much.
+    /// The same from a solution where fewer rows were forbidden, by the dual simplex. False where that fails.
     pub fn solve_dual(
         &mut self,
         table: &RowTable,
-        saved: &Basis,
         most_value: i64,
         most_rows: usize,
-    ) -> Made<()> {
+    ) -> Made<bool> {
         let most = MOST_DUAL_PIVOTS.saturating_mul(self.basis.columns.len() as u64);
         let (ended, _) = self.pivot_dual(table, most, i64::MAX)?;
-        if ended == Ended::Solved {
-            return self.solve(table, most_value, most_rows, u32::MAX);
+        if ended != Ended::Solved {
+            return Ok(false);
         }
-        self.is_held = false;
-        let solved = self
-            .basis
-            .copy_from(saved)
-            .and(self.solve(table, most_value, most_rows, u32::MAX));
-        self.is_held = true;
-        solved
+        self.solve(table, most_value, most_rows, u32::MAX)?;
+        Ok(true)
     }
 
     /// Puts the rows of least reduced cost of each vehicle under these multipliers into the pool.
@@ -231,12 +245,11 @@ impl Relaxation {
     }
 
     fn add_all(&mut self, table: &RowTable, columns: &[u32]) -> Made<()> {
-        let mut made = Ok(());
         for column in columns {
             let cost = at(&self.costs, *column as usize);
-            made = made.and(self.pool.add(table, *column as usize, cost));
+            self.pool.add(table, *column as usize, cost)?;
         }
-        made
+        Ok(())
     }
 
     /// Takes the rows out of the pool that aren't in the basis and whose reduced cost lies so much above their
@@ -274,9 +287,21 @@ impl Relaxation {
 
     /// Goes to a basis that was one before.
     pub fn go_to(&mut self, table: &RowTable, columns: &[u32]) -> Made<()> {
-        self.add_all(table, columns)
-            .and(self.list_places())
-            .and(self.basis.go_to(columns))
+        self.add_all(table, columns)?;
+        self.list_places()?;
+        self.basis.go_to(columns)
+    }
+
+    /// Writes the basis there.
+    pub fn save(&self, saved: &mut Saved) -> Made<()> {
+        write_over(&mut saved.prices, &self.prices)?;
+        saved.basis.copy_from(&self.basis)
+    }
+
+    /// Goes back to the basis that was written there.
+    pub fn go_back(&mut self, saved: &Saved) -> Made<()> {
+        copy(&saved.prices, &mut self.prices);
+        self.basis.copy_from(&saved.basis)
     }
 
     /// A price in 1/1024 second.

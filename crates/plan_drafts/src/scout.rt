@@ -2,10 +2,12 @@
 //! its number alone.
 use crate::allowance::Allowance;
 use crate::annealing::anneal;
+use crate::beside::Beside;
 use crate::diving::dive;
-use crate::draft::Drafting;
 use crate::plans::Plans;
+use crate::regrets::Regrets;
 use crate::relaxation::Relaxation;
+use crate::tree::DraftTree;
 use row_tables::Made;
 use std::alloc::Global;
 
@@ -16,6 +18,19 @@ const TURNS: u64 = 8;
 const IDLE: u32 = 1000;
 
 const STEPS: u32 = 2000;
+
+/// What scouts start from.
+#[derive(Clone, Copy)]
+pub struct Start<'a> {
+    pub regrets: &'a Regrets<'a>,
+    pub relaxation: &'a Relaxation,
+    /// A tree with the best plan so far.
+    pub tree: &'a DraftTree,
+    /// What annealings need, where one rider more might be served.
+    pub beside: Option<&'a Beside>,
+    /// What work each may do.
+    pub share: Allowance,
+}
 
 /// One who looks for plans, with a relaxation of its own.
 #[derive(Drop)]
@@ -41,34 +56,31 @@ impl Scout {
         }
     }
 
-    /// Goes on from the best plan of this draft by annealing, or to another by a dive, and betters it. It may do so
-    /// much work.
-    pub fn look(&mut self, start: &Drafting, anneals: bool, share: Allowance) -> Made<()> {
-        let (alloc, regrets, draft) = (start.alloc, &start.regrets, &start.tree.draft);
-        let (plans, left, number) = (&mut self.plans, &mut self.left, self.number);
-        *left = share;
-        let adopted = plans.adopt(regrets, &draft.plan);
-        let found = if anneals && number % TURNS > 0 {
-            anneal(
-                alloc,
-                regrets,
-                &start.beside,
-                &draft.plan,
-                number,
-                left,
-                plans,
-            )
-        } else {
-            let relaxation = &mut self.relaxation;
-            let columns = &start.relaxation.pool.columns;
-            let begun = relaxation.begin(regrets.table, &draft.plan, columns, share);
-            let basis = start.tree.root_basis();
-            let found = dive(alloc, regrets, relaxation, basis, number, plans);
-            *left = relaxation.allowance();
-            begun.and(found).and(Ok(()))
+    /// Goes on from the best plan by annealing, or to another by a dive, and betters it.
+    pub fn look(&mut self, alloc: Global, start: Start) -> Made<()> {
+        self.left = start.share;
+        let best = start.tree.draft.plan.as_slice();
+        self.plans.adopt(start.regrets, best)?;
+        let plan = match start.beside {
+            Some(beside) if self.number % TURNS > 0 => {
+                let left = &mut self.left;
+                Some(anneal(alloc, start.regrets, beside, best, self.number, left)?)
+            }
+            _ => {
+                let (table, relaxation) = (start.regrets.table, &mut self.relaxation);
+                let columns = &start.relaxation.pool.columns;
+                relaxation.begin(table, best, columns, start.share)?;
+                let basis = start.tree.root_basis();
+                let plan = dive(alloc, table, relaxation, basis, self.number)?;
+                self.left = self.relaxation.allowance();
+                plan
+            }
         };
-        adopted
-            .and(found)
-            .and(plans.better(regrets, draft.bound, IDLE, STEPS, left))
+        if let Some(plan) = plan {
+            self.plans.adopt(start.regrets, &plan)?;
+        }
+        let bound = start.tree.draft.bound;
+        let left = &mut self.left;
+        self.plans.better(start.regrets, bound, IDLE, STEPS, left)
     }
 }

@@ -4,6 +4,7 @@ use crate::allowance::Allowance;
 use crate::costs::{UNLAWFUL, plan_cost};
 use crate::parter::{End, MOST_AT_ONCE, Parter};
 use crate::relaxation::{Relaxation, Share};
+use crate::whole;
 use pool_base::OutOfMemory;
 use row_tables::fixed_point::write_over;
 use row_tables::{Draft, Made, RowTable};
@@ -64,8 +65,8 @@ impl DraftTree {
     pub fn root(&mut self, table: &RowTable, relaxation: &mut Relaxation) -> Made<()> {
         self.draft.bound = seconds_of(relaxation.value);
         let mut end = End::new(self.alloc, None);
-        let noted = end.note(table, relaxation);
-        noted.and(self.put(end))
+        let done = end.note(table, relaxation);
+        self.put(whole(end, done)?)
     }
 
     /// Puts in a node, which is open.
@@ -128,35 +129,19 @@ impl DraftTree {
         budget: usize,
         workers: u8,
     ) -> Made<()> {
-        let mut team: Vec<Parter> = Vec::new(self.alloc);
-        let grown = self.grow_by(rt, table, relaxation, budget, workers, &mut team);
-        drop(team);
-        grown
-    }
-
-    /// The same with a team for which there is nobody yet.
-    fn grow_by<R: Threads + Sync>(
-        &mut self,
-        rt: &R,
-        table: &RowTable,
-        relaxation: &Relaxation,
-        budget: usize,
-        workers: u8,
-        team: &mut Vec<Parter>,
-    ) -> Made<()> {
         let share = self.allowance.share(SHARE);
         let mut left = share;
+        let mut team: Vec<Parter> = Vec::new(self.alloc);
         for _ in 0..budget {
             for _ in team.len()..self.open.min(MOST_AT_ONCE) {
                 let mut parter = Parter::new(self.alloc, table);
-                let begun = parter.begin(table, relaxation, &self.draft.plan, left);
-                team.push(parter)?;
-                begun?;
+                let done = parter.begin(table, relaxation, &self.draft.plan, left);
+                team.push(whole(parter, done)?)?;
             }
-            if left.rest == 0 || !self.hand_out(team, budget, left) {
+            if left.rest == 0 || !self.hand_out(&mut team, budget, left) {
                 break;
             }
-            self.part_all(rt, table, workers, team);
+            self.part_all(rt, table, workers, &mut team);
             for parter in team.iter_mut() {
                 left.rest = left.rest.min(parter.relaxation.allowance().rest);
                 self.take_in(table, parter)?;
@@ -195,9 +180,7 @@ impl DraftTree {
         team: &mut [Parter],
     ) {
         let workers = usize::from(workers).max(1);
-        let part = |_: usize, parter: &mut Parter| parter.is_done = parter
-            .part(table, self)
-            .is_ok();
+        let part = |_: usize, parter: &mut Parter| parter.part(table, self);
         thread::for_each_mut(rt, team, workers, &part);
     }
 
@@ -211,22 +194,14 @@ impl DraftTree {
         }
         for _ in 0..parter.ends.len() {
             if let Some(end) = parter.ends.pop() {
-                let judged = self.judge(table, &end);
-                judged.and(self.put(end))?;
+                if let Some(plan) = &end.plan {
+                    let cost = plan_cost(self.alloc, table, plan)?;
+                    self.offer(plan, cost)?;
+                }
+                self.put(end)?;
             }
         }
         Ok(())
-    }
-
-    /// Takes the plan of an end, if it has one, where it is the best.
-    fn judge(&mut self, table: &RowTable, end: &End) -> Made<()> {
-        match &end.plan {
-            None => Ok(()),
-            Some(plan) => {
-                let cost = plan_cost(self.alloc, table, plan)?;
-                self.offer(plan, cost)
-            }
-        }
     }
 
     /// Takes out the open node of least value, where that lies above the bound by no more than a part of the gap:

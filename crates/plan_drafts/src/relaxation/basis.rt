@@ -5,7 +5,7 @@ use crate::relaxation::sparse::Sparse;
 use rand_xoshiro::SplitMix64;
 use rand_xoshiro::rand_core::{Rng, SeedableRng};
 use row_tables::fixed_point::{
-    ONE, add_at, at, copy, is_quotient_above, item, put, quotient, reset, set_at, times, write_over,
+    ONE, add_at, at, copy, is_quotient_above, item, quotient, reset, set_at, times, write_over,
 };
 use row_tables::lists::short;
 use row_tables::{Made, RowTable};
@@ -30,8 +30,6 @@ pub struct Basis {
     /// Whether each column is in the basis.
     is_in: Vec<bool>,
     pub levels: Vec<i64>,
-    /// The prices of the conditions, in units of 2^-32 of 2^scale seconds.
-    pub prices: Vec<i64>,
     /// How much each condition has: a little more than one where a rider may be left out, so that no two
     /// levels are used up at once.
     capacities: Vec<i64>,
@@ -54,7 +52,6 @@ impl Basis {
             columns: Vec::new(alloc),
             is_in: Vec::new(alloc),
             levels: Vec::new(alloc),
-            prices: Vec::new(alloc),
             capacities: Vec::new(alloc),
             factors: Factors::new(alloc),
             made: None,
@@ -69,32 +66,31 @@ impl Basis {
     /// all other riders as left out.
     pub fn begin(&mut self, table: &RowTable, start: &[Option<u32>]) -> Made<()> {
         let count = table.condition_count();
-        let mut made = reset(&mut self.is_in, table.column_count(), false)
-            .and(reset(&mut self.levels, count, 0))
-            .and(reset(&mut self.prices, count, 0))
-            .and(self.numbers.make_space(count))
-            .and(self.entering.make_space(count))
-            .and(self.draw_capacities(table));
+        reset(&mut self.is_in, table.column_count(), false)?;
+        reset(&mut self.levels, count, 0)?;
+        self.numbers.make_space(count)?;
+        self.entering.make_space(count)?;
+        self.draw_capacities(table)?;
         for condition in 0..count {
             let vehicle = condition.wrapping_sub(table.rider_count());
             let single = short(table.row_count().saturating_add(condition));
             let column = item(start, vehicle, None).unwrap_or(single);
-            made = made.and(put(&mut self.columns, column));
+            self.columns.push(column)?;
             set_at(&mut self.is_in, column as usize, true);
         }
-        made.and(write_over(&mut self.good, &self.columns))
+        write_over(&mut self.good, &self.columns)
     }
 
     fn draw_capacities(&mut self, table: &RowTable) -> Made<()> {
         let mut draws = SplitMix64::seed_from_u64(SEED);
-        let made = reset(&mut self.capacities, table.condition_count(), ONE);
+        reset(&mut self.capacities, table.condition_count(), ONE)?;
         for rider in 0..table.rider_count() {
             let more = ONE / (4096 * 2048) * (1 + (draws.next_u64() % 4096) as i64);
             if !table.must(rider) {
                 add_at(&mut self.capacities, rider, more);
             }
         }
-        made
+        Ok(())
     }
 
     pub fn column(&self, place: usize) -> usize {
@@ -107,11 +103,11 @@ impl Basis {
 
     /// Goes to other columns, which were a basis before.
     pub fn go_to(&mut self, columns: &[u32]) -> Made<()> {
-        if columns.len() != self.columns.len() {
-            return Ok(());
+        if columns.len() == self.columns.len() {
+            self.put_columns(columns)?;
+            self.made = None;
         }
-        self.made = None;
-        self.put_columns(columns)
+        Ok(())
     }
 
     fn put_columns(&mut self, columns: &[u32]) -> Made<()> {
@@ -122,29 +118,29 @@ impl Basis {
 
     /// Becomes the same as another basis over the same rows.
     pub fn copy_from(&mut self, other: &Basis) -> Made<()> {
+        self.put_columns(&other.columns)?;
+        write_over(&mut self.levels, &other.levels)?;
         self.made = other.made;
-        self.put_columns(&other.columns)
-            .and(write_over(&mut self.levels, &other.levels))
-            .and(write_over(&mut self.prices, &other.prices))
-            .and(self.factors.copy_from(&other.factors))
+        self.factors.copy_from(&other.factors)
     }
 
     /// Makes the factors of the columns, or where there are none goes back to the last columns that had
     /// some. False where it went back.
     pub fn factor(&mut self, table: &RowTable) -> Made<bool> {
         let is_good = self.try_factor(table)?;
-        let done = if is_good {
-            write_over(&mut self.good, &self.columns).and(Ok(true))
+        if is_good {
+            write_over(&mut self.good, &self.columns)?;
         } else {
             mark(&mut self.is_in, &self.columns, false);
             mark(&mut self.is_in, &self.good, true);
-            write_over(&mut self.columns, &self.good).and(self.try_factor(table))
-        };
+            write_over(&mut self.columns, &self.good)?;
+            self.try_factor(table)?;
+        }
         self.made = Some((self.factors.pivots.len(), self.factors.size()));
         self.entering.load(&self.capacities);
         self.factors.solve(&mut self.entering);
         copy(&self.entering.numbers, &mut self.levels);
-        done.and(Ok(is_good))
+        Ok(is_good)
     }
 
     fn try_factor(&mut self, table: &RowTable) -> Made<bool> {
@@ -163,10 +159,10 @@ impl Basis {
     }
 
     /// Computes the prices at which each place costs this.
-    pub fn find_prices(&mut self, costs: &[i64]) {
+    pub fn find_prices(&mut self, costs: &[i64], prices: &mut [i64]) {
         self.numbers.load(costs);
         self.factors.price(&mut self.numbers);
-        copy(&self.numbers.numbers, &mut self.prices);
+        copy(&self.numbers.numbers, prices);
     }
 
     /// Writes the inverse's row of a place over the conditions.
@@ -242,15 +238,14 @@ impl Basis {
         set_at(&mut self.is_in, leaving, false);
         set_at(&mut self.columns, place, short(column));
         set_at(&mut self.is_in, column, true);
-        let entered = self.factors.enter(place, &self.entering);
+        self.factors.enter(place, &self.entering)?;
         let (count, size) = self.made.unwrap_or((0, 0));
         let conditions = self.columns.len();
         let each = if conditions > MANY_CONDITIONS { 32 } else { 8 };
         let most = conditions.saturating_mul(each).saturating_add(2000);
         let most = most.max(size.saturating_sub(48_000));
         let more = self.factors.pivots.len().saturating_sub(count);
-        let is_small = self.factors.size().saturating_sub(size) <= most;
-        entered.and(Ok(more < MOST_EXCHANGES && is_small))
+        Ok(more < MOST_EXCHANGES && self.factors.size().saturating_sub(size) <= most)
     }
 
     /// Takes so much of the column that was found from the levels.
@@ -261,6 +256,12 @@ impl Basis {
                 add_at(&mut self.levels, place, taken.wrapping_neg());
             }
         }
+    }
+
+    /// Whether columns were exchanged since the factors were made.
+    pub fn is_exchanged(&self) -> bool {
+        let (count, _) = self.made.unwrap_or((usize::MAX, 0));
+        self.factors.pivots.len() > count
     }
 }
 

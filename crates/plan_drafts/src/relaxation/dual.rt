@@ -15,6 +15,28 @@ pub enum Ended {
     Failed,
 }
 
+/// A column that may come in: its reduced cost, and how much of the leaving level one of it takes.
+#[derive(Clone, Copy)]
+struct Entering {
+    column: usize,
+    cost: i64,
+    value: i64,
+}
+
+impl Entering {
+    /// Whether the prices use it up before another, if there is one: for less, or for as much at a greater number to
+    /// divide by.
+    #[inline]
+    fn is_first(self, other: Option<Entering>) -> bool {
+        let Some(other) = other else {
+            return true;
+        };
+        let cost = i128::from(self.cost).wrapping_mul(i128::from(other.value));
+        let others = i128::from(other.cost).wrapping_mul(i128::from(self.value));
+        cost < others || (cost == others && self.value > other.value)
+    }
+}
+
 impl Relaxation {
     /// Takes columns in until no level is wrong, or so many came in, or the cost rose by this. How much it
     /// rose. Forbidden rows are to be held at 0, and prices to be those of the basis where it has factors.
@@ -45,8 +67,8 @@ impl Relaxation {
     /// Lists the places of each condition in the pool, but for those of rows that are forbidden now.
     pub fn list_places(&mut self) -> Made<()> {
         self.pool
-            .list_places(self.basis.prices.len(), &self.is_forbidden)
-            .and(reset(&mut self.products, self.pool.columns.len(), 0))
+            .list_places(self.prices.len(), &self.is_forbidden)?;
+        reset(&mut self.products, self.pool.columns.len(), 0)
     }
 
     /// Has the level at a place leave for the column that prices use up first. How much the cost rises, `None`
@@ -55,19 +77,19 @@ impl Relaxation {
         self.basis.find_row(place, &mut self.row);
         let level = at(&self.basis.levels, place);
         self.find_products(level > 0);
-        let Some((column, cost)) = self.entering() else {
+        let Some(entering) = self.entering() else {
             return Ok(None);
         };
-        self.basis.find_column(table, column);
+        self.basis.find_column(table, entering.column);
         let value = self.basis.entering.at(place);
         if value.saturating_abs() < LEAST_PIVOT || (value > 0) != (level > 0) {
             return self.factor_anew(table);
         }
-        let step = quotient(cost, value);
+        let step = quotient(entering.cost, value);
         self.change_prices(step);
         self.pivots = self.pivots.saturating_add(1);
         let part = quotient(level, value);
-        if !self.basis.exchange(place, column, part)? {
+        if !self.basis.exchange(place, entering.column, part)? {
             if !self.basis.factor(table)? {
                 return Ok(None);
             }
@@ -76,10 +98,9 @@ impl Relaxation {
         Ok(Some(times(step, level)))
     }
 
-    /// Makes the factors anew, where that can help since columns were exchanged: the cost stays. `None` where it can't.
+    /// Makes the factors anew, where that can help: the cost stays. `None` where it can't.
     fn factor_anew(&mut self, table: &RowTable) -> Made<Option<i64>> {
-        let (count, _) = self.basis.made.unwrap_or((usize::MAX, 0));
-        if self.basis.factors.pivots.len() > count && self.basis.factor(table)? {
+        if self.basis.is_exchanged() && self.basis.factor(table)? {
             self.reprice();
             Ok(Some(0))
         } else {
@@ -87,26 +108,21 @@ impl Relaxation {
         }
     }
 
-    /// The column whose reduced cost is used up first as the prices change with the row that was found, and this cost:
-    /// for less than others, or for as much at a greater number to divide by.
-    fn entering(&self) -> Option<(usize, i64)> {
+    /// The column whose reduced cost is used up first as the prices change with the row that was found.
+    fn entering(&self) -> Option<Entering> {
         let mut best = None;
-        let mut least = i64::MAX;
-        let mut divisor = 1;
         for (place, value) in self.products.iter().enumerate() {
             let value = *value;
             if value <= LEAST_PIVOT {
                 continue;
             }
-            let cost = self.pool.reduced_cost(place, &self.basis.prices).max(0);
-            let part = i128::from(cost).wrapping_mul(i128::from(divisor));
-            let others = i128::from(least).wrapping_mul(i128::from(value));
-            let is_first = part < others || (part == others && value > divisor);
-            let column = self.pool.column(place);
-            if is_first && self.may_enter(column) {
-                best = Some((column, cost));
-                least = cost;
-                divisor = value;
+            let found = Entering {
+                column: self.pool.column(place),
+                cost: self.pool.reduced_cost(place, &self.prices).max(0),
+                value,
+            };
+            if found.is_first(best) && self.may_enter(found.column) {
+                best = Some(found);
             }
         }
         best

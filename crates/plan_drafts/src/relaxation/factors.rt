@@ -5,7 +5,7 @@
 //! inverse; Dantzig and Orchard-Hays, 1954). Only numbers that aren't 0 are kept.
 use crate::relaxation::sparse::Sparse;
 use row_tables::Made;
-use row_tables::fixed_point::{ONE, is_noise, item, part, put, quotient, write_over};
+use row_tables::fixed_point::{ONE, is_noise, item, part, quotient, write_over};
 use row_tables::lists::{Lists, short};
 use std::alloc::Global;
 use std::mem::replace;
@@ -44,22 +44,23 @@ impl Columns {
     }
 
     fn copy_from(&mut self, other: &Columns) -> Made<()> {
-        self.places
-            .copy_from(&other.places)
-            .and(write_over(&mut self.numbers, &other.numbers))
-            .and(write_over(&mut self.marks, &other.marks))
+        self.places.copy_from(&other.places)?;
+        write_over(&mut self.numbers, &other.numbers)?;
+        write_over(&mut self.marks, &other.marks)
     }
 
     fn push(&mut self, place: usize, number: i64) -> Made<()> {
-        if is_noise(number) {
-            return Ok(());
+        if !is_noise(number) {
+            self.mark |= mark_of(place);
+            self.places.push(place)?;
+            self.numbers.push(number)?;
         }
-        self.mark |= mark_of(place);
-        self.places.push(place).and(put(&mut self.numbers, number))
+        Ok(())
     }
 
     fn end(&mut self) -> Made<()> {
-        put(&mut self.marks, replace(&mut self.mark, 0)).and(self.places.end())
+        self.marks.push(replace(&mut self.mark, 0))?;
+        self.places.end()
     }
 
     /// The places where a column isn't 0, and its numbers there.
@@ -102,10 +103,10 @@ impl Factors {
     }
 
     pub fn copy_from(&mut self, other: &Factors) -> Made<()> {
+        write_over(&mut self.pivots, &other.pivots)?;
         self.work = self.work.wrapping_add(other.size() as u64);
-        write_over(&mut self.pivots, &other.pivots)
-            .and(self.columns.copy_from(&other.columns))
-            .and(self.above.copy_from(&other.above))
+        self.columns.copy_from(&other.columns)?;
+        self.above.copy_from(&other.above)
     }
 
     /// How many numbers they have.
@@ -120,21 +121,20 @@ impl Factors {
         if places.len() <= 1 {
             return Ok(());
         }
-        let mut made = Ok(());
         for other in places {
-            made = made.and(self.part(place, *other as usize, ONE, placed));
+            self.part(place, *other as usize, ONE, placed)?;
         }
-        made.and(self.above.end()).and(self.end(place, ONE))
+        self.above.end()?;
+        self.end(place, ONE)
     }
 
     /// Has a reduced column be the next of the triangles.
     pub fn add(&mut self, place: usize, column: &Sparse, placed: &[u32]) -> Made<()> {
-        let mut made = Ok(());
         for other in column.places() {
-            made = made.and(self.part(place, other, column.at(other), placed));
+            self.part(place, other, column.at(other), placed)?;
         }
-        made.and(self.above.end())
-            .and(self.end(place, column.at(place)))
+        self.above.end()?;
+        self.end(place, column.at(place))
     }
 
     /// Puts a number of a column into the one triangle or the other.
@@ -150,17 +150,17 @@ impl Factors {
 
     /// Has a column come in at a place, as it is over all places.
     pub fn enter(&mut self, place: usize, column: &Sparse) -> Made<()> {
-        let mut made = Ok(());
         for other in column.places() {
             if other != place {
-                made = made.and(self.columns.push(other, column.at(other)));
+                self.columns.push(other, column.at(other))?;
             }
         }
-        made.and(self.end(place, column.at(place)))
+        self.end(place, column.at(place))
     }
 
     fn end(&mut self, place: usize, value: i64) -> Made<()> {
-        put(&mut self.pivots, (short(place), value)).and(self.columns.end())
+        self.pivots.push((short(place), value))?;
+        self.columns.end()
     }
 
     /// Writes numbers over the places where numbers over the conditions stand.

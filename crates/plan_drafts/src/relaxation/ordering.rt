@@ -4,7 +4,7 @@
 //! column: both need no arithmetic. The rest comes by rising size.
 use crate::relaxation::factors::{Factors, NONE};
 use crate::relaxation::sparse::Sparse;
-use row_tables::fixed_point::{ONE, item, put, reset, set_at, write_over};
+use row_tables::fixed_point::{ONE, item, reset, set_at, write_over};
 use row_tables::lists::{Lists, short};
 use row_tables::{Made, RowTable};
 use std::alloc::Global;
@@ -29,13 +29,11 @@ impl Side {
     }
 
     fn count_all(&mut self) -> Made<()> {
-        let mut made = Ok(());
         self.counts.clear();
         for number in 0..self.lists.len() {
-            let count = short(self.lists.list(number).len());
-            made = made.and(put(&mut self.counts, count));
+            self.counts.push(short(self.lists.list(number).len()))?;
         }
-        made
+        Ok(())
     }
 
     #[inline]
@@ -100,9 +98,9 @@ impl Ordering {
         factors: &mut Factors,
         numbers: &mut Sparse,
     ) -> Made<bool> {
+        self.find(table, columns)?;
         factors.clear();
-        self.find(table, columns)
-            .and(reset(&mut self.placed, columns.len(), NONE))?;
+        reset(&mut self.placed, columns.len(), NONE)?;
         for turn in 0..columns.len() {
             let (place, condition) = self.turn(turn);
             let place = place as usize;
@@ -111,7 +109,8 @@ impl Ordering {
                 Some(condition) => set_at(&mut self.placed, condition, item(columns, place, NONE)),
             }
         }
-        write_over(columns, &self.placed).and(Ok(true))
+        write_over(columns, &self.placed)?;
+        Ok(true)
     }
 
     /// The number and the condition of the column that comes in at this turn, no condition for the rest.
@@ -137,54 +136,50 @@ impl Ordering {
     ) -> Made<Option<usize>> {
         let met = self.columns.lists.list(place);
         if condition != NONE {
-            return factors
-                .add_ones(condition as usize, met, &self.placed)
-                .and(Ok(Some(condition as usize)));
+            factors.add_ones(condition as usize, met, &self.placed)?;
+            return Ok(Some(condition as usize));
         }
         numbers.clear();
         numbers.add_all(met, ONE);
         factors.reduce(numbers);
-        let Some(condition) = self.emptiest_condition(numbers) else {
-            return Ok(None);
-        };
-        set_at(&mut self.conditions.counts, condition, 0);
-        factors
-            .add(condition, numbers, &self.placed)
-            .and(Ok(Some(condition)))
+        let found = self.emptiest_condition(numbers);
+        if let Some(condition) = found {
+            factors.add(condition, numbers, &self.placed)?;
+            set_at(&mut self.conditions.counts, condition, 0);
+        }
+        Ok(found)
     }
 
     /// Orders these columns.
     fn find(&mut self, table: &RowTable, columns: &[u32]) -> Made<()> {
-        let mut made = Ok(());
         self.columns.lists.clear();
         for column in columns {
             let conditions = table.conditions_of(*column as usize);
-            made = made.and(self.columns.lists.push_list(conditions));
+            self.columns.lists.push_list(conditions)?;
         }
-        let lists = &mut self.conditions.lists;
-        made.and(lists.transpose(&self.columns.lists, columns.len()))
-            .and(self.columns.count_all())
-            .and(self.conditions.count_all())?;
+        self.conditions
+            .lists
+            .transpose(&self.columns.lists, columns.len())?;
+        self.columns.count_all()?;
+        self.conditions.count_all()?;
         self.pairs.clear();
         let (columns, conditions) = (&mut self.columns, &mut self.conditions);
-        let peeled = peel(columns, conditions, &mut self.queue, &mut self.pairs);
+        peel(columns, conditions, &mut self.queue, &mut self.pairs)?;
         self.split = self.pairs.len();
-        peeled
-            .and(peel(conditions, columns, &mut self.queue, &mut self.pairs))
-            .and(self.order_rest())
+        peel(conditions, columns, &mut self.queue, &mut self.pairs)?;
+        self.order_rest()
     }
 
     fn order_rest(&mut self) -> Made<()> {
-        let mut made = Ok(());
         self.rest.clear();
         for place in 0..self.columns.lists.len() {
             let count = self.columns.count(place);
             if count > 0 {
-                made = made.and(put(&mut self.rest, (count, short(place))));
+                self.rest.push((count, short(place)))?;
             }
         }
         self.rest.as_mut_slice().sort_unstable();
-        made
+        Ok(())
     }
 
     /// Of the conditions that are left, at which these are at least a third of their greatest number there, the
@@ -218,31 +213,30 @@ fn peel(
     queue: &mut Vec<u32>,
     pairs: &mut Vec<(u32, u32)>,
 ) -> Made<()> {
-    let mut made = Ok(());
     queue.clear();
     for number in 0..side.lists.len() {
         if side.count(number) == 1 {
-            made = made.and(put(queue, short(number)));
+            queue.push(short(number))?;
         }
     }
     for turn in 0..side.lists.len() {
         if turn >= queue.len() {
-            break;
+            return Ok(());
         }
         let number = item(queue, turn, NONE);
         let met = side.lists.list(number as usize);
         if let Some(other) = others.first_left(met) {
             others.take_one(met);
             set_at(&mut others.counts, other, 0);
-            made = made.and(put(pairs, (number, short(other))));
+            pairs.push((number, short(other)))?;
             for near in others.lists.list(other) {
                 let count = side.count(*near as usize);
                 set_at(&mut side.counts, *near as usize, count.saturating_sub(1));
                 if count == 2 {
-                    made = made.and(put(queue, *near));
+                    queue.push(*near)?;
                 }
             }
         }
     }
-    made
+    Ok(())
 }

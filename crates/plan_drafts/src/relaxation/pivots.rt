@@ -55,7 +55,7 @@ impl Relaxation {
             let cost = self.cost_of(self.basis.column(place));
             set_at(&mut self.parts, place, cost);
         }
-        self.basis.find_prices(&self.parts);
+        self.basis.find_prices(&self.parts, &mut self.prices);
     }
 
     /// What a column costs.
@@ -69,11 +69,10 @@ impl Relaxation {
 
     /// The place in the pool of the column to come in next, and its reduced cost.
     fn next_place(&mut self) -> Made<Option<(i64, u32)>> {
-        let mut made = Ok(());
         self.reprice_candidates();
         if self.turns == 0 || self.candidates.is_empty() {
             self.turns = MOST_CANDIDATES as u32;
-            made = self.find_candidates();
+            self.find_candidates()?;
         } else {
             self.turns = self.turns.saturating_sub(1);
         }
@@ -85,7 +84,7 @@ impl Relaxation {
                 best = Some(*candidate);
             }
         }
-        made.and(Ok(best))
+        Ok(best)
     }
 
     /// Takes out the candidates that better nothing any more.
@@ -93,7 +92,7 @@ impl Relaxation {
         let mut count = 0;
         for number in 0..self.candidates.len() {
             let (_, place) = item(&self.candidates, number, (0, u32::MAX));
-            let cost = self.pool.reduced_cost(place as usize, &self.basis.prices);
+            let cost = self.pool.reduced_cost(place as usize, &self.prices);
             if cost < -LEAST_GAIN && !self.basis.has(self.pool.column(place as usize)) {
                 set_at(&mut self.candidates, count, (cost, place));
                 count = count.wrapping_add(1);
@@ -106,33 +105,30 @@ impl Relaxation {
         self.candidates.clear();
         let count = self.pool.columns.len();
         let look = (count / 4).max(LEAST_LOOK).min(count);
-        let mut made = Ok(());
         for part in 0..5_usize {
             let seen = part.wrapping_mul(look);
-            made = made.and(self.look_at(look.min(count.saturating_sub(seen))));
+            self.look_at(look.min(count.saturating_sub(seen)))?;
             if self.candidates.len() >= ENOUGH_CANDIDATES {
-                break;
+                return Ok(());
             }
         }
-        made
+        Ok(())
     }
 
     /// Takes those of the next columns among the candidates that better the solution, and do so more than others.
     fn look_at(&mut self, count: usize) -> Made<()> {
-        let mut made = Ok(());
         self.count_looks(count);
         for _ in 0..count {
             let place = self.pool.next();
-            let cost = self.pool.reduced_cost(place, &self.basis.prices);
+            let cost = self.pool.reduced_cost(place, &self.prices);
             if cost < -LEAST_GAIN {
                 let column = self.pool.column(place);
                 if self.may_enter(column) {
-                    let found = (cost, short(place));
-                    made = made.and(offer(&mut self.candidates, MOST_CANDIDATES, found));
+                    offer(&mut self.candidates, MOST_CANDIDATES, (cost, short(place)))?;
                 }
             }
         }
-        made
+        Ok(())
     }
 
     /// Whether a column is neither in the basis nor forbidden.
@@ -153,9 +149,9 @@ impl Relaxation {
             self.change_prices(cost);
             return Ok(true);
         }
-        let is_good = self.basis.factor(table);
+        let is_good = self.basis.factor(table)?;
         self.reprice();
-        is_good
+        Ok(is_good)
     }
 
     /// The place that a column that comes in takes, and how much of it comes in. Rows that are held at 0 leave
@@ -173,7 +169,7 @@ impl Relaxation {
     pub fn change_prices(&mut self, factor: i64) {
         for condition in self.row.places() {
             let change = times(self.row.at(condition), factor);
-            add_at(&mut self.basis.prices, condition, change);
+            add_at(&mut self.prices, condition, change);
         }
     }
 }

@@ -1,5 +1,5 @@
 //! The columns over which a solution is sought.
-use row_tables::fixed_point::{at, item, put, set_at};
+use row_tables::fixed_point::{at, item, set_at};
 use row_tables::lists::{Lists, short};
 use row_tables::{Made, RowTable};
 use std::alloc::Global;
@@ -46,15 +46,14 @@ impl Pool {
         }
         set_at(&mut self.is_in, column, true);
         self.is_listed = false;
-        put(&mut self.columns, short(column))
-            .and(put(&mut self.costs, cost))
-            .and(self.conditions.push_list(table.conditions_of(column)))
+        self.columns.push(short(column))?;
+        self.costs.push(cost)?;
+        self.conditions.push_list(table.conditions_of(column))
     }
 
     /// Presses the columns together that are in.
     pub fn press(&mut self, table: &RowTable) -> Made<()> {
         let mut count = 0;
-        let mut made = Ok(());
         self.conditions.clear();
         for place in 0..self.columns.len() {
             let column = self.column(place);
@@ -62,14 +61,14 @@ impl Pool {
                 let cost = at(&self.costs, place);
                 set_at(&mut self.columns, count, short(column));
                 set_at(&mut self.costs, count, cost);
-                made = made.and(self.conditions.push_list(table.conditions_of(column)));
+                self.conditions.push_list(table.conditions_of(column))?;
                 count = count.wrapping_add(1);
             }
         }
         self.columns.truncate(count);
         self.costs.truncate(count);
         self.is_listed = false;
-        made
+        Ok(())
     }
 
     /// The place at the cursor, which moves on, from the last place to the first.
@@ -97,17 +96,15 @@ impl Pool {
 
     /// Lists the places of each condition, below this many, but for those of forbidden columns.
     pub fn list_places(&mut self, conditions: usize, is_forbidden: &[bool]) -> Made<()> {
-        let mut made = Ok(());
         self.is_listed = true;
         self.open.clear();
         for place in 0..self.columns.len() {
-            let listed = if item(is_forbidden, self.column(place), false) {
-                self.open.end()
+            if item(is_forbidden, self.column(place), false) {
+                self.open.end()?;
             } else {
-                self.open.push_list(self.conditions.list(place))
-            };
-            made = made.and(listed);
+                self.open.push_list(self.conditions.list(place))?;
+            }
         }
-        made.and(self.places.transpose(&self.open, conditions))
+        self.places.transpose(&self.open, conditions)
     }
 }

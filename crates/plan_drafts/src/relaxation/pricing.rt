@@ -14,7 +14,7 @@ impl Relaxation {
     /// Rounds the riders' prices to multipliers.
     pub fn find_multipliers(&mut self, table: &RowTable) {
         for rider in 0..self.tried.len() {
-            let multiplier = self.in_multipliers(at(&self.basis.prices, rider));
+            let multiplier = self.in_multipliers(at(&self.prices, rider));
             let multiplier = multiplier.min(table.most_multiplier(rider));
             set_at(&mut self.tried, rider, multiplier);
         }
@@ -28,7 +28,7 @@ impl Relaxation {
         let mut value = table.value_of_riders(&self.tried);
         for vehicle in 0..table.vehicle_count() {
             let condition = table.rider_count().saturating_add(vehicle);
-            let price = self.in_multipliers(at(&self.basis.prices, condition));
+            let price = self.in_multipliers(at(&self.prices, condition));
             let bar = price.saturating_sub(LEAST_GAIN);
             value = value.wrapping_add(self.look_through(table, vehicle, bar, most_rows)?);
         }
@@ -53,22 +53,21 @@ impl Relaxation {
         } else {
             NO_ROW
         };
-        let mut made = Ok(());
         self.offers.clear();
         for row in table.rows_of(vehicle) {
             if !item(&self.is_forbidden, row, true) {
                 let cost = table.reduced_cost(&self.tried, row);
                 least = least.min(cost);
                 if cost < bar && !item(&self.pool.is_in, row, false) {
-                    made = made.and(offer(&mut self.offers, most_rows, (cost, short(row))));
+                    offer(&mut self.offers, most_rows, (cost, short(row)))?;
                 }
             }
         }
         for offered in &self.offers {
             let row = offered.1 as usize;
             let cost = at(&self.costs, row);
-            made = made.and(self.pool.add(table, row, cost));
+            self.pool.add(table, row, cost)?;
         }
-        made.and(Ok(least))
+        Ok(least)
     }
 }

@@ -27,7 +27,8 @@ impl Sparse {
 
     /// Makes these so many zeros.
     pub fn make_space(&mut self, count: usize) -> Made<()> {
-        reset(&mut self.numbers, count, 0).and(reset(&mut self.marks, count / WORD + 1, 0))
+        reset(&mut self.numbers, count, 0)?;
+        reset(&mut self.marks, count / WORD + 1, 0)
     }
 
     #[inline]
@@ -138,10 +139,7 @@ impl<'a> Iterator for Places<'a> {
             return None;
         }
         if self.rest == 0 {
-            let Some(word) = next_marked(self.marks, self.word) else {
-                return None;
-            };
-            self.word = word;
+            self.word = next_marked(self.marks, self.word)?;
             self.rest = item(self.marks, self.word, 0);
         }
         let place = self.word.wrapping_mul(WORD);
