@@ -8,7 +8,7 @@ work=$(mktemp -d)
 trap 'rm -rf "$work"' EXIT
 g++ -O2 -march=x86-64-v2 -o "$work/native" bench/book.cpp
 python3 bench/book.py 200000 "$work"
-program=$(release/find build)
+program=$(release/find)
 (cd crates/request_book && rt test > /dev/null)
 words=(run network="$work/network.csv" fleet="$work/fleet.csv" script="$work/script.csv")
 "$program" "${words[@]}" > "$work/ours"

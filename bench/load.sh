@@ -3,7 +3,7 @@
 # batch line. Usage: bench/load.sh [WORD ..]: one call of `load` with these words, or else the table's four.
 set -u
 top=$(cd "$(dirname "$(readlink -f "${BASH_SOURCE[0]}")")/.." && pwd) || exit 1
-program=$("$top/release/find" build) || exit 1
+program=$("$top/release/find") || exit 1
 
 measure() {
   local summary status

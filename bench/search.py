@@ -156,8 +156,8 @@ def main():
     native = os.path.abspath(words["native"]) if "native" in words else None
     ridepool = words.get("ridepool")
     if ridepool is None:
-        find = [os.path.join(HERE, "..", "release", "find"), "build"]
-        ridepool = subprocess.run(find, stdout=subprocess.PIPE, text=True, check=True).stdout.strip()
+        find = os.path.join(HERE, "..", "release", "find")
+        ridepool = subprocess.run([find], stdout=subprocess.PIPE, text=True, check=True).stdout.strip()
     for name in names:
         measure(
             name, WORKLOADS[name], int(words.get("seed", "7")), native, os.path.abspath(ridepool), int(words.get("repeat", "1"))

@@ -1,12 +1,17 @@
-"""Audits printed reports: the report of each case and of each drawn run is confirmed, and with one change in it is refused.
+"""Audits printed reports: the report of each case, of each drawn run and of some large workloads is confirmed, and with one
+change in it is refused.
 
-    audited.py PROGRAM [CHANGES [SEED]]
+    audited.py PROGRAM [CHANGES [SEED [NAME ..]]]
 
 A change takes one byte, one number or one line: it is altered, left out, put in twice, or changes places with the next, or
-the text is cut. A changed report is refused exactly where the judge of these tests refuses it (other multipliers may show
-the same bound, and another setting need not matter), and the refusal names the changed line, or the first of the batch's
-block in which it stands, with a point that lines of its kind decide. Of a small report each line of a table is put in place
-of its own, and the fault that is named is the table's. The last line is `N passed, M failed`, by reports and by changes.
+the text is cut. A tenth of the changes is made in lines of trees, and a tenth in reports of more than 60 kB, of which one
+has more than 1 MB. A changed report is refused exactly where the judge of these tests refuses it (other multipliers may
+show the same bound, and another setting need not matter), and the refusal names the changed line, or the first of the
+batch's block in which it stands, with a point that lines of its kind decide. Of a small report each line of a table is put
+in place of its own, and the fault that is named is the table's. With names only these reports are taken, and no table.
+
+The last line is `N passed, M failed`, by reports and by changes. A change that changes nothing that matters, so that the
+judge takes the text and the program confirms it, is counted apart.
 """
 
 import os
@@ -18,14 +23,20 @@ import sys
 import tempfile
 from concurrent.futures import ThreadPoolExecutor
 from pathlib import Path
+from threading import Lock
 
-from drawn import inputs_of, output_of, write_inputs
+from drawn import HANGS, inputs_of, output_of, write_inputs
+from growth import LargeRun
 from inputs import Run
 from judge import Wrong, judge
+from large import all_given, workload
 from run import CASES, STREET, prepare, text_in
 
 DRAWN = 60  # runs that are drawn, of which some are days or made workloads, and then aren't audited
-LARGEST = 60_000  # bytes of a report in which changes are made
+LARGE, MILLION = 60_000, 1_000_000  # bytes
+SHARE = 0.1  # of changes that are made in lines of trees, and of those in large reports
+TREE = ("branch", "leaf", "dead")
+MANY = "million"  # the report of more than 1 MB
 FILES = ("network", "fleet", "script")
 # By the first word of a block's line, the points that a change of it can fail: who expired, the graphs, late vehicles, the
 # trips, the plan, the bound, the tree, better plans near, the moves.
@@ -90,6 +101,8 @@ class Printed:
         words = [*(word for word in words if not word.startswith(("proof=", "notices="))), "proof=1"]
         self.words, self.text = words, output_of(program, words, folder)
         self.lines = self.text.split("\n")[:-1]
+        self.tree = [at for at, line in enumerate(self.lines) if line.startswith(TREE)]
+        self.is_large, self.judging, self.runs = len(self.text) > LARGE, Lock(), {}
         given = [word for word in words if word.startswith(tuple(f"{it}=" for it in FILES))]
         self.audit = [program, "audit", *given]
         begins = [at for at, line in enumerate(self.lines) if line.startswith("batch ")]
@@ -100,7 +113,7 @@ class Printed:
         path = self.folder / f"audited-{number}"
         path.write_text(text)
         words = [*self.audit, f"report={path.name}"]
-        ran = subprocess.run(words, cwd=self.folder, capture_output=True, text=True, timeout=120)
+        ran = subprocess.run(words, cwd=self.folder, capture_output=True, text=True, timeout=HANGS)
         path.unlink()
         return ran
 
@@ -118,10 +131,21 @@ class Printed:
         told = settings[1].split(" ") if settings else []
         others = [it for it in self.words if it.partition("=")[0] not in ("wait", "delay", "trip", "penalty", "budget", "pairs", "proof", "dwell")]
         try:
-            judge(Run(self.folder, [*others, *told]), text)
+            if self.is_large:
+                with self.judging:
+                    judge(self.large_run([*others, *told]), text)
+            else:
+                judge(Run(self.folder, [*others, *told]), text)
         except (Wrong, ValueError, IndexError, KeyError):
             return False
         return True
+
+    def large_run(self, words):
+        """The run of these words: of a large one the batches are kept."""
+        key = tuple(words)
+        if key not in self.runs:
+            self.runs[key] = LargeRun(self.folder, words)
+        return self.runs[key]
 
     def points_of(self, lines):
         """The points that a change of these lines, counted from 1, can fail."""
@@ -129,24 +153,36 @@ class Printed:
         return set().union(*(POINTS.get(word, ()) for word in words))
 
     def refuse(self, change, number):
-        """The changed report is refused, if it is none, at the changed line or at the batch in whose block it stands."""
+        """The changed report is refused, if it is none, at the changed line or at the batch in whose block it stands. Whether
+        it was; else it is a right report still, and was confirmed."""
         way, at, text = change
         ran = self.verdict(text, number)
         if ran.returncode == 0 and self.is_right(text):
-            return
+            return False
         found = re.fullmatch(r"ridepool: report: (?:(?:cut at|bad form at|wrong head at|wrong entry at) line (\d+)|wrong batch at line (\d+) point ([0-8]))\n", ran.stderr)
         if ran.returncode != 13 or ran.stdout or not found:
             raise Wrong(f"{way} of line {at + 1}: {ran.returncode}, {ran.stdout!r}, {ran.stderr!r}")
-        block = [begin for begin, end in self.blocks if begin <= at <= end]
-        is_setting = at == 1 and not ran.stderr.endswith("line 2\n")
-        lines = [at + 1, at + 2] if way == "swapped lines" else [at + 1]  # a line may come too early, or the one behind it too late
-        if not is_setting and (found[1] and int(found[1]) not in lines or found[2] and int(found[2]) - 1 not in block):
-            raise Wrong(f"{way} of line {at + 1}: {ran.stderr!r}")
-        touched = [at] if way == "doubled line" else lines  # the second of two equal lines is the first that differs
-        if not is_setting and found[3] and int(found[3]) not in self.points_of(touched):
-            raise Wrong(f"{way} of line {at + 1}, {self.lines[at]!r}: {ran.stderr!r}")
-        if at != 1 and way != "zero in front" and self.is_right(text):  # the judge asks no setting for its range, and reads 07 as 7
+        if at != 1 or ran.stderr.endswith("line 2\n"):
+            self.is_named(way, at, found)
+        if self.may_be_right(way, at) and self.is_right(text):
             raise Wrong(f"{way} of line {at + 1}: a right report is refused: {ran.stderr!r}")
+        return True
+
+    def is_named(self, way, at, found):
+        """The refusal names the changed line, or its batch with a point that the line decides."""
+        block = [begin for begin, end in self.blocks if begin <= at <= end]
+        lines = [at + 1, at + 2] if way == "swapped lines" else [at + 1]  # a line may come too early, or the one behind it too late
+        if found[1] and int(found[1]) not in lines or found[2] and int(found[2]) - 1 not in block:
+            raise Wrong(f"{way} of line {at + 1}: {found[0]!r}")
+        touched = [at] if way == "doubled line" else lines  # the second of two equal lines is the first that differs
+        if found[3] and int(found[3]) not in self.points_of(touched):
+            raise Wrong(f"{way} of line {at + 1}, {self.lines[at]!r}: {found[0]!r}")
+
+    def may_be_right(self, way, at):
+        """Whether the judge is asked about a refused text. It asks no setting for its range, and reads 07 as 7. In a large
+        report it is asked only about lines that leave a choice."""
+        leaves_choice = not self.is_large or self.lines[min(at, len(self.lines) - 1)].startswith((*TREE, "trip", "late", "move"))
+        return at != 1 and way != "zero in front" and leaves_choice
 
 
 def altered_byte(draw, lines, at):
@@ -196,17 +232,29 @@ def first_difference(one, other):
     return next(at for at, (a, b) in enumerate(pairs) if a != b)
 
 
-def drawn_change(draw, printed):
-    """A changed text, what was done, and the first line that differs."""
+def drawn_change(draw, printed, places):
+    """A changed text, what was done, and the first line that differs. The change is at one of these places, if not a cut."""
     while True:
-        if draw.random() < 0.1:
+        if places is not printed.tree and draw.random() < 0.1:
             size = draw.randrange(len(printed.text))
             return "a cut", printed.text[:size].count("\n"), printed.text[:size]
-        way, at = draw.choice(WAYS), draw.randrange(len(printed.lines))
+        way, at = draw.choice(WAYS), draw.choice(places)
         lines = way(draw, printed.lines, at)
         if lines and lines != printed.lines:
             first = first_difference(printed.lines, lines)
             return way.__name__.replace("_", " "), first, "".join(f"{line}\n" for line in lines)
+
+
+def drawn_changes(draw, printed, count):
+    """So many changes, each with its report: a tenth in lines of trees, and a tenth in large reports. The second line of a
+    large report, its settings, stays."""
+    small, large = ([it for it in printed if it.is_large == is_large] for is_large in (False, True))
+    for number in range(count):
+        one_of = large if large and (not small or number < SHARE * count) else small
+        has_tree = number % round(1 / SHARE) == 0
+        it = draw.choice([it for it in one_of if it.tree] if has_tree else one_of)
+        places = it.tree if has_tree else range(2 * it.is_large, len(it.lines))
+        yield it, drawn_change(draw, it, places)
 
 
 def refuse_line(small, at, line, fault):
@@ -246,35 +294,59 @@ def of_draws(room):
             yield f"seed {seed}", drawn.words, folder
 
 
+def of_large(room):
+    """Workloads with reports of more than 60 kB, and one of more than 1 MB."""
+    chosen = [it for it in all_given() if it.name in ("load", "branches", "spent")]
+    for given in [*chosen, workload(MANY, [2, 20, 500, 260, 4])]:
+        folder = room / given.name
+        folder.mkdir()
+        for name, text in given.texts.items():
+            (folder / f"{name}.csv").write_text(text)
+        yield given.name, given.words(), folder
+
+
+def are_large(printed):
+    """Raises Wrong where the large workloads aren't as large as they have to be."""
+    for it in printed:
+        if it.name in ("load", "branches", "spent", MANY) and len(it.text) <= (MILLION if it.name == MANY else LARGE):
+            raise Wrong(f"a report of {len(it.text)} bytes is too small")
+
+
 def tries(name, call, *given):
+    """What a try gives, by default that it passed; None where it failed."""
     try:
-        call(*given)
+        answer = call(*given)
     except (Wrong, OSError, subprocess.SubprocessError) as wrong:
         print(f"{name}: {wrong}")
-        return False
-    return True
+        return None
+    return answer is not False
 
 
 def main():
     if len(sys.argv) < 2:
         sys.exit(__doc__)
     program = os.path.abspath(sys.argv[1])
-    changes, seed = [*map(int, sys.argv[2:4]), *[2000, 1][len(sys.argv) - 2 :]][:2]
-    draw, passed = random.Random(seed), []
+    changes, seed = [*map(int, sys.argv[2:4]), *[2000, 1][len(sys.argv[2:4]) :]]
+    draw, names, answers, table = random.Random(seed), sys.argv[4:], [], []
     with tempfile.TemporaryDirectory() as room, ThreadPoolExecutor(len(os.sched_getaffinity(0))) as pool:
-        given = [*of_cases(Path(room)), *of_draws(Path(room))]
+        room = Path(room)
+        given = [it for it in [*of_cases(room), *of_draws(room), *of_large(room)] if not names or it[0] in names]
         printed = [*pool.map(lambda it: Printed(it[0], program, *it[1:]), given)]
-        small, table = small_report(program, Path(room)), [*lines_of_table()]
-        if small.text != SMALL:
-            raise Wrong(f"the small report is {small.text!r}")
-        passed += pool.map(lambda it: tries(it.name, it.confirm), [small, *printed])
-        passed += pool.map(lambda it: tries("a small report", refuse_line, small, *it), table)
-        changed = [it for it in printed if len(it.text) <= LARGEST]
-        drawn = [(number, it, drawn_change(draw, it)) for number, it in enumerate(draw.choices(changed, k=changes))]
-        passed += pool.map(lambda it: tries(it[1].name, it[1].refuse, it[2], it[0]), drawn)
-    print(f"{len(printed) + 1} reports were audited, {len(table)} with a line of the table, and {changes} changed ones")
-    print(f"{sum(passed)} passed, {len(passed) - sum(passed)} failed")
-    return not all(passed)
+        are_large(printed)
+        answers += pool.map(lambda it: tries(it.name, it.confirm), printed)
+        if not names:
+            small, table = small_report(program, room), [*lines_of_table()]
+            if small.text != SMALL:
+                raise Wrong(f"the small report is {small.text!r}")
+            answers.append(tries(small.name, small.confirm))
+            answers += pool.map(lambda it: tries("a small report", refuse_line, small, *it), table)
+        drawn = [(number, *it) for number, it in enumerate(drawn_changes(draw, printed, changes))]
+        answers += pool.map(lambda it: tries(it[1].name, it[1].refuse, it[2], it[0]), drawn)
+    in_trees, in_large = (sum(map(holds, drawn)) for holds in (lambda it: it[2][1] in it[1].tree, lambda it: it[1].is_large))
+    print(f"{len(printed)} reports were audited, {len(table)} with a line of the table, and {changes} changed ones:")
+    print(f"{in_trees} in a line of a tree, {in_large} in a large report; {answers.count(False)} changed nothing that matters")
+    print(f"{answers.count(True)} passed, {answers.count(None)} failed")
+    return None in answers
 
 
 if __name__ == "__main__":

@@ -1,8 +1,10 @@
 #!/usr/bin/env python3
-"""Tests of the dispatcher's desk on a program with the word `live`. The last line is `N passed, M failed`.
+"""Tests of the dispatcher's desk on a program with the word `live`. The last line is `N passed, M failed`, and
+`, K skipped` behind it where tests can't be tried here.
 
-`desk.py PROGRAM [NAME ..]` runs the tests, or those whose names are given. What can't be tried here, for want of a
-package, a browser or the word `live`, is told in a line `skipped: WHAT, since WHY`.
+`desk.py PROGRAM [NAME ..]` runs the tests, or those whose names, or whose files' names, are given: calls, clients, page,
+simulator. What can't be tried, for want of a package, a browser or the word `live`, is told in a line
+`skipped: WHAT, since WHY`.
 """
 
 import os
@@ -14,19 +16,26 @@ import traceback
 sys.dont_write_bytecode = True
 
 from desk_parts import shared  # noqa: E402
+from skips import Skipped, last_line  # noqa: E402
 
-sys.path.insert(0, str(shared.TOOLS))
+sys.path.insert(0, str(shared.TOP / "python"))
 
-import words  # noqa: E402
+from ridepool import words  # noqa: E402
 
 # Each part lists its tests as it is imported, in this order.
-from desk_parts import calls, clients, page, simulator  # noqa: E402, F401
+from desk_parts import calls, clients, page, simulator, trouble  # noqa: E402, F401
+
+
+def chosen():
+    """The tests that the words choose."""
+    names = set(sys.argv[2:])
+    return [it for it in shared.TESTS if not names or {it.__name__, it.__module__.rpartition(".")[2]} & names]
 
 
 def skip_all(why):
     """Ends, since nothing can be tried here."""
     print(f"skipped: the desk, since {why}")
-    print("0 passed, 0 failed")
+    print(last_line(0, 0, len(chosen())))
     sys.exit(0)
 
 
@@ -48,16 +57,15 @@ def find_live():
         skip_all(f"{shared.PROGRAM} has no word `live`")
 
 
-def run(names):
-    """Runs the tests. Gives the counts of those that passed and failed."""
-    counts = {"passed": 0, "failed": 0}
-    for it in shared.TESTS:
-        if names and it.__name__ not in names:
-            continue
+def run(tests):
+    """Runs the tests. Gives the counts of those that passed, failed and were skipped."""
+    counts = {"passed": 0, "failed": 0, "skipped": 0}
+    for it in tests:
         try:
             it()
             counts["passed"] += 1
-        except shared.Skipped as why:
+        except Skipped as why:
+            counts["skipped"] += 1
             print(f"skipped: {it.__name__}, since {why}")
         except Exception:
             counts["failed"] += 1
@@ -73,6 +81,6 @@ if __name__ == "__main__":
     find_python()
     shared.PROGRAM = str(pathlib.Path(sys.argv[1]).resolve())
     find_live()
-    found = run(sys.argv[2:])
-    print(", ".join(f"{count} {name}" for name, count in found.items()))
+    found = run(chosen() or sys.exit("no test has this name"))
+    print(last_line(**found))
     sys.exit(1 if found["failed"] else 0)

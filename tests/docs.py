@@ -9,7 +9,9 @@ what each command printed, and the code that is quoted, into its document, and s
 A block ```console has lines `$ COMMAND`, each followed by what it prints on standard output and error; a line `..` there
 stands for any lines. A block ```sh has commands that print nothing to be shown. All run from the top of the repository,
 in a copy of what they need, document by document; ./ridepool is PROGRAM there. A comment `<!-- needs A B -->` before a
-block says which programs or modules of Python it needs. The last line is `N passed, M failed`.
+block says which programs or modules of Python it needs. Where one isn't here the block is skipped; so each document is also
+run with those of its blocks alone that need the same as one of them, and less. The last line is `N passed, M failed`, and
+`, K skipped` behind it where commands were skipped.
 """
 
 import os
@@ -23,10 +25,11 @@ from concurrent.futures import ThreadPoolExecutor
 from pathlib import Path
 
 from run import difference
+from skips import last_line
 
 TOP = Path(__file__).resolve().parent.parent
-NOT_RUN = {"./check", "./check quick"}  # they run this test
-COPIED = ["examples", "tools", "share", "install", "LICENSE-MIT", "LICENSE-APACHE", "CHANGELOG.md"]
+NOT_RUN = {"./check", "./check all", "./build"}  # the first two run this test, and the third proves for an hour
+COPIED = ["examples", "python", "tools", "share", "install", "LICENSE-MIT", "LICENSE-APACHE", "CHANGELOG.md"]
 MOST_WORDS, MOST_IN_SENTENCE = 900, 30
 BLOCK = re.compile(r"(?:<!-- needs (?P<needs>[^\n]*) -->\n+)?^```(?P<kind>console|sh)\n(?P<body>.*?)^```$", re.M | re.S)
 QUOTED = re.compile(r"<!-- (contract|code) of (\S+) (\w+) -->\n+```rust\n(.*?)^```$", re.M | re.S)
@@ -34,9 +37,9 @@ LINK = re.compile(r"\]\((?!https?:)([^)#\s]*)(?:#([^)\s]*))?\)")
 
 
 def documents():
-    """All documents of the repository."""
+    """All documents of the repository; outside a clone, all that lie here."""
     named = subprocess.run(["git", "ls-files", "-co", "--exclude-standard", "*.md"], cwd=TOP, capture_output=True, text=True)
-    return sorted(TOP / name for name in named.stdout.split())
+    return sorted([TOP / name for name in named.stdout.split()] or TOP.glob("**/*.md"))
 
 
 def guides():
@@ -96,21 +99,32 @@ def commands_of(kind, body):
     return [(command, printed) for command, printed in found]
 
 
-def try_guide(path, program, is_written):
-    """Runs a document's commands: what is wrong, the number of commands that ran, and the text with what they printed."""
-    wrong, count, text = [], 0, path.read_text()
+def needs_of(path):
+    """What the blocks of a document need: each set of names once, but for one that has all of them."""
+    sets = {frozenset((block["needs"] or "").split()) for block in BLOCK.finditer(path.read_text())}
+    return sorted(map(sorted, sets - {frozenset().union(*sets)}))
+
+
+def try_guide(path, program, is_written=False, alone=None):
+    """Runs a document's commands, or those alone that need no other than some names: what is wrong, how many commands ran and
+    how many were skipped."""
+    wrong, count, skipped, text = [], 0, 0, path.read_text()
     with tempfile.TemporaryDirectory() as folder:
         folder = Path(folder).resolve()
         scratch(folder, program)
 
         def tried(block):
-            nonlocal count
-            absent = missing((block["needs"] or "").split())
+            nonlocal count, skipped
+            needs, commands = (block["needs"] or "").split(), commands_of(block["kind"], block["body"])
+            if alone is not None and set(needs) - set(alone):
+                return block[0]
+            absent = missing(needs)
             if absent:
-                print(f"skipped: a block of {path.relative_to(TOP)}, since {', '.join(absent)} isn't here")
+                print(f"skipped: {len(commands)} commands of {path.relative_to(TOP)}, since {', '.join(absent)} isn't here")
+                skipped += len(commands)
                 return block[0]
             lines = []
-            for command, wanted in commands_of(block["kind"], block["body"]):
+            for command, wanted in commands:
                 if command.strip() in NOT_RUN:
                     continue
                 count += 1
@@ -130,7 +144,13 @@ def try_guide(path, program, is_written):
     if is_written:
         path.write_text(text)
         wrong = []
-    return wrong, count
+    return wrong, count, skipped
+
+
+def dependent(path, program, needs):
+    """What is wrong where those blocks of a document are run alone that need no other than these names, all of them here."""
+    wrong, _, _ = try_guide(path, program, alone=needs)
+    return [f"with nothing but {', '.join(needs) or 'Python'}:", *wrong] if wrong else []
 
 
 def function(path, name, is_contract):
@@ -197,22 +217,27 @@ def long_sentences(path):
 
 
 def crate_orders(is_written):
-    """The tables of crates in ARCHITECTURE.md and docs/proof/README.md have the crates of crates.txt, in its order."""
+    """The table of crates in docs/proof/README.md has the crates of crates.txt, in its order, and that in ARCHITECTURE.md has
+    them by storey, and in a storey in that order."""
     names, wrong = re.findall(r"^(\w+)[^:\n]*:", (TOP / "crates.txt").read_text(), re.M), []
-    for name, title in (("contributing/ARCHITECTURE.md", "Storeys"), ("proof/README.md", "Crate by crate")):
+    for name, title, is_by_storey in (("contributing/ARCHITECTURE.md", "Storeys", True), ("proof/README.md", "Crate by crate", False)):
         path = TOP / "docs" / name
         text = path.read_text()
         section = re.search(rf"^## {title}\n.*?(?=^## |\Z)", text, re.M | re.S)[0]
         rows = dict(re.findall(r"^\| `(\w+)` (\|.*\n)", section, re.M))
-        if list(rows) == names:
+        wanted = [it for it in names if it in rows]
+        if is_by_storey:
+            storeys = re.findall(r"^\| (\w+) \| [^|]*\|$", section, re.M)
+            wanted.sort(key=lambda it: storeys.index(rows[it].split("|")[1].strip()))
+        if list(rows) == wanted and len(wanted) == len(names):
             continue
-        amiss = [f"{name} lacks the crate {it}" for it in names if it not in rows]
-        amiss += [f"{name} has a crate {it} that crates.txt lacks" for it in rows if it not in names]
-        if is_written and not amiss:
+        faults = [f"{name} lacks the crate {it}" for it in names if it not in rows]
+        faults += [f"{name} has a crate {it} that crates.txt lacks" for it in rows if it not in names]
+        if is_written and not faults:
             table = "".join(f"| `{it}` {row}" for it, row in rows.items())
-            path.write_text(text.replace(table, "".join(f"| `{it}` {rows[it]}" for it in names)))
+            path.write_text(text.replace(table, "".join(f"| `{it}` {rows[it]}" for it in wanted)))
         else:
-            wrong += amiss or [f"{name} has the crates in another order than crates.txt: docs.py PROGRAM --write sorts them"]
+            wrong += faults or [f"{name} has the crates in another order than its own: docs.py PROGRAM --write sorts them"]
     return wrong
 
 
@@ -309,22 +334,48 @@ def other_version(program):
     return [] if said == newest else [f"the program's version is {said}, and CHANGELOG.md's newest is {newest}"]
 
 
+LIBRARIES = {"atomic_table", "csv", "indexmap", "rayon", "rand_xoshiro"}
+
+
+def unused_libraries():
+    """What the table of the five libraries says that the program's crates don't hold, and libraries that it lacks."""
+    crates = subprocess.run([str(TOP / "release" / "below")], capture_output=True, text=True, check=True).stdout.split()
+    uses = {line.split()[0].rstrip(":"): set(line.partition(":")[2].split()) for line in (TOP / "crates.txt").read_text().splitlines()}
+    text = (TOP / "docs" / "contributing" / "DECISIONS.md").read_text()
+    table = text.partition("\n## The five libraries\n")[2].partition("\n## ")[0]
+    rows = re.findall(r"^\| `(\w+)` \| [^|]+ \| `(\w+)/(\S+)` \|$", table, re.M)
+    wrong = [f"DECISIONS: the five libraries lack {name}" for name in sorted(LIBRARIES - {name for name, _, _ in rows})]
+    for name, crate, place in rows:
+        path = TOP / "crates" / crate / place
+        if crate not in crates or name not in uses[crate]:
+            wrong.append(f"crates.txt: no crate {crate} of the program names {name}")
+        elif not path.exists() or not re.search(rf"^use {name}::", path.read_text(), re.M):
+            wrong.append(f"DECISIONS: {crate}/{place} doesn't use {name}")
+    for crate, place in re.findall(r"`(\w+)/(src/\S+)`", table.rpartition("|")[2]):
+        if "Numbering" not in (TOP / "crates" / crate / place).read_text():
+            wrong.append(f"DECISIONS: {crate}/{place} doesn't number by a Numbering")
+    return wrong
+
+
 def main():
     if len(sys.argv) < 2:
         sys.exit(__doc__)
     program, is_written = os.path.abspath(sys.argv[1]), "--write" in sys.argv
     named = [Path(name).resolve() for name in sys.argv[2:] if name != "--write"]
+    few = [(path, needs) for path in named or guides() for needs in needs_of(path) if not missing(needs)]
     with ThreadPoolExecutor() as pool:
         tried = list(pool.map(lambda path: try_guide(path, program, is_written), named or guides()))
-    passed, wrong = sum(count for _, count in tried), [it for it, _ in tried if it]
+        alone = list(pool.map(lambda it: dependent(it[0], program, it[1]), few))
+    passed, skipped = sum(count for _, count, _ in tried), sum(skipped for _, _, skipped in tried)
+    wrong = [it for it, _, _ in tried if it]
     if not passed:
         wrong.append(["no document has a command"])
-    looks = [look_at_quotes(path, is_written) for path in documents() if QUOTED.search(path.read_text())]
+    looks = alone + [look_at_quotes(path, is_written) for path in documents() if QUOTED.search(path.read_text())]
     looks += [broken_links(path) for path in documents()]
-    looks += [long_sentences(TOP / "README.md"), crate_orders(is_written), stale_pages(program), other_version(program), undocumented_items(), stale_callers(), stale_first_comments()]
+    looks += [long_sentences(TOP / "README.md"), crate_orders(is_written), stale_pages(program), other_version(program), undocumented_items(), stale_callers(), stale_first_comments(), unused_libraries()]
     wrong += [it for it in looks if it]
     print("\n".join(line for it in wrong for line in it))
-    print(f"{passed + len(looks) - len(wrong)} passed, {len(wrong)} failed")
+    print(last_line(passed + len(looks) - len(wrong), len(wrong), skipped))
     return bool(wrong)
 
 

@@ -28,6 +28,7 @@ from made_texts import texts
 SHOWN = "expired overflow lapsed late rv rr row trip out move cost bound nodes day leaf branch dead".split()
 WANTED = SHOWN[:-2]  # whether a tree branches is the search's affair
 ENOUGH = 250  # so many runs have to show each wanted line
+HANGS = 600  # seconds after which a run is taken to hang
 LARGE = [[1_000_000_000, 20, 100, 150, 2], [1, 100, 40, 30, 3]]  # seed, side, vehicles, riders, rounds
 
 
@@ -61,7 +62,7 @@ def write_inputs(drawn, folder):
 
 
 def output_of(program, words, folder):
-    ran = subprocess.run([program, *words], cwd=folder, capture_output=True, timeout=60)
+    ran = subprocess.run([program, *words], cwd=folder, capture_output=True, timeout=HANGS)
     if ran.returncode or ran.stderr:
         raise Wrong(f"{' '.join(words)}: status {ran.returncode}, {ran.stderr.decode(errors='replace').strip()!r}")
     return ran.stdout.decode("ascii", "replace")

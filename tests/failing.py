@@ -4,8 +4,8 @@
 
 Sources and audited reports are cut after each of their bytes; the program is killed between rounds; output, notices and files are such as
 can't be written or read. By faults.c, which a C compiler builds, each read, each write and each request for memory is
-refused in turn, one a run; with `quick` of many runs only some. A part that can't be tried here says so. The last line is
-`N passed, M failed`, by runs.
+refused in turn, one a run; with `quick` of many runs only some. The last line is `N passed, M failed`, by runs, and `, K skipped`
+behind it where parts can't be tried here.
 """
 
 import os
@@ -18,6 +18,7 @@ from failing_parts.midway import cut_load, killed, progress
 from failing_parts.places import refused_places
 from failing_parts.shared import Part
 from faults import Shim
+from skips import last_line
 
 QUICK_STEP = 13  # of many runs one in so many is quick
 MOST_SHOWN = 10  # wrong runs of a part
@@ -46,13 +47,14 @@ def main():
     is_quick = names[:1] == ["quick"]
     names = names[is_quick:]
     shim = Shim(program)
-    passed = failed = 0
+    passed = failed = skipped = 0
     for name, run in {**PARTS, **SHIM_PARTS}.items():
         if names and name not in names:
             continue
         if name in SHIM_PARTS and shim.why:
             if shim.is_missing:
                 print(f"skipped: {name}, since {shim.why}")
+                skipped += 1
             else:
                 print(f"{name}: no run was made, since {shim.why}")
                 failed += 1
@@ -67,7 +69,7 @@ def main():
             print(f"    {line}")
         failed += len(part.wrong)
         passed += part.runs - len(part.wrong)
-    print(f"{passed} passed, {failed} failed")
+    print(last_line(passed, failed, skipped))
     return failed != 0
 
 

@@ -2,11 +2,14 @@
  *
  * The plan is a file of 64-bit numbers that is shared with the caller (the environment's FAULTS_PLAN): a row of four
  * for each kind of call. `most` is how many bytes a read or a write takes at most (0: as many as come), `fail` the
- * number of the call that fails, from 1 (0: none), `calls` how many there were, `failed` how many failed.
+ * number of the call that fails, from 1 (0: none), `calls` how many there were, `failed` how many failed. Of threads the
+ * call `fail` and all later ones fail.
  */
 #define _GNU_SOURCE
+#include <dlfcn.h>
 #include <errno.h>
 #include <fcntl.h>
+#include <pthread.h>
 #include <stdarg.h>
 #include <stdatomic.h>
 #include <stddef.h>
@@ -17,7 +20,7 @@
 #include <sys/syscall.h>
 #include <unistd.h>
 
-enum kind { MEMORY, NETWORK, FLEET, SCRIPT, REPORT, OUTPUT, NOTICES, KINDS, NONE = KINDS };
+enum kind { MEMORY, NETWORK, FLEET, SCRIPT, REPORT, OUTPUT, NOTICES, THREADS, KINDS, NONE = KINDS };
 
 struct row {
   uint64_t most, fail;
@@ -26,12 +29,14 @@ struct row {
 
 static const char *const names[KINDS] = {[NETWORK] = "network.csv", [FLEET] = "fleet.csv", [SCRIPT] = "script.csv", [REPORT] = "report.csv", [NOTICES] = "notices"};
 static struct row *plan;
+static int (*make_thread)(pthread_t *, const pthread_attr_t *, void *(*)(void *), void *);
 static unsigned char kind_of[1024]; /* of each file that was opened, its kind and 1 */
 
 void *__libc_malloc(size_t);
 void *__libc_realloc(void *, size_t);
 
 __attribute__((constructor)) static void read_plan(void) {
+  make_thread = (int (*)(pthread_t *, const pthread_attr_t *, void *(*)(void *), void *))dlsym(RTLD_NEXT, "pthread_create");
   const char *path = getenv("FAULTS_PLAN");
   int file = path ? open(path, O_RDWR | O_CLOEXEC) : -1;
   if (file < 0) return;
@@ -44,7 +49,8 @@ __attribute__((constructor)) static void read_plan(void) {
 static int fails(enum kind kind) {
   if (!plan || kind == NONE) return 0;
   uint64_t call = atomic_fetch_add(&plan[kind].calls, 1) + 1;
-  if (call != plan[kind].fail) return 0;
+  int is_later = kind == THREADS && plan[kind].fail && call > plan[kind].fail;
+  if (call != plan[kind].fail && !is_later) return 0;
   atomic_fetch_add(&plan[kind].failed, 1);
   return 1;
 }
@@ -105,4 +111,8 @@ ssize_t write(int file, const void *from, size_t count) {
 
 ssize_t __write(int file, const void *from, size_t count) {
   return write(file, from, count);
+}
+
+int pthread_create(pthread_t *thread, const pthread_attr_t *attributes, void *(*run)(void *), void *argument) {
+  return fails(THREADS) || !make_thread ? EAGAIN : make_thread(thread, attributes, run, argument);
 }

@@ -7,7 +7,7 @@ import subprocess
 import tempfile
 from pathlib import Path
 
-KINDS = "memory network fleet script report output notices".split()
+KINDS = "memory network fleet script report output notices threads".split()
 ROW = struct.Struct("4Q")  # most, fail, calls, failed: as in faults.c
 
 
@@ -53,9 +53,12 @@ class Shim:
 
     def run(self, folder, words, plan):
         """Runs the program in the folder, and notes in the plan what it called."""
-        path = folder / "plan"
-        plan.write(path)
-        more = {"LD_PRELOAD": str(self.library), "FAULTS_PLAN": str(path)}
-        ran = subprocess.run([self.program, *words], cwd=folder, env={**os.environ, **more}, capture_output=True, timeout=60)
-        plan.read(path)
+        environment = self.environment(folder, plan)
+        ran = subprocess.run([self.program, *words], cwd=folder, env=environment, capture_output=True, timeout=60)
+        plan.read(folder / "plan")
         return ran
+
+    def environment(self, folder, plan):
+        """Writes the plan into the folder, and gives the environment in which a call is made by it."""
+        plan.write(folder / "plan")
+        return {**os.environ, "LD_PRELOAD": str(self.library), "FAULTS_PLAN": str(folder / "plan")}

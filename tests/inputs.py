@@ -4,7 +4,7 @@ from functools import cached_property
 from types import SimpleNamespace
 
 from book import Vehicle
-from rules import travel_times
+from rules import Batch, travel_times
 
 DEFAULTS = {
     "wait": 120,
@@ -75,3 +75,7 @@ class Run:
         for before, node, seconds in self.arcs:
             found[node].append((before, seconds))
         return found
+
+    def batch(self, snapshot):
+        """A batch of this run as it was sealed."""
+        return Batch(snapshot, self.settings, self.drive)

@@ -6,7 +6,7 @@ order or plan of several, which tree), what was chosen has to be allowed, and ev
 
 from book import Book
 from day import Day, Reported
-from rules import Batch, NEVER, Plans, Stop, best_matching, best_order, rounded_up
+from rules import NEVER, Stop, best_order, rounded_up
 
 
 class Wrong(Exception):
@@ -151,7 +151,7 @@ def judge_round(lines, book, lanes, position, run, day, closing):
 
 
 def judge_close(lines, book, run, day):
-    batch = Batch(book.sealed, run.settings, run.drive)
+    batch = run.batch(book.sealed)
     if day:
         day.sealed(lines, batch)
     trips, moves = judge_block(lines, batch)
@@ -250,19 +250,19 @@ def judge_trip(lines, batch, vehicle):
     lines.need(words[:2] == ["trip", str(vehicle.id)], f"this should be the trip of vehicle {vehicle.id}")
     stops = stops_in(lines, words[3:])
     names = tuple(sorted(it.rider for it in stops if it.pick))
-    found = [n for n, row in enumerate(batch.rows) if row[:2] == (vehicle.id, names)]
-    lines.need(found, "the trip is no row")
-    cost = batch.rows[found[0]][2]
+    number = batch.number_of.get((vehicle.id, names))
+    lines.need(number is not None, "the trip is no row")
+    cost = batch.rows[number][2]
     lines.need(words[2] == str(cost), f"the row's delay is {cost}")
     delay = judge_order(lines, batch.task(vehicle, [batch.legs[it] for it in names]), stops, batch.drive)
     lines.need(delay == cost, f"the order's delay is {delay}")
     lines.at += 1
-    return stops, found[0]
+    return stops, number
 
 
 def judge_plan(lines, batch, plan):
     """The plan as a whole, who is left out, the moves, which it gives, the cost, the bound and the tree that shows it."""
-    plans = Plans(batch)
+    plans = batch.plans()
     lines.need(plans.is_lawful(plan), "the plan isn't lawful: a rider is in two trips, or a live rider in none")
     served = {name for number in plan for name in batch.rows[number][1]}
     left = [name for name in batch.legs if name not in served]
@@ -274,11 +274,8 @@ def judge_plan(lines, batch, plan):
     lines.need(cost <= plans.cost(plans.held), "the plan costs more than the one that only keeps promises")
     greedy = plans.greedy()
     lines.need(not plans.is_lawful(greedy) or cost <= plans.cost(greedy), "the plan costs more than the greedy one")
-    for k, number in enumerate(plan):
-        for other in plans.of[batch.rows[number][0]]:
-            changed = [*plan[:k], other, *plan[k + 1 :]]
-            better = plans.is_lawful(changed) and plans.cost(changed) < cost
-            lines.need(not better, f"the plan is better with row {other}")
+    better = plans.better_row(plan)
+    lines.need(better is None, f"the plan is better with row {better}")
     judge_bound(lines, batch.settings, plans, cost)
     return moves
 
@@ -296,7 +293,7 @@ def judge_moves(lines, batch, idle, left):
         lines.need(move[1] not in (it[1] for it in moves), "two vehicles move to one rider")
         moves.append(move)
         lines.at += 1
-    most, least = best_matching(pairs)
+    most, least = batch.best_matching(pairs)
     lines.need(len(moves) == most, f"{most} moves can be made")
     lines.need(sum(it[2] for it in moves) == least, f"moves of {least} seconds in all can be made")
     return moves
@@ -308,7 +305,8 @@ def judge_bound(lines, settings, plans, cost):
     bound = int(words[1])
     everything = {vehicle: list(numbers) for vehicle, numbers in plans.of.items()}
     least = plans.least_cost()
-    lines.need(bound <= least, f"a lawful plan costs {least}, less than the bound")
+    lines.need(least is not None or settings.proof, "here the tree has to show the bound, and none is printed")
+    lines.need(least is None or bound <= least, f"a lawful plan costs {least}, less than the bound")
     root = rounded_up(plans.leaf_value(everything, plans.first_fit(everything)))
     lines.need(bound >= root, f"the first-fit multipliers show {root}")
     lines.take(f"bound {bound}")

@@ -3,15 +3,18 @@
 
     tests/release.py PROGRAM
 
-Works on a copy of what the release rests on, with a release made of PROGRAM there. The last line is
-`N passed, M failed`.
+Works on a copy of what the release rests on, with a release made of PROGRAM there, and with an `rt` that says its version
+alone. The last line is `N passed, M failed`, or with `, K skipped` behind it.
 """
 
+import os
 import pathlib
 import shutil
 import subprocess
 import sys
 import tempfile
+
+from skips import last_line
 
 TOP = pathlib.Path(__file__).resolve().parent.parent
 
@@ -28,11 +31,16 @@ def copied(folder):
 
 
 def released(folder, program):
-    """Makes a release of the program there, as `release/make` does after its build."""
+    """Makes a release of the program there, as `release/make` does after its build. Gives the environment of its scripts."""
+    (folder / "bin").mkdir()
+    (folder / "bin" / "rt").write_text('#!/bin/sh\n[ "$*" = version ] && echo rattle-kit-0 logic 0\n')
+    (folder / "bin" / "rt").chmod(0o755)
+    environment = {**os.environ, "PATH": f"{folder}/bin:{os.environ['PATH']}"}
     made = folder / "release" / "ridepool_program"
     subprocess.run(["strip", "-o", made, program], check=True)
-    text = subprocess.run([folder / "release" / "text", made], capture_output=True, check=True).stdout
+    text = subprocess.run([folder / "release" / "text", made], capture_output=True, check=True, env=environment).stdout
     (folder / "release" / "MADE_OF").write_bytes(text)
+    return environment
 
 
 def one_byte_changed(folder):
@@ -82,9 +90,9 @@ def passes(program, change, is_right):
     with tempfile.TemporaryDirectory() as name:
         folder = pathlib.Path(name)
         copied(folder)
-        released(folder, program)
+        environment = released(folder, program)
         change(folder)
-        ran = subprocess.run([folder / "release" / "hold", program], capture_output=True, text=True)
+        ran = subprocess.run([folder / "release" / "hold", program], capture_output=True, text=True, env=environment)
     if (ran.returncode == 0) == is_right:
         return True
     print(f"{change.__name__}: status {ran.returncode}\n{ran.stdout}{ran.stderr}")
@@ -93,12 +101,12 @@ def passes(program, change, is_right):
 
 def main():
     program = pathlib.Path(sys.argv[1]).resolve()
-    if shutil.which("rt") is None:
-        print("skipped: releases, since there is no toolchain to hold one to")
-        print("0 passed, 0 failed")
+    if shutil.which("strip") is None:
+        print("skipped: releases, since there is no strip to make one with")
+        print(last_line(0, 0, len(CHANGES)))
         return 0
     told = [passes(program, change, is_right) for change, is_right in CHANGES]
-    print(f"{sum(told)} passed, {len(told) - sum(told)} failed")
+    print(last_line(sum(told), len(told) - sum(told)))
     return 0 if all(told) else 1
 
 

@@ -121,6 +121,7 @@ class Batch:
         self.lapsed = [name for name in legs if name in promised and name not in self.live]
         self.legs = legs
         self.rows = self.all_rows()
+        self.number_of = {row[:2]: number for number, row in enumerate(self.rows)}
 
     def leg_of(self, rider, pickup_by):
         drive = self.drive(rider.origin, rider.destination)
@@ -163,6 +164,13 @@ class Batch:
 
         return [(a.rider, b.rider) for a, b in combinations(self.legs.values(), 2) if can_share((a, b))]
 
+    def plans(self):
+        return Plans(self)
+
+    @staticmethod
+    def best_matching(pairs):
+        return best_matching(pairs)
+
 
 class Plans:
     """The plans of a batch: each vehicle that isn't late has one of its rows. A plan is lawful where no rider is in two
@@ -184,6 +192,16 @@ class Plans:
     def cost(self, plan):
         served = sum(len(self.rows[number][1]) for number in plan)
         return sum(self.rows[number][2] for number in plan) + self.penalty * (len(self.riders) - served)
+
+    def better_row(self, plan):
+        """A row that makes the plan cost less in place of its vehicle's, if there is one."""
+        cost = self.cost(plan)
+        for k, number in enumerate(plan):
+            for other in self.of[self.rows[number][0]]:
+                changed = [*plan[:k], other, *plan[k + 1 :]]
+                if self.is_lawful(changed) and self.cost(changed) < cost:
+                    return other
+        return None
 
     def greedy(self):
         """Rows by falling size, then rising cost, then number: each is taken where its vehicle has none yet and none of

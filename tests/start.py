@@ -1,11 +1,12 @@
 #!/usr/bin/env python3
-"""Tries how ./ridepool finds its program, by checksums of all sources once and then by sizes and times of change alone; and
-./install, the manual page and the completions.
+"""Tries how ./ridepool finds its program, by checksums of all sources once and then by sizes and times of change alone, and
+what it says where it has none; ./install, the manual page and the completions.
 
     tests/start.py PROGRAM
 
-Works on a copy of some sources with a release made of PROGRAM there, and with a sha256sum that counts its calls. The last
-line is `N passed, M failed`.
+Works on a copy of some sources with a release made of PROGRAM there, and with a sha256sum that counts its calls. Of the
+machine's programs the scripts find those of TOOLS alone. The last line is `N passed, M failed`, and `, K skipped` behind it
+where tests can't be tried here.
 """
 
 import hashlib
@@ -19,10 +20,15 @@ import tempfile
 import time
 from concurrent.futures import ThreadPoolExecutor
 
+from skips import Skipped, last_line
+
 TOP = pathlib.Path(__file__).resolve().parent.parent
 CRATES = "ridepool_program: pool_base\npool_base:\n"  # two crates are enough, and quick to copy
 SOURCE = pathlib.Path("crates", "pool_base", "src", "lib.rt")
 COUNTING = '#!/bin/sh\necho call >>"$CALLS"\nexec {} "$@"\n'
+PROVING = '#!/bin/sh\necho "$*" >>"$CALLS"\nexit 1\n'
+TOOLS = "bash cat cmp cp cut date dirname env find grep install mkdir mktemp mv readlink rm rmdir sh sort touch xargs".split()
+BUILD = "./build proves and builds the program of these sources, in half an hour or more\n"
 
 
 class Wrong(Exception):
@@ -37,7 +43,7 @@ class Copy:
         for name in ("release", "crates/ridepool_program/src", "crates/pool_base/src", "crates/pool_base/specs", "crates/pool_base/proofs"):
             shutil.copytree(TOP / name, self.top / name, ignore=shutil.ignore_patterns(".found*"))
         shutil.copytree(TOP / "share", self.top / "share")
-        for name in ("ridepool", "install", "HANDLES", "LICENSE-MIT", "LICENSE-APACHE", "CHANGELOG.md"):
+        for name in ("ridepool", "build", "install", "HANDLES", "LICENSE-MIT", "LICENSE-APACHE", "CHANGELOG.md"):
             shutil.copy(TOP / name, self.top / name)
         (self.top / "crates.txt").write_text(CRATES)
         shutil.copy(program, self.top / "release" / "ridepool_program")
@@ -45,18 +51,27 @@ class Copy:
         self.sources = sources
         checksum = hashlib.sha256(pathlib.Path(program).read_bytes()).hexdigest()
         (self.top / "release" / "MADE_OF").write_text(f"sources {sources}\nprogram {checksum}\n")
-        path = folder / "bin"
-        path.mkdir()
-        (path / "sha256sum").write_text(COUNTING.format(shutil.which("sha256sum")))
-        (path / "sha256sum").chmod(0o755)
-        # Without the toolchain nothing is built, whatever the copy's state.
-        self.environment = {"PATH": f"{path}:/usr/bin:/bin", "CALLS": str(self.calls)}
+        self.path = folder / "bin"
+        self.path.mkdir()
+        for name in TOOLS:
+            (self.path / name).symlink_to(shutil.which(name))
+        self.put_tool("sha256sum", COUNTING.format(shutil.which("sha256sum")))
+        self.environment = {"PATH": str(self.path), "CALLS": str(self.calls)}
         time.sleep(2.1)
+
+    def put_tool(self, name, text):
+        """Puts a script among the tools."""
+        (self.path / name).write_text(text)
+        (self.path / name).chmod(0o755)
+
+    def run(self, *command):
+        """Runs a command of the copy's folder."""
+        return subprocess.run(command, capture_output=True, text=True, env=self.environment, cwd=self.top)
 
     def start(self):
         """Runs `./ridepool --version`: its status, what it printed, and whether checksums were made."""
         self.calls.unlink(missing_ok=True)
-        ran = subprocess.run([self.top / "ridepool", "--version"], capture_output=True, text=True, env=self.environment)
+        ran = self.run("./ridepool", "--version")
         return ran.returncode, ran.stdout + ran.stderr, self.calls.exists()
 
     def demand(self, what, status, text, summed):
@@ -99,6 +114,66 @@ def other_program(copy):
     path = copy.top / "release" / "ridepool_program"
     path.write_bytes(path.read_bytes() + b"\n")
     copy.demand("another program", 1, "isn't the program that was made", True)
+
+
+def demand_refused(copy, why, *command):
+    """A start that must say in one line why there is no program, and must not build one."""
+    ran = copy.run(*command)
+    if (ran.returncode, ran.stdout, ran.stderr) != (1, "", f"ridepool: the release {why}: {BUILD}"):
+        raise Wrong(f"{command}: status {ran.returncode}\n{ran.stdout}{ran.stderr}")
+
+
+def nothing_is_proved_unasked(copy):
+    """Where the release isn't of these sources, the toolchain isn't called: neither by ./ridepool nor by ./install."""
+    copy.put_tool("rt", PROVING)
+    (copy.top / SOURCE).with_name("more.rt").write_text("")
+    copy.calls.unlink(missing_ok=True)
+    demand_refused(copy, "is of other sources", "./ridepool", "run")
+    demand_refused(copy, "is of other sources", "./install", str(copy.top.parent / "home"))
+    shutil.rmtree(copy.top / "release" / ".found", ignore_errors=True)
+    (copy.top / "release" / "ridepool_program").unlink()
+    demand_refused(copy, "isn't there", "./ridepool", "run")
+    if "ci" in copy.calls.read_text().split():
+        raise Wrong("the toolchain was called")
+
+
+def one_that_was_built(copy):
+    """The program that ./build made is started where the release is of other sources."""
+    (copy.top / SOURCE).with_name("more.rt").write_text("")
+    out = copy.top / "crates" / "ridepool_program" / "out"
+    shutil.copytree(copy.top / "release", out)
+    sources = copy.run("bash", "release/sources").stdout.strip()
+    (out / "MADE_OF").write_text((out / "MADE_OF").read_text().replace(copy.sources, sources))
+    copy.demand("one that was built", 0, f"sources {sources}\n", True)
+
+
+def build_without_toolchain(copy):
+    ran = copy.run("./build")
+    if ran.returncode != 1 or ran.stdout or ran.stderr.count("\n") != 1 or "there is no toolchain" not in ran.stderr:
+        raise Wrong(f"./build: status {ran.returncode}\n{ran.stdout}{ran.stderr}")
+
+
+def not_executable_here(copy):
+    """A release of these sources that this machine can't run."""
+    path = copy.top / "release" / "ridepool_program"
+    path.write_bytes(b"\x7fELF of another machine")
+    checksum = hashlib.sha256(path.read_bytes()).hexdigest()
+    (copy.top / "release" / "MADE_OF").write_text(f"sources {copy.sources}\nprogram {checksum}\n")
+    demand_refused(copy, "can't be executed here (it needs Linux on x86-64 and the GNU C library 2.34 or later)", "./ridepool", "run")
+
+
+def lost_bits(copy):
+    """In a folder whose files have lost their execute bits `bash ./ridepool` starts the program, also once it is known."""
+    for path in [copy.top / "ridepool", *(copy.top / "release").iterdir()]:
+        path.chmod(0o644)
+    time.sleep(2.1)
+    for _ in range(2):
+        ran = copy.run("bash", "./ridepool", "--version")
+        if ran.returncode != 0 or copy.sources not in ran.stdout or ran.stderr:
+            raise Wrong(f"bash ./ridepool: status {ran.returncode}\n{ran.stdout}{ran.stderr}")
+        ran = copy.run("bash", "release/find")
+        if ran.returncode != 1 or ran.stdout or "start the program by bash ./ridepool\n" not in ran.stderr:
+            raise Wrong(f"release/find: status {ran.returncode}\n{ran.stdout}{ran.stderr}")
 
 
 def damaged_memory(copy):
@@ -170,8 +245,7 @@ def installed(copy):
 def manual(copy):
     """The manual page has no line that the formatter warns of."""
     if not shutil.which("man"):
-        print("skipped: the manual page, since man isn't here")
-        return
+        raise Skipped("man isn't here")
     page = copy.top / "share" / "man" / "man1" / "ridepool.1"
     ran = subprocess.run(["man", "--warnings", "-E", "UTF-8", "-l", "-Tutf8", page], capture_output=True, text=True)
     text = re.sub("\x1b\\[[0-9;]*m|.\x08", "", ran.stdout)
@@ -203,23 +277,28 @@ def completed(copy):
 
 
 TRIED = [unchanged, same_size_and_time, new_source, other_program, damaged_memory, nowhere_to_keep, from_elsewhere]
+TRIED += [nothing_is_proved_unasked, one_that_was_built, build_without_toolchain, not_executable_here, lost_bits]
 TRIED += [installed, manual, completed]
 
 
-def fault(tried):
-    """What is wrong with one of the tries, or nothing."""
+def outcome(tried):
+    """What one of the tries says, and whether it failed or was skipped."""
     with tempfile.TemporaryDirectory() as folder:
         try:
             tried(Copy(pathlib.Path(folder), pathlib.Path(sys.argv[1]).resolve()))
         except Wrong as wrong:
-            return f"{tried.__name__}: {wrong}"
+            return f"{tried.__name__}: {wrong}", 1, 0
+        except Skipped as why:
+            return f"skipped: {tried.__name__}, since {why}", 0, 1
+        return None, 0, 0
 
 
 def main():
     with ThreadPoolExecutor() as pool:
-        faults = [it for it in pool.map(fault, TRIED) if it]
-    print("\n".join([*faults, f"{len(TRIED) - len(faults)} passed, {len(faults)} failed"]))
-    return bool(faults)
+        told = list(pool.map(outcome, TRIED))
+    failed, skipped = sum(it[1] for it in told), sum(it[2] for it in told)
+    print("\n".join([*(it[0] for it in told if it[0]), last_line(len(TRIED) - failed - skipped, failed, skipped)]))
+    return bool(failed)
 
 
 if __name__ == "__main__":

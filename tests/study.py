@@ -1,7 +1,6 @@
 #!/usr/bin/env python3
-"""Tests of studies. Use: study.py PROGRAM. Status 0 where all pass; the last line is `N passed, M failed`.
-
-Where no Python here has the packages that studies stand on, it says that they were skipped.
+"""Tests of studies. Use: study.py PROGRAM. Status 0 where none fails; the last line is `N passed, M failed`, and
+`, K skipped` behind it where no Python here has the packages that studies stand on.
 """
 
 import contextlib
@@ -17,7 +16,7 @@ import sys
 import time
 from collections import defaultdict
 
-from tools_parts.shared import PICTURES, TOOLS, TOP, Svg, find_python, refuses, run_tests, works
+from tools_parts.shared import PICTURES, TOOLS, TOP, Svg, find_python, refuses, run_tests, tests_of, works
 
 CITY = """[city]
 seed = 5
@@ -245,7 +244,7 @@ def test_grid_with_a_worker_killed(folder):
         (folder / "go").touch()
         out, errors = running.communicate()
         assert (running.returncode, errors) == (0, ""), (out, errors)
-        assert "8 cells of 8 days, 8 driven now, 0 cells amiss" in out and len(list(begun.iterdir())) >= 9, out
+        assert "8 cells of 8 days, 8 driven now, 0 cells failed" in out and len(list(begun.iterdir())) >= 9, out
         rows, text = rows_of(folder), (folder / "out" / "cells.csv").read_text()
         count = len(list(begun.iterdir()))
         out, _ = studied(folder, f"cluster={address}", f"program={waiting}")
@@ -279,20 +278,35 @@ def test_cells_that_fail(folder):
     out, rows = studied(folder, f"program={playing}", "limit=15", status=1, text=text)
     states = [row["state"] for row in rows]
     assert states == ["status 9: ridepool: out of memory", "stopped after 15 seconds", "done"], states
-    assert "trip=1: status 9: ridepool: out of memory\n" in out and "3 driven now, 2 cells amiss" in out, out
+    assert "trip=1: status 9: ridepool: out of memory\n" in out and "3 driven now, 2 cells failed" in out, out
     for limit, driven in ((14, 1), (16, 2)):
         out, rows = studied(folder, f"program={playing}", f"limit={limit}", status=1, text=text)
-        assert f"{driven} driven now, 2 cells amiss" in out, out
+        assert f"{driven} driven now, 2 cells failed" in out, out
     assert [row["state"] for row in rows][1] == "stopped after 16 seconds", rows
     playing.write_text(playing.read_text() + "# another program\n")
     out, rows = studied(folder, f"program={playing}", "limit=15", status=1, text=text)
     assert "3 driven now" in out, out
 
 
+def test_the_modules_that_are_sent(folder):
+    """They drive a day on Python alone, and take the place of those that a worker had before."""
+    from ridepool.study.sent import pack
+
+    pack(folder / "ridepool.zip")
+    (folder / "ridepool").mkdir()
+    for name in ("__init__", "words"):
+        (folder / "ridepool" / f"{name}.py").write_text("OLD = True\n")
+    lines = ("import importlib, sys", "import ridepool.words", "assert ridepool.words.OLD",
+             f"sys.path.insert(0, {str(folder / 'ridepool.zip')!r})", "importlib.reload(ridepool)",
+             "from ridepool.days import one_day", "print(one_day.__file__, hasattr(one_day.Fault, 'OLD'))")
+    done = subprocess.run([sys.executable, "-S", "-c", "\n".join(lines)], cwd=folder, capture_output=True, text=True)
+    assert done.stdout == f"{folder}/ridepool.zip/ridepool/days/one_day.py False\n", done
+
+
 def ground(folder, *city):
     """The ground of a made city."""
-    from studies.ground import ground_of
-    from studies.plan import Plan
+    from ridepool.study.ground import ground_of
+    from ridepool.study.plan import Plan
 
     with contextlib.redirect_stdout(None):
         return ground_of(Plan([], dict(word.split("=") for word in city), None), folder, folder)
@@ -300,8 +314,8 @@ def ground(folder, *city):
 
 def test_ground_of_files(folder):
     """Files give the same days as the made city that they are of."""
-    from studies.ground import ground_of
-    from studies.plan import Plan
+    from ridepool.study.ground import ground_of
+    from ridepool.study.plan import Plan
 
     made = ground(folder, "requests=50", "avenues=5", "streets=20", "seconds=600")
     files = {name: f"city/{name}.csv" for name in ("network", "nodes", "trips")}
@@ -312,7 +326,7 @@ def test_ground_of_files(folder):
 
 def test_zones(folder):
     """Zones part the nodes, the fleet and the riders, about evenly; a rider's zone is that of the origin."""
-    from studies.plan import SETTINGS, Cell
+    from ridepool.study.plan import SETTINGS, Cell
 
     city = ground(folder, "requests=2000", "avenues=12", "streets=80")
     default = Cell(**{name: value for name, (_, _, value) in SETTINGS.items()})
@@ -350,7 +364,7 @@ def test_zones_add_up(folder):
 
 def test_the_study_of_the_guide(_):
     """Its table has the cells of STUDY.toml, all done by one program, and its picture has their lines."""
-    from studies.plan import SETTINGS, read_plan
+    from ridepool.study.plan import SETTINGS, read_plan
 
     with open(STUDY / "cells.csv", newline="") as file:
         rows = list(csv.DictReader(file))
@@ -391,5 +405,5 @@ def test_studies_that_are_refused(folder):
 if __name__ == "__main__":
     if len(sys.argv) != 2:
         sys.exit(__doc__)
-    find_python("studies", "distributed", "matplotlib", "scipy")
+    find_python("studies", "distributed", "matplotlib", "scipy", tests=tests_of(globals()))
     sys.exit(run_tests(globals()))

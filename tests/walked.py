@@ -7,39 +7,12 @@ follows all that is entered, over the judge's own shortest times, all replies, a
 vehicle be late, and every limit has to be kept. Prints how many lines there were and how the riders were served.
 """
 
-import heapq
 import sys
-from collections import Counter, defaultdict
-from functools import cached_property, lru_cache
+from collections import Counter
 from pathlib import Path
 
-from inputs import Run
+from growth import LargeRun
 from judge import Lines, Wrong, judge_lines, stops_in
-from rules import NEVER
-
-
-class LargeRun(Run):
-    """A run whose network is too large for a table of all times: they come by searches from single nodes."""
-
-    @cached_property
-    def drive(self):
-        streets = defaultdict(list)
-        for a, b, seconds in self.arcs:
-            streets[a].append((b, seconds))
-
-        @lru_cache(maxsize=4000)
-        def times_from(start):
-            times, waiting = {start: 0}, [(0, start)]
-            while waiting:
-                second, node = heapq.heappop(waiting)
-                if second == times[node]:
-                    for to, seconds in streets[node]:
-                        if second + seconds < times.get(to, NEVER):
-                            times[to] = second + seconds
-                            heapq.heappush(waiting, (second + seconds, to))
-            return times
-
-        return lambda a, b: times_from(a).get(b, NEVER)
 
 
 def read_block(lines, book, run, day):

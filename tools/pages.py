@@ -19,6 +19,7 @@ SECTIONS = {
     "The report": "REPORT",
     "A driven day": "A DRIVEN DAY",
     "Notices": "NOTICES",
+    "Hints": "HINTS",
     "An audit": "AN AUDIT",
     "Exit status": "EXIT STATUS",
 }

@@ -1,38 +1,5 @@
 #!/usr/bin/env python3
-"""Prints the script whose run a report is, so that a day can be run again and audited."""
-
-import sys
-
-import tables
-from report import read_report
-from words import Fault, number, run_tool, split_words
-
-USAGE = "use: script_of.py REPORT [lanes=1]"
-
-
-def row_of(entry, lane, parties):
-    """A command as a row of the script."""
-    fields = [*entry.fields, *[""] * (4 - len(entry.fields))]
-    last = [entry.party if entry.command == "submit" else ""] if parties else []
-    return [entry.round, lane, entry.command, *fields, *last]
-
-
-def script_of(report, one_lane):
-    """The header and the rows of the script, in the report's order. A batch is closed by the program itself."""
-    parties = any(entry.party != 1 for entry in report.entries)
-    commands = [entry for entry in report.entries if entry.command != "close"]
-    rows = [row_of(entry, 0 if one_lane else entry.lane, parties) for entry in commands]
-    return tables.SCRIPT if parties else tables.SCRIPT[:-1], rows
-
-
-def convert(arguments):
-    """The tool."""
-    plain, values = split_words(arguments, ("lanes",), USAGE)
-    if len(plain) != 1:
-        raise Fault(USAGE)
-    one_lane = number(values, "lanes", 1, 16, 16) == 1
-    sys.stdout.write(tables.table_text(*script_of(read_report(plain[0]), one_lane)))
-
+import door
 
 if __name__ == "__main__":
-    run_tool(convert, USAGE)
+    door.open_to("ridepool.report.script_of")

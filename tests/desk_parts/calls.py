@@ -125,7 +125,8 @@ def unknown_ones_are_404_and_bad_values_422():
                 ("/rides", {**good, "from": True}), ("/rides", {**good, "ride": "1,2\n0,0,seal"}),
                 ("/vehicles/1/position", {}), ("/vehicles/1/position", {"node": "1"}), ("/vehicles/1/pickup", {}),
                 ("/vehicles/1/position", {"lat": 91e9, "lon": 1}), ("/vehicles/x/pickup", {"ride": 1}),
-                ("/rides", {**good, "time": 100_000}), ("/vehicles/1/position", {"node": 1, "second": 100_000})):
+                ("/rides", {**good, "time": 100_000}), ("/vehicles/1/position", {"node": 1, "second": 1_000}),
+                ("/vehicles/1/position", {"node": 1, "lat": 1, "lon": 1})):
             status, answer = it.call("POST", path, body)
             assert status == 422 and answer["text"], (path, body, status, answer)
         for raw in ("{", "[" * 60_000, '{"from": ' + "9" * 10_000 + "}", b"\xff"):
@@ -259,7 +260,7 @@ def the_calls_describe_themselves_without_other_places():
     with desk(*inputs(LINE)) as it:
         paths = set(it.gives("GET", "/openapi.json")["paths"])
         wanted = {"/rides", "/rides/{number}", "/vehicles", "/vehicles/{number}", "/vehicles/{number}/stops",
-                  "/vehicles/{number}/position", "/vehicles/{number}/pickup", "/vehicles/{number}/dropoff", "/batches",
+                  "/vehicles/{number}/position", "/vehicles/{number}/pickup", "/vehicles/{number}/dropoff", "/vehicles/{number}/mistake", "/trouble", "/batches",
                   "/batches/{number}", "/seal", "/events", "/health", "/network"}
         assert paths == wanted, paths ^ wanted
         it.gives("POST", "/rides", {"from": 2, "to": 4})

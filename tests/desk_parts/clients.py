@@ -143,13 +143,10 @@ def live_that_is_killed_is_started_again_three_times():
             assert it.live() != old and it.state() == before
             it.gives("POST", "/rides", {"from": 1, "to": 3})
         os.kill(it.live(), signal.SIGKILL)
-        health = until(lambda: (h := it.call("GET", "/health"))[1]["status"] == "ended" and h, "the end")
-        assert health[0] == 503 and "started again 3 times already" in health[1]["why"], health
-        status, answer = it.call("POST", "/rides", {"from": 1, "to": 3})
-        assert status == 503 and answer["text"] == health[1]["why"], answer
-        assert len(it.gives("GET", "/rides")) == 4
-        it.end()
-        assert sum("was ended by signal 9" in line for line in it.said) == 4, it.said
+        it.child.wait(PATIENCE)
+        assert it.end() == 3, it.said
+        assert sum("was ended by signal 9" in line for line in it.said) == 5, it.said
+        assert it.said[-1].endswith("it was started again 3 times already"), it.said
 
 
 @test
@@ -161,12 +158,12 @@ def a_disk_that_takes_no_more_loses_nothing_answered():
                 answered.append(call[1]["ride"])
                 assert len(answered) < 200, "the limit was not met"
             assert call[0] == 503 and answered, call
-            while it.call("POST", "/rides", {"from": 1, "to": 2, "time": 0})[0] == 503:
-                health = it.call("GET", "/health")
-                if "3 times already" in health[1]["why"]:
-                    break
-                time.sleep(0.1)
-            assert health[0] == 503 and "File too large" in health[1]["why"], health
+            with contextlib.suppress(OSError, http.client.HTTPException):
+                while it.call("POST", "/rides", {"from": 1, "to": 2, "time": 0})[0] == 503:
+                    time.sleep(0.1)
+            assert it.child.wait(PATIENCE) == 3
+            it.end()
+            assert "File too large" in it.said[-1] and "3 times already" in it.said[-1], it.said
         with desk(folder=folder) as it:
             kept = [ride["ride"] for ride in it.gives("GET", "/rides")]
             assert kept[:len(answered)] == answered and len(kept) <= len(answered) + 4, (answered, kept)
@@ -181,9 +178,11 @@ def a_day_goes_on_with_its_own_inputs_and_settings():
             fails("another desk keeps this day", folder=folder)
         assert (folder / "transcript").read_text().endswith("done 1\n")
         fails("the day there has other settings: wait=300", "wait=200", folder=folder)
+        fails("Of them workers and every can be changed", "pairs=10", folder=folder)
         fails("has another fleet", f"fleet={TOWN}/fleet.csv", folder=folder)
-        with desk(*inputs(LINE), "wait=300", folder=folder) as it:
+        with desk(*inputs(LINE), "wait=300", "every=40", "workers=2", folder=folder) as it:
             assert len(it.gives("GET", "/rides")) == 1
+        assert '"every": 40' in (folder / "day.json").read_text()
         with open(folder / "transcript", "a", encoding="ascii") as file:
             file.write("1 4 submit 2 2 4 0 acce")
         with desk(folder=folder) as it:
@@ -213,7 +212,7 @@ def other_replies_than_before_are_asked_about():
 
 @test
 def rows_among_a_batch_are_given_with_its_seal():
-    from dispatch import replay
+    from ridepool.desk import replay
 
     kept = ["ridepool report 1", "settings", "network nodes=5 arcs=8", "fleet vehicles=1", "round 0",
             "0 2 submit 1 2 4 0 accepted", "1 0 seal 0 sealed 1", "2 3 submit 2 2 4 0 accepted", "3 0 close 1 closed",

@@ -8,7 +8,8 @@ import shutil
 import signal
 import time
 
-from desk_parts.shared import LINE, PATIENCE, TOWN, Skipped, desk, folder_for_days, inputs, test, until
+from desk_parts.shared import LINE, PATIENCE, TOWN, desk, folder_for_days, inputs, test, until
+from skips import Skipped
 
 
 @contextlib.contextmanager
@@ -121,8 +122,7 @@ def the_page_says_when_live_or_the_desk_ends():
     with desk(*inputs(LINE)) as it:
         with page(it, 390, 844) as browser:
             for turn in range(4):
-                old = it.live()
-                os.kill(old, signal.SIGKILL)
+                os.kill(it.live(), signal.SIGKILL)
                 if turn < 3:
                     until(lambda: it.call("GET", "/health")[1]["restarts"] == turn + 1, "a new start")
                     until(lambda: it.call("GET", "/health")[0] == 200, "ready again")
@@ -130,9 +130,68 @@ def the_page_says_when_live_or_the_desk_ends():
             fits(browser)
             keep_picture(browser, "ended-390")
             assert browser.execute_script("return document.getElementById('ask-button').disabled")
-            it.end()
+            assert it.child.wait(PATIENCE) == 3
             until(lambda: "Connection lost" in text_of(browser, "#status-text"), "the loss is shown")
+            assert "3 times already" in text_of(browser, "#status-text")
             browser.get_log("browser")
+
+
+@test
+def trouble_stands_first_on_the_page():
+    with desk(*inputs(LINE), "wait=7200", "delay=7200", "speed=10", "silent=0") as it:
+        it.gives("POST", "/rides", {"from": 2, "to": 4, "time": 0})
+        pickup = it.plan()["second"] + 60
+        until(lambda: it.call("GET", "/health")[1]["second"] > pickup + 40, "40 s late")
+        for width, height in ((1280, 800), (390, 844)):
+            with page(it, width, height) as browser:
+                late_vehicle_is_first(browser)
+                keep_picture(browser, f"trouble-{width}")
+                if width == 1280:
+                    what_hangs_is_in_the_bar(it, browser)
+
+
+def late_vehicle_is_first(browser):
+    """The list, the bar and the title tell of the late vehicle, and the list leads to it."""
+    until(lambda: text_of(browser, "#count-late") == "1", "the bar counts the late vehicle")
+    assert browser.title == "(1) Dispatcher's desk", browser.title
+    row = "#trouble .list li"
+    until(lambda: text_of(browser, f"{row} .when").endswith(" late"), "how late it is")
+    assert text_of(browser, f"{row} .what") == "Vehicle 1 picks up rider 1 at 2"
+    colour = "return getComputedStyle(document.getElementById('count-late').parentElement).backgroundColor"
+    assert browser.execute_script(colour) == "rgb(179, 38, 30)"
+    tops = browser.execute_script("return ['trouble', 'panel', 'map-area'].map(it => "
+                                  "document.getElementById(it).getBoundingClientRect().top)")
+    assert tops[0] < tops[1] and tops[0] <= tops[2], tops
+    fits(browser)
+    browser.execute_script("document.querySelector(arguments[0]).click()", row)
+    until(lambda: "Rider 1: promised" in text_of(browser, "#chosen h2"), "its rider is chosen")
+    assert "Vehicle 1 is " in text_of(browser, "#chosen") and " late." in text_of(browser, "#chosen")
+    assert "in 0:00" not in browser.execute_script("return document.body.textContent")
+
+
+def what_hangs_is_in_the_bar(it, browser):
+    """A stopped `live` is in the bar and first in the list; the bar is ready again afterwards."""
+    os.kill(it.live(), signal.SIGSTOP)
+    until(lambda: "stopped by a signal" in text_of(browser, "#status-text"), "what hangs")
+    until(lambda: "stopped by a signal" in text_of(browser, "#trouble .list li .what"), "what hangs stands first")
+    os.kill(it.live(), signal.SIGCONT)
+    until(lambda: text_of(browser, "#status-text").startswith("Ready"), "ready again")
+    assert text_of(browser, "#trouble .list li .what").startswith("Vehicle 1 picks up")
+
+
+@test
+def the_sound_is_heard_at_new_trouble_alone():
+    with desk(*inputs(LINE), "wait=7200", "delay=7200", "speed=10", "silent=1") as it, page(it, 1280, 800) as browser:
+        browser.execute_script("window.tones = 0; const start = OscillatorNode.prototype.start;"
+                               "OscillatorNode.prototype.start = function (at) { window.tones++; start.call(this, at); }")
+        until(lambda: text_of(browser, "#trouble-title") == "Trouble: 1", "a vehicle that hasn't reported")
+        assert browser.execute_script("return window.tones") == 0
+        browser.find_element("id", "sound").click()
+        assert browser.execute_script("return window.tones") == 2
+        it.gives("POST", "/rides", {"from": 2, "to": 4})
+        it.plan()
+        until(lambda: text_of(browser, "#trouble-title") == "Trouble: 2", "a late vehicle")
+        assert browser.execute_script("return window.tones") == 4
 
 
 @test

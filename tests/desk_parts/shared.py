@@ -26,10 +26,6 @@ def test(run):
     return run
 
 
-class Skipped(Exception):
-    """Why a test can't be made here."""
-
-
 def until(holds, what, patience=PATIENCE):
     """Waits until something holds, and gives it."""
     end = time.monotonic() + patience
@@ -102,7 +98,7 @@ class Desk:
 
     def state(self):
         """What rides, vehicles and batches are, without what depends on the second or on the machine."""
-        passing = ("wait_time", "arrival_time", "seconds", "place")
+        passing = ("wait_time", "arrival_time", "late", "seconds", "place")
         lists = (self.gives("GET", path) for path in ("/rides", "/vehicles", "/batches?last=1000"))
         return [[{key: it[key] for key in it if key not in passing} for it in items] for items in lists]
 

@@ -8,9 +8,10 @@ import sys
 import tempfile
 
 import make_sumo_day
-import words
+from ridepool import words
 from desk_parts import shared
-from desk_parts.shared import TOOLS, Skipped, audited, test
+from desk_parts.shared import TOOLS, audited, test
+from skips import Skipped
 
 
 @test
@@ -40,7 +41,7 @@ def a_simulations_taxis_are_dispatched():
 
 def confirmed(place):
     """The simulation's transcript must be that of a run of its rows."""
-    from dispatch import rows
+    from ridepool.sessions import rows
 
     lines = (place / "transcript").read_text().splitlines()
     text = rows.rows_of(lines)

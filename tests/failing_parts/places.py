@@ -194,6 +194,18 @@ def unopened(program, folder):
             raise Wrong(f"status {ran.returncode} comes of {words}, and 2 should")
 
 
+def unopened_script(program, folder):
+    """A pipe of the script is opened after network and fleet are judged: a refused one leaves it closed."""
+    os.mkfifo(folder / "pipe")
+    (folder / "network.csv").write_text(POOLED["network"])
+    (folder / "fleet.csv").write_text(POOLED["fleet"])
+    for names, status in ((("fleet", "fleet"), 3), (("network", "network"), 4)):
+        words = ["run", *(f"{key}={name}.csv" for key, name in zip(FILES, names)), "script=pipe"]
+        ran = subprocess.run([program, *words], cwd=folder, capture_output=True, timeout=10)
+        if ran.returncode != status or ran.stdout:
+            raise Wrong(f"status {ran.returncode} comes of {words}, and {status} should")
+
+
 PLACES = {
     **{f"notices to the {name}": taken(same, name) for name in FILES},
     "notices to a link to the script": taken(linked, "script"),
@@ -204,6 +216,7 @@ PLACES = {
     "old notices of a refused script": old_notices(WORDS, {**POOLED, "script": "x\n"}, 5, True),
     "old notices of faulty words": old_notices([*WORDS, "wait=x"], POOLED, 2, True),
     "faulty words": unopened,
+    "a pipe for the script of a refused network or fleet": unopened_script,
     "a run's report to a full device": full_device([*WORDS, "notices=notices"]),
     "a summary to a full device": full_device(LOAD),
     "the help to a full device": full_device(["--help"]),

@@ -21,17 +21,17 @@ def need(holds, said):
 
 
 class Client:
-    """A call of `live`, its two ends in hand."""
+    """A call of `live`, its ends in hand."""
 
-    patience = 2.0  # seconds
+    patience = 2.0  # seconds, after which a call is taken to hang
 
-    def __init__(self, program, folder, *words, script=None):
+    def __init__(self, program, folder, *words, script=None, **more):
         named = [f"network={folder}/network.csv", f"fleet={folder}/fleet.csv"]
         named += [f"script={script}"] if script else []
         pipe = subprocess.PIPE
-        self.call = subprocess.Popen([program, "live", *named, *words], stdin=pipe, stdout=pipe, stderr=pipe)
-        self.out, self.begun = b"", 0
-        os.set_blocking(self.call.stdout.fileno(), False)
+        self.call = subprocess.Popen([program, "live", *named, *words], stdin=pipe, stdout=pipe, stderr=pipe, **more)
+        self.out, self.told, self.begun = b"", b"", 0
+        self.open = [self.call.stdout, self.call.stderr]
 
     def send(self, text):
         """Sends text or bytes at once."""
@@ -39,37 +39,52 @@ class Client:
         self.call.stdin.flush()
 
     def more(self, patience):
-        """Reads what has come, or waits for some; whether some came."""
-        ready, _, _ = select.select([self.call.stdout], [], [], patience)
-        read = os.read(self.call.stdout.fileno(), 1 << 20) if ready else b""
-        self.out += read
-        return bool(read)
+        """Reads what has come on standard output and error, or waits for some; whether some came, or an end."""
+        ready, _, _ = select.select(self.open, [], [], patience)
+        for stream in ready:
+            read = os.read(stream.fileno(), 1 << 20)
+            if not read:
+                self.open.remove(stream)
+            elif stream is self.call.stdout:
+                self.out += read
+            else:
+                self.told += read
+        return bool(ready)
+
+    def more_until(self, holds):
+        """Reads until this holds; whether it did in time, before both outputs ended."""
+        end = time.monotonic() + self.patience
+        while not holds():
+            left = end - time.monotonic()
+            if left <= 0 or not self.open or not self.more(left):
+                return holds()
+        return True
 
     def lines(self):
         """The whole lines that came so far."""
         return self.out.decode().split("\n")[:-1]
 
-    def wait_for(self, wanted, patience=0):
-        """Waits until what came holds this line, and gives its place; fails where it doesn't come in time."""
-        patience = max(patience, self.patience)
-        end = time.monotonic() + patience
-        while True:
-            for place, line in enumerate(self.lines()):
-                if place >= self.begun and wanted(line):
-                    return place
-            left = end - time.monotonic()
-            if left <= 0 or not self.more(left):
-                raise Failed(f"no answer in {patience} s; the last lines are {self.lines()[-3:]}")
+    def wait_for(self, wanted):
+        """Waits until what came holds this line, and gives its place; fails where it doesn't come. Nothing is sent meanwhile."""
+        if not self.more_until(lambda: any(map(wanted, self.lines()[self.begun :]))):
+            raise Failed(f"no answer before the next row; the last lines are {self.lines()[-3:]}, {self.told!r}")
+        return next(place for place, line in enumerate(self.lines()) if place >= self.begun and wanted(line))
 
-    def ask(self, row, patience=0):
+    def ask(self, row):
         """Sends a row and waits for its line, which begins where the last one ended."""
         before = len(self.lines())
         self.send(row + "\n")
         lane, word = row.split(",")[1:3]
         self.begun = before
-        place = self.wait_for(lambda line: line.split(" ")[1:3] == [lane, word], patience)
+        place = self.wait_for(lambda line: line.split(" ")[1:3] == [lane, word])
         self.begun = 0
         return self.lines()[place]
+
+    def refused(self, row, told):
+        """Sends a row and waits until all lines that were told are these, the last one for this row."""
+        self.send(row + "\n")
+        self.more_until(lambda: self.told.count(b"\n") >= len(told))
+        need(self.told.decode().splitlines() == told, f"{self.told!r} was told, and not {told}")
 
     def wait_for_end(self, batch):
         """Waits for the last line of the block of this batch."""
@@ -80,12 +95,22 @@ class Client:
     def end(self, patience=600):
         """Closes the client's end, and gives the status, all that was written and what was said of refused rows."""
         self.call.stdin.close()
+        return self.ended(patience)
+
+    def ended(self, patience):
+        """Waits until the call has ended, and gives the status and what it wrote on standard output and error."""
         end = time.monotonic() + patience
-        while self.more(max(0, end - time.monotonic())):
+        while self.open:
+            if not self.more(max(0, end - time.monotonic())):
+                raise Failed(f"the call doesn't end; the last lines are {self.lines()[-3:]}, {self.told!r}")
+        return self.call.wait(patience), self.out.decode(), self.told.decode()
+
+    def kill(self):
+        """Ends the call at once, and reads what it had written."""
+        self.call.kill()
+        self.call.wait()
+        while self.open and self.more(0.1):
             pass
-        errors = self.call.stderr.read().decode()
-        status = self.call.wait(patience)
-        return status, self.out.decode(), errors
 
 
 def judged(program, folder, accepted, report, *words, header=HEADERS[0]):

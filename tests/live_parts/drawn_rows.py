@@ -61,6 +61,28 @@ def drawn_commands(program, folder, count, seed):
     judged(program, folder, accepted, report, "proof=1")
 
 
+def drawn_rows_one_by_one(program, folder, count, seed):
+    """Drawn rows, each of which is answered, or told to be refused, before the next is sent."""
+    street(folder)
+    accepted, told, last, number = [], [], 0, 0
+    client = Client(program, folder, "proof=1")
+    client.send(HEADERS[0] + "\n")
+    for row in filter(None, drawn_rows(count, seed)):
+        number += 1
+        try:
+            judge_row(row.split(","), last)
+        except Refusal as refusal:
+            told.append(f"ridepool: script: {refusal}".replace(" row 1", f" row {number}"))
+            client.refused(row, told)
+            continue
+        accepted.append(row)
+        last = int(row.split(",")[0])
+        client.ask(row)
+    status, report, errors = client.end()
+    need((status, errors.splitlines()) == (0, told), f"status {status}, {errors!r}")
+    judged(program, folder, accepted, report, "proof=1")
+
+
 def judge_row(fields, last):
     """Raises Refusal where the rules refuse a row behind one of round `last`."""
     if len(fields) != 7:

@@ -5,6 +5,7 @@ from inputs import Run
 from judge import Wrong, judge_beginning
 from live_parts.client import Client, Failed, need
 from live_parts.given import HEADERS, NOTICED, ONE_BY_ONE, street
+from skips import Skipped
 
 MEMORY_CALLS = 60  # requests of memory that fail, one in each call
 
@@ -17,10 +18,7 @@ def killed_between_rows(program, folder):
         client.send(HEADERS[0] + "\n")
         for row in ONE_BY_ONE[:count]:
             client.ask(row)
-        client.call.kill()
-        client.call.wait()
-        while client.more(0.1):
-            pass
+        client.kill()
         (folder / "accepted.csv").write_text("\n".join([HEADERS[0], *ONE_BY_ONE[:count], ""]))
         named = ["network=network.csv", "fleet=fleet.csv", "script=accepted.csv"]
         try:
@@ -35,8 +33,7 @@ def failing_calls(program, folder):
     street(folder)
     shim = Shim(program)
     if shim.why:
-        print(f"skipped: failing reads and writes of live, since {shim.why}", flush=True)
-        return
+        raise Skipped(f"failing reads and writes of live, since {shim.why}")
     told = folder / "told"
     (folder / "script.csv").write_text("\n".join([HEADERS[0], *NOTICED, ""]))
     words = ["live", "network=network.csv", "fleet=fleet.csv", "script=script.csv", "notices=told"]

@@ -58,9 +58,9 @@ def test_made_city(folder):
     """The made city has the size of Manhattan, mostly one-way streets, and every node reaches every other."""
     from collections import Counter
 
-    import tables
+    from ridepool.inputs import tables
     from scipy.sparse.csgraph import connected_components
-    from streets import Streets
+    from ridepool.inputs.streets import Streets
 
     works("made_city", folder, "requests=3000")
     network, nodes = tables.read_network(folder / "network.csv"), tables.read_nodes(folder / "nodes.csv")

@@ -49,9 +49,8 @@ def test_maps_that_are_refused(folder):
 
 def test_limits_of_maps_and_scripts(folder):
     """What the program doesn't take is refused with the figure."""
-    import from_sumo
-    import from_trips
-    import words
+    from ridepool import words
+    from ridepool.inputs import from_sumo, from_trips
 
     arc = from_sumo.Arc("A", "B", 10_000, "AB")
     from_sumo.check_limits("map", 100_000, 400_000, arc)

@@ -5,6 +5,7 @@ import re
 import shutil
 import subprocess
 
+from skips import Skipped
 from tools_parts.shared import (
     DATA,
     EXPECTED,
@@ -22,7 +23,7 @@ from tools_parts.shared import (
 
 def test_every_line_of_a_report(folder):
     """The reader of reports takes every line that ridepool prints."""
-    from report import Move, Request, Stop, read_report
+    from ridepool.report.reader import Move, Request, Stop, read_report
 
     report = read_report(DATA / "every-line.report")
     assert report.settings["dwell"] == 10 and (report.nodes, report.arcs, report.vehicles) == (5, 8, 3)
@@ -99,8 +100,8 @@ def test_service_of_two_riders(folder):
 
 def test_delays_of_two_riders(folder):
     """Waits of 60 and 120 seconds, delays of 60 and 120 seconds."""
-    from pictures import ground, service
-    from report import read_report
+    from ridepool.draw import ground, service
+    from ridepool.report.reader import read_report
 
     report = read_report(LINE / "two-riders.report")
     streets = ground.streets_of(report, {"network": str(LINE / "network.csv")})
@@ -111,8 +112,8 @@ def test_delays_of_two_riders(folder):
 
 def test_delays_of_a_day(folder):
     """On the town's day each trip's printed delay is the sum of its riders' delays over the network."""
-    from pictures import ground, service
-    from report import read_report
+    from ridepool.draw import ground, service
+    from ridepool.report.reader import read_report
 
     report = read_report(TOWN / "day.report")
     streets = ground.streets_of(report, {"network": str(TOWN / "network.csv")})
@@ -139,7 +140,7 @@ def test_map_of_two_riders(folder):
 
 def test_ways_of_a_map(folder):
     """A trip's line follows shortest ways, over one-way streets and streets of no time, too."""
-    from streets import Streets
+    from ridepool.inputs.streets import Streets
 
     streets = Streets([(1, 2, 0), (2, 3, 5), (2, 3, 9), (3, 1, 0), (1, 3, 6), (4, 1, 1)])
     assert streets.way(1, 3) == [1, 2, 3] and streets.way(3, 2) == [3, 1, 2] and streets.way(1, 1) == [1]
@@ -181,21 +182,24 @@ def test_pictures_of_500_vehicles(folder):
     assert drawn(folder, report, "service").marks("cost") == 6
 
 
-def test_town(folder):
-    """The worked example: its map becomes a network where netconvert is there, its trips the day's files."""
+def test_town_trips(folder):
+    """The worked example: its trips become the day's files."""
     works("from_trips", TOWN / "trips.csv", TOWN / "nodes.csv", folder, "vehicles=10",
           "from=2015-01-15T08:00:00", "to=2015-01-15T08:30:00")
     for name in ("fleet.csv", "script.csv"):
         assert (folder / name).read_text() == (TOWN / name).read_text(), name
+
+
+def test_town_map(folder):
+    """The worked example: its map becomes a network where netconvert is there."""
     if shutil.which("netconvert") is None:
-        print("skipped: the town's map as a network, since there is no netconvert")
-    else:
-        home = {"SUMO_HOME": "/usr/share/sumo", **os.environ}
-        net = folder / "town.net.xml"
-        subprocess.run(["netconvert", "--osm-files", TOWN / "town.osm", "--output-file", net],
-                       env=home, check=True, capture_output=True)
-        out = works("from_sumo", net, folder / "out")
-        assert "that cars may not use" in out and "nodes, with longitude and latitude" in out, out
+        raise Skipped("there is no netconvert")
+    home = {"SUMO_HOME": "/usr/share/sumo", **os.environ}
+    net = folder / "town.net.xml"
+    subprocess.run(["netconvert", "--osm-files", TOWN / "town.osm", "--output-file", net],
+                   env=home, check=True, capture_output=True)
+    out = works("from_sumo", net, folder / "out")
+    assert "that cars may not use" in out and "nodes, with longitude and latitude" in out, out
 
 
 def test_pictures_in_the_documents(folder):

@@ -1,6 +1,7 @@
 """What the tests of the tools share: where files lie, calls of tools, looks into pictures, and the run of all tests."""
 
 import contextlib
+import importlib
 import io
 import os
 import pathlib
@@ -17,33 +18,48 @@ CASES = TOP / "tests" / "cases"
 LINE, TOWN, PICTURES = TOP / "examples" / "line", TOP / "examples" / "town", TOP / "docs" / "pictures"
 SVG = "{http://www.w3.org/2000/svg}"
 sys.dont_write_bytecode = True
-sys.path[:0] = [str(TOOLS), str(DATA)]
+sys.path[:0] = [str(TOP / "python"), str(DATA)]
 
-import words  # noqa: E402
+from ridepool import words  # noqa: E402
+from skips import Skipped, last_line  # noqa: E402
+
+MODULES = {
+    "from_sumo": "ridepool.inputs.from_sumo",
+    "from_trips": "ridepool.inputs.from_trips",
+    "made_city": "ridepool.inputs.made_city",
+    "script_of": "ridepool.report.script_of",
+    "draw": "ridepool.draw.command",
+    "study": "ridepool.study.command",
+}
 
 
-def find_python(name, *modules):
-    """Goes on with a Python that has the modules; where there is none, says that they were skipped."""
+def tests_of(*modules):
+    """The names and functions of the tests of these modules."""
+    return [(name, test) for module in modules for name, test in module.items() if name.startswith("test_")]
+
+
+def find_python(name, *modules, tests):
+    """Goes on with a Python that has the modules; where there is none, says that these tests were skipped."""
     if not words.missing_modules(modules):
         return
-    probe = f"import sys; sys.path.insert(0, {str(TOOLS)!r}); import words; " \
+    probe = f"import sys; sys.path.insert(0, {str(TOP / 'python')!r}); from ridepool import words; " \
             f"sys.exit(len(words.missing_modules({modules!r})))"
     for python in dict.fromkeys((words.DEBIAN_PYTHON, shutil.which("python3"))):
         if python and os.path.exists(python) and subprocess.run([python, "-c", probe]).returncode == 0:
             os.execv(python, [python, *sys.argv])
     print(f"skipped: {name}, since no Python here has all they need: {words.INSTALL}")
-    print("0 passed, 0 failed")
+    print(last_line(0, 0, len(tests)))
     sys.exit(0)
 
 
 def call(tool, *arguments):
     """Calls a tool with words. Gives its status, standard output and standard error."""
-    module = __import__(tool)
+    module = importlib.import_module(MODULES[tool])
     out, errors = io.StringIO(), io.StringIO()
     argv, sys.argv = sys.argv, [f"{tool}.py", *map(str, arguments)]
     try:
         with contextlib.redirect_stdout(out), contextlib.redirect_stderr(errors):
-            words.run_tool(module.convert, module.USAGE)
+            module.main()
         status = 0
     except SystemExit as end:
         status = end.code
@@ -130,14 +146,20 @@ def rows_without_overlap(svg, least=0.14):
 
 def run_tests(*modules):
     """Runs the tests of these modules, each in a folder of its own. Gives the status."""
-    tests = [(name, test) for module in modules for name, test in module.items() if name.startswith("test_")]
-    failed = 0
-    for name, test in tests:
-        with tempfile.TemporaryDirectory() as folder:
-            try:
-                test(pathlib.Path(folder))
-            except Exception:
-                failed += 1
-                print(f"{name}: {traceback.format_exc()}")
-    print(f"{len(tests) - failed} passed, {failed} failed")
-    return 1 if failed else 0
+    answers = [passes(name, test) for name, test in tests_of(*modules)]
+    print(last_line(answers.count(True), answers.count(False), answers.count(None)))
+    return 1 if False in answers else 0
+
+
+def passes(name, test):
+    """Whether a test passes; None where it can't be tried."""
+    with tempfile.TemporaryDirectory() as folder:
+        try:
+            test(pathlib.Path(folder))
+        except Skipped as why:
+            print(f"skipped: {name}, since {why}")
+            return None
+        except Exception:
+            print(f"{name}: {traceback.format_exc()}")
+            return False
+    return True

@@ -2,7 +2,7 @@
 //! another program's answers can be compared.
 ghost use Rattle.std.specs.Prelude.{◌≡◌, ◌<◌};
 ghost use Rattle.pool_base.specs.Times.{point_count};
-ghost use Rattle.stop_orders.specs.Task.{IsTask};
+ghost use Rattle.stop_orders.specs.task.Task.{IsTask};
 
 use crate::draw::{drawn_table, drawn_tasks};
 use crate::fault::Fault;

@@ -1,12 +1,12 @@
 //! How long a table of shortest times takes on a network, by searches or by labels, between nodes spread evenly over it,
 //! and the sum of each table's cells, by which another program's table can be compared.
 ghost use Rattle.std.specs.Prelude.{◌≡◌, ◌<◌, ◌≤◌, IfOk, IfSome};
-ghost use Rattle.travel_times.specs.Labels.{AreLabelsOf};
+ghost use Rattle.travel_times.specs.labels.Labels.{AreLabelsOf};
 
 use crate::fault::Fault;
 use pool_base::{NodeId, OutOfMemory, Times, read_number_up_to};
 use pool_io::{StdSource, read_all, rows};
-use road_network::{Network, read_network};
+use road_network::{NETWORK_HEADER, Network, read_network};
 use std::alloc::Global;
 use std::env;
 use std::fs::File;
@@ -131,7 +131,7 @@ fn network_of(rt: &HostRuntime, path: &str) -> Result<Network, Fault> {
     let Ok(text) = read_all(rt.alloc(), &mut StdSource::over(file), LONGEST_FILE) else {
         return Err(Fault::Network);
     };
-    let Ok(streets) = rows(rt.alloc(), &text, b"from,to,seconds") else {
+    let Ok(streets) = rows(rt.alloc(), &text, NETWORK_HEADER) else {
         return Err(Fault::Network);
     };
     match read_network(rt.alloc(), &streets) {

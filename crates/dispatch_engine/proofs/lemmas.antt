@@ -1,10 +1,3 @@
-pub mod LaneLemmas
-pub mod LeftLemmas
-pub mod LockedLemmas
-pub mod MoveLemmas
-pub mod PointLemmas
-pub mod ProgressLemmas
-pub mod Promises
-pub mod RunLemmas
-pub mod StandLemmas
-pub mod TripLemmas
+pub mod outcome
+pub mod limits
+pub mod lanes

@@ -1,3 +1,3 @@
-pub mod Lanes
-pub mod Named
-pub mod NamedPromises
+pub mod outcome
+pub mod limits
+pub mod lanes

@@ -1,11 +1,3 @@
-pub mod Chosen
-pub mod Crew
-pub mod Lanes
-pub mod Lists
-pub mod Prices
-pub mod Promised
-pub mod Relaxation
-pub mod Requests
-pub mod SearchTree
-pub mod Settling
-pub mod Weights
+pub mod outcome
+pub mod limits
+pub mod lanes

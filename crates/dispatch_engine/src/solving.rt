@@ -2,23 +2,22 @@ ghost use Rattle.std.specs.Prelude.{◌≡◌, All, Contains, IfOk, OnOk, IsOkAn
 ghost use Rattle.request_book.specs.Points.{named_nodes};
 ghost use Rattle.plan_rules.specs.Plan.{IsLawful};
 ghost use Rattle.pool_base.specs.Times.{travel_time};
-ghost use Rattle.dispatch_engine.specs.Instance.{AreExact, HasSoundLimits, posed_by};
-ghost use Rattle.dispatch_engine.specs.Outcome.{AnswersWith, HasGraphsWith, IsGoodOutcome, IsGoodPlan};
-ghost use Rattle.dispatch_engine.specs.work.Lists.{AreLists};
+ghost use Rattle.dispatch_engine.specs.outcome.Instance.{AreExact, HasSoundLimits, posed_by};
+ghost use Rattle.dispatch_engine.specs.outcome.Outcome.{AnswersWith, HasGraphsWith, IsGoodOutcome, IsGoodPlan};
+ghost use Rattle.dispatch_engine.specs.work.outcome.Lists.{AreLists};
 
-use crate::instance::{Graphs, Instance};
-use crate::late::late_lines;
-use crate::left::left_riders;
-use crate::lines::{lapsed_ids, rider_ids, row_lines, rr_lines, rv_lines};
-use crate::moves::move_lines;
-use crate::settling::settle;
-use crate::trips::chosen_trips;
+use crate::limits::settling::settle;
+use crate::outcome::instance::{Graphs, Instance};
+use crate::outcome::late::late_lines;
+use crate::outcome::left::left_riders;
+use crate::outcome::lines::{lapsed_ids, rider_ids, rr_lines, rv_lines, trip_row_lines};
+use crate::outcome::moves::move_lines;
+use crate::outcome::trips::chosen_trips;
+use crate::solver::BatchSolver;
 use assignment_search::{Found, search_by};
 use plan_rules::Tree;
 use pool_base::{OutOfMemory, Sequence};
 use request_book::{Answer, Outcome, Planned, Snapshot};
-use rider_limits::Settings;
-use road_network::Network;
 use row_tables::Drafter;
 use shared_work::Gate;
 use std::alloc::Global;
@@ -26,36 +25,34 @@ use std::thread::Threads;
 use travel_times::Ways;
 use trip_graph::{GraphAnswer, grow_graph};
 
-/// Solves a batch, after Alonso-Mora, Samaranayake, Wallar, Frazzoli and Rus (2017): travel times between its
-/// nodes, limits, the graphs, an assignment with its bound, and moves of idle vehicles.
-///
-/// `ways` tells the travel times of this network. The graph is grown by `settings.workers` workers, and the
-/// gate hears of each piece of that. The search follows what the drafter drafts by as many, and judges it. The answer is an
-/// overflow exactly where the trip graph has more rows than `settings.pairs`. It fails only for want of memory.
-pub fn solve_batch<W: Ways, D: Drafter, G: Gate>(
-    rt: &(impl Threads + Sync),
-    alloc: Global,
-    snapshot: &Snapshot,
-    network: &Network,
-    ways: &W,
-    drafter: &D,
-    settings: &Settings,
-    gate: &G,
-) -> Result<Outcome, OutOfMemory>
-    requires nodes { All (λ node. Contains network.now.nodes node) (named_nodes snapshot.now) }
-    requires ways { W.roads ways.now ≡ network.now }
-    ensures { IfOk result (IsGoodOutcome settings.entry.now network.entry.now snapshot.entry.now) }
-{
-    let points = snapshot.points(alloc)?;
-    let times = ways.table(rt, alloc, points.nodes())?;
-    let settled = settle(alloc, snapshot, settings, &points, &times)?;
-    let instance = Instance {
-        settings,
-        points: &points,
-        times: &times,
-        settled: &settled,
-    };
-    outcome_of(rt, alloc, snapshot, &instance, drafter, gate)
+impl<W: Ways, D: Drafter, G: Gate> BatchSolver<'_, W, D, G> {
+    /// Solves a batch, after Alonso-Mora, Samaranayake, Wallar, Frazzoli and Rus (2017): travel times between its
+    /// nodes, limits, the graphs, an assignment with its bound, and moves of idle vehicles.
+    ///
+    /// The ways tell the travel times. The graph is grown by as many workers as the settings say, and the gate hears of
+    /// each piece of that. The search follows what the drafter drafts by as many, and judges it. The answer is an overflow
+    /// exactly where the trip graph has more rows than `settings.pairs`. It fails only for want of memory.
+    pub fn solve(
+        &self,
+        rt: &(impl Threads + Sync),
+        alloc: Global,
+        snapshot: &Snapshot,
+    ) -> Result<Outcome, OutOfMemory>
+        requires { All (λ node. Contains self.now.network.now.nodes node) (named_nodes snapshot.now) }
+        ensures { IfOk result (IsGoodOutcome self.entry.now.settings.now self.entry.now.network.now snapshot.entry.now) }
+    {
+        let settings = self.settings;
+        let points = snapshot.points(alloc)?;
+        let times = self.ways.table(rt, alloc, points.nodes())?;
+        let settled = settle(alloc, snapshot, settings, &points, &times)?;
+        let instance = Instance {
+            settings,
+            points: &points,
+            times: &times,
+            settled: &settled,
+        };
+        outcome_of(rt, alloc, snapshot, &instance, self.drafter, self.gate)
+    }
 }
 
 /// Who expired before the batch, with the answer to it.
@@ -172,7 +169,10 @@ fn list_all(
     put(&mut planned.late, late_lines(alloc, graphs.instance))?;
     put(&mut planned.rv, rv_lines(alloc, settled, graphs.rv))?;
     put(&mut planned.rr, rr_lines(alloc, settled, graphs.rr.all()))?;
-    put(&mut planned.rows, row_lines(alloc, settled, graph.rows()))?;
+    put(
+        &mut planned.rows,
+        trip_row_lines(alloc, settled, graph.rows()),
+    )?;
     put(&mut planned.chosen, chosen_trips(alloc, graphs, chosen))?;
     put(&mut planned.left, rider_ids(alloc, settled, &left))?;
     put(&mut planned.moves, move_lines(alloc, graphs, chosen, &left))?;

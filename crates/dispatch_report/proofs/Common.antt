@@ -17,9 +17,9 @@ pub use Rattle.dispatch_report.specs.Written.{WritesText}
 pub use Rattle.dispatch_report.specs.work.Lines.{IsSame, WritesBytes, WritesLines}
 pub use Rattle.pool_io.specs.Faults.{Rose, one_more}
 pub use Rattle.pool_io.specs.Sink.{AppendsPart}
-pub use Rattle.request_book.specs.declared.command.Command.{Command}
-pub use Rattle.request_book.specs.declared.command.Command.TheVariants.{Close}
-pub use Rattle.request_book.specs.declared.journal.Entry.{Entry}
-pub use Rattle.request_book.specs.declared.outcome.Outcome.{Outcome}
-pub use Rattle.request_book.specs.declared.reply.Reply.{Reply}
-pub use Rattle.request_book.specs.declared.reply.Reply.TheVariants.{Closed}
+pub use Rattle.request_book.specs.declared.values.command.Command.{Command}
+pub use Rattle.request_book.specs.declared.values.command.Command.TheVariants.{Close}
+pub use Rattle.request_book.specs.declared.values.journal.Entry.{Entry}
+pub use Rattle.request_book.specs.declared.values.outcome.Outcome.{Outcome}
+pub use Rattle.request_book.specs.declared.values.reply.Reply.{Reply}
+pub use Rattle.request_book.specs.declared.values.reply.Reply.TheVariants.{Closed}

@@ -5,9 +5,9 @@ use Rattle.dispatch_report.specs.Entry.{refusal_text}
 use Rattle.dispatch_report.specs.Words.{numbered, spaced}
 use Rattle.dispatch_report.specs.lemmas.Named.{spaced_or_none}
 use Rattle.dispatch_report.specs.work.Named.{refusal_words, told_number}
-use Rattle.request_book.specs.declared.reply.BookRefusal.{BookRefusal}
-use Rattle.request_book.specs.declared.reply.BookRefusal.TheVariants.{Ended}
-use Rattle.request_book.specs.declared.rider.Status.TheVariants.{Waiting, Promised, Aboard, Cancelled, Delivered, Expired}
+use Rattle.request_book.specs.declared.values.reply.BookRefusal.{BookRefusal}
+use Rattle.request_book.specs.declared.values.reply.BookRefusal.TheVariants.{Ended}
+use Rattle.request_book.specs.declared.values.rider.Status.TheVariants.{Waiting, Promised, Aboard, Cancelled, Delivered, Expired}
 
 -- a line behind two pieces
 pub put_two : (line words tail text put new : List ℕ) → put ≡ line ++ words → new ≡ put ++ tail → words ++ tail ≡ text → new ≡ line ++ text

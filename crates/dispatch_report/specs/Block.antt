@@ -6,13 +6,13 @@ use Rattle.dispatch_report.specs.declared.block_line.BlockLine.{BlockLine}
 use Rattle.dispatch_report.specs.declared.block_line.BlockLine.TheVariants.{Batch, Expired, Overflow, Lapsed, Late, Alone, Shared, Row, Trip, Out, Move, Cost, Bound, Nodes, Branch, Leaf, Dead, End}
 use Rattle.plan_rules.specs.declared.node.Node.{Node}
 use Rattle.plan_rules.specs.declared.node.Node.TheVariants as node
-use Rattle.request_book.specs.declared.outcome.Answer.{Answer}
-use Rattle.request_book.specs.declared.outcome.Answer.TheVariants as answer
-use Rattle.request_book.specs.declared.outcome.ChosenTrip.{ChosenTrip}
-use Rattle.request_book.specs.declared.outcome.LateVehicle.{LateVehicle}
-use Rattle.request_book.specs.declared.outcome.Outcome.{Outcome}
-use Rattle.request_book.specs.declared.outcome.PlannedStop.{PlannedStop}
-use Rattle.request_book.specs.declared.outcome.RowLine.{RowLine}
+use Rattle.request_book.specs.declared.values.outcome.Answer.{Answer}
+use Rattle.request_book.specs.declared.values.outcome.Answer.TheVariants as answer
+use Rattle.request_book.specs.declared.values.outcome.ChosenTrip.{ChosenTrip}
+use Rattle.request_book.specs.declared.values.outcome.LateVehicle.{LateVehicle}
+use Rattle.request_book.specs.declared.values.outcome.Outcome.{Outcome}
+use Rattle.request_book.specs.declared.values.outcome.PlannedStop.{PlannedStop}
+use Rattle.request_book.specs.declared.values.outcome.TripRowLine.{TripRowLine}
 
 -- one stop: what happens, to whom, where and when
 abbrev pub stop_text : PlannedStop → List ℕ
@@ -48,7 +48,7 @@ block_line_text Dead = codes "dead"
 block_line_text End = codes "end"
 
 -- the line of a vehicle-trip pair
-abbrev pub row_as_line : RowLine → BlockLine
+abbrev pub row_as_line : TripRowLine → BlockLine
 row_as_line row = Row (record { vehicle = row.vehicle; cost = row.cost; riders = row.riders.items })
 
 -- the line of a chosen trip
@@ -60,7 +60,7 @@ abbrev pub late_as_line : LateVehicle → BlockLine
 late_as_line late = Late (record { vehicle = late.vehicle; delay = late.delay; stops = option_map (λ s. s.items) late.stops })
 
 -- the line of a node of the tree that shows the bound: a branch tells a row of this block by its vehicle and its number
-abbrev pub tree_line : List RowLine → Node → BlockLine
+abbrev pub tree_line : List TripRowLine → Node → BlockLine
 tree_line rows (node.Branch vehicle row) = Branch (unwrap_or (option_map (λ r. r.vehicle) (slice_get rows row)) 0, row)
 tree_line rows (node.Leaf multipliers) = Leaf multipliers
 tree_line rows node.Dead = Dead

@@ -2,15 +2,15 @@
 use Rattle.std.specs.Prelude.{ℕ, ◌==◌, List, [], ◌++◌, codes, decimal, if◌then◌else◌}
 use Rattle.std.specs.Option.{option_map_or}
 use Rattle.dispatch_report.specs.Words.{numbered, spaced}
-use Rattle.request_book.specs.declared.command.Command.{Command}
-use Rattle.request_book.specs.declared.command.Command.TheVariants.{Submit, Cancel, Report, Pickup, Dropoff, Seal, Close}
-use Rattle.request_book.specs.declared.journal.Entry.{Entry}
-use Rattle.request_book.specs.declared.reply.BookRefusal.{BookRefusal}
-use Rattle.request_book.specs.declared.reply.BookRefusal.TheVariants.{DuplicateRider, UnknownNode, SamePlace, PoolFull, BookFull, UnknownRider, IsAboard, Ended, UnknownVehicle, TimeBack, NotPromised, VehicleFull, NotAboard, BatchOpen, ClockBack, NotThisBatch}
-use Rattle.request_book.specs.declared.reply.Reply.{Reply}
-use Rattle.request_book.specs.declared.reply.Reply.TheVariants.{Accepted, Cancelled, Placed, Picked, Dropped, Sealed, Closed, Refused}
-use Rattle.request_book.specs.declared.rider.Status.{Status}
-use Rattle.request_book.specs.declared.rider.Status.TheVariants.{Waiting, Promised, Aboard, Cancelled as GivenUp, Delivered, Expired}
+use Rattle.request_book.specs.declared.values.command.Command.{Command}
+use Rattle.request_book.specs.declared.values.command.Command.TheVariants.{Submit, Cancel, Report, Pickup, Dropoff, Seal, Close}
+use Rattle.request_book.specs.declared.values.journal.Entry.{Entry}
+use Rattle.request_book.specs.declared.values.reply.BookRefusal.{BookRefusal}
+use Rattle.request_book.specs.declared.values.reply.BookRefusal.TheVariants.{DuplicateRider, UnknownNode, SamePlace, PoolFull, BookFull, UnknownRider, IsAboard, Ended, UnknownVehicle, TimeBack, NotPromised, VehicleFull, NotAboard, BatchOpen, ClockBack, NotThisBatch}
+use Rattle.request_book.specs.declared.values.reply.Reply.{Reply}
+use Rattle.request_book.specs.declared.values.reply.Reply.TheVariants.{Accepted, Cancelled, Placed, Picked, Dropped, Sealed, Closed, Refused}
+use Rattle.request_book.specs.declared.values.rider.Status.{Status}
+use Rattle.request_book.specs.declared.values.rider.Status.TheVariants.{Waiting, Promised, Aboard, Cancelled as GivenUp, Delivered, Expired}
 
 -- a command with its fields; a party where it isn't one person
 abbrev pub command_text : Command → List ℕ

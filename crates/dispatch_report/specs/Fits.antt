@@ -1,13 +1,13 @@
 -- Which entries a line can tell: each number is within its type.
 use Rattle.std.specs.Prelude.{ℕ, ◌≤◌, ◌<◌, ◌^◌, IfSome}
-use Rattle.request_book.specs.declared.command.Command.{Command}
-use Rattle.request_book.specs.declared.command.Command.TheVariants.{Submit, Cancel, Report, Pickup, Dropoff, Seal, Close}
-use Rattle.request_book.specs.declared.reply.BookRefusal.{BookRefusal}
-use Rattle.request_book.specs.declared.reply.BookRefusal.TheVariants.{IsAboard, Ended, TimeBack, NotPromised, BatchOpen, ClockBack, NotThisBatch}
-use Rattle.request_book.specs.declared.reply.Reply.{Reply}
-use Rattle.request_book.specs.declared.reply.Reply.TheVariants.{Sealed, Refused}
-use Rattle.request_book.specs.declared.rider.Status.{Status}
-use Rattle.request_book.specs.declared.rider.Status.TheVariants.{Cancelled, Delivered, Expired}
+use Rattle.request_book.specs.declared.values.command.Command.{Command}
+use Rattle.request_book.specs.declared.values.command.Command.TheVariants.{Submit, Cancel, Report, Pickup, Dropoff, Seal, Close}
+use Rattle.request_book.specs.declared.values.reply.BookRefusal.{BookRefusal}
+use Rattle.request_book.specs.declared.values.reply.BookRefusal.TheVariants.{IsAboard, Ended, TimeBack, NotPromised, BatchOpen, ClockBack, NotThisBatch}
+use Rattle.request_book.specs.declared.values.reply.Reply.{Reply}
+use Rattle.request_book.specs.declared.values.reply.Reply.TheVariants.{Sealed, Refused}
+use Rattle.request_book.specs.declared.values.rider.Status.{Status}
+use Rattle.request_book.specs.declared.values.rider.Status.TheVariants.{Cancelled, Delivered, Expired}
 
 -- a rider, a vehicle or a node
 abbrev pub IsId : ℕ → Type 0

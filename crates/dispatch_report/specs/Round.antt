@@ -5,12 +5,12 @@ use Rattle.dispatch_report.specs.Entry.{entry_line}
 use Rattle.dispatch_report.specs.Lines.{lines_text}
 use Rattle.dispatch_report.specs.Words.{numbered}
 use Rattle.pool_io.specs.Faults.{one_more}
-use Rattle.request_book.specs.declared.command.Command.{Command}
-use Rattle.request_book.specs.declared.command.Command.TheVariants.{Close}
-use Rattle.request_book.specs.declared.journal.Entry.{Entry}
-use Rattle.request_book.specs.declared.journal.Journal.{Journal}
-use Rattle.request_book.specs.declared.reply.Reply.{Reply}
-use Rattle.request_book.specs.declared.reply.Reply.TheVariants.{Closed}
+use Rattle.request_book.specs.declared.values.command.Command.{Command}
+use Rattle.request_book.specs.declared.values.command.Command.TheVariants.{Close}
+use Rattle.request_book.specs.declared.values.journal.Entry.{Entry}
+use Rattle.request_book.specs.declared.values.journal.Journal.{Journal}
+use Rattle.request_book.specs.declared.values.reply.Reply.{Reply}
+use Rattle.request_book.specs.declared.values.reply.Reply.TheVariants.{Closed}
 
 -- the block that follows the line of a close that was answered `closed`
 abbrev pub entry_block : Bool → Command → Reply → List (List ℕ)

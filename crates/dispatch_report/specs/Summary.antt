@@ -3,13 +3,13 @@ use Rattle.std.specs.Prelude.{ℕ, List, [], ◌∷◌, ◌++◌, codes, length,
 use Rattle.std.specs.List.{flat_map, list_any}
 use Rattle.dispatch_report.specs.Lines.{lines_text}
 use Rattle.dispatch_report.specs.Words.{numbered, signed}
-use Rattle.request_book.specs.declared.command.Command.{Command}
-use Rattle.request_book.specs.declared.command.Command.TheVariants.{Close}
-use Rattle.request_book.specs.declared.journal.Journal.{Journal}
-use Rattle.request_book.specs.declared.outcome.Answer.{Answer}
-use Rattle.request_book.specs.declared.outcome.Answer.TheVariants.{Overflow, Planned as Plan}
-use Rattle.request_book.specs.declared.reply.Reply.{Reply}
-use Rattle.request_book.specs.declared.reply.Reply.TheVariants.{Closed}
+use Rattle.request_book.specs.declared.values.command.Command.{Command}
+use Rattle.request_book.specs.declared.values.command.Command.TheVariants.{Close}
+use Rattle.request_book.specs.declared.values.journal.Journal.{Journal}
+use Rattle.request_book.specs.declared.values.outcome.Answer.{Answer}
+use Rattle.request_book.specs.declared.values.outcome.Answer.TheVariants.{Overflow, Planned as Plan}
+use Rattle.request_book.specs.declared.values.reply.Reply.{Reply}
+use Rattle.request_book.specs.declared.values.reply.Reply.TheVariants.{Closed}
 use Rattle.rider_limits.specs.declared.load_shape.LoadShape.{LoadShape}
 
 -- the shape of a made workload: its seed, the square network, the vehicles, the requests of a batch, and the batches

@@ -6,7 +6,7 @@ ghost use Rattle.dispatch_report.specs.Words.{numbered, signed};
 ghost use Rattle.pool_io.specs.Views.{sink_seen};
 ghost use Rattle.dispatch_report.specs.work.Block.{late_order};
 ghost use Rattle.dispatch_report.specs.work.Lines.{WritesLines};
-ghost use Rattle.request_book.specs.declared.outcome.Answer.TheVariants.{Planned as Plan};
+ghost use Rattle.request_book.specs.declared.values.outcome.Answer.TheVariants.{Planned as Plan};
 
 use crate::fault::ReportFault;
 use crate::lines::{Line, Page, write_item, write_lines, write_list};
@@ -15,7 +15,7 @@ use plan_rules::{Node, Tree};
 use pool_base::{OutOfMemory, RiderId, VehicleId, put_bytes};
 use pool_io::Sink;
 use request_book::{
-    Answer, ChosenTrip, LateVehicle, MoveLine, Outcome, Planned, PlannedStop, RowLine,
+    Answer, ChosenTrip, LateVehicle, MoveLine, Outcome, Planned, PlannedStop, TripRowLine,
 };
 
 /// Writes the block of a closed batch.
@@ -51,7 +51,7 @@ fn write_plan<K: Sink>(sink: &mut K, page: &mut Page<'_>, plan: &Planned, proof:
     write_list(sink, page, &Late, &plan.late);
     write_list(sink, page, &Rv, &plan.rv);
     write_list(sink, page, &Rr, &plan.rr);
-    write_list(sink, page, &Row, &plan.rows);
+    write_list(sink, page, &TripRow, &plan.rows);
     write_list(sink, page, &Trip, &plan.chosen);
     write_list(sink, page, &Riders { words: b"out " }, &plan.left);
     write_list(sink, page, &Move, &plan.moves);
@@ -216,14 +216,14 @@ impl Line for Rr {
 }
 
 #[derive(Drop)]
-struct Row;
+struct TripRow;
 
-impl Line for Row {
-    type Item = RowLine;
+impl Line for TripRow {
+    type Item = TripRowLine;
 
     ghost text = { λ _ row. block_line_text (row_as_line row) };
 
-    fn put(&self, line: &mut Vec<u8>, row: &RowLine) -> Result<(), OutOfMemory> {
+    fn put(&self, line: &mut Vec<u8>, row: &TripRowLine) -> Result<(), OutOfMemory> {
         put_numbered(line, b"row ", u64::from(row.vehicle.get()))?;
         put_spaced(line, row.cost)?;
         put_riders(line, row.riders.as_slice())
@@ -268,7 +268,7 @@ impl Line for Move {
 /// A node of a tree, beside the rows that its branches name.
 #[derive(Drop)]
 struct TreeNode<'a> {
-    rows: &'a [RowLine],
+    rows: &'a [TripRowLine],
 }
 
 impl<'a> Line for TreeNode<'a> {
@@ -291,7 +291,7 @@ impl<'a> Line for TreeNode<'a> {
     }
 }
 
-fn row_vehicle(rows: &[RowLine], row: u32) -> u64
+fn row_vehicle(rows: &[TripRowLine], row: u32) -> u64
     ensures { result ≡ unwrap_or (option_map (λ r. r.vehicle) (slice_get rows.now row)) 0 }
 {
     match rows.get(row as usize) {

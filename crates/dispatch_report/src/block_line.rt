@@ -5,7 +5,7 @@ use request_book::{MoveLine, PlannedStop};
 
 /// A vehicle, the seconds that its trip costs, and the trip's riders, of whom a line may name more than a trip has.
 #[derive(Drop)]
-pub struct RowText {
+pub struct TripRowText {
     pub vehicle: VehicleId,
     pub cost: u64,
     pub riders: Sequence<RiderId>,
@@ -44,7 +44,7 @@ pub enum BlockLine {
     Alone((VehicleId, RiderId)),
     /// Two riders who can share a vehicle.
     Shared((RiderId, RiderId)),
-    Row(RowText),
+    Row(TripRowText),
     Trip(TripText),
     /// A rider in no chosen trip.
     Out(RiderId),

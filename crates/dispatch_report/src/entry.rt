@@ -2,7 +2,7 @@ ghost use Rattle.std.specs.Prelude.{◌≡◌, ◌==◌, ◌++◌, [], OnOk, cod
 ghost use Rattle.dispatch_report.specs.Entry.{command_text, entry_line};
 ghost use Rattle.dispatch_report.specs.Fits.{IsCommand, IsReply, TellsEnd};
 ghost use Rattle.dispatch_report.specs.Words.{numbered, spaced};
-ghost use Rattle.request_book.specs.declared.command.Command.TheVariants.{Submit};
+ghost use Rattle.request_book.specs.declared.values.command.Command.TheVariants.{Submit};
 
 use crate::reply::put_reply;
 use crate::words::{put_fields, put_numbered, put_spaced};

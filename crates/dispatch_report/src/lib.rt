@@ -42,7 +42,7 @@ mod step;
 mod summary;
 mod words;
 
-pub use block_line::{BlockLine, LateText, RowText, TripText};
+pub use block_line::{BlockLine, LateText, TripRowText, TripText};
 pub use day::{DayCounts, write_day_end};
 pub use entry::put_entry;
 pub use fault::ReportFault;

@@ -3,7 +3,7 @@ ghost use Rattle.dispatch_report.specs.Entry.{refusal_text, reply_text};
 ghost use Rattle.dispatch_report.specs.Fits.{IsRefusal, IsReply, TellsEnd};
 ghost use Rattle.dispatch_report.specs.lemmas.Named.{spaced_or_none};
 ghost use Rattle.dispatch_report.specs.work.Named.{ended_words, refusal_words, reply_words, told_number};
-ghost use Rattle.request_book.specs.declared.reply.Reply.TheVariants.{Refused};
+ghost use Rattle.request_book.specs.declared.values.reply.Reply.TheVariants.{Refused};
 
 use crate::words::put_spaced;
 use pool_base::{OutOfMemory, put_bytes};

@@ -12,7 +12,9 @@ use crate::lines::{Line, Page, write_item, write_rest};
 use crate::words::{put_fields, put_numbered, put_signed};
 use pool_base::{OutOfMemory, RiderId, Sequence, put_bytes};
 use pool_io::Sink;
-use request_book::{Answer, ChosenTrip, Command, Entry, Journal, Outcome, Planned, Reply, RowLine};
+use request_book::{
+    Answer, ChosenTrip, Command, Entry, Journal, Outcome, Planned, Reply, TripRowLine,
+};
 use rider_limits::LoadShape;
 use std::alloc::Global;
 
@@ -162,7 +164,7 @@ fn left_count(riders: &Sequence<RiderId>) -> u64
     riders.len() as u64
 }
 
-fn row_count(rows: &Sequence<RowLine>) -> u64
+fn row_count(rows: &Sequence<TripRowLine>) -> u64
     ensures { result ≡ length rows.now }
 {
     rows.len() as u64

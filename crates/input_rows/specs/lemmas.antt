@@ -1,3 +1,3 @@
-pub mod Named
-pub mod NamedFleet
-pub mod Parts
+pub mod script
+pub mod made
+pub mod fleet

@@ -1,9 +1,5 @@
-pub mod Row
-pub mod Building
-pub mod Words
-pub mod Pieces
-pub mod Steps
-pub mod Place
-pub mod FleetRow
-pub mod Some
-pub mod Written
+pub mod Cell
+pub mod script
+pub mod made
+pub mod live
+pub mod fleet

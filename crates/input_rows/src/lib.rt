@@ -34,7 +34,7 @@
 //!
 //! ```
 //! fn book_on(alloc: Global, network: &Network, fleet: &[u8]) -> Option<Book> {
-//!     match rows(alloc, fleet, b"vehicle,seats,node,second") {
+//!     match rows(alloc, fleet, FLEET_HEADER) {
 //!         Ok(rows) => match read_fleet(alloc, &rows, network) {
 //!             Ok(fleet) => Book::new(alloc, network, fleet, 120).ok(),
 //!             Err(_) => None,
@@ -65,45 +65,28 @@
 //! `make`; `make_inputs`: `read`, `named`; `made_inputs_are_accepted`.
 #![tactic(auto)]
 
-mod draw;
-mod fault;
-mod fields;
-mod fleet_fault;
-mod fleet_fields;
-mod fleet_place;
-mod fleet_reading;
-mod judge;
-mod line;
-mod lines;
-mod made;
-mod made_fleet;
-mod made_law;
-mod made_network;
-mod made_reading;
-mod made_row;
-mod made_script;
-mod reading;
-mod round;
-mod rows;
-mod script;
-mod start;
-mod version;
-mod word;
+// Rooms, each names only those above it: script, fleet, live, made.
 
-pub use fault::ScriptFault;
-pub use fleet_fault::FleetFault;
-pub use fleet_reading::{FLEET_HEADER, read_fleet};
-pub use judge::{Judged, RowRefusal};
-pub use line::Line;
-pub use lines::{LineFault, LineStream};
-pub use made::{Made, make};
-pub use made_law::made_inputs_are_accepted;
-pub use made_reading::{MadeInputs, make_inputs};
-pub use made_row::Field;
-pub use reading::{read_row, read_script};
+mod cells;
+mod fleet;
+mod live;
+mod made;
+mod script;
+
+pub use fleet::fault::FleetFault;
+pub use fleet::reading::{FLEET_HEADER, read_fleet};
+pub use live::judge::{Judged, RowRefusal};
+pub use live::lines::{LineFault, LineStream};
+pub use live::rows::{LiveRows, RefusalListener, RowSource};
+pub use live::start::{StartFault, read_start};
+pub use made::law::made_inputs_are_accepted;
+pub use made::reading::{MadeInputs, make_inputs};
+pub use made::row::Field;
+pub use made::texts::{Made, make};
 pub use request_book::Fleet;
-pub use round::Round;
-pub use rows::{LiveRows, RefusalListener, RowSource};
 pub use script::Script;
-pub use start::{StartFault, read_start};
-pub use version::ScriptVersion;
+pub use script::fault::ScriptFault;
+pub use script::reading::{read_row, read_script};
+pub use script::round::Round;
+pub use script::script_row::ScriptRow;
+pub use script::version::ScriptVersion;

@@ -1,17 +1,17 @@
 -- The entries that a row gave, or a batch from its seal to its close.
 use Rattle.std.proofs.Common.{rules, ◌≡◌, ◌≢◌, ℕ, Bool, true, false, cond, eqb, List, [], ◌∷◌, ◌++◌, map, Option, None, Some, refl, sym, ap, subst, ◌∙◌, append-nil, All, arith, filter, option_map}
-use Rattle.live_dispatch.proofs.Common.{IsInZero, filter-mapped, nat_tests, All-head, All-tail, All-weaker, Batch, of_lane, IsCloseOf, IsLaneRunFrom, IsLaneRun, IsLaneBeginning, IsGoodClose, IsGoodFor, LaneClosesAreGood, ClosesAreGood, each-told, closes-join, ends-closed, stands-plain, GoesOn, commands_of_pass, entry_command, row_command, pass_of, LaneCommand, state_after, RepliesAreSteps, step, Command, Close, Entry, Reply, State, Settings, entry_notices, Roads, MayStand, Line, calls_from, sealed_by, in_lane}
+use Rattle.live_dispatch.proofs.Common.{IsInZero, filter-mapped, nat_tests, All-head, All-tail, All-weaker, Batch, of_lane, IsCloseOf, IsLaneRunFrom, IsLaneRun, IsLaneBeginning, IsGoodClose, IsGoodFor, LaneClosesAreGood, ClosesAreGood, each-told, closes-join, ends-closed, stands-plain, GoesOn, commands_of_pass, entry_command, row_command, pass_of, LaneCommand, state_after, RepliesAreSteps, step, Command, Close, Entry, Reply, State, Settings, entry_notices, Roads, MayStand, ScriptRow, calls_from, sealed_by, in_lane}
 use Rattle.std.proofs.lemmas.Bool.{eq-eqb, ne_eqb}
 use Rattle.std.proofs.lemmas.Simd.{map-map}
 use Rattle.std.proofs.lemmas.List.Elements.{All-filter, All-from_recursion, All-map, filter_agree, recursion_from_All}
 use Rattle.std.specs.List.{AllByRecursion}
-use Rattle.dispatch_engine.specs.Outcome.{IsGoodOutcome}
-use Rattle.dispatch_engine.specs.lemmas.Lanes.{IsPlain}
-use Rattle.request_book.specs.declared.outcome.Answer.TheVariants.{Overflow}
-use Rattle.request_book.specs.declared.outcome.Outcome.{Outcome}
-use Rattle.request_book.specs.declared.reply.Reply.TheVariants.{Accepted}
-use Rattle.shared_work.specs.declared.logged.LoggedCall.{LoggedCall}
-use Rattle.dispatch_engine.specs.declared.locked.LockedReply.{LockedReply}
+use Rattle.dispatch_engine.specs.outcome.Outcome.{IsGoodOutcome}
+use Rattle.dispatch_engine.specs.lemmas.lanes.Lanes.{IsPlain}
+use Rattle.request_book.specs.declared.values.outcome.Answer.TheVariants.{Overflow}
+use Rattle.request_book.specs.declared.values.outcome.Outcome.{Outcome}
+use Rattle.request_book.specs.declared.values.reply.Reply.TheVariants.{Accepted}
+use Rattle.seat_lock.specs.declared.logged.LoggedCall.{LoggedCall}
+use Rattle.dispatch_engine.specs.declared.lanes.locked.LockedReply.{LockedReply}
 use Rattle.live_dispatch.proofs.RowLemmas.{AreLinesOf}
 
 -- a row's command is no close
@@ -40,30 +40,30 @@ other-pass : (lane : ℕ) (es : List Entry) → lane ≢ 0 → filter (λ c. eqb
 other-pass lane [] other = refl
 other-pass lane (e ∷ es) other = grind (arith, nat_tests, other-pass lane es other)
 
-rows-lane : (lane : ℕ) (rows : List Line) → filter (λ c. eqb c.lane lane) (map row_command rows) ≡ map row_command (filter (λ l. eqb l.lane lane) rows)
+rows-lane : (lane : ℕ) (rows : List ScriptRow) → filter (λ c. eqb c.lane lane) (map row_command rows) ≡ map row_command (filter (λ l. eqb l.lane lane) rows)
 rows-lane lane rows = filter-mapped row_command (λ (c : LaneCommand). eqb c.lane lane) rows
 
 -- the entries of another lane have the commands of its rows
-other-commands : (lane : ℕ) (es : List Entry) (rows : List Line) → lane ≢ 0 → commands_of_pass 1 es ≡ map row_command rows → map (λ e. e.command) (of_lane lane es) ≡ in_lane rows lane
+other-commands : (lane : ℕ) (es : List Entry) (rows : List ScriptRow) → lane ≢ 0 → commands_of_pass 1 es ≡ map row_command rows → map (λ e. e.command) (of_lane lane es) ≡ in_lane rows lane
 other-commands lane es rows other are =
     sym (map-map told entry_command (of_lane lane es))
     ∙ ap (map told) (sym (other-pass lane es other) ∙ ap (filter (λ (c : LaneCommand). eqb c.lane lane)) are ∙ rows-lane lane rows)
-    ∙ map-map told row_command (filter (λ (l : Line). eqb l.lane lane) rows)
+    ∙ map-map told row_command (filter (λ (l : ScriptRow). eqb l.lane lane) rows)
 
 -- rows that went on are plain, and outside lane 0
-rows-plain : (round : ℕ) (rows : List Line) → All (GoesOn round) rows → All (λ l. IsPlain l.command) rows
-rows-plain round rows going = All-weaker (GoesOn round) (λ (l : Line). IsPlain l.command) (λ l here. stands-plain l.lane l.command here.1.0 here.0.stands) rows going
+rows-plain : (round : ℕ) (rows : List ScriptRow) → All (GoesOn round) rows → All (λ l. IsPlain l.command) rows
+rows-plain round rows going = All-weaker (GoesOn round) (λ (l : ScriptRow). IsPlain l.command) (λ l here. stands-plain l.lane l.command here.1.0 here.0.stands) rows going
 
-lane-plain : (round lane : ℕ) (rows : List Line) → All (GoesOn round) rows → AllByRecursion IsPlain (in_lane rows lane)
+lane-plain : (round lane : ℕ) (rows : List ScriptRow) → All (GoesOn round) rows → AllByRecursion IsPlain (in_lane rows lane)
 lane-plain round lane rows going = search (rules, recursion_from_All, All-map, All-filter, rows-plain)
 
-pub rows-of : (round : ℕ) (rows : List Line) → All (GoesOn round) rows → AreLinesOf round rows
+pub rows-of : (round : ℕ) (rows : List ScriptRow) → All (GoesOn round) rows → AreLinesOf round rows
 rows-of round [] going = tt
 rows-of round (r ∷ rs) going =
     let here : GoesOn round r = All-head (GoesOn round) r rs going in
     (here.1.1, here.0.lane, rows-of round rs (All-tail (GoesOn round) r rs going))
 
-zero-rows : (round : ℕ) (rows : List Line) → All (GoesOn round) rows → in_lane rows 0 ≡ []
+zero-rows : (round : ℕ) (rows : List ScriptRow) → All (GoesOn round) rows → in_lane rows 0 ≡ []
 zero-rows round [] going = refl
 zero-rows round (r ∷ rs) going =
     let here : r.lane ≢ 0 = (All-head (GoesOn round) r rs going).1.0 in
@@ -114,10 +114,10 @@ module _ (settings : Settings) (roads : Roads) where
   no-calls last (c ∷ calls) are = absurd cc
 
   -- what entries beside an open batch are
-  module _ (b : Batch) (s : State) (es : List Entry) (round : ℕ) (run : List Line) (sealed : s.sealed ≡ Some b) (replies : RepliesAreSteps roads.nodes settings.wait s es)
+  module _ (b : Batch) (s : State) (es : List Entry) (round : ℕ) (run : List ScriptRow) (sealed : s.sealed ≡ Some b) (replies : RepliesAreSteps roads.nodes settings.wait s es)
       (going : All (GoesOn round) run) (called : commands_of_pass 1 es ≡ map row_command run) where
     zeroth : AllByRecursion IsInZero es
-    zeroth = in-zero es (subst (AllByRecursion IsPlain) (sym (map-map told row_command run) ∙ ap (map told) (sym called)) (recursion_from_All IsPlain _ (All-map IsPlain (λ (l : Line). l.command) run (rows-plain round run going))))
+    zeroth = in-zero es (subst (AllByRecursion IsPlain) (sym (map-map told row_command run) ∙ ap (map told) (sym called)) (recursion_from_All IsPlain _ (All-map IsPlain (λ (l : ScriptRow). l.command) run (rows-plain round run going))))
 
     last : (c : Batch) → s.sealed ≡ Some c → Some b ≡ Some c
     last c is = sym sealed ∙ is
@@ -144,15 +144,15 @@ module _ (settings : Settings) (roads : Roads) where
         ends-closed roads.nodes settings.wait s (Some b.number) [] es (ap (option_map (λ (c : Batch). c.number)) sealed) replies zeroth (close-run b.number outcome (of_lane 0 es) are)
 
 -- a row's entry, by itself, where it sealed nothing
-row-kept : (same : Bool) (c : Command) (row : Line) (e : Entry) → row.command ≡ c → e.command ≡ c → sealed_by e.reply ≡ None → IsLaneRun (map (λ (l : Line). l.command) (cond same (row ∷ []) [])) (cond same (e ∷ []) [])
+row-kept : (same : Bool) (c : Command) (row : ScriptRow) (e : Entry) → row.command ≡ c → e.command ≡ c → sealed_by e.reply ≡ None → IsLaneRun (map (λ (l : ScriptRow). l.command) (cond same (row ∷ []) [])) (cond same (e ∷ []) [])
 row-kept true c row e is was none = (was ∙ sym is, subst (λ (p : Option ℕ). IsLaneRunFrom p [] []) (sym none) tt)
 row-kept false c row e is was none = tt
 
-pub row-lanes : (row : Line) (reply : Reply) → sealed_by reply ≡ None → (lane : ℕ) → IsLaneRun (in_lane (row ∷ []) lane) (of_lane lane ((record { lane = row.lane; command = row.command; reply = reply }) ∷ []))
+pub row-lanes : (row : ScriptRow) (reply : Reply) → sealed_by reply ≡ None → (lane : ℕ) → IsLaneRun (in_lane (row ∷ []) lane) (of_lane lane ((record { lane = row.lane; command = row.command; reply = reply }) ∷ []))
 row-lanes row reply none lane = row-kept (eqb row.lane lane) row.command row (record { lane = row.lane; command = row.command; reply = reply }) refl refl none
 
 -- a seal that opened a batch, and then lanes of which lane 0 closes it, or may yet
-module _ (row : Line) (e : Entry) (batch round : ℕ) (run : List Line) (es : List Entry) (zero : row.lane ≡ 0) (first : e.lane ≡ 0) (is : e.command ≡ row.command) (opened : sealed_by e.reply ≡ Some batch)
+module _ (row : ScriptRow) (e : Entry) (batch round : ℕ) (run : List ScriptRow) (es : List Entry) (zero : row.lane ≡ 0) (first : e.lane ≡ 0) (is : e.command ≡ row.command) (opened : sealed_by e.reply ≡ Some batch)
     (going : All (GoesOn round) run) (others : (lane : ℕ) → lane ≢ 0 → IsLaneRun (in_lane run lane) (of_lane lane es)) where
   zero-run : (rest : List Entry) → IsLaneRunFrom (Some batch) [] (of_lane 0 es ++ rest) → IsLaneRun (row.command ∷ in_lane run 0) ((e ∷ of_lane 0 es) ++ rest)
   zero-run rest close = subst (λ cs. IsLaneRun (row.command ∷ cs) (e ∷ (of_lane 0 es ++ rest))) (sym (zero-rows round run going))

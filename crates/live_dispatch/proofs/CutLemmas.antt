@@ -3,16 +3,16 @@ use Rattle.std.proofs.Common.{◌≡◌, ℕ, ◌+◌, Bool, eqb, List, [], ◌�
 use Rattle.std.proofs.lemmas.Bool.Decides.{nat_tests}
 use Rattle.std.specs.Prelude.{Option, filter}
 use Rattle.std.specs.List.{enumerate_from}
-use Rattle.request_book.specs.Batch.{Batch}
-use Rattle.request_book.specs.declared.journal.Entry.{Entry}
-use Rattle.request_book.specs.declared.state.State.{State}
-use Rattle.request_book.specs.Step.{step}
+use Rattle.request_book.specs.values.Batch.{Batch}
+use Rattle.request_book.specs.declared.values.journal.Entry.{Entry}
+use Rattle.request_book.specs.declared.values.state.State.{State}
+use Rattle.request_book.specs.register.Step.{step}
 use Rattle.rider_limits.specs.declared.settings.Settings.{Settings}
 use Rattle.road_network.specs.Roads.{Roads}
-use Rattle.input_rows.specs.declared.line.Line.{Line}
-use Rattle.shared_work.specs.Values.{calls_of, GainsCalls, PassValue}
-use Rattle.dispatch_engine.specs.Locked.{calls_from}
-use Rattle.dispatch_engine.specs.declared.locked.LockedReply.{LockedReply}
+use Rattle.input_rows.specs.declared.script.script_row.ScriptRow.{ScriptRow}
+use Rattle.seat_lock.specs.Values.{calls_of, GainsCalls, PassValue}
+use Rattle.dispatch_engine.specs.lanes.Locked.{calls_from}
+use Rattle.dispatch_engine.specs.declared.lanes.locked.LockedReply.{LockedReply}
 use Rattle.live_dispatch.specs.Desk.{desk_call, desk_log, desk_root, DeskView, IsDesk}
 use Rattle.live_dispatch.specs.declared.desk.LaneCommand.{LaneCommand}
 use Rattle.live_dispatch.specs.Phase.{commands_in, commands_of_pass, ClosesBatch, HasRunOpen, RanRows, TakesRun}
@@ -34,7 +34,7 @@ pass-commands d before passes k p gains none is =
     ap (λ cs. map (λ c. c.1.call) cs) (is ∙ ap (calls_of k) log) ∙ commands-cut d.book.nodes d.book.wait k 0 d.book.base d.book.entries
 
 -- what came of an open batch, from what its two passes called
-pub open-run : (settings : Settings) (roads : Roads) (b : Batch) (round : ℕ) (old new : Option (List Line)) (got after held start : DeskView) (closed : Bool) (end : Halt)
+pub open-run : (settings : Settings) (roads : Roads) (b : Batch) (round : ℕ) (old new : Option (List ScriptRow)) (got after held start : DeskView) (closed : Bool) (end : Halt)
     (first second : PassValue DeskView LaneCommand LockedReply)
     → got ≡ after → held ≡ start → after.opened ≡ start.now → IsDesk got → desk_root got ≡ desk_root held → GainsCalls (desk_log held) (desk_log got) (first ∷ second ∷ [])
     → desk_log start ≡ [] → ClosesBatch settings roads b closed (commands_in first) → RanRows round (commands_in second) (TakesRun end old new)

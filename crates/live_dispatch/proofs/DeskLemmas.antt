@@ -5,29 +5,29 @@ use Rattle.std.specs.Io.KnownBytes.{Appends}
 use Rattle.std.proofs.lemmas.Bool.{false≢true}
 use Rattle.std.specs.Prelude.{is_some, false, cond, OnOk}
 use Rattle.std.proofs.lemmas.List.{get_or_push, length-map, length_push, map-append}
-use Rattle.dispatch_engine.specs.Locked.{log_of, snapshot_before}
-use Rattle.dispatch_engine.proofs.lemmas.LockedLemmas.{calls-length, applied-call, applied-fits}
+use Rattle.dispatch_engine.specs.lanes.Locked.{log_of, snapshot_before}
+use Rattle.dispatch_engine.proofs.lemmas.lanes.LockedLemmas.{calls-length, applied-call, applied-fits}
 use Rattle.live_dispatch.specs.Desk.{desk_call, desk_log, pass_of, HasEntered, entries_text, text_of, notices_in, DeskView, IsDesk, IsPassedOn, Outputs}
 use Rattle.pool_io.specs.Faults.{Rose}
 use Rattle.pool_io.specs.Sink.{AppendsPart}
 use Rattle.request_book.specs.Book.{BookView, next_position, IsApplied, IsBook}
 use Rattle.request_book.specs.Replay.{state_after}
-use Rattle.request_book.specs.declared.command.Command.TheVariants.{Close}
-use Rattle.request_book.specs.declared.command.Command.{Command}
-use Rattle.request_book.specs.declared.journal.Entry.{Entry}
-use Rattle.request_book.specs.declared.reply.Reply.{Reply}
-use Rattle.request_book.specs.declared.reply.Reply.TheVariants.{Closed}
-use Rattle.request_book.specs.declared.state.State.{State}
-use Rattle.request_book.specs.Notices.{entry_notices, notices_from}
-use Rattle.request_book.specs.Told.{HaveHeard, NotifierView}
-use Rattle.request_book.specs.declared.notice.Notice.{Notice}
-use Rattle.request_book.proofs.lemmas.HeardLemmas.{all-heard-more, all-heard-nothing}
+use Rattle.request_book.specs.declared.values.command.Command.TheVariants.{Close}
+use Rattle.request_book.specs.declared.values.command.Command.{Command}
+use Rattle.request_book.specs.declared.values.journal.Entry.{Entry}
+use Rattle.request_book.specs.declared.values.reply.Reply.{Reply}
+use Rattle.request_book.specs.declared.values.reply.Reply.TheVariants.{Closed}
+use Rattle.request_book.specs.declared.values.state.State.{State}
+use Rattle.request_book.specs.notices.Notices.{entry_notices, notices_from}
+use Rattle.request_book.specs.notices.Told.{HaveHeard, NotifierView}
+use Rattle.request_book.specs.declared.notices.notice.Notice.{Notice}
+use Rattle.request_book.proofs.lemmas.notices.HeardLemmas.{all-heard-more, all-heard-nothing}
 use Rattle.dispatch_report.specs.Lines.{lines_text}
 use Rattle.dispatch_report.specs.Round.{entries_lines, entry_text}
 use Rattle.dispatch_report.specs.declared.fault.ReportFault.{ReportFault}
 use Rattle.dispatch_report.specs.declared.fault.ReportFault.TheVariants.{WriteFault}
-use Rattle.request_book.specs.Batch.{Batch}
-use Rattle.dispatch_engine.specs.declared.locked.LockedReply.{LockedReply}
+use Rattle.request_book.specs.values.Batch.{Batch}
+use Rattle.dispatch_engine.specs.declared.lanes.locked.LockedReply.{LockedReply}
 use Rattle.live_dispatch.proofs.lemmas.EntryLemmas.{entries-append, notices-append, one-notices, one-text}
 use Rattle.live_dispatch.specs.work.Telling.{TellsClose, WroteLast, is_closed}
 

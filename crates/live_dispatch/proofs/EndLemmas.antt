@@ -1,6 +1,6 @@
 -- How a run ends.
 use Rattle.std.proofs.Common.{rules, ◌≡◌, ℕ, ◌≤◌, Bool, List, ◌∷◌, ◌++◌, Option, Some, Result, Ok, Err, refl, sym, ap, subst, arith}
-use Rattle.live_dispatch.proofs.Common.{Appends-trans, Batch, position_after_run, end_text, SinkView, WritesText, ReportFault, AreRows, BeginWithRows, FaultsFrom, TakesRun, all-begin, runs-begin, Halt, IsPassedOn, Outputs, Rose, BookView, next_position, Settings, Roads, Line, BeginsRows, LiveFault, HasCut, HasEnded, HasRunOn, HaveCome, Moment, Opens, Stands, ended_by, of_report, outputs_of, row_text}
+use Rattle.live_dispatch.proofs.Common.{Appends-trans, Batch, position_after_run, end_text, SinkView, WritesText, ReportFault, AreRows, BeginWithRows, FaultsFrom, TakesRun, all-begin, runs-begin, Halt, IsPassedOn, Outputs, Rose, BookView, next_position, Settings, Roads, ScriptRow, BeginsRows, LiveFault, HasCut, HasEnded, HasRunOn, HaveCome, Moment, Opens, Stands, ended_by, of_report, outputs_of, row_text}
 use Rattle.live_dispatch.proofs.StandLemmas.{begins-here, begins-last}
 use Rattle.live_dispatch.proofs.StepLemmas.{batch-begins, batch-stands, lines-behind, row-begins}
 use Rattle.live_dispatch.proofs.WriteLemmas.{whole-some}
@@ -8,7 +8,7 @@ use Rattle.dispatch_report.specs.declared.fault.ReportFault.TheVariants as repor
 use Rattle.live_dispatch.specs.declared.read_on.Halt.TheVariants as stop
 use Rattle.live_dispatch.specs.declared.fault.LiveFault.TheVariants as live
 
-faults-kept : (end : Halt) (row : Line) (before now : ℕ) → end ≡ stop.Held row → FaultsFrom end before now → before ≤ now
+faults-kept : (end : Halt) (row : ScriptRow) (before now : ℕ) → end ≡ stop.Held row → FaultsFrom end before now → before ≤ now
 faults-kept end row before now is from = subst (λ e. FaultsFrom e before now) is from
 
 -- the fault of a report, by that of the run
@@ -29,7 +29,7 @@ module _ (settings : Settings) (roads : Roads) (start : Moment) where
   begun-ended failed outputs fault ended is begins write read falls = search rules
 
   -- between two rows
-  pub stood-ended : (now : Moment) (Now : List Line → Type 0) (stands : Stands settings roads start now Now) → BeginWithRows start.rows stands.lines
+  pub stood-ended : (now : Moment) (Now : List ScriptRow → Type 0) (stands : Stands settings roads start now Now) → BeginWithRows start.rows stands.lines
       → (failed : ℕ) (outputs : Outputs) (fault : LiveFault) (ended : Result (Unit {0}) LiveFault) → ended ≡ Err fault → outputs ≡ outputs_of now
       → (fault ≡ live.WriteFault → ⊥) → (fault ≡ live.ReadFault → Rose start.reads failed) → HasEnded settings roads start failed outputs ended
   stood-ended now Now stands begin failed outputs fault ended is outputs_are no_write read =
@@ -37,7 +37,7 @@ module _ (settings : Settings) (roads : Roads) (start : Moment) where
       (begun-ended failed (outputs_of now) fault ended is (begins-here settings roads start now Now stands now.sink.faults begin) (λ e. absurd (no_write e)) read stands.writes)
 
   -- behind the last row
-  module _ (now : Moment) (Now : List Line → Type 0) (stands : Stands settings roads start now Now) (all : AreRows start.rows stands.lines) (failed : ℕ) (sink : SinkView) where
+  module _ (now : Moment) (Now : List ScriptRow → Type 0) (stands : Stands settings roads start now Now) (all : AreRows start.rows stands.lines) (failed : ℕ) (sink : SinkView) where
     abbrev last_line : List ℕ
     last_line = end_text (position_after_run start.book.first stands.journals)
 
@@ -66,7 +66,7 @@ module _ (settings : Settings) (roads : Roads) (start : Moment) where
     all-ended outputs ended are wrote = search (rules, by-answer)
 
   -- behind a seal, before its batch is solved
-  pub opened-ended : (row : Line) (b : Batch) (now : Moment) → Opens settings roads start row b now → (failed : ℕ) (outputs : Outputs) (ended : Result (Unit {0}) LiveFault)
+  pub opened-ended : (row : ScriptRow) (b : Batch) (now : Moment) → Opens settings roads start row b now → (failed : ℕ) (outputs : Outputs) (ended : Result (Unit {0}) LiveFault)
       → ended ≡ Err live.OutOfMemory → outputs ≡ outputs_of now → HasEnded settings roads start failed outputs ended
   opened-ended row b now opens failed outputs ended is outputs_are =
       let before = opens.before in
@@ -78,7 +78,7 @@ module _ (settings : Settings) (roads : Roads) (start : Moment) where
       (λ e. absurd cc) (λ e. absurd cc) (omega (arith, opens.writes, falls))))
 
   -- behind an open batch
-  module _ (b : Batch) (round : ℕ) (book : BookView) (rows : Option (List Line)) (outputs : Outputs) (closed : Bool) (end : Halt) (fault : Option ReportFault) (reads : ℕ)
+  module _ (b : Batch) (round : ℕ) (book : BookView) (rows : Option (List ScriptRow)) (outputs : Outputs) (closed : Bool) (end : Halt) (fault : Option ReportFault) (reads : ℕ)
       (on : HasRunOn settings roads start b round book rows outputs closed end fault reads) (cut : BookView) where
     start-reads : start.reads ≤ reads
     start-reads = (let were : start.reads ≤ on.opens.before.reads = on.opens.stands.reads in let a = on.opens.same.1 in let c = on.reads_were in omega (arith, were, a, c))
@@ -103,15 +103,15 @@ module _ (settings : Settings) (roads : Roads) (start : Moment) where
     abbrev pub behind_it : ℕ → Moment
     behind_it count = record { book = cut; round = Some round; rows = rows; reads = count; sink = outputs.sink; notifiers = outputs.notifiers }
 
-    abbrev lines : List Line
+    abbrev lines : List ScriptRow
     lines = on.opens.stands.lines ++ (on.row ∷ on.ran.rows.run)
 
-    pub batch-stood : (done : Unit {0}) (count : ℕ) (Now : List Line → Type 0) → HasCut book cut closed fault (Ok done) → reads ≤ count → Now lines
+    pub batch-stood : (done : Unit {0}) (count : ℕ) (Now : List ScriptRow → Type 0) → HasCut book cut closed fault (Ok done) → reads ≤ count → Now lines
         → Stands settings roads start (behind_it count) Now
     batch-stood done count Now has_cut failed are =
         batch-stands settings roads start b round book rows outputs closed end fault reads on (behind_it count) Now has_cut.is_closed has_cut.whole has_cut.cut refl refl failed are
 
-    pub batch-held : (done : Unit {0}) (row : Line) (count : ℕ) → HasCut book cut closed fault (Ok done) → end ≡ stop.Held row → FaultsFrom end reads count
+    pub batch-held : (done : Unit {0}) (row : ScriptRow) (count : ℕ) → HasCut book cut closed fault (Ok done) → end ≡ stop.Held row → FaultsFrom end reads count
         → Stands settings roads start (behind_it count) (HaveCome start (behind_it count) (Some row))
     batch-held done row count has_cut is failed =
         batch-stood done count (HaveCome start (behind_it count) (Some row)) has_cut (faults-kept end row reads count is failed)

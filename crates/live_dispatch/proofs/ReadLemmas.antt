@@ -10,19 +10,19 @@ use Rattle.std.proofs.lemmas.Bool.{false≢true}
 use Rattle.std.proofs.lemmas.List.{map-append}
 use Rattle.std.proofs.lemmas.List.Elements.{All-push}
 use Rattle.live_dispatch.specs.declared.desk.LaneCommand.{LaneCommand}
-use Rattle.dispatch_engine.specs.declared.locked.LockedReply.{LockedReply}
-use Rattle.shared_work.specs.Values.{PassValue}
-use Rattle.shared_work.specs.declared.logged.LoggedCall.{LoggedCall}
-use Rattle.input_rows.specs.declared.line.Line.{Line}
-use Rattle.input_rows.specs.Rows.{TakesRows}
+use Rattle.dispatch_engine.specs.declared.lanes.locked.LockedReply.{LockedReply}
+use Rattle.seat_lock.specs.Values.{PassValue}
+use Rattle.seat_lock.specs.declared.logged.LoggedCall.{LoggedCall}
+use Rattle.input_rows.specs.declared.script.script_row.ScriptRow.{ScriptRow}
+use Rattle.input_rows.specs.live.Rows.{TakesRows}
 use Rattle.live_dispatch.proofs.lemmas.TakenLemmas.{takes-more}
 
 -- rows were run so far
-abbrev pub HasRun : {B : Type 0} → ℕ → Option (List Line) → Option (List Line) → PassValue B LaneCommand LockedReply → Type 0
+abbrev pub HasRun : {B : Type 0} → ℕ → Option (List ScriptRow) → Option (List ScriptRow) → PassValue B LaneCommand LockedReply → Type 0
 HasRun round old now p = RanRows round (commands_in p) (TakesRows old now)
 
 -- one more row
-pub run-more : (round : ℕ) (old now next : Option (List Line)) {B : Type 0} (p q : PassValue B LaneCommand LockedReply) (line : Line) (call : ℕ × LoggedCall LaneCommand LockedReply)
+pub run-more : (round : ℕ) (old now next : Option (List ScriptRow)) {B : Type 0} (p q : PassValue B LaneCommand LockedReply) (line : ScriptRow) (call : ℕ × LoggedCall LaneCommand LockedReply)
     → HasRun round old now p → TakesRows now next (line ∷ []) → GoesOn round line → q.calls ≡ p.calls ++ call ∷ [] → call.1.call ≡ row_command line → HasRun round old next q
 run-more round old now next p q line call so_far taken may calls is = record {
   run = so_far.run ++ line ∷ [];
@@ -37,7 +37,7 @@ run-more round old now next p q line call so_far taken may calls is = record {
 }
 
 -- the same rows, of which something else holds
-pub ran-so : (round : ℕ) (cs : List LaneCommand) (Are Be : List Line → Type 0) → ((run : List Line) → Are run → Be run) → RanRows round cs Are → RanRows round cs Be
+pub ran-so : (round : ℕ) (cs : List LaneCommand) (Are Be : List ScriptRow → Type 0) → ((run : List ScriptRow) → Are run → Be run) → RanRows round cs Are → RanRows round cs Be
 ran-so round cs Are Be so ran = record { run = ran.run; going = ran.going; called = ran.called; taken = so ran.run ran.taken }
 
 -- what holds of a result that is no error

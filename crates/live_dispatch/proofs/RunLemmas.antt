@@ -1,6 +1,6 @@
 -- A run of the rounds of rows, with some more rows of one round and the entries that they gave.
 use Rattle.std.proofs.Common.{◌≡◌, ℕ, ◌<◌, ◌^◌, Bool, List, [], ◌∷◌, ◌++◌, Option, None, codes, refl, sym, ap, subst, ◌∙◌, append_assoc, append-nil, map}
-use Rattle.live_dispatch.proofs.Common.{begun-next, run-append, map-append, filter-append, of_lane, IsLaneRun, IsLaneBeginning, ClosesAreGood, IsRoundRun, IsRun, position_after_run, state_after_run, position-more, state-more, lines_text, entries_lines, round_line, round_text, numbered, next_position, state_after, RepliesAreSteps, step, Entry, Journal, State, Settings, notices_from, Notice, Roads, NumberedLanes, lane_at, round_of, Line, rounds_of, ButLast, IsBegunRun, IsRoundBeginning, journals_notices, journals_text, EndsIn, in_lane, start_text, entries-append, lines-append, next-append, next-low, notices-append, state-append}
+use Rattle.live_dispatch.proofs.Common.{begun-next, run-append, map-append, filter-append, of_lane, IsLaneRun, IsLaneBeginning, ClosesAreGood, IsRoundRun, IsRun, position_after_run, state_after_run, position-more, state-more, lines_text, entries_lines, round_line, round_text, numbered, next_position, state_after, RepliesAreSteps, step, Entry, Journal, State, Settings, notices_from, Notice, Roads, NumberedLanes, lane_at, round_of, ScriptRow, rounds_of, ButLast, IsBegunRun, IsRoundBeginning, journals_notices, journals_text, EndsIn, in_lane, start_text, entries-append, lines-append, next-append, next-low, notices-append, state-append}
 use Rattle.std.proofs.lemmas.Grind.{flat_map-append}
 use Rattle.live_dispatch.proofs.RowLemmas.{AreLinesOf, RoundsGrow, lane-grows}
 
@@ -98,7 +98,7 @@ module _ (settings : Settings) (roads : Roads) where
 
   -- a run of the rounds of rows has grown by more rows of one round and their entries: the last round is a run, or a
   -- beginning of one, where the entries are
-  pub record HasGrown (s : State) (p : ℕ) (round : Option ℕ) (lines rows : List Line) (number : ℕ) (journals : List Journal) (es : List Entry) : Type 0 where
+  pub record HasGrown (s : State) (p : ℕ) (round : Option ℕ) (lines rows : List ScriptRow) (number : ℕ) (journals : List Journal) (es : List Entry) : Type 0 where
     pub fronts : List NumberedLanes
     pub done : List Journal
     -- the last journal, or an empty one, to which the entries come
@@ -117,7 +117,7 @@ module _ (settings : Settings) (roads : Roads) where
     pub state : after s (done ++ with_more front es ∷ []) ≡ state_after roads.nodes settings.wait (after s journals) es
     pub position : position_after_run p (done ++ with_more front es ∷ []) ≡ next_position (position_after_run p journals) es
 
-  module _ (s : State) (p : ℕ) (round : Option ℕ) (lines rows : List Line) (number : ℕ) (es : List Entry) (low : p < 2 ^ 64) (are : AreLinesOf number rows) where
+  module _ (s : State) (p : ℕ) (round : Option ℕ) (lines rows : List ScriptRow) (number : ℕ) (es : List Entry) (low : p < 2 ^ 64) (are : AreLinesOf number rows) where
     -- the last round grows
     grown-last : (front : List NumberedLanes) (done : List Journal) (j : Journal) → IsRun settings roads s p front done → j.base ≡ after s done → j.first ≡ position_after_run p done
         → IsRoundRun settings roads (round_of lines number) j → start_text round number ≡ [] → rounds_of lines ≡ front ++ round_of lines number ∷ [] → rounds_of (lines ++ rows) ≡ front ++ round_of (lines ++ rows) number ∷ []
@@ -258,7 +258,7 @@ module _ (settings : Settings) (roads : Roads) where
   none-begun s p (j ∷ js) run = absurd run
 
   -- a run of the rounds of rows is a begun one
-  pub run-begins : (s : State) (p : ℕ) (round : Option ℕ) (lines : List Line) (js : List Journal) → EndsIn lines round → IsRun settings roads s p (rounds_of lines) js → IsBegunRun settings roads s p (rounds_of lines) js
+  pub run-begins : (s : State) (p : ℕ) (round : Option ℕ) (lines : List ScriptRow) (js : List Journal) → EndsIn lines round → IsRun settings roads s p (rounds_of lines) js → IsBegunRun settings roads s p (rounds_of lines) js
   run-begins s p _ lines js (EndsIn.in_none empty) run =
       subst (λ ls. IsRun settings roads s p (rounds_of ls) js → IsBegunRun settings roads s p (rounds_of ls) js) (sym empty) (none-begun s p js) run
   run-begins s p _ lines js (EndsIn.in_round front last ends low) run =

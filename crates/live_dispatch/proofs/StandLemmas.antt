@@ -1,7 +1,7 @@
 -- What stands of a run after more rows.
 use Rattle.std.proofs.lemmas.Bool.Decides.{nat_tests}
 use Rattle.std.proofs.Common.{rules, ◌≡◌, ℕ, ◌+◌, ◌<◌, ◌≤◌, List, [], ◌∷◌, ◌++◌, codes, length, take, drop, Option, Some, refl, sym, ap, subst, ◌∙◌, append_assoc, append-nil, take-append-drop, length-append, inl, inr, arith}
-use Rattle.live_dispatch.proofs.Common.{Appends, Appends-nil, Appends-trans, take-append-add, of_lane, IsLaneRun, IsLaneBeginning, ClosesAreGood, IsReady, IsRun, position_after_run, run-more, lines_text, end_text, entries_lines, entry_text, Change, SinkView, numbered, AppendsPart, next_position, state_after, RepliesAreSteps, Entry, Journal, State, Settings, notices_from, HaveHeard, NotifierView, Notice, all-heard-more, Roads, round_of, Line, rounds_of, BeginWithRows, AreWhole, BeginsRows, ButLast, HasAppended, IsBegunRun, journals_notices, journals_text, rows_text, EndsIn, in_lane, last_of, start_text, Moment, Stands, entries-append, next-low, one-text}
+use Rattle.live_dispatch.proofs.Common.{Appends, Appends-nil, Appends-trans, take-append-add, of_lane, IsLaneRun, IsLaneBeginning, ClosesAreGood, IsReady, IsRun, position_after_run, run-more, lines_text, end_text, entries_lines, entry_text, Change, SinkView, numbered, AppendsPart, next_position, state_after, RepliesAreSteps, Entry, Journal, State, Settings, notices_from, HaveHeard, NotifierView, Notice, all-heard-more, Roads, round_of, ScriptRow, rounds_of, BeginWithRows, AreWhole, BeginsRows, ButLast, HasAppended, IsBegunRun, journals_notices, journals_text, rows_text, EndsIn, in_lane, last_of, start_text, Moment, Stands, entries-append, next-low, one-text}
 use Rattle.live_dispatch.proofs.RowLemmas.{AreMore, AreLinesOf, rows-more}
 use Rattle.live_dispatch.proofs.RunLemmas.{HasGrown, has-grown, run-begins, with_more}
 
@@ -18,14 +18,14 @@ unfolding end_text lines_text
 end-some n = omega (arith, length-append (numbered (codes "done ") n ++ 10 ∷ []) [], length-append (numbered (codes "done ") n) (10 ∷ []))
 
 -- entries that rows of a round gave
-pub record Gives (settings : Settings) (roads : Roads) (s : State) (number : ℕ) (rows : List Line) (es : List Entry) : Type 0 where
+pub record Gives (settings : Settings) (roads : Roads) (s : State) (number : ℕ) (rows : List ScriptRow) (es : List Entry) : Type 0 where
   pub are : AreLinesOf number rows
   pub replies : RepliesAreSteps roads.nodes settings.wait s es
   pub closes : ClosesAreGood settings roads s es
 
-module _ (settings : Settings) (roads : Roads) (start before : Moment) (Before : List Line → Type 0) (stands : Stands settings roads start before Before)
-    (row : Line) (rest : List Line) (number : ℕ) (es : List Entry) (low : last_of before.round ≤ number) (gives : Gives settings roads before.book.state number (row ∷ rest) es) where
-  abbrev all : List Line
+module _ (settings : Settings) (roads : Roads) (start before : Moment) (Before : List ScriptRow → Type 0) (stands : Stands settings roads start before Before)
+    (row : ScriptRow) (rest : List ScriptRow) (number : ℕ) (es : List Entry) (low : last_of before.round ≤ number) (gives : Gives settings roads before.book.state number (row ∷ rest) es) where
+  abbrev all : List ScriptRow
   all = stands.lines ++ (row ∷ rest)
 
   more : AreMore before.round stands.lines (row ∷ rest) number
@@ -58,7 +58,7 @@ module _ (settings : Settings) (roads : Roads) (start before : Moment) (Before :
   unfolding whole_of
   whole-notices fs = grown.notices fs ∙ ap (λ s. journals_notices settings roads stands.journals ++ notices_from roads.nodes settings.wait s fs) (sym stands.state)
 
-  pub stands-after : (now : Moment) (Now : List Line → Type 0) → Now all → ((lane : ℕ) → IsLaneRun (in_lane (row ∷ rest) lane) (of_lane lane es))
+  pub stands-after : (now : Moment) (Now : List ScriptRow → Type 0) → Now all → ((lane : ℕ) → IsLaneRun (in_lane (row ∷ rest) lane) (of_lane lane es))
       → now.round ≡ Some number → now.book.state ≡ state_after roads.nodes settings.wait before.book.state es
       → next_position now.book.first now.book.entries ≡ next_position (next_position before.book.first before.book.entries) es
       → IsReady settings roads now.book → Appends before.sink.written now.sink.written (more_of es)
@@ -173,7 +173,7 @@ module _ (settings : Settings) (roads : Roads) (start before : Moment) (Before :
         stands.told
 
 -- what stands begins, whatever comes of its last line
-module _ (settings : Settings) (roads : Roads) (start now : Moment) (Now : List Line → Type 0) (stands : Stands settings roads start now Now) where
+module _ (settings : Settings) (roads : Roads) (start now : Moment) (Now : List ScriptRow → Type 0) (stands : Stands settings roads start now Now) where
   abbrev lines_text_is : List ℕ
   lines_text_is = journals_text settings.proof (rounds_of stands.lines) stands.journals
 

@@ -1,16 +1,16 @@
 -- What stands after a row, and after an open batch.
 use Rattle.std.proofs.Common.{rules, ◌≡◌, ◌≢◌, ℕ, ◌<◌, ◌≤◌, Bool, true, false, cond, eqb, List, [], ◌∷◌, ◌++◌, length, map, take, Option, None, Some, refl, sym, ap, subst, ◌∙◌, append_assoc, append-nil, arith, option_map}
-use Rattle.live_dispatch.proofs.Common.{Appends, Appends-trans, Batch, of_lane, IsLaneRunFrom, IsLaneRun, IsLaneBeginning, ClosesAreGood, IsReady, ends-closed, stands-plain, lines_text, entries_lines, entry_text, ReportFault, BeginWithRows, ClosesBatch, TakesRun, commands_of_pass, desk_after, runs-begin, runs-more, takes-start, Halt, IsPassedOn, Outputs, desk_of, desk_root, entries_text, notices_in, text_of, LaneCommand, TakesRows, BookView, next_position, state_after, RepliesAreSteps, step, Command, Close, Entry, Reply, State, Settings, notices_from, HaveHeard, Notice, all-heard-nothing, Roads, IsBehind, Line, sealed_by, step-seals, BeginsRows, in_lane, last_of, start_text, AppendsSome, HasRunOn, HasTaken, HaveCome, Moment, Stands, entry_for, outputs_of, row_text, entries-append, next-append, next-low, one-text}
+use Rattle.live_dispatch.proofs.Common.{Appends, Appends-trans, Batch, of_lane, IsLaneRunFrom, IsLaneRun, IsLaneBeginning, ClosesAreGood, IsReady, ends-closed, stands-plain, lines_text, entries_lines, entry_text, ReportFault, BeginWithRows, ClosesBatch, TakesRun, commands_of_pass, desk_after, runs-begin, runs-more, takes-start, Halt, IsPassedOn, Outputs, desk_of, desk_root, entries_text, notices_in, text_of, LaneCommand, TakesRows, BookView, next_position, state_after, RepliesAreSteps, step, Command, Close, Entry, Reply, State, Settings, notices_from, HaveHeard, Notice, all-heard-nothing, Roads, IsBehind, ScriptRow, sealed_by, step-seals, BeginsRows, in_lane, last_of, start_text, AppendsSome, HasRunOn, HasTaken, HaveCome, Moment, Stands, entry_for, outputs_of, row_text, entries-append, next-append, next-low, one-text}
 use Rattle.live_dispatch.specs.declared.desk.DeskRoot.{DeskRoot}
 use Rattle.live_dispatch.proofs.BatchLemmas.{batch-begun, batch-closes, batch-ended, batch-lanes, batch-others, batch-unclosed, close-run, none-left, row-lanes, rows-of, some_close, stands-good, stands-silent, told, zero-commands}
 use Rattle.live_dispatch.proofs.StandLemmas.{Gives, begins-broken, begins-one, begins-whole, stands-after}
 use Rattle.live_dispatch.proofs.WriteLemmas.{some-part, some-whole}
 
 -- a row's entry begins its lane's run, or is one with a close
-row-begun : (row : Line) (reply : Reply) (lane : ℕ) → IsLaneBeginning (in_lane (row ∷ []) lane) (of_lane lane ((record { lane = row.lane; command = row.command; reply = reply }) ∷ []))
+row-begun : (row : ScriptRow) (reply : Reply) (lane : ℕ) → IsLaneBeginning (in_lane (row ∷ []) lane) (of_lane lane ((record { lane = row.lane; command = row.command; reply = reply }) ∷ []))
 row-begun row reply lane = by (eqb row.lane lane) (sealed_by reply) refl
   where
-    by : (b : Bool) (o : Option ℕ) → sealed_by reply ≡ o → IsLaneBeginning (map (λ (l : Line). l.command) (cond b (row ∷ []) [])) (cond b ((record { lane = row.lane; command = row.command; reply = reply }) ∷ []) [])
+    by : (b : Bool) (o : Option ℕ) → sealed_by reply ≡ o → IsLaneBeginning (map (λ (l : ScriptRow). l.command) (cond b (row ∷ []) [])) (cond b ((record { lane = row.lane; command = row.command; reply = reply }) ∷ []) [])
     by true None is = ([], (refl, subst (λ (p : Option ℕ). IsLaneRunFrom p [] []) (sym is) tt))
     by true (Some batch) is = (some_close batch ∷ [], (refl, subst (λ (p : Option ℕ). IsLaneRunFrom p [] (some_close batch ∷ [])) (sym is) (refl, tt)))
     by false o is = ([], tt)
@@ -20,7 +20,7 @@ module _ (settings : Settings) (roads : Roads) where
   step-is : (b : BookView) (command : Command) → IsReady settings roads b → step b.nodes b.wait b.state command ≡ step roads.nodes settings.wait b.state command
   step-is b command ready = (λ i. step (ready.nodes i) (ready.wait i) b.state command)
 
-  module _ (before : BookView) (row : Line) (ready : IsReady settings roads before) (number last : ℕ) (is : row.round ≡ number) (behind : IsBehind last row) where
+  module _ (before : BookView) (row : ScriptRow) (ready : IsReady settings roads before) (number last : ℕ) (is : row.round ≡ number) (behind : IsBehind last row) where
     abbrev own : Entry
     own = entry_for before row.lane row.command
 
@@ -66,7 +66,7 @@ module _ (settings : Settings) (roads : Roads) where
               own-gives.replies ((λ other. stands-plain row.lane row.command other behind.stands), tt) (row-lanes row own.reply none 0);
         }
 
-  module _ (start before : Moment) (row : Line) (stands : Stands settings roads start before (HaveCome start before (Some row))) (behind : IsBehind (last_of before.round) row) where
+  module _ (start before : Moment) (row : ScriptRow) (stands : Stands settings roads start before (HaveCome start before (Some row))) (behind : IsBehind (last_of before.round) row) where
     abbrev book : BookView
     book = before.book
 
@@ -121,12 +121,12 @@ module _ (settings : Settings) (roads : Roads) where
         row-begins-by written faults some some.unwritten refl
 
   -- a batch from its seal on
-  module _ (start : Moment) (b : Batch) (round : ℕ) (book : BookView) (rows : Option (List Line)) (outputs : Outputs) (closed : Bool) (end : Halt) (fault : Option ReportFault) (reads : ℕ)
+  module _ (start : Moment) (b : Batch) (round : ℕ) (book : BookView) (rows : Option (List ScriptRow)) (outputs : Outputs) (closed : Bool) (end : Halt) (fault : Option ReportFault) (reads : ℕ)
       (on : HasRunOn settings roads start b round book rows outputs closed end fault reads) where
     abbrev before : Moment
     before = on.opens.before
 
-    abbrev row : Line
+    abbrev row : ScriptRow
     row = on.row
 
     abbrev last : ℕ
@@ -138,7 +138,7 @@ module _ (settings : Settings) (roads : Roads) where
     abbrev es : List Entry
     es = book.entries
 
-    abbrev run : List Line
+    abbrev run : List ScriptRow
     run = on.ran.rows.run
 
     -- the state behind the seal
@@ -242,7 +242,7 @@ module _ (settings : Settings) (roads : Roads) where
     low : last ≤ round
     low = subst (λ n. last ≤ n) number behind.round
 
-    pub batch-stands : (now : Moment) (Now : List Line → Type 0) → closed ≡ true → fault ≡ None → now.book ≡ record { nodes = book.nodes; wait = book.wait; first = next_position book.first book.entries; base = book.state; entries = []; state = book.state; spare = 0 }
+    pub batch-stands : (now : Moment) (Now : List ScriptRow → Type 0) → closed ≡ true → fault ≡ None → now.book ≡ record { nodes = book.nodes; wait = book.wait; first = next_position book.first book.entries; base = book.state; entries = []; state = book.state; spare = 0 }
         → outputs_of now ≡ outputs → now.round ≡ Some round → reads ≤ now.reads
         → Now (on.opens.stands.lines ++ (row ∷ run)) → Stands settings roads start now Now
     batch-stands now Now is_closed whole cut outputs_are round_is failed are =

@@ -1,19 +1,19 @@
 -- A book whose entries are written as they are made.
-use Rattle.shared_work.specs.declared.logged.LoggedCall.{LoggedCall}
-use Rattle.dispatch_engine.specs.Locked.{log_of, Fits}
-use Rattle.dispatch_engine.specs.declared.locked.LockedReply.{LockedReply}
+use Rattle.seat_lock.specs.declared.logged.LoggedCall.{LoggedCall}
+use Rattle.dispatch_engine.specs.lanes.Locked.{log_of, Fits}
+use Rattle.dispatch_engine.specs.declared.lanes.locked.LockedReply.{LockedReply}
 use Rattle.live_dispatch.specs.declared.desk.LaneCommand.{LaneCommand}
 use Rattle.live_dispatch.specs.declared.desk.DeskRoot.{DeskRoot}
 use Rattle.std.specs.Prelude.{◌≡◌, ℕ, ◌<◌, ◌≤◌, ◌^◌, ◌==◌, Bool, List, [], ◌∷◌, ◌++◌, map, length, take, Option, None, Some, if◌then◌else◌}
 use Rattle.std.specs.Io.KnownBytes.{Appends}
 use Rattle.pool_io.specs.Faults.{Rose}
 use Rattle.request_book.specs.Book.{BookView, IsApplied, IsBook, IsSameBook, next_position}
-use Rattle.request_book.specs.declared.command.Command.{Command}
-use Rattle.request_book.specs.declared.journal.Entry.{Entry}
-use Rattle.request_book.specs.Notices.{notices_from}
-use Rattle.request_book.specs.Seen.{notifiers_seen}
-use Rattle.request_book.specs.Told.{HaveHeard, NotifierView}
-use Rattle.request_book.specs.declared.notice.Notice.{Notice}
+use Rattle.request_book.specs.declared.values.command.Command.{Command}
+use Rattle.request_book.specs.declared.values.journal.Entry.{Entry}
+use Rattle.request_book.specs.notices.Notices.{notices_from}
+use Rattle.request_book.specs.notices.Seen.{notifiers_seen}
+use Rattle.request_book.specs.notices.Told.{HaveHeard, NotifierView}
+use Rattle.request_book.specs.declared.notices.notice.Notice.{Notice}
 use Rattle.dispatch_report.specs.Lines.{lines_text}
 use Rattle.dispatch_report.specs.Round.{entries_lines, entry_text}
 use Rattle.pool_io.specs.Views.{SinkView}

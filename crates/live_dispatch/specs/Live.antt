@@ -4,27 +4,27 @@ use Rattle.std.specs.Io.KnownBytes.{Appends}
 use Rattle.std.specs.List.{flat_map}
 use Rattle.pool_base.specs.Distinct.{distinct}
 use Rattle.pool_io.specs.Sink.{AppendsPart}
-use Rattle.dispatch_engine.specs.Lane.{ClosesAreGood, IsLaneBeginning, of_lane}
-use Rattle.dispatch_engine.specs.Run.{IsRun, position_after_run, state_after_run}
+use Rattle.dispatch_engine.specs.lanes.Lane.{ClosesAreGood, IsLaneBeginning, of_lane}
+use Rattle.dispatch_engine.specs.lanes.Run.{IsRun, position_after_run, state_after_run}
 use Rattle.dispatch_report.specs.Round.{end_text, round_text}
 use Rattle.pool_io.specs.Views.{Change, SinkView}
 use Rattle.live_dispatch.specs.Phase.{AreRows, BeginWithRows}
 use Rattle.request_book.specs.Book.{BookView}
 use Rattle.request_book.specs.Replay.{RepliesAreSteps}
-use Rattle.request_book.specs.declared.journal.Entry.{Entry}
-use Rattle.request_book.specs.declared.journal.Journal.{Journal}
-use Rattle.request_book.specs.declared.state.State.{State}
+use Rattle.request_book.specs.declared.values.journal.Entry.{Entry}
+use Rattle.request_book.specs.declared.values.journal.Journal.{Journal}
+use Rattle.request_book.specs.declared.values.state.State.{State}
 use Rattle.rider_limits.specs.declared.settings.Settings.{Settings}
-use Rattle.request_book.specs.Notices.{notices}
-use Rattle.request_book.specs.Told.{HaveHeard, NotifierView}
-use Rattle.request_book.specs.declared.notice.Notice.{Notice}
+use Rattle.request_book.specs.notices.Notices.{notices}
+use Rattle.request_book.specs.notices.Told.{HaveHeard, NotifierView}
+use Rattle.request_book.specs.declared.notices.notice.Notice.{Notice}
 use Rattle.road_network.specs.Roads.{Roads}
-use Rattle.input_rows.specs.Round.{NumberedLanes, lane_at}
-use Rattle.input_rows.specs.Script.{round_of}
-use Rattle.input_rows.specs.declared.line.Line.{Line}
+use Rattle.input_rows.specs.script.Round.{NumberedLanes, lane_at}
+use Rattle.input_rows.specs.script.Script.{round_of}
+use Rattle.input_rows.specs.declared.script.script_row.ScriptRow.{ScriptRow}
 
 -- the rounds of rows, one for each number
-abbrev pub rows_rounds : List Line → List NumberedLanes
+abbrev pub rows_rounds : List ScriptRow → List NumberedLanes
 rows_rounds lines = map (round_of lines) (distinct (map (λ l. l.round) lines))
 
 -- the texts of rounds with their journals, one after the other
@@ -68,12 +68,12 @@ module _ (settings : Settings) (roads : Roads) where
         → IsBegunRun s position (rounds ++ round ∷ []) (journals ++ journal ∷ [])
 
   -- the report behind its head of journals of the rounds of these rows
-  abbrev pub rows_text : ℕ → List Line → List Journal → List ℕ
+  abbrev pub rows_text : ℕ → List ScriptRow → List Journal → List ℕ
   rows_text position lines journals = journals_text settings.proof (rows_rounds lines) journals ++ end_text (position_after_run position journals)
 
   -- all rows were run and are written, with the last line, and their notices were told
-  pub record RunsRows (book : BookView) (rows : Option (List Line)) (sink : Change SinkView) (notifiers : Change (List NotifierView)) : Type 0 where
-    pub lines : List Line
+  pub record RunsRows (book : BookView) (rows : Option (List ScriptRow)) (sink : Change SinkView) (notifiers : Change (List NotifierView)) : Type 0 where
+    pub lines : List ScriptRow
     pub all : AreRows rows lines
     pub journals : List Journal
     pub run : IsRun settings roads book.base book.first (rows_rounds lines) journals
@@ -82,8 +82,8 @@ module _ (settings : Settings) (roads : Roads) where
 
   -- some first rows were run, the last round maybe in part; what is written begins their report and isn't the whole; and
   -- the notices told are those of the entries that are written whole: of all, or of all but the last
-  pub record BeginsRows (book : BookView) (rows : Option (List Line)) (sink : Change SinkView) (notifiers : Change (List NotifierView)) : Type 0 where
-    pub lines : List Line
+  pub record BeginsRows (book : BookView) (rows : Option (List ScriptRow)) (sink : Change SinkView) (notifiers : Change (List NotifierView)) : Type 0 where
+    pub lines : List ScriptRow
     pub begin : BeginWithRows rows lines
     pub journals : List Journal
     pub run : IsBegunRun book.base book.first (rows_rounds lines) journals

@@ -1,27 +1,27 @@
 -- What the two threads do while a batch is open.
 use Rattle.live_dispatch.specs.Desk.{desk_root, pass_of, DeskView, IsDesk, Outputs}
 use Rattle.std.specs.Prelude.{◌≡◌, ◌≢◌, ℕ, ◌≤◌, ◌==◌, Bool, true, false, filter, List, [], ◌∷◌, ◌++◌, map, Option, None, Some, All, ⊤}
-use Rattle.request_book.specs.Batch.{Batch}
+use Rattle.request_book.specs.values.Batch.{Batch}
 use Rattle.pool_io.specs.Faults.{Rose}
-use Rattle.dispatch_engine.specs.Outcome.{IsGoodOutcome}
-use Rattle.request_book.specs.declared.command.Command.TheVariants.{Close}
-use Rattle.request_book.specs.declared.journal.Entry.{Entry}
-use Rattle.request_book.specs.declared.outcome.Outcome.{Outcome}
+use Rattle.dispatch_engine.specs.outcome.Outcome.{IsGoodOutcome}
+use Rattle.request_book.specs.declared.values.command.Command.TheVariants.{Close}
+use Rattle.request_book.specs.declared.values.journal.Entry.{Entry}
+use Rattle.request_book.specs.declared.values.outcome.Outcome.{Outcome}
 use Rattle.rider_limits.specs.declared.settings.Settings.{Settings}
 use Rattle.road_network.specs.Roads.{Roads}
-use Rattle.shared_work.specs.Values.{PassValue}
+use Rattle.seat_lock.specs.Values.{PassValue}
 use Rattle.dispatch_report.specs.declared.fault.ReportFault.{ReportFault}
 use Rattle.request_book.specs.Book.{BookView}
-use Rattle.dispatch_engine.specs.declared.locked.LockedReply.{LockedReply}
+use Rattle.dispatch_engine.specs.declared.lanes.locked.LockedReply.{LockedReply}
 use Rattle.live_dispatch.specs.declared.desk.LaneCommand.{LaneCommand}
-use Rattle.input_rows.specs.Line.{IsBehind}
-use Rattle.input_rows.specs.declared.line.Line.{Line}
+use Rattle.input_rows.specs.script.ScriptRow.{IsBehind}
+use Rattle.input_rows.specs.declared.script.script_row.ScriptRow.{ScriptRow}
 use Rattle.live_dispatch.specs.declared.read_on.Halt.{Halt}
 use Rattle.live_dispatch.specs.declared.read_on.Halt.TheVariants as stop
-use Rattle.input_rows.specs.Rows.{TakesRows}
+use Rattle.input_rows.specs.live.Rows.{TakesRows}
 
 -- a row's command with its lane
-abbrev pub row_command : Line → LaneCommand
+abbrev pub row_command : ScriptRow → LaneCommand
 row_command line = record { lane = line.lane; command = line.command }
 
 -- the commands that a pass called
@@ -29,25 +29,25 @@ abbrev pub commands_in : {B : Type 0} → PassValue B LaneCommand LockedReply �
 commands_in p = map (λ c. c.1.call) p.calls
 
 -- a row may be run while the batch of this round is open
-abbrev pub MayGoOn : ℕ → Line → Type 0
+abbrev pub MayGoOn : ℕ → ScriptRow → Type 0
 MayGoOn round line = (line.lane ≢ 0) × (line.round ≡ round)
 
 -- a row that was run while the batch of this round was open
-abbrev pub GoesOn : ℕ → Line → Type 0
+abbrev pub GoesOn : ℕ → ScriptRow → Type 0
 GoesOn round line = IsBehind round line × MayGoOn round line
 
 -- the rows to come, where they are told, are these
-abbrev pub AreRows : Option (List Line) → List Line → Type 0
+abbrev pub AreRows : Option (List ScriptRow) → List ScriptRow → Type 0
 AreRows None rows = ⊤
 AreRows (Some all) rows = all ≡ rows
 
 -- they begin with these
-abbrev pub BeginWithRows : Option (List Line) → List Line → Type 0
+abbrev pub BeginWithRows : Option (List ScriptRow) → List ScriptRow → Type 0
 BeginWithRows None rows = ⊤
-BeginWithRows (Some all) rows = (rest : List Line) × (all ≡ rows ++ rest)
+BeginWithRows (Some all) rows = (rest : List ScriptRow) × (all ≡ rows ++ rest)
 
 -- the rows run are those read, but for one that is held back; after a fault they begin those to come
-abbrev pub TakesRun : Halt → Option (List Line) → Option (List Line) → List Line → Type 0
+abbrev pub TakesRun : Halt → Option (List ScriptRow) → Option (List ScriptRow) → List ScriptRow → Type 0
 TakesRun (stop.Held line) old new run = TakesRows old new (run ++ line ∷ [])
 TakesRun stop.Ended old new run = AreRows old run
 TakesRun _ old new run = BeginWithRows old run
@@ -63,8 +63,8 @@ FaultsFrom stop.ReadFault before now = Rose before now
 FaultsFrom _ before now = before ≤ now
 
 -- rows of other lanes and of this round were run, each once and in order, and this holds of them
-pub record RanRows (round : ℕ) (commands : List LaneCommand) (Are : List Line → Type 0) : Type 0 where
-  pub run : List Line
+pub record RanRows (round : ℕ) (commands : List LaneCommand) (Are : List ScriptRow → Type 0) : Type 0 where
+  pub run : List ScriptRow
   pub going : All (GoesOn round) run
   pub called : commands ≡ map row_command run
   pub taken : Are run
@@ -89,7 +89,7 @@ ClosesBatch settings roads b false commands = commands ≡ []
 
 -- what came of a book, a sink and notifiers while a batch was open, in one history, which is written and whose notices
 -- were told: lane 0 closed it, and the rows of other lanes were run
-pub record HasRunOpen (settings : Settings) (roads : Roads) (b : Batch) (round : ℕ) (old new : Option (List Line)) (start after : DeskView) (closed : Bool) (end : Halt) : Type 0 where
+pub record HasRunOpen (settings : Settings) (roads : Roads) (b : Batch) (round : ℕ) (old new : Option (List ScriptRow)) (start after : DeskView) (closed : Bool) (end : Halt) : Type 0 where
   pub desk : IsDesk after
   pub root : desk_root after ≡ desk_root start
   pub opened : after.opened ≡ start.now

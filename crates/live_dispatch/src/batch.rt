@@ -1,10 +1,10 @@
 //! A batch from its seal to its close.
 ghost use Rattle.std.specs.Prelude.{◌≡◌, ℕ, All, Contains, IfOk, MatchResult};
-ghost use Rattle.request_book.specs.Batch.{Batch};
+ghost use Rattle.request_book.specs.values.Batch.{Batch};
 ghost use Rattle.request_book.specs.Points.{named_nodes};
 ghost use Rattle.live_dispatch.specs.Phase.{FaultsFrom, IsHeldBack};
 ghost use Rattle.live_dispatch.specs.Desk.{outputs_seen};
-ghost use Rattle.input_rows.specs.declared.line.Line.{Line};
+ghost use Rattle.input_rows.specs.declared.script.script_row.ScriptRow.{ScriptRow};
 ghost use Rattle.live_dispatch.specs.work.Rows.{last_of};
 ghost use Rattle.live_dispatch.specs.work.Standing.{Awaits, HasCut, HasEnded, HasRunOn, HaveCome, Moment, Opens, Stands, moment};
 
@@ -12,9 +12,9 @@ use crate::fault::{LiveFault, fault_of_text};
 use crate::live_run::{Dispatched, LiveRun, end, stop};
 use crate::read_on::Halt;
 use crate::run::{OpenBatch, Opened, Unopened, run_open};
-use dispatch_engine::Setup;
+use dispatch_engine::BatchSolver;
 use dispatch_report::ReportFault;
-use input_rows::{Line, RowSource};
+use input_rows::{RowSource, ScriptRow};
 use pool_base::OutOfMemory;
 use pool_io::Sink;
 use request_book::{Book, Notifier, Snapshot};
@@ -40,16 +40,16 @@ pub(crate) fn run_batch<
     run: LiveRun<K, N, L>,
     round: u32,
     snapshot: &Snapshot,
-    setup: &Setup<'_, W, D, G>,
-) -> Result<(LiveRun<K, N, L>, Option<Line>), Dispatched<K, N, L>>
-    requires proof { run.proof ≡ setup.now.settings.now.proof }
+    solver: &BatchSolver<'_, W, D, G>,
+) -> Result<(LiveRun<K, N, L>, Option<ScriptRow>), Dispatched<K, N, L>>
+    requires proof { run.proof ≡ solver.now.settings.now.proof }
     requires last { L.last run.rows ≡ round }
-    requires nodes { All (λ node. Contains setup.now.network.now.nodes node) (named_nodes snapshot.now) }
-    ensures awaits { IfOk result (λ r. Awaits (last_of r.0.round) (L.last r.0.rows) r.1 × (r.0.proof ≡ setup.now.settings.now.proof)) }
+    requires nodes { All (λ node. Contains solver.now.network.now.nodes node) (named_nodes snapshot.now) }
+    ensures awaits { IfOk result (λ r. Awaits (last_of r.0.round) (L.last r.0.rows) r.1 × (r.0.proof ≡ solver.now.settings.now.proof)) }
     ensures went { let sealed = moment run.book run.round (L.to_come run.rows) (L.faults run.rows) (outputs_seen K.written K.faults N.told N.faults N.steady run.sink run.notifiers.items) in
-        (start : Moment) (row : Line) → row.round ≡ round → Opens setup.now.settings.now setup.now.network.now start row snapshot.entry.now sealed → MatchResult result
-        (λ r. let now = moment r.0.book r.0.round (L.to_come r.0.rows) (L.faults r.0.rows) (outputs_seen K.written K.faults N.told N.faults N.steady r.0.sink r.0.notifiers.items) in Stands setup.now.settings.now setup.now.network.now start now (HaveCome start now r.1))
-        (λ d. HasEnded setup.now.settings.now setup.now.network.now start (L.faults d.rows) (outputs_seen K.written K.faults N.told N.faults N.steady d.sink d.notifiers.items) d.ended) }
+        (start : Moment) (row : ScriptRow) → row.round ≡ round → Opens solver.now.settings.now solver.now.network.now start row snapshot.entry.now sealed → MatchResult result
+        (λ r. let now = moment r.0.book r.0.round (L.to_come r.0.rows) (L.faults r.0.rows) (outputs_seen K.written K.faults N.told N.faults N.steady r.0.sink r.0.notifiers.items) in Stands solver.now.settings.now solver.now.network.now start now (HaveCome start now r.1))
+        (λ d. HasEnded solver.now.settings.now solver.now.network.now start (L.faults d.rows) (outputs_seen K.written K.faults N.told N.faults N.steady d.sink d.notifiers.items) d.ended) }
 {
     let LiveRun {
         book,
@@ -80,8 +80,8 @@ pub(crate) fn run_batch<
         notifiers,
         lines: rows,
     };
-    match run_open(rt, alloc, batch, round, snapshot, setup) {
-        Ok(opened) => after_batch(alloc, opened, round, setup),
+    match run_open(rt, alloc, batch, round, snapshot, solver) {
+        Ok(opened) => after_batch(alloc, opened, round, solver),
         Err(
             Unopened {
                 sink,
@@ -102,15 +102,15 @@ fn after_batch<K: Sink, N: Notifier, L: RowSource, W: Ways, D: Drafter, G: Gate>
     alloc: Global,
     opened: Opened<K, N, L>,
     round: u32,
-    setup: &Setup<'_, W, D, G>,
-) -> Result<(LiveRun<K, N, L>, Option<Line>), Dispatched<K, N, L>>
+    solver: &BatchSolver<'_, W, D, G>,
+) -> Result<(LiveRun<K, N, L>, Option<ScriptRow>), Dispatched<K, N, L>>
     requires held { IsHeldBack round (L.last opened.lines) opened.stop }
-    ensures awaits { IfOk result (λ r. Awaits (last_of r.0.round) (L.last r.0.rows) r.1 × (r.0.proof ≡ setup.now.settings.now.proof)) }
+    ensures awaits { IfOk result (λ r. Awaits (last_of r.0.round) (L.last r.0.rows) r.1 × (r.0.proof ≡ solver.now.settings.now.proof)) }
     ensures went { let outputs = outputs_seen K.written K.faults N.told N.faults N.steady opened.sink opened.notifiers.items in
         (start : Moment) (b : Batch) (reads : ℕ) → FaultsFrom opened.stop reads (L.faults opened.lines)
-        → HasRunOn setup.now.settings.now setup.now.network.now start b round opened.book (L.to_come opened.lines) outputs opened.closed opened.stop opened.fault reads → MatchResult result
-        (λ r. let now = moment r.0.book r.0.round (L.to_come r.0.rows) (L.faults r.0.rows) (outputs_seen K.written K.faults N.told N.faults N.steady r.0.sink r.0.notifiers.items) in Stands setup.now.settings.now setup.now.network.now start now (HaveCome start now r.1))
-        (λ d. HasEnded setup.now.settings.now setup.now.network.now start (L.faults d.rows) (outputs_seen K.written K.faults N.told N.faults N.steady d.sink d.notifiers.items) d.ended) }
+        → HasRunOn solver.now.settings.now solver.now.network.now start b round opened.book (L.to_come opened.lines) outputs opened.closed opened.stop opened.fault reads → MatchResult result
+        (λ r. let now = moment r.0.book r.0.round (L.to_come r.0.rows) (L.faults r.0.rows) (outputs_seen K.written K.faults N.told N.faults N.steady r.0.sink r.0.notifiers.items) in Stands solver.now.settings.now solver.now.network.now start now (HaveCome start now r.1))
+        (λ d. HasEnded solver.now.settings.now solver.now.network.now start (L.faults d.rows) (outputs_seen K.written K.faults N.told N.faults N.steady d.sink d.notifiers.items) d.ended) }
 {
     let Opened {
         book,
@@ -131,7 +131,7 @@ fn after_batch<K: Sink, N: Notifier, L: RowSource, W: Ways, D: Drafter, G: Gate>
                 rows: lines,
                 line: Vec::new(alloc),
                 round: Some(round),
-                proof: setup.settings.proof,
+                proof: solver.settings.proof,
             };
             match stopped {
                 Halt::Held(row) => Ok((run, Some(row))),

@@ -1,12 +1,14 @@
 ghost use Rattle.std.specs.Prelude.{◌≡◌, ◌<◌, ◌≤◌, ◌^◌, [], ◌∷◌, ◌++◌, List, Result, length, None, Some, IfOk, OnErr, OnOk};
 ghost use Rattle.dispatch_report.specs.declared.fault.ReportFault.{ReportFault};
-ghost use Rattle.request_book.specs.declared.journal.Entry.{Entry};
-ghost use Rattle.request_book.specs.declared.reply.Reply.TheVariants.{Closed};
-ghost use Rattle.request_book.specs.Notices.{entry_notices};
-ghost use Rattle.request_book.specs.Seen.{notifiers_seen};
-ghost use Rattle.dispatch_engine.specs.Locked.{snapshot_before};
+ghost use Rattle.request_book.specs.declared.values.journal.Entry.{Entry};
+ghost use Rattle.request_book.specs.declared.values.reply.Reply.TheVariants.{Closed};
+ghost use Rattle.request_book.specs.notices.Notices.{entry_notices};
+ghost use Rattle.request_book.specs.notices.Seen.{notifiers_seen};
+ghost use Rattle.dispatch_engine.specs.lanes.Locked.{snapshot_before};
 ghost use Rattle.dispatch_report.specs.Round.{entry_text};
 ghost use Rattle.live_dispatch.specs.Desk.{IsDesk, DeskView, HasEntered, IsSameDesk, desk_of, outputs_seen};
+ghost use Rattle.dispatch_report.specs.Written.{WritesText};
+ghost use Rattle.pool_io.specs.Views.{sink_seen};
 ghost use Rattle.live_dispatch.specs.work.Telling.{TellsClose, WroteLast, is_closed};
 
 use dispatch_engine::{LockedReply, sealed_by_command};
@@ -129,9 +131,11 @@ impl<K: Sink, N: Notifier, J: Opening> Desk<K, N, J> {
                         &mut self.sink,
                         &mut self.line,
                         &mut self.notifiers,
-                        position,
+                        Printing {
+                            position,
+                            proof: self.proof,
+                        },
                         self.book.entries(),
-                        self.proof,
                         &notices,
                     );
                     Ok(LockedReply { reply, snapshot })
@@ -203,31 +207,55 @@ fn is_closed(reply: &Reply) -> bool
     matches!(reply, Reply::Closed)
 }
 
+/// How an entry is printed: its position, and whether a block has its tree.
+#[derive(Clone, Copy)]
+struct Printing {
+    position: u64,
+    proof: bool,
+}
+
 // Writes the text of the last entry, and then tells these notices if it is a close. It answers the fault that kept the
 // text from being written whole.
 fn write_last<K: Sink, N: Notifier>(
     sink: &mut K,
     line: &mut Vec<u8>,
     notifiers: &mut Vec<N>,
-    position: u64,
+    printing: Printing,
     entries: &[Entry],
-    proof: bool,
     notices: &[Notice],
 ) -> Option<ReportFault>
     requires { 0 < length entries.now }
     ensures short { length entries.now < 2 ^ 63 }
     ensures wrote { (before : List Entry) (last : Entry) → entries.now ≡ before ++ last ∷ []
-        → WroteLast result (entry_text proof position last) notices.now last.reply
+        → WroteLast result (entry_text printing.proof printing.position last) notices.now last.reply
         (outputs_seen K.written K.faults N.told N.faults N.steady sink.old notifiers.old.items)
         (outputs_seen K.written K.faults N.told N.faults N.steady sink.new notifiers.new.items) }
     ensures never_falls { K.faults sink.old ≤ K.faults sink.new }
 {
     let last = &entries[entries.len() - 1];
-    match write_step(sink, line, position, last, proof) {
+    match write_or_stop(sink, line, printing, last) {
         Ok(()) => {
             tell_close(notifiers, &last.reply, notices);
             None
         }
         Err(fault) => Some(fault),
+    }
+}
+
+/// Writes the text of an entry. Where it can't be written to its end, the sink hears of it.
+fn write_or_stop<K: Sink>(
+    sink: &mut K,
+    line: &mut Vec<u8>,
+    printing: Printing,
+    entry: &Entry,
+) -> Result<(), ReportFault>
+    ensures { WritesText (sink_seen K.written K.faults sink.old sink.new) (entry_text printing.proof printing.position entry.now) result }
+{
+    match write_step(sink, line, printing.position, entry, printing.proof) {
+        Ok(()) => Ok(()),
+        Err(fault) => {
+            sink.stopped();
+            Err(fault)
+        }
     }
 }

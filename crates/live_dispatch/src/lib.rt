@@ -11,7 +11,7 @@
 //!
 //! ```
 //! let ways = NetworkWays { network, workers: settings.workers };
-//! let setup = Setup {
+//! let solver = BatchSolver {
 //!     network,
 //!     ways: &ways,
 //!     drafter: &RelaxationDrafter,
@@ -20,7 +20,7 @@
 //! };
 //! let rows = LiveRows::behind(alloc, lines, version, listener);
 //! let Dispatched { sink, notifiers, rows, ended } = dispatch(
-//!     rt, alloc, book, out, notifiers, rows, &setup,
+//!     rt, alloc, book, out, notifiers, rows, &solver,
 //! );
 //! ```
 //!

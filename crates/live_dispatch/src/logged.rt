@@ -7,7 +7,7 @@ use dispatch_engine::LockedReply;
 use pool_base::OutOfMemory;
 use pool_io::Sink;
 use request_book::Notifier;
-use shared_work::Logged;
+use seat_lock::Logged;
 use std::alloc::Global;
 
 // Which pass plays the commands of a lane.
@@ -19,7 +19,7 @@ fn pass_of(lane: u8) -> u8
 
 impl<K: Sink, N: Notifier, J: Opening> Logged for Desk<K, N, J> {
     ghost use Rattle.std.specs.Prelude.{true};
-    ghost use Rattle.dispatch_engine.specs.Locked.{Fits};
+    ghost use Rattle.dispatch_engine.specs.lanes.Locked.{Fits};
     ghost use Rattle.live_dispatch.specs.Desk.{desk_log, desk_root};
 
     type Call = LaneCommand;

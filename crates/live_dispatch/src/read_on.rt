@@ -1,12 +1,12 @@
 ghost use Rattle.std.specs.Prelude.{◌≡◌, []};
-ghost use Rattle.shared_work.specs.Values.{IsPassOf};
+ghost use Rattle.seat_lock.specs.Values.{IsPassOf};
 ghost use Rattle.live_dispatch.specs.Phase.{FaultsFrom, IsHeldBack, RanRows, TakesRun, commands_in};
 
 use crate::desk::{Desk, LaneCommand, Opening};
-use input_rows::{Line, LineFault, RowSource};
+use input_rows::{LineFault, RowSource, ScriptRow};
 use pool_io::Sink;
 use request_book::Notifier;
-use shared_work::{Pass, SeatLock};
+use seat_lock::{Pass, SeatLock};
 use std::alloc::Global;
 use std::sync::Wait;
 
@@ -14,7 +14,7 @@ use std::sync::Wait;
 #[derive(Drop)]
 pub enum Halt {
     /// This row waits for the close.
-    Held(Line),
+    Held(ScriptRow),
     /// There is no row more.
     Ended,
     /// A read failed.
@@ -47,7 +47,7 @@ pub(crate) fn read_on<K: Sink, N: Notifier, J: Opening, L: RowSource>(
                 if line.lane == 0 || line.round != round {
                     return Halt::Held(line);
                 }
-                let Line {
+                let ScriptRow {
                     round: _,
                     lane,
                     command,

@@ -4,13 +4,13 @@ ghost use Rattle.dispatch_report.specs.Round.{entry_text};
 ghost use Rattle.pool_io.specs.Views.{sink_seen};
 ghost use Rattle.dispatch_report.specs.Written.{WritesText};
 ghost use Rattle.request_book.specs.Book.{next_position};
-ghost use Rattle.request_book.specs.declared.journal.Entry.{Entry};
+ghost use Rattle.request_book.specs.declared.values.journal.Entry.{Entry};
 ghost use Rattle.live_dispatch.specs.work.Rows.{start_text};
 ghost use Rattle.live_dispatch.specs.work.Standing.{HasTaken, WritesSome, entry_for, row_text};
 
 use dispatch_engine::sealed_by_command;
 use dispatch_report::{ReportFault, write_round_start, write_step};
-use input_rows::Line;
+use input_rows::ScriptRow;
 use pool_base::OutOfMemory;
 use pool_io::Sink;
 use request_book::{Book, Command, Entry, Snapshot};
@@ -23,12 +23,12 @@ pub(crate) fn run_row<K: Sink>(
     line: &mut Vec<u8>,
     last: Option<u32>,
     proof: bool,
-    row: Line,
+    row: ScriptRow,
 ) -> Result<Option<Snapshot>, ReportFault>
     ensures wrote { WritesSome (sink_seen K.written K.faults sink.old sink.new) (row_text proof last book.old row) result }
     ensures taken { IfOk result (λ sealed. HasTaken book.old row.lane row.command sealed book.new) }
 {
-    let Line {
+    let ScriptRow {
         round,
         lane,
         command,

@@ -2,19 +2,20 @@
 ghost use Rattle.std.specs.Prelude.{◌≡◌, ◌<◌, ◌^◌, [], All, Contains, IfOk, IfErr};
 ghost use Rattle.request_book.specs.Points.{named_nodes};
 ghost use Rattle.live_dispatch.specs.Desk.{desk_of, outputs_seen};
-ghost use Rattle.request_book.specs.Seen.{notifiers_seen};
+ghost use Rattle.request_book.specs.notices.Seen.{notifiers_seen};
 ghost use Rattle.live_dispatch.specs.Phase.{FaultsFrom, HasRunOpen, IsHeldBack, desk_after};
 
 use crate::desk::{Desk, Opening};
 use crate::open::{Reading, finish, two_of, work_both};
 use crate::read_on::Halt;
-use dispatch_engine::Setup;
+use dispatch_engine::BatchSolver;
 use dispatch_report::ReportFault;
 use input_rows::RowSource;
 use pool_io::Sink;
 use request_book::{Book, Notifier, Snapshot};
 use row_tables::Drafter;
-use shared_work::{Gate, SeatLock};
+use seat_lock::SeatLock;
+use shared_work::Gate;
 use std::alloc::Global;
 use std::marker::Brand;
 use std::sync::Wait;
@@ -67,22 +68,22 @@ pub fn run_open<
     batch: OpenBatch<K, N, L>,
     round: u32,
     snapshot: &Snapshot,
-    setup: &Setup<'_, W, D, G>,
+    solver: &BatchSolver<'_, W, D, G>,
 ) -> Result<Opened<K, N, L>, Unopened<K, N, L>>
     requires empty { batch.book.entries ≡ [] }
     requires small { batch.book.first < 2 ^ 64 }
     requires last { L.last batch.lines ≡ round }
-    requires nodes { All (λ node. Contains setup.now.network.now.nodes node) (named_nodes snapshot.now) }
+    requires nodes { All (λ node. Contains solver.now.network.now.nodes node) (named_nodes snapshot.now) }
     ensures run { let opened = outputs_seen K.written K.faults N.told N.faults N.steady batch.sink batch.notifiers.items in
-        IfOk result (λ o. HasRunOpen setup.now.settings.now setup.now.network.now snapshot.entry.now round (L.to_come batch.lines) (L.to_come o.lines)
-        (desk_of batch.book setup.now.settings.now.proof opened)
-        (desk_after batch.book setup.now.settings.now.proof opened o.book (outputs_seen K.written K.faults N.told N.faults N.steady o.sink o.notifiers.items) o.fault) o.closed o.stop) }
+        IfOk result (λ o. HasRunOpen solver.now.settings.now solver.now.network.now snapshot.entry.now round (L.to_come batch.lines) (L.to_come o.lines)
+        (desk_of batch.book solver.now.settings.now.proof opened)
+        (desk_after batch.book solver.now.settings.now.proof opened o.book (outputs_seen K.written K.faults N.told N.faults N.steady o.sink o.notifiers.items) o.fault) o.closed o.stop) }
     ensures held { IfOk result (λ o. IsHeldBack round (L.last o.lines) o.stop) }
     ensures faults { IfOk result (λ o. FaultsFrom o.stop (L.faults batch.lines) (L.faults o.lines)) }
     ensures kept { IfErr result (λ u. (K.written u.sink ≡ K.written batch.sink) × (K.faults u.sink ≡ K.faults batch.sink) × (u.lines ≡ batch.lines)
         × (notifiers_seen N.told N.faults N.steady u.notifiers.items ≡ notifiers_seen N.told N.faults N.steady batch.notifiers.items)) }
 {
-    run_in::<K, N, Brand, L, W, D, G>(rt, alloc, batch, round, snapshot, setup)
+    run_in::<K, N, Brand, L, W, D, G>(rt, alloc, batch, round, snapshot, solver)
 }
 
 fn run_in<
@@ -99,17 +100,17 @@ fn run_in<
     batch: OpenBatch<K, N, L>,
     round: u32,
     snapshot: &Snapshot,
-    setup: &Setup<'_, W, D, G>,
+    solver: &BatchSolver<'_, W, D, G>,
 ) -> Result<Opened<K, N, L>, Unopened<K, N, L>>
     requires opened { J.opened ≡ outputs_seen K.written K.faults N.told N.faults N.steady batch.sink batch.notifiers.items }
     requires empty { batch.book.entries ≡ [] }
     requires small { batch.book.first < 2 ^ 64 }
     requires last { L.last batch.lines ≡ round }
-    requires nodes { All (λ node. Contains setup.now.network.now.nodes node) (named_nodes snapshot.now) }
+    requires nodes { All (λ node. Contains solver.now.network.now.nodes node) (named_nodes snapshot.now) }
     ensures run { let opened = outputs_seen K.written K.faults N.told N.faults N.steady batch.sink batch.notifiers.items in
-        IfOk result (λ o. HasRunOpen setup.now.settings.now setup.now.network.now snapshot.entry.now round (L.to_come batch.lines) (L.to_come o.lines)
-        (desk_of batch.book setup.now.settings.now.proof opened)
-        (desk_after batch.book setup.now.settings.now.proof opened o.book (outputs_seen K.written K.faults N.told N.faults N.steady o.sink o.notifiers.items) o.fault) o.closed o.stop) }
+        IfOk result (λ o. HasRunOpen solver.now.settings.now solver.now.network.now snapshot.entry.now round (L.to_come batch.lines) (L.to_come o.lines)
+        (desk_of batch.book solver.now.settings.now.proof opened)
+        (desk_after batch.book solver.now.settings.now.proof opened o.book (outputs_seen K.written K.faults N.told N.faults N.steady o.sink o.notifiers.items) o.fault) o.closed o.stop) }
     ensures held { IfOk result (λ o. IsHeldBack round (L.last o.lines) o.stop) }
     ensures faults { IfOk result (λ o. FaultsFrom o.stop (L.faults batch.lines) (L.faults o.lines)) }
     ensures kept { IfErr result (λ u. (K.written u.sink ≡ K.written batch.sink) × (K.faults u.sink ≡ K.faults batch.sink) × (u.lines ≡ batch.lines)
@@ -121,7 +122,7 @@ fn run_in<
         notifiers,
         lines,
     } = batch;
-    let desk: Desk<K, N, J> = Desk::of(alloc, book, sink, notifiers, setup.settings.proof);
+    let desk: Desk<K, N, J> = Desk::of(alloc, book, sink, notifiers, solver.settings.proof);
     let Ok(back) = Vec::with_capacity(alloc, 2) else {
         return Err(give_back(desk, lines));
     };
@@ -130,7 +131,7 @@ fn run_in<
             let (first, second) = two_of(&lock, passes);
             let both = (first, (second, lines));
             let ((first, closed), Reading { pass, lines, stop }) = work_both(
-                rt, alloc, &lock, both, round, snapshot, setup,
+                rt, alloc, &lock, both, round, snapshot, solver,
             );
             let desk = finish(lock, back, first, pass);
             let (book, sink, notifiers, fault) = desk.into_parts();

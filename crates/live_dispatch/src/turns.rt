@@ -2,13 +2,13 @@
 ghost use Rattle.std.specs.Prelude.{◌≡◌, ℕ, List, ◌<◌, ◌≤◌, ◌^◌, [], MatchResult, IfOk, Some};
 ghost use Rattle.std.specs.Result.{IsErrOf};
 ghost use Rattle.pool_io.specs.Faults.{Rose};
-ghost use Rattle.dispatch_engine.specs.Run.{IsReady};
+ghost use Rattle.dispatch_engine.specs.lanes.Run.{IsReady};
 ghost use Rattle.pool_io.specs.Views.{Change, sink_seen};
 ghost use Rattle.live_dispatch.specs.Desk.{outputs_seen};
-ghost use Rattle.input_rows.specs.Rows.{ComesBehind};
-ghost use Rattle.request_book.specs.Seen.{notifiers_seen};
-ghost use Rattle.request_book.specs.Told.{NotifierView};
-ghost use Rattle.input_rows.specs.Line.{IsBehind};
+ghost use Rattle.input_rows.specs.live.Rows.{ComesBehind};
+ghost use Rattle.request_book.specs.notices.Seen.{notifiers_seen};
+ghost use Rattle.request_book.specs.notices.Told.{NotifierView};
+ghost use Rattle.input_rows.specs.script.ScriptRow.{IsBehind};
 ghost use Rattle.live_dispatch.specs.Live.{BeginsRows, RunsRows};
 ghost use Rattle.live_dispatch.specs.work.Rows.{last_of};
 ghost use Rattle.live_dispatch.specs.work.Standing.{Awaits, GivesNext, HasEnded, HaveCome, Moment, Stands, moment};
@@ -17,8 +17,8 @@ use crate::batch::run_batch;
 use crate::fault::{LiveFault, fault_of_line, fault_of_text};
 use crate::live_run::{Dispatched, LiveRun, end, stop};
 use crate::row::run_row;
-use dispatch_engine::Setup;
-use input_rows::{Line, LineFault, RowSource};
+use dispatch_engine::BatchSolver;
+use input_rows::{LineFault, RowSource, ScriptRow};
 use pool_io::Sink;
 use request_book::{Book, Notifier};
 use row_tables::Drafter;
@@ -45,9 +45,9 @@ pub fn dispatch<
     sink: K,
     notifiers: Vec<N>,
     rows: L,
-    setup: &Setup<'_, W, D, G>,
+    solver: &BatchSolver<'_, W, D, G>,
 ) -> Dispatched<K, N, L>
-    requires ready { IsReady setup.now.settings.now setup.now.network.now book }
+    requires ready { IsReady solver.now.settings.now solver.now.network.now book }
     requires empty { book.entries ≡ [] }
     requires small { book.first < 2 ^ 64 }
     requires first { L.last rows ≡ 0 }
@@ -57,8 +57,8 @@ pub fn dispatch<
           after = notifiers_seen N.told N.faults N.steady result.notifiers.items;
         }) in
         MatchResult result.ended
-        (λ _. RunsRows setup.now.settings.now setup.now.network.now book (L.to_come rows) sinks told)
-        (λ _. BeginsRows setup.now.settings.now setup.now.network.now book (L.to_come rows) sinks told) }
+        (λ _. RunsRows solver.now.settings.now solver.now.network.now book (L.to_come rows) sinks told)
+        (λ _. BeginsRows solver.now.settings.now solver.now.network.now book (L.to_come rows) sinks told) }
     ensures write_fault { IsErrOf result.ended LiveFault.WriteFault → Rose (K.faults sink) (K.faults result.sink) }
     ensures read_fault { IsErrOf result.ended LiveFault.ReadFault → Rose (L.faults rows) (L.faults result.rows) }
     ensures never_falls { K.faults sink ≤ K.faults result.sink }
@@ -71,11 +71,11 @@ pub fn dispatch<
         rows,
         line: Vec::new(alloc),
         round: None,
-        proof: setup.settings.proof,
+        proof: solver.settings.proof,
     };
     let mut held = None;
     for _ in 0..u64::MAX {
-        match run_next(rt, alloc, run, held, setup) {
+        match run_next(rt, alloc, run, held, solver) {
             Ok((next, row)) => {
                 run = next;
                 held = row;
@@ -100,27 +100,30 @@ fn run_next<
     rt: &(impl Threads + Wait + Sync),
     alloc: Global,
     run: LiveRun<K, N, L>,
-    held: Option<Line>,
-    setup: &Setup<'_, W, D, G>,
-) -> Result<(LiveRun<K, N, L>, Option<Line>), Dispatched<K, N, L>>
-    requires ready { IsReady setup.now.settings.now setup.now.network.now run.book }
-    requires awaits { Awaits (last_of run.round) (L.last run.rows) held × (run.proof ≡ setup.now.settings.now.proof) }
-    ensures awaits { IfOk result (λ r. Awaits (last_of r.0.round) (L.last r.0.rows) r.1 × (r.0.proof ≡ setup.now.settings.now.proof)) }
+    held: Option<ScriptRow>,
+    solver: &BatchSolver<'_, W, D, G>,
+) -> Result<(LiveRun<K, N, L>, Option<ScriptRow>), Dispatched<K, N, L>>
+    requires ready { IsReady solver.now.settings.now solver.now.network.now run.book }
+    requires awaits { Awaits (last_of run.round) (L.last run.rows) held × (run.proof ≡ solver.now.settings.now.proof) }
+    ensures awaits { IfOk result (λ r. Awaits (last_of r.0.round) (L.last r.0.rows) r.1 × (r.0.proof ≡ solver.now.settings.now.proof)) }
     ensures went { let was = moment run.book run.round (L.to_come run.rows) (L.faults run.rows) (outputs_seen K.written K.faults N.told N.faults N.steady run.sink run.notifiers.items) in
-        (start : Moment) → Stands setup.now.settings.now setup.now.network.now start was (HaveCome start was held) → MatchResult result
-        (λ r. let now = moment r.0.book r.0.round (L.to_come r.0.rows) (L.faults r.0.rows) (outputs_seen K.written K.faults N.told N.faults N.steady r.0.sink r.0.notifiers.items) in Stands setup.now.settings.now setup.now.network.now start now (HaveCome start now r.1))
-        (λ d. HasEnded setup.now.settings.now setup.now.network.now start (L.faults d.rows) (outputs_seen K.written K.faults N.told N.faults N.steady d.sink d.notifiers.items) d.ended) }
+        (start : Moment) → Stands solver.now.settings.now solver.now.network.now start was (HaveCome start was held) → MatchResult result
+        (λ r. let now = moment r.0.book r.0.round (L.to_come r.0.rows) (L.faults r.0.rows) (outputs_seen K.written K.faults N.told N.faults N.steady r.0.sink r.0.notifiers.items) in Stands solver.now.settings.now solver.now.network.now start now (HaveCome start now r.1))
+        (λ d. HasEnded solver.now.settings.now solver.now.network.now start (L.faults d.rows) (outputs_seen K.written K.faults N.told N.faults N.steady d.sink d.notifiers.items) d.ended) }
 {
     let mut run = run;
     match next_row(&mut run.rows, held) {
-        Ok(Some(row)) => run_one(rt, alloc, run, row, setup),
+        Ok(Some(row)) => run_one(rt, alloc, run, row, solver),
         Ok(None) => Err(end(alloc, run)),
         Err(fault) => Err(stop(run, fault_of_line(fault))),
     }
 }
 
 /// The row that is held, or the next that comes.
-fn next_row<L: RowSource>(rows: &mut L, held: Option<Line>) -> Result<Option<Line>, LineFault>
+fn next_row<L: RowSource>(
+    rows: &mut L,
+    held: Option<ScriptRow>,
+) -> Result<Option<ScriptRow>, LineFault>
     ensures row { IfOk result (GivesNext held (L.to_come rows.old) (L.to_come rows.new)) }
     ensures behind { (last : ℕ) → Awaits last (L.last rows.old) held → IfOk result (ComesBehind last (L.last rows.new)) }
     ensures fault { IsErrOf result LineFault.ReadFault → Rose (L.faults rows.old) (L.faults rows.new) }
@@ -144,16 +147,16 @@ fn run_one<
     rt: &(impl Threads + Wait + Sync),
     alloc: Global,
     run: LiveRun<K, N, L>,
-    row: Line,
-    setup: &Setup<'_, W, D, G>,
-) -> Result<(LiveRun<K, N, L>, Option<Line>), Dispatched<K, N, L>>
-    requires ready { IsReady setup.now.settings.now setup.now.network.now run.book }
-    requires behind { IsBehind (last_of run.round) row × (L.last run.rows ≡ row.round) × (run.proof ≡ setup.now.settings.now.proof) }
-    ensures awaits { IfOk result (λ r. Awaits (last_of r.0.round) (L.last r.0.rows) r.1 × (r.0.proof ≡ setup.now.settings.now.proof)) }
+    row: ScriptRow,
+    solver: &BatchSolver<'_, W, D, G>,
+) -> Result<(LiveRun<K, N, L>, Option<ScriptRow>), Dispatched<K, N, L>>
+    requires ready { IsReady solver.now.settings.now solver.now.network.now run.book }
+    requires behind { IsBehind (last_of run.round) row × (L.last run.rows ≡ row.round) × (run.proof ≡ solver.now.settings.now.proof) }
+    ensures awaits { IfOk result (λ r. Awaits (last_of r.0.round) (L.last r.0.rows) r.1 × (r.0.proof ≡ solver.now.settings.now.proof)) }
     ensures went { let was = moment run.book run.round (L.to_come run.rows) (L.faults run.rows) (outputs_seen K.written K.faults N.told N.faults N.steady run.sink run.notifiers.items) in
-        (start : Moment) → Stands setup.now.settings.now setup.now.network.now start was (HaveCome start was (Some row)) → MatchResult result
-        (λ r. let now = moment r.0.book r.0.round (L.to_come r.0.rows) (L.faults r.0.rows) (outputs_seen K.written K.faults N.told N.faults N.steady r.0.sink r.0.notifiers.items) in Stands setup.now.settings.now setup.now.network.now start now (HaveCome start now r.1))
-        (λ d. HasEnded setup.now.settings.now setup.now.network.now start (L.faults d.rows) (outputs_seen K.written K.faults N.told N.faults N.steady d.sink d.notifiers.items) d.ended) }
+        (start : Moment) → Stands solver.now.settings.now solver.now.network.now start was (HaveCome start was (Some row)) → MatchResult result
+        (λ r. let now = moment r.0.book r.0.round (L.to_come r.0.rows) (L.faults r.0.rows) (outputs_seen K.written K.faults N.told N.faults N.steady r.0.sink r.0.notifiers.items) in Stands solver.now.settings.now solver.now.network.now start now (HaveCome start now r.1))
+        (λ d. HasEnded solver.now.settings.now solver.now.network.now start (L.faults d.rows) (outputs_seen K.written K.faults N.told N.faults N.steady d.sink d.notifiers.items) d.ended) }
 {
     let mut run = run;
     let round = row.round;
@@ -170,7 +173,7 @@ fn run_one<
             Ok((run, None))
         }
         Ok(Some(snapshot)) => {
-            let answer = run_batch(rt, alloc, run, round, &snapshot, setup);
+            let answer = run_batch(rt, alloc, run, round, &snapshot, solver);
             drop(snapshot);
             answer
         }

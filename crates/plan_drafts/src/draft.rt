@@ -1,15 +1,15 @@
 //! A draft: the relaxation of all rows, plans made from it, and a tree where they leave a gap.
 use crate::Plan;
 use crate::allowance::Allowance;
-use crate::beside::Beside;
-use crate::branching::FEW_CONDITIONS;
 use crate::diving::dive;
 use crate::merge::{Merge, renumbered};
-use crate::plans::Plans;
-use crate::regrets::Regrets;
+use crate::plans::plans::Plans;
+use crate::plans::regrets::Regrets;
+use crate::plans::row_neighbours::RowNeighbours;
 use crate::relaxation::Relaxation;
 use crate::scout::{Scout, Start};
-use crate::tree::DraftTree;
+use crate::tree::branching::FEW_CONDITIONS;
+use crate::tree::tree::DraftTree;
 use pool_base::OutOfMemory;
 use row_tables::{Draft, Drafter, Made, RowTable, ascend, first_multipliers};
 use std::alloc::Global;
@@ -237,19 +237,27 @@ impl<'a> Drafting<'a> {
             let count = if self.is_near() { FEW_SCOUTS } else { SCOUTS };
             return self.scout(rt, None, 0..count);
         }
-        let mut beside = Beside::new(self.alloc);
-        let made = self.scout_often(rt, &mut beside);
-        drop(beside);
+        let mut neighbours = RowNeighbours::new(self.alloc);
+        let made = self.scout_often(rt, &mut neighbours);
+        drop(neighbours);
         made
     }
 
     /// Has many scouts look for plans, of whom most anneal, as long as a better plan is found each time.
-    fn scout_often<R: Threads + Sync>(&mut self, rt: &R, beside: &mut Beside) -> Made<()> {
-        beside.fill(self.regrets.table)?;
+    fn scout_often<R: Threads + Sync>(
+        &mut self,
+        rt: &R,
+        neighbours: &mut RowNeighbours,
+    ) -> Made<()> {
+        neighbours.fill(self.regrets.table)?;
         for time in 0..MOST_TIMES {
             let cost = self.tree.draft.cost;
             let first = MANY_SCOUTS.saturating_mul(time);
-            self.scout(rt, Some(beside), first..first.saturating_add(MANY_SCOUTS))?;
+            self.scout(
+                rt,
+                Some(neighbours),
+                first..first.saturating_add(MANY_SCOUTS),
+            )?;
             if self.tree.draft.cost >= cost {
                 break;
             }
@@ -261,7 +269,7 @@ impl<'a> Drafting<'a> {
     fn scout<R: Threads + Sync>(
         &mut self,
         rt: &R,
-        beside: Option<&Beside>,
+        neighbours: Option<&RowNeighbours>,
         numbers: Range<u64>,
     ) -> Made<()> {
         let share = self.tree.allowance.share(SCOUT_SHARE);
@@ -269,7 +277,7 @@ impl<'a> Drafting<'a> {
             regrets: &self.regrets,
             relaxation: &self.relaxation,
             tree: &self.tree,
-            beside,
+            neighbours,
             share,
         };
         let scouts = send_scouts(rt, self.alloc, start, numbers, self.workers)?;

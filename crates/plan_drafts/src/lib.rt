@@ -21,20 +21,14 @@
 //! Main clauses: none, only what safety needs.
 #![tactic(auto)]
 
+// Rooms, each names only those above it: relaxation, plans, tree.
+
 mod allowance;
-mod annealing;
-mod beside;
-mod branching;
-mod choices;
 mod costs;
 mod diving;
 mod draft;
 mod merge;
-mod neighbourhood;
-mod parter;
 mod plans;
-mod present;
-mod regrets;
 mod relaxation;
 mod scout;
 mod tree;

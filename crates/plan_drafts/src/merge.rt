@@ -1,5 +1,5 @@
 //! The rows that some plans choose, as a table of their own.
-use crate::regrets::Regrets;
+use crate::plans::regrets::Regrets;
 use crate::scout::Scout;
 use crate::{Plan, whole};
 use row_tables::fixed_point::{item, reset, set_at};

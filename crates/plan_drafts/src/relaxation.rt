@@ -4,6 +4,8 @@
 //! which a pass over all rows adds those that better the solution (column generation; Gilmore and Gomory,
 //! 1961). There is a condition for each rider, then one for each vehicle. Nothing is proved of how good a
 //! solution is: a leaf value judges any multipliers.
+//!
+//! Plans, the tree, the dive, the scouts and the draft call it. It names `allowance`.
 
 mod basis;
 mod decisions;

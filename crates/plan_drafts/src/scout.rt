@@ -1,13 +1,13 @@
 //! Plans that are sought side by side: each scout goes its own way from the best plan, and what it finds follows from
 //! its number alone.
 use crate::allowance::Allowance;
-use crate::annealing::anneal;
-use crate::beside::Beside;
 use crate::diving::dive;
-use crate::plans::Plans;
-use crate::regrets::Regrets;
+use crate::plans::annealing::anneal;
+use crate::plans::plans::Plans;
+use crate::plans::regrets::Regrets;
+use crate::plans::row_neighbours::RowNeighbours;
 use crate::relaxation::Relaxation;
-use crate::tree::DraftTree;
+use crate::tree::tree::DraftTree;
 use row_tables::Made;
 use std::alloc::Global;
 
@@ -27,7 +27,7 @@ pub struct Start<'a> {
     /// A tree with the best plan so far.
     pub tree: &'a DraftTree,
     /// What annealings need, where one rider more might be served.
-    pub beside: Option<&'a Beside>,
+    pub neighbours: Option<&'a RowNeighbours>,
     /// What work each may do.
     pub share: Allowance,
 }
@@ -61,10 +61,10 @@ impl Scout {
         self.left = start.share;
         let best = start.tree.draft.plan.as_slice();
         self.plans.adopt(start.regrets, best)?;
-        let plan = match start.beside {
-            Some(beside) if self.number % TURNS > 0 => {
+        let plan = match start.neighbours {
+            Some(neighbours) if self.number % TURNS > 0 => {
                 let left = &mut self.left;
-                Some(anneal(alloc, start.regrets, beside, best, self.number, left)?)
+                Some(anneal(alloc, start.regrets, neighbours, best, self.number, left)?)
             }
             _ => {
                 let (table, relaxation) = (start.regrets.table, &mut self.relaxation);

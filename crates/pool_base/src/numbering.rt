@@ -3,8 +3,8 @@ ghost use Rattle.std.specs.List.{IsDistinct, list_any};
 ghost use Rattle.pool_base.specs.Numbering.{with_name};
 
 use crate::memory::OutOfMemory;
+use indexmap::IndexMap;
 use std::alloc::Global;
-use std::collections::HashMap;
 use std::marker::Model;
 
 /// Names with numbers from 0 on, in the order of their first appearance.
@@ -12,31 +12,25 @@ use std::marker::Model;
 /// A name's number is looked up in a hash table. Names that are sure to need no memory are counted.
 #[derive(Drop)]
 pub struct Numbering {
-    names: Vec<u32>,
-    numbers: HashMap<u32, usize>,
-    spare: usize,
+    numbers: IndexMap<u32, ()>,
 }
 
 impl Model for Numbering {
+    ghost use Rattle.indexmap.specs.IndexMap.{keys, spare};
     ghost use Rattle.pool_base.specs.Numbering.{NumberingView};
-    ghost use Rattle.pool_base.specs.work.Numbering.{AreNumbered};
 
     ghost Value = { NumberingView };
 
-    ghost view = { λ n. record { names = n.names.items; spare = n.spare } };
-
-    ghost invariant = { λ n. AreNumbered n.names n.numbers n.spare };
+    ghost view = { λ n. record { names = keys n.numbers; spare = spare n.numbers } };
 }
 
 impl Numbering {
     /// A numbering without names.
     pub fn new(alloc: Global) -> Self
-        ensures { result ≡ record { names = []; spare = 0 } }
+        ensures { result.names ≡ [] }
     {
         Numbering {
-            names: Vec::new(alloc),
-            numbers: HashMap::new(alloc),
-            spare: 0,
+            numbers: IndexMap::new(alloc),
         }
     }
 
@@ -47,11 +41,7 @@ impl Numbering {
         ensures kept { self.old.spare ≤ self.new.spare }
         ensures sure { additional ≤ self.old.spare → IsOk result }
     {
-        if additional > self.spare {
-            self.names.reserve(additional)?;
-            self.numbers.reserve(additional)?;
-            self.spare = additional;
-        }
+        self.numbers.reserve(additional)?;
         Ok(())
     }
 
@@ -64,14 +54,7 @@ impl Numbering {
         ensures sure { 0 < self.old.spare → IsOk result }
         ensures room { self.old.spare ≤ self.new.spare + 1 }
     {
-        if let Some(number) = self.number_of(name) {
-            return Ok(number);
-        }
-        self.reserve(1)?;
-        let number = self.names.len();
-        let _ = self.numbers.insert(name, number);
-        self.names.push_reserved(name);
-        self.spare -= 1;
+        let (number, _) = self.numbers.insert_full(name, ())?;
         Ok(number)
     }
 
@@ -81,7 +64,7 @@ impl Numbering {
         ensures found { is_some result ≡ list_any (nat_eq name) self.now.names }
         ensures within { IfSome result (λ number. number < length self.now.names) }
     {
-        self.numbers.get(&name).copied()
+        self.numbers.get_index_of(&name)
     }
 
     /// How many names there are.
@@ -89,7 +72,7 @@ impl Numbering {
         ensures len { result ≡ length self.now.names }
         ensures distinct { IsDistinct nat_eq self.now.names }
     {
-        self.names.len()
+        self.numbers.len()
     }
 
     /// The names in the order of their numbers, each once.
@@ -97,6 +80,6 @@ impl Numbering {
         ensures names { result.now ≡ self.now.names }
         ensures distinct { IsDistinct nat_eq self.now.names }
     {
-        self.names.as_slice()
+        self.numbers.keys().as_slice()
     }
 }

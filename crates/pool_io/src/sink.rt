@@ -30,4 +30,11 @@ pub trait Sink {
         ensures bytes { WriteAppends (written self.old) (written self.new) result piece.now }
         ensures fault { IsErrOf result SinkFault.Failed → Rose (faults self.old) (faults self.new) }
         ensures never_falls { faults self.old ≤ faults self.new };
+
+    /// Hears that a text can't be written to its end, after a failed write or for want of memory. Nothing changes that
+    /// the sink tells.
+    fn stopped(&mut self)
+        ensures written { written self.new ≡ written self.old }
+        ensures faults { faults self.new ≡ faults self.old }
+    {}
 }

@@ -1,27 +1,2 @@
-pub mod CauseLemmas
-pub mod ClosingLemmas
 pub mod Common
-pub mod EntryLemmas
-pub mod FaultLemmas
-mod HeadFaults
-pub mod JournalLemmas
-pub mod LaneLemmas
-pub mod LawLemmas
-pub mod NextLemmas
-pub mod NumberedLemmas
-pub mod OneEnd
-pub mod OneFault
-pub mod OutcomeLemmas
-pub mod ReplyLemmas
-pub mod RoundLemmas
-pub mod ShapeLemmas
-pub mod TellingLemmas
-pub mod TextLemmas
-pub mod ToldLemmas
-pub mod WholeLemmas
 pub mod lemmas
-pub mod ListLemmas
-pub mod StopLemmas
-pub mod SignedLemmas
-pub mod OneLine
-pub mod EntryLineLemmas

@@ -22,10 +22,10 @@
 //! Callers:
 //!
 //! ```
-//! fn judge(text: &[u8], network: &Network) -> Told {
+//! fn judge(text: &[u8], network: &Network) -> ReadHead {
 //!     match read_head(text, 3, network, 2) {
-//!         Ok((settings, rest)) => Told::Head(settings.dwell, settings.workers, rest.len()),
-//!         Err(fault) => Told::Fault(fault),
+//!         Ok((settings, rest)) => ReadHead::Head(settings.dwell, settings.workers, rest.len()),
+//!         Err(fault) => ReadHead::Fault(fault),
 //!     }
 //! }
 //! ```
@@ -43,81 +43,54 @@
 //! }
 //! ```
 //!
-//! Main clauses: `audit`: `accepted`, `refused`, `fault`, `sound`, `only`; `audit_block`: `good`, `lines`, `only`, `none`,
-//! `fault`; the law `a_text_is_refused_in_one_way`; of lines `read_head`: `read`, `only`, `none`, `fault`; `read_block`;
-//! `read_next`; the laws `a_line_says_one_thing`, `a_text_begins_with_one_block` and `a_text_has_one_fault`; of outcomes
-//! `judge`: `points`, `good`; `shows_bound`, `is_close`, `is_fair` and `is_best_near`: of each its one clause;
-//! `a_batch_settles_in_one_way`; `a_batch_has_one_graph_of_each_kind`: `vehicles`, `riders`, `trips`;
-//! `a_batch_has_rows_or_too_many`.
+//! Main clauses: `audit`: `accepted`, `refused`, `fault`, `sound`, `only`; the laws `one_fault` and `no_fault`;
+//! `audit_block`: `good`, `lines`, `only`, `none`, `fault`; the law `a_text_is_refused_in_one_way`; of lines
+//! `read_head`: `read`, `only`, `none`, `fault`; `read_block`; `read_next`; the laws `a_line_says_one_thing`,
+//! `a_text_begins_with_one_block` and `a_text_has_one_block_fault`; of outcomes `judge`: `points`, `good`;
+//! `shows_bound`, `is_close`, `is_fair` and `is_best_near`: of each its one clause; `a_batch_settles_in_one_way`;
+//! `a_batch_has_one_graph_of_each_kind`: `vehicles`, `riders`, `trips`; `a_batch_has_rows_or_too_many`.
 #![tactic(auto)]
 
-mod best;
-mod block;
-mod block_line;
-mod block_lines;
-mod bound;
-mod choices;
-mod close;
-mod entry;
-mod fault;
-mod graphs;
-mod head;
-mod head_fault;
-mod judged;
-mod judging;
-mod late;
-mod laws;
-mod limit;
-mod line;
-mod line_laws;
-mod lists;
-mod moves;
-mod next;
-mod nodes;
-mod orders;
-mod plan;
-mod problem_laws;
-mod refusal;
-mod report;
-mod round;
-mod setup;
-mod telling;
-mod tight;
-mod told;
-mod trips;
-mod verdict;
-mod words;
+// Rooms, each names only those above it: lines, points, block, report.
 
-pub use best::is_best_near;
-pub use block::{AuditedBlock, audit_block};
-pub use block_line::{read_block_line, read_branch, read_move, read_rider, read_rr, read_rv};
-pub use block_lines::{BlockFault, read_block};
-pub use bound::shows_bound;
-pub use dispatch_report::{BlockLine, LateText, RowText, TripText};
-pub use fault::{AuditFault, Audited};
-pub use head::{SettingsText, read_head, read_settings, read_sizes};
-pub use head_fault::HeadFault;
-pub use judging::judge;
-pub use laws::{
+mod block;
+mod lines;
+mod points;
+mod report;
+
+pub use block::block::{AuditedBlock, audit_block};
+pub use block::laws::{
     a_good_block_is_not_refused, a_text_is_refused_in_one_way, long_orders_fail_by_the_late,
     long_rows_fail_by_the_graphs, long_trips_fail_by_the_trips, untold_lines_fail_by_the_bound,
 };
-pub use line_laws::{
+pub use block::refusal::BlockRefusal;
+pub use dispatch_report::{BlockLine, LateText, TripRowText, TripText};
+pub use lines::block_line::{
+    read_block_line, read_branch, read_move, read_rider, read_rr, read_rv,
+};
+pub use lines::block_lines::{BlockFault, read_block};
+pub use lines::head::{SettingsText, read_head, read_settings, read_sizes};
+pub use lines::head_fault::HeadFault;
+pub use lines::line_laws::{
     a_block_has_no_fault, a_line_is_of_one_kind, a_line_says_one_thing,
-    a_text_begins_with_one_block, a_text_has_one_fault, an_outcome_prints_a_block,
+    a_text_begins_with_one_block, a_text_has_one_block_fault, an_outcome_prints_a_block,
 };
-pub use lists::{read_late, read_leaf, read_row, read_trip};
-pub use next::{NextLine, read_next};
-pub use nodes::is_fair;
-pub use problem_laws::{
-    a_batch_has_one_graph_of_each_kind, a_batch_has_rows_or_too_many, a_batch_settles_in_one_way,
-    a_network_has_one_table, a_snapshot_has_one_list_of_points,
-};
-pub use refusal::BlockRefusal;
-pub use report::audit;
-pub use tight::is_close;
-pub use verdict::Verdict;
-pub use words::{
+pub use lines::lists::{read_late, read_leaf, read_row, read_trip};
+pub use lines::next::{NextLine, read_next};
+pub use lines::words::{
     is_words, line_first, number_first, numbered_first, pair_first, read_numbered, read_signed,
     words_first,
 };
+pub use points::best::is_best_near;
+pub use points::bound::shows_bound;
+pub use points::judging::judge;
+pub use points::nodes::is_fair;
+pub use points::problem_laws::{
+    a_batch_has_one_graph_of_each_kind, a_batch_has_rows_or_too_many, a_batch_settles_in_one_way,
+    a_network_has_one_table, a_snapshot_has_one_list_of_points,
+};
+pub use points::tight::is_close;
+pub use points::verdict::Verdict;
+pub use report::fault::{AuditFault, Audited};
+pub use report::laws::{no_fault, one_fault};
+pub use report::report::audit;

@@ -1,14 +1,7 @@
-pub mod KeyedLemmas
-pub mod RegisterLemmas
-pub mod StepLemmas
-pub mod IndexLemmas
-pub mod SealLemmas
-pub mod CloseLemmas
-pub mod BatchLemmas
+pub mod values
+pub mod register
+pub mod notices
 pub mod ConsistentLemmas
 pub mod NamedLemmas
 pub mod LawLemmas
-pub mod StepTable
 pub mod BookLemmas
-pub mod HeardLemmas
-pub mod KeptLemmas

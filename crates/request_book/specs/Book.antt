@@ -1,14 +1,14 @@
 use Rattle.std.specs.Prelude.{◌≡◌, ℕ, ◌+◌, ◌-◌, ◌^◌, Bool, true, false, List, [], ◌∷◌, ◌++◌, length, min, Option, None, Ok, Err}
-use Rattle.request_book.specs.Batch.{Batch}
-use Rattle.request_book.specs.declared.vehicle.Vehicle.{Vehicle}
-use Rattle.request_book.specs.declared.command.Command.{Command}
-use Rattle.request_book.specs.declared.command.Command.TheVariants.{Seal}
-use Rattle.request_book.specs.declared.journal.Entry.{Entry}
-use Rattle.request_book.specs.declared.reply.Reply.{Reply}
-use Rattle.request_book.specs.declared.state.State.{State}
+use Rattle.request_book.specs.values.Batch.{Batch}
+use Rattle.request_book.specs.declared.values.vehicle.Vehicle.{Vehicle}
+use Rattle.request_book.specs.declared.values.command.Command.{Command}
+use Rattle.request_book.specs.declared.values.command.Command.TheVariants.{Seal}
+use Rattle.request_book.specs.declared.values.journal.Entry.{Entry}
+use Rattle.request_book.specs.declared.values.reply.Reply.{Reply}
+use Rattle.request_book.specs.declared.values.state.State.{State}
 use Rattle.request_book.specs.Consistent.{IsConsistent, NamesNodes}
 use Rattle.request_book.specs.Replay.{state_after, RepliesAreSteps}
-use Rattle.request_book.specs.Step.{step, seal}
+use Rattle.request_book.specs.register.Step.{step, seal}
 
 -- what a book tells
 pub record BookView : Type 0 where

@@ -1,16 +1,16 @@
 use Rattle.std.specs.Prelude.{◌≡◌, ℕ, ◌≤◌, ◌==◌, true, List, length, Option, None, Some, option_and_then, if◌then◌else◌, is_some, option_map, count_by}
 use Rattle.std.specs.List.{All}
-use Rattle.request_book.specs.Batch.{Batch}
+use Rattle.request_book.specs.values.Batch.{Batch}
 use Rattle.request_book.specs.Points.{named_nodes}
-use Rattle.request_book.specs.Vehicle.{HasSeats}
-use Rattle.request_book.specs.declared.vehicle.Vehicle.{Vehicle}
-use Rattle.request_book.specs.declared.passenger.Passenger.{Passenger}
-use Rattle.request_book.specs.declared.rider.BookRider.{BookRider}
-use Rattle.request_book.specs.declared.rider.Status.{Status}
-use Rattle.request_book.specs.declared.state.State.{State}
-use Rattle.request_book.specs.Keyed.{KeysRise, KeysDiffer}
-use Rattle.request_book.specs.Rider.{vehicle_of, passenger_of, is_active}
-use Rattle.request_book.specs.State.{find_rider, find_vehicle, find_passenger}
+use Rattle.request_book.specs.values.Vehicle.{HasSeats}
+use Rattle.request_book.specs.declared.values.vehicle.Vehicle.{Vehicle}
+use Rattle.request_book.specs.declared.values.passenger.Passenger.{Passenger}
+use Rattle.request_book.specs.declared.values.rider.BookRider.{BookRider}
+use Rattle.request_book.specs.declared.values.rider.Status.{Status}
+use Rattle.request_book.specs.declared.values.state.State.{State}
+use Rattle.request_book.specs.values.Keyed.{KeysRise, KeysDiffer}
+use Rattle.request_book.specs.values.Rider.{vehicle_of, passenger_of, is_active}
+use Rattle.request_book.specs.values.State.{find_rider, find_vehicle, find_passenger}
 use Rattle.road_network.specs.Roads.{has_node}
 
 -- the rider as a passenger of this vehicle, if their status says so

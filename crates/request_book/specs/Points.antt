@@ -1,7 +1,7 @@
 use Rattle.std.specs.Prelude.{ℕ, List, ◌++◌, ◌∷◌, [], ◌↔◌}
 use Rattle.std.specs.List.{Contains, flat_map}
 use Rattle.std.specs.List.Sorted.{IsStrictlyIncreasing}
-use Rattle.request_book.specs.Batch.{Batch}
+use Rattle.request_book.specs.values.Batch.{Batch}
 
 -- the nodes that a snapshot names, as they come: each vehicle's, with its passengers' origins and destinations, then the riders'
 abbrev pub named_nodes : Batch → List ℕ

@@ -1,7 +1,7 @@
 use Rattle.std.specs.Prelude.{◌≡◌, ℕ, List, [], ◌∷◌}
-use Rattle.request_book.specs.declared.journal.Entry.{Entry}
-use Rattle.request_book.specs.declared.state.State.{State}
-use Rattle.request_book.specs.Step.{step}
+use Rattle.request_book.specs.declared.values.journal.Entry.{Entry}
+use Rattle.request_book.specs.declared.values.state.State.{State}
+use Rattle.request_book.specs.register.Step.{step}
 
 -- the state after the commands of these entries
 unfoldable pub state_after : List ℕ → ℕ → State → List Entry → State

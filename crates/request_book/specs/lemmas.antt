@@ -1,7 +1,3 @@
-pub mod Closing
-pub mod Keyed
-pub mod Named
-pub mod Refusals
-pub mod Table
+pub mod values
+pub mod register
 pub mod Points
-pub mod Kept

@@ -1,6 +1,3 @@
-pub mod Named
-pub mod Register
+pub mod values
+pub mod register
 pub mod Stored
-pub mod Closing
-pub mod Keyed
-pub mod Command

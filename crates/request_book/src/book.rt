@@ -1,17 +1,17 @@
 ghost use Rattle.std.specs.Prelude.{◌≡◌, ◌==◌, ◌+◌, ◌<◌, ◌≤◌, ◌++◌, ◌∷◌, [], All, option_map, IfOk, OnOk, OnErr, IsFalse, IsOk, IsTrue, vec_len, vec_capacity};
 ghost use Rattle.request_book.specs.Book.{opening, next_position, would_seal, IsApplied, IsBook, IsSameBook, is_light};
 ghost use Rattle.request_book.specs.Consistent.{IsConsistent, IsNode};
-ghost use Rattle.request_book.specs.State.{find_rider};
+ghost use Rattle.request_book.specs.values.State.{find_rider};
 
-use crate::command::Command;
-use crate::fleet::Fleet;
-use crate::journal::{Entry, Journal};
 use crate::register::Register;
-use crate::reply::Reply;
-use crate::rider::{BookRider, Status};
-use crate::snapshot::{Snapshot, copied_vehicles};
-use crate::state::State;
-use crate::vehicle::Vehicle;
+use crate::values::command::Command;
+use crate::values::fleet::Fleet;
+use crate::values::journal::{Entry, Journal};
+use crate::values::reply::Reply;
+use crate::values::rider::{BookRider, Status};
+use crate::values::snapshot::{Snapshot, copied_vehicles};
+use crate::values::state::State;
+use crate::values::vehicle::Vehicle;
 use pool_base::{Numbering, OutOfMemory, RiderId, Second, Sequence};
 use road_network::Network;
 use std::alloc::Global;
@@ -39,7 +39,7 @@ pub struct Book {
 impl Model for Book {
     ghost use Rattle.std.specs.Prelude.{vec_len, vec_capacity};
     ghost use Rattle.request_book.specs.Book.{BookView};
-    ghost use Rattle.request_book.specs.work.Register.{state_of};
+    ghost use Rattle.request_book.specs.work.register.Register.{state_of};
     ghost use Rattle.request_book.specs.work.Stored.{IsStored};
 
     ghost Value = { BookView };
@@ -209,6 +209,13 @@ impl Book {
         ensures { IfOk result (λ state. state ≡ self.now.state) }
     {
         self.register.state(self.alloc)
+    }
+
+    /// A law: what every book keeps.
+    pub fn keeps(&self)
+        ensures { IsBook self.now }
+    {
+        let _ = &self.entries;
     }
 
     /// The entries since the last `take_round`.

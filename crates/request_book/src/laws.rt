@@ -2,20 +2,20 @@
 
 ghost use Rattle.std.specs.Prelude.{◌≡◌, ◌++◌, ◌↔◌, ℕ, List, Some};
 ghost use Rattle.std.specs.List.{All};
-ghost use Rattle.request_book.specs.Kept.{IsFleet};
-ghost use Rattle.request_book.specs.Vehicle.{HasSeats};
-ghost use Rattle.request_book.specs.declared.vehicle.Vehicle.{Vehicle};
+ghost use Rattle.request_book.specs.values.Kept.{IsFleet};
+ghost use Rattle.request_book.specs.values.Vehicle.{HasSeats};
+ghost use Rattle.request_book.specs.declared.values.vehicle.Vehicle.{Vehicle};
 ghost use Rattle.request_book.specs.Book.{next_position, opening};
 ghost use Rattle.request_book.specs.Consistent.{IsConsistent, IsPassenger, status_in};
-ghost use Rattle.request_book.specs.Keyed.{KeysDiffer};
+ghost use Rattle.request_book.specs.values.Keyed.{KeysDiffer};
 ghost use Rattle.request_book.specs.Replay.{state_after};
-ghost use Rattle.request_book.specs.Step.{step};
-ghost use Rattle.request_book.specs.declared.command.Command.{Command};
-ghost use Rattle.request_book.specs.declared.journal.Entry.{Entry};
-ghost use Rattle.request_book.specs.declared.reply.BookRefusal.{BookRefusal};
-ghost use Rattle.request_book.specs.declared.reply.Reply.TheVariants.{Refused};
-ghost use Rattle.request_book.specs.declared.rider.Status.TheVariants.{Aboard};
-ghost use Rattle.request_book.specs.declared.state.State.{State};
+ghost use Rattle.request_book.specs.register.Step.{step};
+ghost use Rattle.request_book.specs.declared.values.command.Command.{Command};
+ghost use Rattle.request_book.specs.declared.values.journal.Entry.{Entry};
+ghost use Rattle.request_book.specs.declared.values.reply.BookRefusal.{BookRefusal};
+ghost use Rattle.request_book.specs.declared.values.reply.Reply.TheVariants.{Refused};
+ghost use Rattle.request_book.specs.declared.values.rider.Status.TheVariants.{Aboard};
+ghost use Rattle.request_book.specs.declared.values.state.State.{State};
 
 /// A refused command changes nothing.
 pub fn refused_commands_change_nothing()

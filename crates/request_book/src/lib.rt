@@ -41,55 +41,37 @@
 //! `Notifier::tell`: `told`, `fault`, `sure`; `Snapshot::points`: `points`, `most`; `Snapshot::copy`: `copy`, `kept`.
 #![tactic(auto)]
 
-mod batch_rider;
-mod book;
-mod closing;
-mod command;
-mod fleet;
-mod journal;
-mod laws;
-mod memory_notifier;
-mod notice;
-mod notifier;
-mod noting;
-mod outcome;
-mod passenger;
-mod points;
-mod promise;
-mod refusals;
-mod register;
-mod reply;
-mod rider;
-mod riding;
-mod running;
-mod sealing;
-mod snapshot;
-mod state;
-mod telling;
-mod vehicle;
+// Rooms, each names only those above it: values, register, notices.
 
-pub use batch_rider::Rider;
+mod book;
+mod laws;
+mod notices;
+mod points;
+mod register;
+mod values;
+
 pub use book::Book;
-pub use command::Command;
-pub use fleet::Fleet;
-pub use journal::{Entry, Journal};
 pub use laws::{
     passengers_are_who_is_aboard, positions_count_entries, refused_commands_change_nothing,
     riders_have_one_status, rounds_join, seats_always_suffice, states_are_consistent,
 };
-pub use memory_notifier::MemoryNotifier;
-pub use notice::Notice;
-pub use notifier::Notifier;
-pub use noting::{notices_of, notices_of_close};
-pub use outcome::{
-    Answer, ChosenTrip, LateVehicle, MoveLine, Outcome, Planned, PlannedStop, RowLine,
-};
-pub use passenger::Passenger;
+pub use notices::memory_notifier::MemoryNotifier;
+pub use notices::notice::Notice;
+pub use notices::notifier::Notifier;
+pub use notices::noting::{notices_of, notices_of_close};
+pub use notices::telling::{Told, tell_all, tell_journal};
 pub use points::Points;
-pub use promise::Promise;
-pub use reply::{BookRefusal, Reply};
-pub use rider::{BookRider, Status};
-pub use snapshot::{Snapshot, copied_vehicles};
-pub use state::State;
-pub use telling::{Told, tell_all, tell_journal};
-pub use vehicle::Vehicle;
+pub use values::batch_rider::Rider;
+pub use values::command::Command;
+pub use values::fleet::Fleet;
+pub use values::journal::{Entry, Journal};
+pub use values::outcome::{
+    Answer, ChosenTrip, LateVehicle, MoveLine, Outcome, Planned, PlannedStop, TripRowLine,
+};
+pub use values::passenger::Passenger;
+pub use values::promise::Promise;
+pub use values::reply::{BookRefusal, Reply};
+pub use values::rider::{BookRider, Status};
+pub use values::snapshot::{Snapshot, copied_vehicles};
+pub use values::state::State;
+pub use values::vehicle::Vehicle;

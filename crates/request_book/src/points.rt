@@ -4,9 +4,9 @@ ghost use Rattle.std.specs.List.Sorted.{IsStrictlyIncreasing};
 ghost use Rattle.request_book.specs.Points.{ArePoints, named_nodes};
 ghost use Rattle.request_book.specs.lemmas.Points.{vehicle_nodes, rider_nodes};
 
-use crate::batch_rider::Rider;
-use crate::snapshot::Snapshot;
-use crate::vehicle::Vehicle;
+use crate::values::batch_rider::Rider;
+use crate::values::snapshot::Snapshot;
+use crate::values::vehicle::Vehicle;
 use pool_base::{NodeId, OutOfMemory};
 use std::alloc::Global;
 use std::marker::Model;

@@ -1,13 +1,22 @@
+//! The riders and vehicles of a book, and what each command changes of them. `book` calls it, and so does the
+//! room `notices`. It names the room `values`.
+
+mod closing;
+mod refusals;
+mod riding;
+mod running;
+mod sealing;
+
 ghost use Rattle.std.specs.Prelude.{◌≡◌, ◌==◌, ℕ, ◌+◌, ◌++◌, ◌∷◌, [], ◌<◌, ◌≤◌, Some, None, false, slice_index_or, MatchOption, length, vec_len, vec_capacity, map, IsTrue, if◌then◌else◌};
 ghost use Rattle.std.specs.List.{list_any};
-ghost use Rattle.request_book.specs.Keyed.{look_up, changed_at, placed, KeysDiffer, KeysRise};
-ghost use Rattle.request_book.specs.lemmas.Keyed.{without};
-ghost use Rattle.request_book.specs.Rider.{is_active, with_status};
-ghost use Rattle.request_book.specs.State.{find_rider, find_vehicle};
+ghost use Rattle.request_book.specs.values.Keyed.{look_up, changed_at, placed, KeysDiffer, KeysRise};
+ghost use Rattle.request_book.specs.lemmas.values.Keyed.{without};
+ghost use Rattle.request_book.specs.values.Rider.{is_active, with_status};
+ghost use Rattle.request_book.specs.values.State.{find_rider, find_vehicle};
 
-use crate::rider::{BookRider, Status, is_active};
-use crate::snapshot::Snapshot;
-use crate::vehicle::Vehicle;
+use crate::values::rider::{BookRider, Status, is_active};
+use crate::values::snapshot::Snapshot;
+use crate::values::vehicle::Vehicle;
 use pool_base::{Numbering, RiderId, Second, VehicleId};
 
 /// The riders and vehicles of a book, with the numbers by which they are found.
@@ -27,8 +36,8 @@ pub(crate) struct Register {
 }
 
 impl Register {
-    ghost use Rattle.request_book.specs.work.Register.{state_of, IsIndexed, HasRoom};
-    ghost use Rattle.request_book.specs.lemmas.Named.{pool_count};
+    ghost use Rattle.request_book.specs.work.register.Register.{state_of, IsIndexed, HasRoom};
+    ghost use Rattle.request_book.specs.lemmas.register.Named.{pool_count};
 
     /// Where a rider stands among the riders.
     pub(crate) fn rider_at(&self, rider: RiderId) -> Option<usize>

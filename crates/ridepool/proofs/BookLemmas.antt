@@ -2,8 +2,8 @@
 use Rattle.std.proofs.Common.{◌≡◌, ℕ, ◌-◌, ◌^◌, ◌≤◌, List, [], ◌∷◌, sym, ap, ◌∙◌, arith, Bool, true, false, not, ◌==◌}
 use Rattle.ridepool.proofs.Common.{IsReady, position_after_run, BookView, next_position, opening, Inputs}
 use Rattle.std.proofs.lemmas.Bool.{eqb-true, false≢true}
-use Rattle.request_book.specs.Kept.{IsFleet}
-use Rattle.request_book.specs.declared.journal.Journal.{Journal}
+use Rattle.request_book.specs.values.Kept.{IsFleet}
+use Rattle.request_book.specs.declared.values.journal.Journal.{Journal}
 use Rattle.route_drive.specs.Driven.{IsNewBook}
 
 -- the book of a call before its first round

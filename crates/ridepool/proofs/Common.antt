@@ -4,18 +4,18 @@ pub use Rattle.std.proofs.lemmas.List.{length-map, map-append}
 pub use Rattle.std.proofs.lemmas.Result.{err_from_is_err_and}
 pub use Rattle.std.specs.Io.KnownBytes.{Appends}
 pub use Rattle.std.specs.List.{AllZip}
-pub use Rattle.request_book.specs.declared.vehicle.Vehicle.{Vehicle}
-pub use Rattle.dispatch_engine.specs.Run.{IsReady, IsRoundRun, IsRun, IsSameRun, journal_of, position_after_run, state_after_run}
+pub use Rattle.request_book.specs.declared.values.vehicle.Vehicle.{Vehicle}
+pub use Rattle.dispatch_engine.specs.lanes.Run.{IsReady, IsRoundRun, IsRun, IsSameRun, journal_of, position_after_run, state_after_run}
 pub use Rattle.pool_io.specs.Views.{Change, IsUntouched, SinkView, SourceView, source_seen}
 pub use Rattle.dispatch_report.specs.Written.{WritesText}
 pub use Rattle.dispatch_report.specs.declared.fault.ReportFault.{ReportFault}
-pub use Rattle.input_rows.specs.Lines.{Streamed, lines_in}
-pub use Rattle.input_rows.specs.Texts.{texts_of}
+pub use Rattle.input_rows.specs.live.Lines.{Streamed, lines_in}
+pub use Rattle.input_rows.specs.made.Texts.{texts_of}
 pub use Rattle.pool_base.specs.declared.which.Which.{Which}
 pub use Rattle.pool_io.specs.Faults.{Rose}
 pub use Rattle.pool_io.specs.Sink.{AppendsPart}
 pub use Rattle.pool_io.specs.declared.input.Input.{Input}
-pub use Rattle.report_audit.specs.declared.fault.Audited.{Audited}
+pub use Rattle.report_audit.specs.declared.report.fault.Audited.{Audited}
 pub use Rattle.request_book.specs.Book.{BookView, IsBook, next_position, opening}
 unfoldable pub use Rattle.ridepool.specs.Audit.{yes_text}
 pub use Rattle.ridepool.specs.Audit.{AnswersAudit, Confirms, EndsAudit, IsRightReport}
@@ -27,7 +27,7 @@ unfoldable pub use Rattle.ridepool.specs.Reading.{network_in, script_in, vehicle
 pub use Rattle.ridepool.specs.Reading.{IsFleetIn, first_version, in_rows, own_fault}
 pub use Rattle.ridepool.specs.Report.{AppendsWithPart, EndsText, IsCutShort, IsPart, IsWhole, RunsRounds, journals_of, rounds_notices}
 pub use Rattle.ridepool.specs.Run.{AnswersRun, RunsScript, RunsSome}
-pub use Rattle.ridepool.specs.Seen.{IsSilent, Seen, Sources, source_at}
+pub use Rattle.ridepool.specs.CallView.{IsSilent, CallView, Sources, source_at}
 pub use Rattle.ridepool.specs.Status.{HidesNoMemory}
 pub use Rattle.ridepool.specs.declared.inputs.ReadInputs.{ReadInputs}
 pub use Rattle.ridepool.specs.declared.status.RunStatus.{RunStatus}
@@ -42,11 +42,11 @@ pub use Rattle.rider_limits.specs.declared.load_shape.LoadShape.{LoadShape}
 pub use Rattle.rider_limits.specs.declared.settings.Mode.{Mode}
 pub use Rattle.rider_limits.specs.declared.settings.Mode.TheVariants.{Audit, Drive, Load, Run}
 pub use Rattle.rider_limits.specs.declared.settings.Settings.{Settings}
-pub use Rattle.request_book.specs.Notices.{notices}
-pub use Rattle.request_book.specs.Seen.{notifier_seen}
-pub use Rattle.request_book.specs.Told.{HaveHeard, NotifierView}
+pub use Rattle.request_book.specs.notices.Notices.{notices}
+pub use Rattle.request_book.specs.notices.Seen.{notifier_seen}
+pub use Rattle.request_book.specs.notices.Told.{HaveHeard, NotifierView}
 pub use Rattle.road_network.specs.Roads.{Roads}
 pub use Rattle.route_drive.specs.Day.{day_fault}
 pub use Rattle.route_drive.specs.declared.day.DayFault.{DayFault}
 pub use Rattle.route_drive.specs.declared.day_run.DayRound.{DayRound}
-pub use Rattle.input_rows.specs.Round.{NumberedLanes}
+pub use Rattle.input_rows.specs.script.Round.{NumberedLanes}

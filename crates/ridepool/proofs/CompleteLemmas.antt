@@ -1,6 +1,6 @@
 -- Where nothing is wrong, a call is done or out of memory, or a day comes too late.
 use Rattle.std.proofs.Common.{◌≡◌, ℕ, ◌<◌, List, Option, Some, None, Result, Ok, Err, length, refl, subst, inl, inr, ⊎_elim, arith, ◌⊎◌, IfSome}
-use Rattle.ridepool.proofs.Common.{Which, Settings, Roads, day_fault, DayRound, EndsAudit, IsRightReport, EndsDrive, Inputs, AreReadFrom, TellInputs, CameTo, HasNoWriteFault, Reads, IsSourceTooLong, IsStop, Tells, most_bytes, network_in, vehicles_in, script_in, EndsText, Change, SourceView, Sources, Seen, source_at, RunStatus, Done, Network, Fleet, Script, TooLong, ReadFault, OutOfMemory, TooLate, Report, IsNoReport}
+use Rattle.ridepool.proofs.Common.{Which, Settings, Roads, day_fault, DayRound, EndsAudit, IsRightReport, EndsDrive, Inputs, AreReadFrom, TellInputs, CameTo, HasNoWriteFault, Reads, IsSourceTooLong, IsStop, Tells, most_bytes, network_in, vehicles_in, script_in, EndsText, Change, SourceView, Sources, CallView, source_at, RunStatus, Done, Network, Fleet, Script, TooLong, ReadFault, OutOfMemory, TooLate, Report, IsNoReport}
 use Rattle.pool_base.specs.declared.which.Which.TheVariants as file
 
 -- what holds of the bytes that a source tells
@@ -47,7 +47,7 @@ stops s i _ told why = absurd why
 
 -- a call that writes a text is done or out of memory where no write fails
 module _ (settings : Settings) (roads : Roads) (added : DayRound → List ℕ) (head : List ℕ) (P : List DayRound → Type 0) (Q : List DayRound → List ℕ → Type 0) where
-  pub text_ends : (seen : Seen) (e : RunStatus) → HasNoWriteFault seen → EndsText settings roads added head P Q seen e → (e ≡ Done) ⊎ (e ≡ OutOfMemory)
+  pub text_ends : (seen : CallView) (e : RunStatus) → HasNoWriteFault seen → EndsText settings roads added head P Q seen e → (e ≡ Done) ⊎ (e ≡ OutOfMemory)
   text_ends seen _ whole (EndsText.written w) = inl refl
   text_ends seen _ whole (EndsText.failed rose short) = absurd (whole rose)
   text_ends seen _ whole (EndsText.unstored part) = inr refl
@@ -56,7 +56,7 @@ pub none_is_no_some : {A : Type 0} (o : Option A) (x : A) → o ≡ None → o �
 none_is_no_some o x none some = cc (none, some)
 
 -- so is a day, or it comes too late
-pub day_ends : (seen : Seen) (i j : Inputs) (e : RunStatus) → TellInputs seen.sources i → AreReadFrom seen.sources j → day_fault i.rounds ≡ None → HasNoWriteFault seen → EndsDrive j seen e
+pub day_ends : (seen : CallView) (i j : Inputs) (e : RunStatus) → TellInputs seen.sources i → AreReadFrom seen.sources j → day_fault i.rounds ≡ None → HasNoWriteFault seen → EndsDrive j seen e
     → (e ≡ Done) ⊎ (e ≡ OutOfMemory) ⊎ ((round : ℕ) × (e ≡ TooLate round))
 day_ends seen i j _ told read day whole (EndsDrive.driven e is_day ends) = ⊎_elim (λ done. inl done) (λ lacks. inr (inl lacks)) (text_ends _ _ _ _ _ _ seen e whole ends)
 day_ends seen i j _ told read day whole (EndsDrive.no_day fault why silent) =
@@ -66,7 +66,7 @@ day_ends seen i j _ told read day whole (EndsDrive.no_day fault why silent) =
 day_ends seen i j _ told read day whole (EndsDrive.too_late round made is_day late silent) = inr (inr (round, refl))
 
 -- and an audit, where its report is right
-pub audit_ends : (seen : Seen) (j : Inputs) (bytes : List ℕ) (e : RunStatus) → Tells file.Report seen.sources.report bytes → IsRightReport j bytes → HasNoWriteFault seen → EndsAudit j seen e
+pub audit_ends : (seen : CallView) (j : Inputs) (bytes : List ℕ) (e : RunStatus) → Tells file.Report seen.sources.report bytes → IsRightReport j bytes → HasNoWriteFault seen → EndsAudit j seen e
     → (e ≡ Done) ⊎ (e ≡ OutOfMemory)
 audit_ends seen j bytes _ tells right whole (EndsAudit.confirmed line) = inl refl
 audit_ends seen j bytes _ tells right whole (EndsAudit.failed line rose) = absurd (whole rose)

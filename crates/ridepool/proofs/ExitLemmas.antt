@@ -1,6 +1,6 @@
 -- How the parts of a call explain its end.
 use Rattle.std.proofs.Common.{◌≡◌, ℕ, List, Option, Some, Ok, Err, length, refl, sym, ap, subst, inl, inr, ⊎_elim, arith, ◌⊎◌, MatchOption}
-use Rattle.ridepool.proofs.Common.{texts_of, Which, AppendsPart, Audited, fault_of, LoadShape, Mode, Run, Load, Drive, Audit, Settings, DayFault, AnswersAudit, Confirms, EndsAudit, yes_text, AnswersDrive, EndsDrive, Inputs, AreGood, AreReadFrom, AreUntouched, CameTo, IsStop, IsWithin, Reads, StopsOrReads, AnswersLoad, AreTexts, EndsText, AnswersRun, RunsScript, RunsSome, Change, SinkView, IsUntouched, SourceView, Sources, Seen, IsSilent, source_at, ReadInputs, RunStatus, Done, Words, Network, Fleet, Script, TooLong, ReadFault, WriteFault, OutOfMemory, Day, TooLate, Report, IsSameSink, RefusesBytes, WritesYes, IsAuditFault, IsLimited, IsRunReport, HidesNoMemory, AreInputs, IsUnread, IsNoInput, IsReadAsNoDay, GotInputs, inputs_got, AreAllRoundsWith, AreFirstRounds, IsDayFor, IsReportFault, IsReportWhole, IsTextFault, IsWritingFault, added_by, added_text, first_text, head_of}
+use Rattle.ridepool.proofs.Common.{texts_of, Which, AppendsPart, Audited, fault_of, LoadShape, Mode, Run, Load, Drive, Audit, Settings, DayFault, AnswersAudit, Confirms, EndsAudit, yes_text, AnswersDrive, EndsDrive, Inputs, AreGood, AreReadFrom, AreUntouched, CameTo, IsStop, IsWithin, Reads, StopsOrReads, AnswersLoad, AreTexts, EndsText, AnswersRun, RunsScript, RunsSome, Change, SinkView, IsUntouched, SourceView, Sources, CallView, IsSilent, source_at, ReadInputs, RunStatus, Done, Words, Network, Fleet, Script, TooLong, ReadFault, WriteFault, OutOfMemory, Day, TooLate, Report, IsSameSink, RefusesBytes, WritesYes, IsAuditFault, IsLimited, IsRunReport, HidesNoMemory, AreInputs, IsUnread, IsNoInput, IsReadAsNoDay, GotInputs, inputs_got, AreAllRoundsWith, AreFirstRounds, IsDayFor, IsReportFault, IsReportWhole, IsTextFault, IsWritingFault, added_by, added_text, first_text, head_of}
 use Rattle.dispatch_report.specs.Head.{head_text}
 use Rattle.dispatch_report.specs.Round.{round_text}
 use Rattle.dispatch_report.specs.Summary.{load_text, summary_text}
@@ -73,7 +73,7 @@ untouched_report : (s : Sources) (e : RunStatus) → IsUntouched s.report → Is
 untouched_report s e report = inl (untouched_within file.Report s.report report)
 
 -- what a call answers, by its command
-run_answers : (settings : Settings) (seen : Seen) (e : RunStatus) → StopsOrReads settings seen e (λ i. IsUntouched seen.sources.report × EndsText i.settings i.roads (λ r. round_text r.number i.settings.proof r.journal) (head_text i.settings i.roads (length i.vehicles)) (RunsSome i) (RunsScript i) seen e)
+run_answers : (settings : Settings) (seen : CallView) (e : RunStatus) → StopsOrReads settings seen e (λ i. IsUntouched seen.sources.report × EndsText i.settings i.roads (λ r. round_text r.number i.settings.proof r.journal) (head_text i.settings i.roads (length i.vehicles)) (RunsSome i) (RunsScript i) seen e)
     → AnswersRun settings seen e
 run_answers settings seen e why =
     record {
@@ -81,7 +81,7 @@ run_answers settings seen e why =
       complete = λ i told whole. ⊎_elim (λ stop. inr (stops seen.sources i e told stop.0)) (λ r. text_ends _ _ _ _ _ _ seen e whole r.3.1) why;
     }
 
-drive_answers : (settings : Settings) (seen : Seen) (e : RunStatus) → StopsOrReads settings seen e (λ i. IsUntouched seen.sources.report × EndsDrive i seen e) → AnswersDrive settings seen e
+drive_answers : (settings : Settings) (seen : CallView) (e : RunStatus) → StopsOrReads settings seen e (λ i. IsUntouched seen.sources.report × EndsDrive i seen e) → AnswersDrive settings seen e
 drive_answers settings seen e why =
     record {
       explained = why;
@@ -89,7 +89,7 @@ drive_answers settings seen e why =
           ⊎_elim (λ stop. inr (inl (stops seen.sources i e told stop.0))) (λ r. day_ends seen i r.0 e told r.2 day whole r.3.1) why;
     }
 
-audit_answers : (settings : Settings) (seen : Seen) (e : RunStatus) → StopsOrReads settings seen e (λ i. EndsAudit i seen e) → AnswersAudit settings seen e
+audit_answers : (settings : Settings) (seen : CallView) (e : RunStatus) → StopsOrReads settings seen e (λ i. EndsAudit i seen e) → AnswersAudit settings seen e
 audit_answers settings seen e why =
     record {
       explained = why;
@@ -97,18 +97,18 @@ audit_answers settings seen e why =
           ⊎_elim (λ stop. inr (stops seen.sources i e told stop.0)) (λ r. audit_ends seen r.0 bytes e tells (right r.0 r.1 r.2) whole r.3) why;
     }
 
-load_answers : (shape : LoadShape) (settings : Settings) (seen : Seen) (e : RunStatus) → AreUntouched seen.sources
+load_answers : (shape : LoadShape) (settings : Settings) (seen : CallView) (e : RunStatus) → AreUntouched seen.sources
     → ((e ≡ OutOfMemory) × IsSilent seen) ⊎ ((i : Inputs) × (i.settings ≡ settings) × AreTexts (texts_of shape) i
     × EndsText i.settings i.roads (λ r. summary_text r.journal) (load_text shape) (RunsSome i) (RunsScript i) seen e) → AnswersLoad shape settings seen e
 load_answers shape settings seen e untouched why =
     record { untouched = untouched; explained = why; complete = λ whole. ⊎_elim (λ lacks. inr lacks.0) (λ r. text_ends _ _ _ _ _ _ seen e whole r.3) why }
 
 -- what a call's answer says, by its words
-abbrev AnswersWords : Seen → RunStatus → Option WordFault → Type 0
+abbrev AnswersWords : CallView → RunStatus → Option WordFault → Type 0
 AnswersWords seen e fault =
     MatchOption fault ((settings : Settings) × AreGiven seen.words settings × AnswersAs settings.mode settings seen e) (λ f. (e ≡ Words f) × AreUntouched seen.sources × IsSilent seen)
 
-answer : (seen : Seen) (e : RunStatus) → AnswersWords seen e (fault_of seen.words) → HidesNoMemory e → IsLimited seen.sources e → Answers seen e
+answer : (seen : CallView) (e : RunStatus) → AnswersWords seen e (fault_of seen.words) → HidesNoMemory e → IsLimited seen.sources e → Answers seen e
 answer seen e answered hides limited =
     record {
       answered = answered;
@@ -116,21 +116,21 @@ answer seen e answered hides limited =
       refused = hides;
     }
 
-good_answer : (seen : Seen) (settings : Settings) (e : RunStatus) → AreGood seen.words settings → AnswersAs settings.mode settings seen e → HidesNoMemory e → IsLimited seen.sources e → Answers seen e
+good_answer : (seen : CallView) (settings : Settings) (e : RunStatus) → AreGood seen.words settings → AnswersAs settings.mode settings seen e → HidesNoMemory e → IsLimited seen.sources e → Answers seen e
 good_answer seen settings e good answers hides limited = answer seen e (subst (AnswersWords seen e) (sym good.faultless) (settings, good.given, answers)) hides limited
 
 -- words that are refused
-pub words_answer : (seen : Seen) (fault : WordFault) → fault_of seen.words ≡ Some fault → AreUntouched seen.sources → IsSilent seen → Answers seen (Words fault)
+pub words_answer : (seen : CallView) (fault : WordFault) → fault_of seen.words ≡ Some fault → AreUntouched seen.sources → IsSilent seen → Answers seen (Words fault)
 words_answer seen fault why sources out =
     answer seen (Words fault) (subst (AnswersWords seen (Words fault)) (sym why) (refl, sources, out)) tt (λ w. inl (all_within seen.sources sources w))
 
 -- inputs that aren't there
-no_day : (seen : Seen) (settings : Settings) (fault : DayFault) → IsReadAsNoDay seen.sources fault → IsUntouched seen.sources.report → IsSilent seen → AnswersDrive settings seen (Day fault)
+no_day : (seen : CallView) (settings : Settings) (fault : DayFault) → IsReadAsNoDay seen.sources fault → IsUntouched seen.sources.report → IsSilent seen → AnswersDrive settings seen (Day fault)
 no_day seen settings fault (i, read, refused) report out =
     drive_answers settings seen (Day fault)
     (inr (record { settings = settings; roads = i.roads; vehicles = i.vehicles; rounds = i.rounds }, refl, record { network = read.network; fleet = read.fleet; script = read.script }, (report, EndsDrive.no_day fault refused out)))
 
-no_input : (seen : Seen) (settings : Settings) (e : RunStatus) (m : Mode) → IsNoInput m seen.sources e → IsUntouched seen.sources.report → IsSilent seen → AnswersAs m settings seen e
+no_input : (seen : CallView) (settings : Settings) (e : RunStatus) (m : Mode) → IsNoInput m seen.sources e → IsUntouched seen.sources.report → IsSilent seen → AnswersAs m settings seen e
 no_input seen settings e Run why report out = run_answers settings seen e (inl (why, out))
 no_input seen settings e Audit why report out = audit_answers settings seen e (inl (why, out))
 no_input seen settings e Drive (inl why) report out = drive_answers settings seen e (inl (why, out))
@@ -143,7 +143,7 @@ no_input_limited s e Drive (inr (fault, is, (i, read, refused))) report = λ w. 
 no_input_limited s e (Load shape) (untouched, is) report = λ w. inl (all_within s untouched w)
 no_input_limited s e _ why report = stop_limited s e why
 
-pub input_answer : (seen : Seen) (settings : Settings) (e : RunStatus) → AreGood seen.words settings → GotInputs settings seen.sources (Err e) → IsUntouched seen.sources.report → IsSilent seen → Answers seen e
+pub input_answer : (seen : CallView) (settings : Settings) (e : RunStatus) → AreGood seen.words settings → GotInputs settings seen.sources (Err e) → IsUntouched seen.sources.report → IsSilent seen → Answers seen e
 input_answer seen settings e good got report out =
     good_answer seen settings e good (no_input seen settings e settings.mode got.inputs report out) got.refused (no_input_limited seen.sources e settings.mode got.inputs report)
 
@@ -152,14 +152,14 @@ same_sink : (c : Change SinkView) → c.after.written ≡ c.before.written → c
 same_sink c bytes faults = grind (arith, bytes, faults)
 
 -- a text that is written, or a beginning of it
-text_answers : (m : Mode) (seen : Seen) (i : Inputs) (e : RunStatus) → (m ≡ Audit → ⊥) → AreInputs m seen.sources i → IsUntouched seen.sources.report
+text_answers : (m : Mode) (seen : CallView) (i : Inputs) (e : RunStatus) → (m ≡ Audit → ⊥) → AreInputs m seen.sources i → IsUntouched seen.sources.report
     → EndsText i.settings i.roads (added_text m i.settings.proof) (first_text m i.settings i.roads (length i.vehicles)) (AreFirstRounds m i) (AreAllRoundsWith m i) seen e → AnswersAs m i.settings seen e
 text_answers Run seen i e prints inputs report ends = run_answers i.settings seen e (inr (i, refl, inputs.0, (report, ends)))
 text_answers Drive seen i e prints inputs report ends = drive_answers i.settings seen e (inr (i, refl, inputs.0, (report, EndsDrive.driven e inputs.1 ends)))
 text_answers (Load shape) seen i e prints inputs report ends = load_answers shape i.settings seen e inputs.1 (inr (i, refl, inputs.0, ends))
 text_answers Audit seen i e prints inputs report ends = absurd (prints refl)
 
-module _ (seen : Seen) (settings : Settings) (got : ReadInputs) (good : AreGood seen.words settings) (inputs : GotInputs settings seen.sources (Ok got))
+module _ (seen : CallView) (settings : Settings) (got : ReadInputs) (good : AreGood seen.words settings) (inputs : GotInputs settings seen.sources (Ok got))
     (prints : settings.mode ≡ Audit → ⊥) (report : IsUntouched seen.sources.report) where
   abbrev pub i : Inputs
   i = inputs_got settings got
@@ -194,7 +194,7 @@ read_without : (m : Mode) (s : Sources) (i : Inputs) → m ≡ Audit → AreInpu
 read_without (Load shape) s i is inputs = absurd (let e : Load shape ≡ Audit = is in cc)
 read_without _ s i is inputs = record { network = inputs.0.network; fleet = inputs.0.fleet; script = inputs.0.script }
 
-module _ (seen : Seen) (settings : Settings) (got : ReadInputs) (good : AreGood seen.words settings) (is : settings.mode ≡ Audit)
+module _ (seen : CallView) (settings : Settings) (got : ReadInputs) (good : AreGood seen.words settings) (is : settings.mode ≡ Audit)
     (inputs : GotInputs settings (without_report seen.sources) (Ok got)) (told : IsUntouched seen.notifiers) where
   read : AreReadFrom seen.sources (inputs_got settings got)
   read = read_without settings.mode seen.sources (inputs_got settings got) is inputs.inputs

@@ -1,7 +1,7 @@
 -- Rounds of a day that are held.
 use Rattle.std.proofs.Common.{◌≡◌, ℕ, zero, suc, ◌<◌, Bool, true, false, List, [], ◌∷◌, ◌++◌, length, get_or, refl, sym, subst, arith}
 use Rattle.ridepool.proofs.Common.{AllZip, NotifierView, HaveHeard}
-use Rattle.request_book.specs.declared.notice.Notice.{Notice}
+use Rattle.request_book.specs.declared.notices.notice.Notice.{Notice}
 
 module _ {X Y : Type 0} (R : X → Y → Type 0) where
   -- two lists that go together do so at each place

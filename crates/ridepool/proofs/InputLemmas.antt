@@ -1,8 +1,8 @@
 -- What is said of the inputs of a call, from what the readers say of sources and of made texts.
 use Rattle.std.proofs.Common.{◌≡◌, ℕ, List, Some, None, Result, Ok, Err, refl, sym, ap, subst, ◌∙◌, inl, inr, IfOk, IfErr}
 use Rattle.ridepool.proofs.Common.{Vehicle, texts_of, Which, Input, LoadShape, Run, Load, Drive, Audit, Settings, Roads, day_fault, DayFault, NumberedLanes, HidesNoMemory, AreUntouched, CameTo, IsStop, AreTexts, own_fault, in_rows, first_version, network_in, vehicles_in, IsFleetIn, script_in, Change, SourceView, Sources, source_at, ReadInputs, RunStatus, Network, Fleet, Script, OutOfMemory, Day, AreInputs, IsUnread, StopsAt, ReadSources, IsNoInput, GotInputs, inputs_got}
-use Rattle.input_rows.specs.Fleet.{vehicles_of}
-use Rattle.input_rows.specs.Accepted.{IsNetworkText, IsFleetText, IsScriptText, AreRead as TextsAreRead}
+use Rattle.input_rows.specs.fleet.Fleet.{vehicles_of}
+use Rattle.input_rows.specs.made.Accepted.{IsNetworkText, IsFleetText, IsScriptText, AreRead as TextsAreRead}
 use Rattle.road_network.specs.Reading.{network_of}
 use Rattle.pool_base.specs.declared.which.Which.TheVariants as file
 

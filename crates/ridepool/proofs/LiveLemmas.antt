@@ -4,17 +4,17 @@ use Rattle.ridepool.proofs.Common.{Appends, IsReady, Change, SinkView, WritesTex
 use Rattle.std.specs.Result.{IsErrOf}
 use Rattle.live_dispatch.specs.Live.{BeginsRows, RunsRows}
 use Rattle.live_dispatch.specs.declared.fault.LiveFault.{LiveFault}
-use Rattle.input_rows.specs.Rows.{rows_to_come}
-use Rattle.input_rows.specs.Start.{live_rows, HasOtherStart, HasStarted}
-use Rattle.input_rows.specs.declared.start.StartFault.{StartFault}
-use Rattle.input_rows.specs.declared.line.Line.{Line}
-use Rattle.input_rows.specs.declared.version.ScriptVersion.{ScriptVersion}
+use Rattle.input_rows.specs.live.Rows.{rows_to_come}
+use Rattle.input_rows.specs.live.Start.{live_rows, HasOtherStart, HasStarted}
+use Rattle.input_rows.specs.declared.live.start.StartFault.{StartFault}
+use Rattle.input_rows.specs.declared.script.script_row.ScriptRow.{ScriptRow}
+use Rattle.input_rows.specs.declared.script.version.ScriptVersion.{ScriptVersion}
 use Rattle.ridepool.proofs.ReadingLemmas.{reads_within}
 use Rattle.ridepool.proofs.CompleteLemmas.{none_is_no_some, not_long, ok_is_no_err, read_of, same_value}
 use Rattle.ridepool.specs.work.Live.{live_seen, RefusesWords, status_of_end, status_of_start}
 use Rattle.dispatch_report.specs.declared.fault.ReportFault.TheVariants as report
 use Rattle.live_dispatch.specs.declared.fault.LiveFault.TheVariants as live
-use Rattle.input_rows.specs.declared.start.StartFault.TheVariants as start
+use Rattle.input_rows.specs.declared.live.start.StartFault.TheVariants as start
 use Rattle.pool_base.specs.declared.which.Which.TheVariants as file
 
 -- a script with a header has rows
@@ -48,7 +48,7 @@ module _ (i : LiveInputs) (seen : LiveSeen) (version : ScriptVersion) (next : Op
   abbrev Rest : Change SinkView
   Rest = record { before = behind; after = seen.out.after }
 
-  head : {P : Option (List Line) → Change SinkView → Type 0} → HasStarted seen.script next version → Appends seen.out.before.written behind.written (live_head i)
+  head : {P : Option (List ScriptRow) → Change SinkView → Type 0} → HasStarted seen.script next version → Appends seen.out.before.written behind.written (live_head i)
       → P (rows_to_come version 0 next) Rest → HasHead i seen P
   head started wrote holds = record { rows = rows_to_come version 0 next; of_script = rows-of version seen.script next started; behind = behind; head = wrote; holds = holds }
 
@@ -106,7 +106,7 @@ no-stop call _ f (IsLiveStop.fleet_refused fault why) =
 no-stop call _ f (IsLiveStop.fleet_long why) = not_long file.Fleet call.fleet f.fleet_text f.fleet why.2
 no-stop call _ f (IsLiveStop.fleet_unread why) = f.fleet.faultless why.2.1
 
-has-header : (script : Option (List ℕ)) (text : List ℕ) (rows : List Line) (fields : ℕ) → script ≡ Some text → live_rows (lines_in text) ≡ Ok rows → HasOtherStart script fields → ⊥
+has-header : (script : Option (List ℕ)) (text : List ℕ) (rows : List ScriptRow) (fields : ℕ) → script ≡ Some text → live_rows (lines_in text) ≡ Ok rows → HasOtherStart script fields → ⊥
 has-header script text rows fields told header other =
     let P : Option (List ℕ) → Type 0 = λ s. HasOtherStart s fields in ok_is_no_err (live_rows (lines_in text)) rows fields header (subst P told other)
 
@@ -166,6 +166,6 @@ pub rows-ended : (i : LiveInputs) (script next came : Option (List ℕ)) (versio
 rows-ended i script next came version known last book before behind after r0 r1 r2 r3 n m ended status named is started came_is known_is last_is wrote falls reads_fall runs write_fault read_fault same =
     let seen : LiveSeen = live_seen script r0 r3 (record { before = before; after = after }) n m in
     let rows : rows_to_come known last came ≡ rows_to_come version 0 next = (λ k. rows_to_come (known_is k) (last_is k) (came_is k)) in
-    let P : Option (List Line) → Type 0 = λ r. MatchResult ended (λ _. RunsRows i.settings i.roads book r (record { before = behind; after = after }) (record { before = n; after = m }))
+    let P : Option (List ScriptRow) → Type 0 = λ r. MatchResult ended (λ _. RunsRows i.settings i.roads book r (record { before = behind; after = after }) (record { before = n; after = m }))
     (λ _. BeginsRows i.settings i.roads book r (record { before = behind; after = after }) (record { before = n; after = m })) in
     rows-end i seen version next book behind r2 ended status named is started wrote falls (omega (arith, reads_fall, same)) (subst P rows runs) write_fault read_fault

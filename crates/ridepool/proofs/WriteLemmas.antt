@@ -6,18 +6,18 @@ use Rattle.std.specs.List.{flat_map}
 use Rattle.std.proofs.lemmas.Grind.{flat_map-append}
 use Rattle.std.proofs.lemmas.List.{take-append-drop, length-append}
 use Rattle.std.proofs.Math.Seq.{take-length}
-use Rattle.dispatch_engine.proofs.lemmas.RunLemmas.{position-more, run-more, state-more, take_next}
+use Rattle.dispatch_engine.proofs.lemmas.lanes.RunLemmas.{position-more, run-more, state-more, take_next}
 use Rattle.dispatch_report.specs.Head.{head_text}
 use Rattle.dispatch_report.specs.Lines.{lines_text}
 use Rattle.dispatch_report.specs.Round.{end_text}
 use Rattle.dispatch_report.specs.Summary.{load_text}
 use Rattle.request_book.specs.Replay.{state_after}
-use Rattle.request_book.specs.declared.journal.Journal.{Journal}
+use Rattle.request_book.specs.declared.values.journal.Journal.{Journal}
 use Rattle.dispatch_report.specs.declared.day.DayCounts.{DayCounts}
 use Rattle.route_drive.specs.Driven.{IsLateAnswer, IsTooLateDay}
 use Rattle.route_drive.specs.Promises.{IsKeptDay, IsRunOfDay}
 use Rattle.route_drive.specs.declared.day_run.DriveFault.{DriveFault}
-use Rattle.request_book.proofs.lemmas.HeardLemmas.{all-heard-nothing, all-heard-more}
+use Rattle.request_book.proofs.lemmas.notices.HeardLemmas.{all-heard-nothing, all-heard-more}
 use Rattle.dispatch_report.specs.declared.fault.ReportFault.TheVariants as report
 use Rattle.route_drive.specs.declared.day_run.DriveFault.TheVariants as drive
 

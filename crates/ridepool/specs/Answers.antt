@@ -11,20 +11,20 @@ use Rattle.ridepool.specs.Drive.{AnswersDrive}
 use Rattle.ridepool.specs.Inputs.{AreUntouched, IsWithin}
 use Rattle.ridepool.specs.Load.{AnswersLoad}
 use Rattle.ridepool.specs.Run.{AnswersRun}
-use Rattle.ridepool.specs.Seen.{IsSilent, Seen, source_at}
+use Rattle.ridepool.specs.CallView.{IsSilent, CallView, source_at}
 use Rattle.ridepool.specs.Status.{HidesNoMemory}
 use Rattle.ridepool.specs.declared.status.RunStatus.{RunStatus}
 use Rattle.ridepool.specs.declared.status.RunStatus.TheVariants.{Words, TooLong}
 
 -- what a call of this command answers
-abbrev pub AnswersAs : Mode → Settings → Seen → RunStatus → Type 0
+abbrev pub AnswersAs : Mode → Settings → CallView → RunStatus → Type 0
 AnswersAs Run = AnswersRun
 AnswersAs Drive = AnswersDrive
 AnswersAs (Load shape) = AnswersLoad shape
 AnswersAs Audit = AnswersAudit
 
 -- what a call's answer says
-pub record Answers (seen : Seen) (status : RunStatus) : Type 0 where
+pub record Answers (seen : CallView) (status : RunStatus) : Type 0 where
   -- the words give settings, and the answer is one of their command; or they are refused, and nothing was done
   pub answered : MatchOption (fault_of seen.words)
       ((settings : Settings) × AreGiven seen.words settings × AnswersAs settings.mode settings seen status)

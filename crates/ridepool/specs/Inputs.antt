@@ -1,7 +1,7 @@
 -- Where the inputs of a call come from, and where a call can stop at them.
 use Rattle.std.specs.Prelude.{◌≡◌, ℕ, ◌+◌, ◌<◌, ◌≤◌, List, None, Some, length, Ok, Err, IfSome, ◌⊎◌}
 use Rattle.std.specs.Io.KnownBytes.{IsAtEnd}
-use Rattle.request_book.specs.declared.vehicle.Vehicle.{Vehicle}
+use Rattle.request_book.specs.declared.values.vehicle.Vehicle.{Vehicle}
 use Rattle.pool_base.specs.declared.which.Which.{Which}
 use Rattle.pool_base.specs.declared.which.Which.TheVariants as file
 use Rattle.pool_io.specs.Faults.{Rose}
@@ -9,10 +9,10 @@ use Rattle.rider_limits.specs.Settings.{AreGiven}
 use Rattle.rider_limits.specs.Words.{fault_of}
 use Rattle.rider_limits.specs.declared.settings.Settings.{Settings}
 use Rattle.road_network.specs.Roads.{Roads}
-use Rattle.input_rows.specs.Round.{NumberedLanes}
+use Rattle.input_rows.specs.script.Round.{NumberedLanes}
 use Rattle.ridepool.specs.Reading.{network_in, vehicles_in, IsFleetIn, script_in}
 use Rattle.pool_io.specs.Views.{Change, IsUntouched, SourceView}
-use Rattle.ridepool.specs.Seen.{IsSilent, Seen, Sources, source_at}
+use Rattle.ridepool.specs.CallView.{IsSilent, CallView, Sources, source_at}
 use Rattle.ridepool.specs.declared.status.RunStatus.{RunStatus}
 use Rattle.ridepool.specs.declared.status.RunStatus.TheVariants.{Network, Fleet, Script, TooLong, ReadFault, OutOfMemory}
 
@@ -85,7 +85,7 @@ IsStop s _ = ⊥
 
 -- a call with these settings stopped at its sources, with nothing written and nobody told; or they were read as inputs of which
 -- this holds
-abbrev pub StopsOrReads : Settings → Seen → RunStatus → (Inputs → Type 0) → Type 0
+abbrev pub StopsOrReads : Settings → CallView → RunStatus → (Inputs → Type 0) → Type 0
 StopsOrReads settings seen status Holds =
     (IsStop seen.sources status × IsSilent seen) ⊎ ((i : Inputs) × (i.settings ≡ settings) × AreReadFrom seen.sources i × Holds i)
 
@@ -108,5 +108,5 @@ pub record TellInputs (s : Sources) (i : Inputs) : Type 0 where
   pub rounds : script_in script_text ≡ Ok i.rounds
 
 -- no write of the call fails
-abbrev pub HasNoWriteFault : Seen → Type 0
+abbrev pub HasNoWriteFault : CallView → Type 0
 HasNoWriteFault seen = Rose seen.out.before.faults seen.out.after.faults → ⊥

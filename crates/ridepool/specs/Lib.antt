@@ -1,4 +1,4 @@
-pub mod Seen
+pub mod CallView
 pub mod Reading
 pub mod Inputs
 pub mod Report

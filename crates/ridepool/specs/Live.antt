@@ -1,13 +1,13 @@
 -- A call of `live`: what is seen of it, how it ends, and what stands then.
 use Rattle.std.specs.Prelude.{◌≡◌, ℕ, List, [], ◌∷◌, ◌++◌, Option, Some, None, Ok, Err, codes, is_none, length, if◌then◌else◌, ◌⊎◌}
 use Rattle.std.specs.Io.KnownBytes.{Appends}
-use Rattle.request_book.specs.declared.vehicle.Vehicle.{Vehicle}
+use Rattle.request_book.specs.declared.values.vehicle.Vehicle.{Vehicle}
 use Rattle.dispatch_report.specs.Head.{head_text}
 use Rattle.pool_io.specs.Views.{Change, IsUntouched, SinkView, SourceView}
-use Rattle.input_rows.specs.declared.fleet_fault.FleetFault.{FleetFault}
+use Rattle.input_rows.specs.declared.fleet.fault.FleetFault.{FleetFault}
 use Rattle.live_dispatch.specs.Live.{BeginsRows, RunsRows}
-use Rattle.input_rows.specs.Lines.{lines_in}
-use Rattle.input_rows.specs.Start.{live_rows, HasOtherStart}
+use Rattle.input_rows.specs.live.Lines.{lines_in}
+use Rattle.input_rows.specs.live.Start.{live_rows, HasOtherStart}
 use Rattle.pool_base.specs.declared.which.Which.TheVariants as file
 use Rattle.pool_io.specs.Faults.{Rose}
 use Rattle.pool_io.specs.Sink.{AppendsPart}
@@ -18,10 +18,10 @@ use Rattle.request_book.specs.Book.{BookView, opening}
 use Rattle.rider_limits.specs.Words.{fault_of, text_given}
 use Rattle.rider_limits.specs.declared.settings.Settings.{Settings}
 use Rattle.rider_limits.specs.declared.word_fault.WordFault.{WordFault}
-use Rattle.request_book.specs.Told.{NotifierView}
+use Rattle.request_book.specs.notices.Told.{NotifierView}
 use Rattle.road_network.specs.Roads.{Roads}
 use Rattle.road_network.specs.declared.fault.NetworkFault.{NetworkFault}
-use Rattle.input_rows.specs.declared.line.Line.{Line}
+use Rattle.input_rows.specs.declared.script.script_row.ScriptRow.{ScriptRow}
 use Rattle.ridepool.specs.Inputs.{AreGood, IsSourceTooLong, IsWithin, Reads, Tells}
 use Rattle.ridepool.specs.Reading.{network_in, vehicles_in, IsFleetIn}
 use Rattle.ridepool.specs.Status.{HidesNoMemory}
@@ -62,14 +62,14 @@ pub record IsSilentCall (seen : LiveSeen) : Type 0 where
   pub notifiers : IsUntouched seen.notifiers
 
 -- these are the accepted rows of a script with a header, where its bytes are told
-abbrev pub AreRowsOf : Option (List ℕ) → Option (List Line) → Type 0
+abbrev pub AreRowsOf : Option (List ℕ) → Option (List ScriptRow) → Type 0
 AreRowsOf None rows = Unit {0}
 AreRowsOf (Some text) None = ⊥
 AreRowsOf (Some text) (Some rows) = live_rows (lines_in text) ≡ Ok rows
 
 -- the script has a header, the head of the report is written, and this holds of the rows and of what is written then
-pub record HasHead (i : LiveInputs) (seen : LiveSeen) (Holds : Option (List Line) → Change SinkView → Type 0) : Type 0 where
-  pub rows : Option (List Line)
+pub record HasHead (i : LiveInputs) (seen : LiveSeen) (Holds : Option (List ScriptRow) → Change SinkView → Type 0) : Type 0 where
+  pub rows : Option (List ScriptRow)
   pub of_script : AreRowsOf seen.script rows
   pub behind : SinkView
   pub head : Appends seen.out.before.written behind.written (live_head i)
@@ -82,7 +82,7 @@ RunsLive i seen = HasHead i seen (λ rows sink. RunsRows i.settings i.roads (ope
 -- the script has a header, and a beginning of the head stands that isn't the whole
 abbrev pub CutsHead : LiveInputs → LiveSeen → Type 0
 CutsHead i seen =
-    (rows : Option (List Line)) × AreRowsOf seen.script rows × AppendsPart seen.out.before.written seen.out.after.written (live_head i) × IsUntouched seen.notifiers
+    (rows : Option (List ScriptRow)) × AreRowsOf seen.script rows × AppendsPart seen.out.before.written seen.out.after.written (live_head i) × IsUntouched seen.notifiers
 
 -- some first rows were run, the last round maybe in part; what is written begins their report and isn't the whole; and
 -- the notices told are those of the blocks that are written whole
@@ -152,7 +152,7 @@ pub record IsFaultlessLive (call : LiveCall) : Type 0 where
   pub vehicles : IsFleetIn inputs.roads.nodes fleet_text inputs.vehicles
   pub text : List ℕ
   pub told : call.rest.script ≡ Some text
-  pub rows : List Line
+  pub rows : List ScriptRow
   pub header : live_rows (lines_in text) ≡ Ok rows
   pub faultless : Rose call.rest.reads.before call.rest.reads.after → ⊥
 

@@ -1,9 +1,9 @@
 -- What the bytes of the inputs give: a value, or the first refusal.
 use Rattle.std.specs.Prelude.{◌≡◌, ◌↔◌, ℕ, List, Result, Ok, Err, map, Contains}
 use Rattle.std.specs.List.Sorted.{IsStrictlyIncreasing}
-use Rattle.request_book.specs.declared.vehicle.Vehicle.{Vehicle}
-use Rattle.input_rows.specs.Fleet.{vehicles_of}
-use Rattle.input_rows.specs.declared.fleet_fault.FleetFault.{FleetFault}
+use Rattle.request_book.specs.declared.values.vehicle.Vehicle.{Vehicle}
+use Rattle.input_rows.specs.fleet.Fleet.{vehicles_of}
+use Rattle.input_rows.specs.declared.fleet.fault.FleetFault.{FleetFault}
 use Rattle.pool_base.specs.Header.{network_header, fleet_header, script_header, party_header}
 use Rattle.pool_io.specs.Table.{Table, table_of}
 use Rattle.pool_io.specs.declared.input.Input.{Input}
@@ -13,10 +13,10 @@ use Rattle.pool_io.specs.declared.records.RowFault.TheVariants.{Header}
 use Rattle.road_network.specs.Reading.{network_of}
 use Rattle.road_network.specs.Roads.{Roads}
 use Rattle.road_network.specs.declared.fault.NetworkFault.{NetworkFault}
-use Rattle.input_rows.specs.Round.{NumberedLanes}
-use Rattle.input_rows.specs.Script.{script_of}
-use Rattle.input_rows.specs.declared.fault.ScriptFault.{ScriptFault}
-use Rattle.input_rows.specs.declared.version.ScriptVersion.TheVariants.{One, Two}
+use Rattle.input_rows.specs.script.Round.{NumberedLanes}
+use Rattle.input_rows.specs.script.Script.{script_of}
+use Rattle.input_rows.specs.declared.script.fault.ScriptFault.{ScriptFault}
+use Rattle.input_rows.specs.declared.script.version.ScriptVersion.TheVariants.{One, Two}
 
 -- a refusal of what rows say
 abbrev pub own_fault : {A F : Type 0} → Result A F → Result A (Input F)

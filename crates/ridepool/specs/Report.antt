@@ -2,20 +2,20 @@
 use Rattle.std.specs.Prelude.{◌≡◌, ℕ, ◌<◌, List, [], ◌∷◌, ◌++◌, length, map, take, Option}
 use Rattle.std.specs.Io.KnownBytes.{Appends}
 use Rattle.std.specs.List.{flat_map}
-use Rattle.dispatch_engine.specs.Run.{IsRun}
+use Rattle.dispatch_engine.specs.lanes.Run.{IsRun}
 use Rattle.pool_io.specs.Faults.{Rose}
 use Rattle.pool_io.specs.Sink.{AppendsPart}
 use Rattle.request_book.specs.Book.{opening}
-use Rattle.request_book.specs.declared.journal.Journal.{Journal}
+use Rattle.request_book.specs.declared.values.journal.Journal.{Journal}
 use Rattle.rider_limits.specs.declared.settings.Settings.{Settings}
-use Rattle.request_book.specs.Notices.{notices}
-use Rattle.request_book.specs.Told.{NotifierView, HaveHeard}
-use Rattle.request_book.specs.declared.notice.Notice.{Notice}
+use Rattle.request_book.specs.notices.Notices.{notices}
+use Rattle.request_book.specs.notices.Told.{NotifierView, HaveHeard}
+use Rattle.request_book.specs.declared.notices.notice.Notice.{Notice}
 use Rattle.road_network.specs.Roads.{Roads}
 use Rattle.route_drive.specs.declared.day_run.DayRound.{DayRound}
-use Rattle.input_rows.specs.Round.{NumberedLanes}
+use Rattle.input_rows.specs.script.Round.{NumberedLanes}
 use Rattle.ridepool.specs.Inputs.{Inputs}
-use Rattle.ridepool.specs.Seen.{Seen}
+use Rattle.ridepool.specs.CallView.{CallView}
 use Rattle.ridepool.specs.declared.status.RunStatus.{RunStatus}
 use Rattle.ridepool.specs.declared.status.RunStatus.TheVariants.{Done, WriteFault, OutOfMemory}
 
@@ -71,7 +71,7 @@ module _ (settings : Settings) (roads : Roads) (added : DayRound → List ℕ) (
         → HaveHeard (rounds_notices settings roads made) notifiers left → IsPart before after notifiers left
 
   -- how a call ends that writes the text: it is whole, a write failed, or there was no memory
-  pub data EndsText (seen : Seen) : RunStatus → Type 0 where
+  pub data EndsText (seen : CallView) : RunStatus → Type 0 where
     written : IsWhole seen.out.before.written seen.out.after.written seen.notifiers.before seen.notifiers.after → EndsText seen Done
     failed : Rose seen.out.before.faults seen.out.after.faults
         → IsCutShort seen.out.before.written seen.out.after.written seen.notifiers.before seen.notifiers.after → EndsText seen WriteFault

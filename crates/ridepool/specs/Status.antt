@@ -1,10 +1,10 @@
 use Rattle.std.specs.Prelude.{ℕ, ◌≢◌}
-use Rattle.input_rows.specs.declared.fleet_fault.FleetFault.TheVariants as fleet
+use Rattle.input_rows.specs.declared.fleet.fault.FleetFault.TheVariants as fleet
 use Rattle.pool_io.specs.declared.input.Input.TheVariants.{Rows, Own}
 use Rattle.pool_io.specs.declared.records.RowFault.TheVariants as row
-use Rattle.report_audit.specs.declared.fault.AuditFault.TheVariants as audit
+use Rattle.report_audit.specs.declared.report.fault.AuditFault.TheVariants as audit
 use Rattle.road_network.specs.declared.fault.NetworkFault.TheVariants as network
-use Rattle.input_rows.specs.declared.fault.ScriptFault.TheVariants as script
+use Rattle.input_rows.specs.declared.script.fault.ScriptFault.TheVariants as script
 use Rattle.ridepool.specs.declared.status.RunStatus.{RunStatus}
 use Rattle.ridepool.specs.declared.status.RunStatus.TheVariants.{Done, Words, Network, Fleet, Script, TooLong, ReadFault, WriteFault, OutOfMemory, Day, TooLate, Report}
 

@@ -1,26 +1,26 @@
 -- The line on standard error that tells why a run ended.
 use Rattle.std.specs.Prelude.{ℕ, List, [], ◌++◌, codes}
 use Rattle.dispatch_report.specs.Words.{numbered}
-use Rattle.input_rows.specs.declared.fleet_fault.FleetFault.{FleetFault}
-use Rattle.input_rows.specs.declared.fleet_fault.FleetFault.TheVariants as fleet
-use Rattle.input_rows.specs.declared.judge.RowRefusal.{RowRefusal}
-use Rattle.input_rows.specs.declared.judge.RowRefusal.TheVariants as refusal
+use Rattle.input_rows.specs.declared.fleet.fault.FleetFault.{FleetFault}
+use Rattle.input_rows.specs.declared.fleet.fault.FleetFault.TheVariants as fleet
+use Rattle.input_rows.specs.declared.live.judge.RowRefusal.{RowRefusal}
+use Rattle.input_rows.specs.declared.live.judge.RowRefusal.TheVariants as refusal
 use Rattle.pool_base.specs.Which.{file_name}
 use Rattle.pool_base.specs.declared.which.Which.{Which}
 use Rattle.pool_io.specs.declared.input.Input.{Input}
 use Rattle.pool_io.specs.declared.input.Input.TheVariants.{Rows, Own}
 use Rattle.pool_io.specs.declared.records.RowFault.{RowFault}
 use Rattle.pool_io.specs.declared.records.RowFault.TheVariants as row
-use Rattle.report_audit.specs.declared.fault.AuditFault.{AuditFault}
-use Rattle.report_audit.specs.declared.fault.AuditFault.TheVariants as audit
+use Rattle.report_audit.specs.declared.report.fault.AuditFault.{AuditFault}
+use Rattle.report_audit.specs.declared.report.fault.AuditFault.TheVariants as audit
 use Rattle.rider_limits.specs.declared.word_fault.WordFault.{WordFault}
 use Rattle.rider_limits.specs.declared.word_fault.WordFault.TheVariants as word
 use Rattle.road_network.specs.declared.fault.NetworkFault.{NetworkFault}
 use Rattle.road_network.specs.declared.fault.NetworkFault.TheVariants as network
 use Rattle.route_drive.specs.declared.day.DayFault.{DayFault}
 use Rattle.route_drive.specs.declared.day.DayFault.TheVariants as day
-use Rattle.input_rows.specs.declared.fault.ScriptFault.{ScriptFault}
-use Rattle.input_rows.specs.declared.fault.ScriptFault.TheVariants as script
+use Rattle.input_rows.specs.declared.script.fault.ScriptFault.{ScriptFault}
+use Rattle.input_rows.specs.declared.script.fault.ScriptFault.TheVariants as script
 use Rattle.ridepool.specs.Inputs.{most_bytes}
 use Rattle.ridepool.specs.declared.status.RunStatus.{RunStatus}
 use Rattle.ridepool.specs.declared.status.RunStatus.TheVariants.{Done, Words, Network, Fleet, Script, TooLong, ReadFault, WriteFault, OutOfMemory, Day, TooLate, Report}

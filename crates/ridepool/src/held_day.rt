@@ -1,11 +1,11 @@
 //! The rounds of a day, held until it is driven to its end.
 ghost use Rattle.std.specs.Prelude.{◌≡◌, ◌≤◌, [], false, length, map, Bool, IfOk, List, MatchResult};
-ghost use Rattle.dispatch_engine.specs.Run.{position_after_run};
+ghost use Rattle.dispatch_engine.specs.lanes.Run.{position_after_run};
 ghost use Rattle.pool_io.specs.Views.{sink_seen};
 ghost use Rattle.dispatch_report.specs.Written.{WritesText};
 ghost use Rattle.request_book.specs.Consistent.{IsConsistent};
 ghost use Rattle.rider_limits.specs.declared.settings.Settings.{Settings as SettingsValue};
-ghost use Rattle.request_book.specs.Seen.{notifier_seen};
+ghost use Rattle.request_book.specs.notices.Seen.{notifier_seen};
 ghost use Rattle.road_network.specs.Roads.{Roads};
 ghost use Rattle.route_drive.specs.declared.day_run.DayRound.{DayRound as RoundValue};
 ghost use Rattle.ridepool.specs.Report.{journals_of};

@@ -1,6 +1,6 @@
 ghost use Rattle.std.specs.Prelude.{◌≡◌, All, IfOk, IfErr};
-ghost use Rattle.input_rows.specs.Accepted.{AreRead};
-ghost use Rattle.input_rows.specs.Texts.{texts_of};
+ghost use Rattle.input_rows.specs.made.Accepted.{AreRead};
+ghost use Rattle.input_rows.specs.made.Texts.{texts_of};
 ghost use Rattle.request_book.specs.Consistent.{IsNode};
 ghost use Rattle.pool_io.specs.Views.{Change, IsUntouched, SourceView, source_seen};
 ghost use Rattle.ridepool.specs.work.Reading.{GotInputs, ReadSources};

@@ -3,13 +3,13 @@ ghost use Rattle.std.specs.Prelude.{◌≡◌, ◌≤◌, List, map, All, MatchR
 ghost use Rattle.std.specs.Io.KnownBytes.{Appends};
 ghost use Rattle.std.specs.String.{string_bytes};
 ghost use Rattle.pool_io.specs.Views.{sink_seen, source_seen};
-ghost use Rattle.input_rows.specs.Start.{HasStarted};
+ghost use Rattle.input_rows.specs.live.Start.{HasStarted};
 ghost use Rattle.request_book.specs.Consistent.{IsNode};
-ghost use Rattle.request_book.specs.Seen.{notifiers_seen};
-ghost use Rattle.request_book.specs.Told.{NotifierView};
+ghost use Rattle.request_book.specs.notices.Seen.{notifiers_seen};
+ghost use Rattle.request_book.specs.notices.Told.{NotifierView};
 ghost use Rattle.pool_base.specs.declared.which.Which.TheVariants as file;
 ghost use Rattle.ridepool.specs.Inputs.{IsWithin};
-ghost use Rattle.ridepool.specs.Live.{AnswersLive, AreLimited, AreLiveInputs, EndsLive, ExplainsLive, IsSilentCall, LiveCall, LiveInputs, LiveSeen, live_head, opened_book};
+ghost use Rattle.ridepool.specs.Live.{AnswersLive, AreLimited, AreLiveInputs, EndsLive, ExplainsLive, IsSilentCall, LiveCall, LiveInputs as Inputs, LiveSeen, live_head, opened_book};
 ghost use Rattle.ridepool.specs.Status.{HidesNoMemory};
 ghost use Rattle.ridepool.specs.work.Live.{live_seen, status_of_end, status_of_start};
 
@@ -18,7 +18,7 @@ use crate::status::RunStatus;
 use crate::ways::ways_by;
 use crate::words::live_settings;
 use crate::writing::status_of;
-use dispatch_engine::{Setup, opened_book};
+use dispatch_engine::{BatchSolver, opened_book};
 use dispatch_report::write_head;
 use input_rows::{LineStream, LiveRows, RefusalListener, ScriptVersion, StartFault, read_start};
 use live_dispatch::{Dispatched, LiveFault, dispatch};
@@ -47,7 +47,7 @@ pub struct LiveEnd<S: Source, K: Sink, N: Notifier> {
 
 /// What a call is given before its rows.
 #[derive(Drop)]
-struct Given {
+struct LiveInputs {
     settings: Settings,
     network: Network,
     fleet: Fleet,
@@ -145,7 +145,7 @@ fn live_inputs<R: Source, F: Source>(
     words: &[String],
     network: &mut R,
     fleet: &mut F,
-) -> Result<Given, RunStatus>
+) -> Result<LiveInputs, RunStatus>
     ensures got { (rest : LiveSeen) → let call : LiveCall = (record {
       words = map string_bytes words.now;
       network = source_seen R.left R.taken R.faults network.old network.new;
@@ -169,7 +169,7 @@ fn live_inputs<R: Source, F: Source>(
         Err(status) => return Err(status),
     };
     match fleet_from(alloc, fleet, &network) {
-        Ok(fleet) => Ok(Given {
+        Ok(fleet) => Ok(LiveInputs {
             settings,
             network,
             fleet,
@@ -191,7 +191,7 @@ fn live_in<
 >(
     rt: &(impl Threads + Wait + Sync),
     alloc: Global,
-    inputs: &Given,
+    inputs: &LiveInputs,
     mut session: Session<S, K, N, L>,
     gate: &G,
 ) -> LiveEnd<S, K, N>
@@ -200,7 +200,7 @@ fn live_in<
         (live_seen session.lines.to_come session.lines.faults (S.faults result.script) (sink_seen K.written K.faults session.out result.out)
         (notifiers_seen N.told N.faults N.steady session.notifiers.items) (notifiers_seen N.told N.faults N.steady result.notifiers.items)) result.status }
 {
-    let Given {
+    let LiveInputs {
         settings,
         network,
         fleet,
@@ -208,14 +208,14 @@ fn live_in<
     let Ok(ways) = ways_by(alloc, network, settings, gate) else {
         return session.ended(RunStatus::OutOfMemory);
     };
-    let setup = Setup {
+    let solver = BatchSolver {
         network,
         ways: &ways,
         drafter: &RelaxationDrafter,
         settings,
         gate,
     };
-    match start_live(alloc, &mut session.out, fleet, &mut session.lines, &setup) {
+    match start_live(alloc, &mut session.out, fleet, &mut session.lines, &solver) {
         Ok((book, version)) => {
             let rows = LiveRows::behind(alloc, session.lines, version, session.listener);
             let Dispatched {
@@ -230,7 +230,7 @@ fn live_in<
                 session.out,
                 session.notifiers,
                 rows,
-                &setup,
+                &solver,
             );
             drop(ways);
             LiveEnd {
@@ -253,13 +253,13 @@ fn start_live<S: Source, K: Sink, W: Ways, D: Drafter, G: Gate>(
     out: &mut K,
     fleet: &Fleet,
     lines: &mut LineStream<S>,
-    setup: &Setup<'_, W, D, G>,
+    solver: &BatchSolver<'_, W, D, G>,
 ) -> Result<(Book, ScriptVersion), RunStatus>
-    requires named { All (λ vehicle. IsNode setup.now.network.now.nodes vehicle.node) fleet.now }
-    ensures started { let i : LiveInputs = record { settings = setup.now.settings.now; roads = setup.now.network.now; vehicles = fleet.now } in
+    requires named { All (λ vehicle. IsNode solver.now.network.now.nodes vehicle.node) fleet.now }
+    ensures started { let i : Inputs = record { settings = solver.now.settings.now; roads = solver.now.network.now; vehicles = fleet.now } in
         IfOk result (λ r. (r.0 ≡ opened_book i) × HasStarted lines.old.to_come lines.new.to_come r.1
         × Appends (K.written out.old) (K.written out.new) (live_head i)) }
-    ensures stopped { let i : LiveInputs = record { settings = setup.now.settings.now; roads = setup.now.network.now; vehicles = fleet.now } in
+    ensures stopped { let i : Inputs = record { settings = solver.now.settings.now; roads = solver.now.network.now; vehicles = fleet.now } in
         (told : List NotifierView) → IfErr result (EndsLive i (live_seen lines.old.to_come lines.old.faults lines.new.faults (sink_seen K.written K.faults out.old out.new) told told)) }
     ensures never_falls { K.faults out.old ≤ K.faults out.new }
     ensures reads_never_fall { lines.old.faults ≤ lines.new.faults }
@@ -268,11 +268,11 @@ fn start_live<S: Source, K: Sink, W: Ways, D: Drafter, G: Gate>(
         Ok(version) => version,
         Err(fault) => return Err(start_status(fault)),
     };
-    let opened = opened_book(alloc, setup.network, fleet, setup.settings.wait);
+    let opened = opened_book(alloc, solver.network, fleet, solver.settings.wait);
     let Ok(book) = opened else {
         return Err(RunStatus::OutOfMemory);
     };
-    match write_head(alloc, out, setup.settings, setup.network, fleet) {
+    match write_head(alloc, out, solver.settings, solver.network, fleet) {
         Ok(()) => Ok((book, version)),
         Err(fault) => {
             drop(book);

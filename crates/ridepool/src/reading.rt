@@ -9,8 +9,8 @@ ghost use Rattle.ridepool.specs.Reading.{network_in, vehicles_in, IsFleetIn, scr
 ghost use Rattle.pool_io.specs.Views.{source_seen};
 ghost use Rattle.ridepool.specs.declared.status.RunStatus.TheVariants as status;
 ghost use Rattle.ridepool.specs.work.Reading.{IsUnread, StopsAt, RefusesNetwork, RefusesFleet, RefusesRounds};
-ghost use Rattle.input_rows.specs.Script.{script_of};
-ghost use Rattle.input_rows.specs.Word.{columns_of};
+ghost use Rattle.input_rows.specs.script.Script.{script_of};
+ghost use Rattle.input_rows.specs.script.Word.{columns_of};
 
 use crate::status::RunStatus;
 use input_rows::{FleetFault, Script, ScriptFault, ScriptVersion, read_fleet, read_script};

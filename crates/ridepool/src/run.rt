@@ -2,7 +2,7 @@ ghost use Rattle.std.specs.Prelude.{map};
 ghost use Rattle.std.specs.String.{string_bytes};
 ghost use Rattle.ridepool.specs.Answers.{Answers};
 ghost use Rattle.pool_io.specs.Views.{sink_seen, source_seen};
-ghost use Rattle.request_book.specs.Seen.{notifier_seen};
+ghost use Rattle.request_book.specs.notices.Seen.{notifier_seen};
 
 use crate::auditing::write_audit;
 use crate::inputs::inputs_from;

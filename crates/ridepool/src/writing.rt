@@ -1,8 +1,8 @@
 ghost use Rattle.std.specs.Prelude.{◌≡◌, ◌≤◌, [], false, List, length, map, MatchResult};
 ghost use Rattle.std.specs.List.{All};
-ghost use Rattle.dispatch_engine.specs.Run.{IsReady};
+ghost use Rattle.dispatch_engine.specs.lanes.Run.{IsReady};
 ghost use Rattle.request_book.specs.Consistent.{IsConsistent, IsNode};
-ghost use Rattle.request_book.specs.Seen.{notifier_seen};
+ghost use Rattle.request_book.specs.notices.Seen.{notifier_seen};
 ghost use Rattle.pool_io.specs.Views.{sink_seen};
 ghost use Rattle.dispatch_report.specs.Written.{WritesText};
 ghost use Rattle.ridepool.specs.Inputs.{Inputs};
@@ -16,7 +16,7 @@ use crate::held_day::{HeldDay, write_held};
 use crate::inputs::ReadInputs;
 use crate::status::RunStatus;
 use crate::ways::ways_by;
-use dispatch_engine::{Setup, opened_book, run_round};
+use dispatch_engine::{BatchSolver, opened_book, run_round};
 use dispatch_report::{
     DayCounts, ReportFault, write_day_end, write_end, write_head, write_load, write_round,
     write_summary,
@@ -63,7 +63,7 @@ pub(crate) fn write_report<K: Sink, G: Gate>(
     let Ok(ways) = ways_by(alloc, &inputs.network, settings, gate) else {
         return Err(RunStatus::OutOfMemory);
     };
-    let setup = Setup {
+    let solver = BatchSolver {
         network: &inputs.network,
         ways: &ways,
         drafter: &RelaxationDrafter,
@@ -76,7 +76,7 @@ pub(crate) fn write_report<K: Sink, G: Gate>(
         out,
         &inputs.fleet,
         &inputs.script,
-        &setup,
+        &solver,
         notifiers,
     );
     drop(ways);
@@ -90,12 +90,12 @@ fn write_by<K: Sink, W: Ways, D: Drafter, G: Gate>(
     out: &mut K,
     fleet: &Fleet,
     script: &Script,
-    setup: &Setup<'_, W, D, G>,
+    solver: &BatchSolver<'_, W, D, G>,
     notifiers: &mut Vec<Box<dyn Notifier>>,
 ) -> Result<(), RunStatus>
-    requires named { All (λ vehicle. IsNode setup.now.network.now.nodes vehicle.node) fleet.now }
-    requires day { IsDayFor setup.now.settings.now.mode script.now }
-    ensures report { let i : Inputs = record { settings = setup.now.settings.now; roads = setup.now.network.now; vehicles = fleet.now; rounds = script.now } in
+    requires named { All (λ vehicle. IsNode solver.now.network.now.nodes vehicle.node) fleet.now }
+    requires day { IsDayFor solver.now.settings.now.mode script.now }
+    ensures report { let i : Inputs = record { settings = solver.now.settings.now; roads = solver.now.network.now; vehicles = fleet.now; rounds = script.now } in
         let all = map (λ n. notifier_seen (⟦<dyn Notifier as Notifier>⟧ n.vtable) n.value) notifiers.old.items in
         let left = map (λ n. notifier_seen (⟦<dyn Notifier as Notifier>⟧ n.vtable) n.value) notifiers.new.items in
         MatchResult result
@@ -104,14 +104,14 @@ fn write_by<K: Sink, W: Ways, D: Drafter, G: Gate>(
     ensures never_falls { K.faults out.old ≤ K.faults out.new }
 {
     let _vehicles = fleet.vehicles();
-    let Ok(book) = opened_book(alloc, setup.network, fleet, setup.settings.wait) else {
+    let Ok(book) = opened_book(alloc, solver.network, fleet, solver.settings.wait) else {
         return Err(RunStatus::OutOfMemory);
     };
-    match setup.settings.mode {
+    match solver.settings.mode {
         Mode::Drive => {
             let told = !notifiers.is_empty();
-            let mut day = HeldDay::empty(alloc, setup.settings, setup.network, told);
-            let driven = drive_day(rt, alloc, book, script, setup, &mut day);
+            let mut day = HeldDay::empty(alloc, solver.settings, solver.network, told);
+            let driven = drive_day(rt, alloc, book, script, solver, &mut day);
             match driven {
                 Ok(run) => {
                     let written = write_day(alloc, out, fleet, &day, &run, notifiers);
@@ -124,8 +124,8 @@ fn write_by<K: Sink, W: Ways, D: Drafter, G: Gate>(
                 }
             }
         }
-        _ => match write_first(alloc, out, setup.settings, setup.network, fleet) {
-            Ok(()) => write_each(rt, alloc, out, book, script.rounds(), setup, notifiers),
+        _ => match write_first(alloc, out, solver.settings, solver.network, fleet) {
+            Ok(()) => write_each(rt, alloc, out, book, script.rounds(), solver, notifiers),
             Err(fault) => {
                 drop(book);
                 Err(status_of(fault))
@@ -168,12 +168,12 @@ fn write_each<K: Sink, W: Ways, D: Drafter, G: Gate>(
     out: &mut K,
     book: Book,
     rounds: &[Round],
-    setup: &Setup<'_, W, D, G>,
+    solver: &BatchSolver<'_, W, D, G>,
     notifiers: &mut Vec<Box<dyn Notifier>>,
 ) -> Result<(), RunStatus>
-    requires ready { IsReady setup.now.settings.now setup.now.network.now book }
+    requires ready { IsReady solver.now.settings.now solver.now.network.now book }
     requires empty { book.entries ≡ [] }
-    ensures rounds { let s = setup.now.settings.now in let roads = setup.now.network.now in
+    ensures rounds { let s = solver.now.settings.now in let roads = solver.now.network.now in
         let all = map (λ n. notifier_seen (⟦<dyn Notifier as Notifier>⟧ n.vtable) n.value) notifiers.old.items in
         let left = map (λ n. notifier_seen (⟦<dyn Notifier as Notifier>⟧ n.vtable) n.value) notifiers.new.items in
         MatchResult result
@@ -183,7 +183,7 @@ fn write_each<K: Sink, W: Ways, D: Drafter, G: Gate>(
 {
     let mut current = book;
     for round in rounds {
-        match write_next(rt, alloc, out, current, round, setup, notifiers) {
+        match write_next(rt, alloc, out, current, round, solver, notifiers) {
             Ok(next) => current = next,
             Err(status) => return Err(status),
         }
@@ -203,19 +203,19 @@ fn write_next<K: Sink, W: Ways, D: Drafter, G: Gate>(
     out: &mut K,
     book: Book,
     round: &Round,
-    setup: &Setup<'_, W, D, G>,
+    solver: &BatchSolver<'_, W, D, G>,
     notifiers: &mut Vec<Box<dyn Notifier>>,
 ) -> Result<Book, RunStatus>
-    requires ready { IsReady setup.now.settings.now setup.now.network.now book }
+    requires ready { IsReady solver.now.settings.now solver.now.network.now book }
     requires empty { book.entries ≡ [] }
     ensures round { let all = map (λ n. notifier_seen (⟦<dyn Notifier as Notifier>⟧ n.vtable) n.value) notifiers.old.items in
         let left = map (λ n. notifier_seen (⟦<dyn Notifier as Notifier>⟧ n.vtable) n.value) notifiers.new.items in
         MatchResult result
-        (WritesRound setup.now.settings.now setup.now.network.now book round.now (K.written out.old) (K.written out.new) all left)
-        (IsRoundFault setup.now.settings.now setup.now.network.now book round.now (K.written out.old) (K.written out.new) all left (K.faults out.old) (K.faults out.new)) }
+        (WritesRound solver.now.settings.now solver.now.network.now book round.now (K.written out.old) (K.written out.new) all left)
+        (IsRoundFault solver.now.settings.now solver.now.network.now book round.now (K.written out.old) (K.written out.new) all left (K.faults out.old) (K.faults out.new)) }
     ensures never_falls { K.faults out.old ≤ K.faults out.new }
 {
-    let Ok(mut book) = run_round(rt, alloc, book, round, setup) else {
+    let Ok(mut book) = run_round(rt, alloc, book, round, solver) else {
         return Err(RunStatus::OutOfMemory);
     };
     let Ok(journal) = book.take_round() else {
@@ -226,7 +226,14 @@ fn write_next<K: Sink, W: Ways, D: Drafter, G: Gate>(
         number: round.number(),
         journal,
     };
-    let put = put_round(alloc, out, &made, setup.settings, setup.network, notifiers);
+    let put = put_round(
+        alloc,
+        out,
+        &made,
+        solver.settings,
+        solver.network,
+        notifiers,
+    );
     drop(made);
     match put {
         Ok(()) => Ok(book),

@@ -1,119 +1,72 @@
-ghost use Rattle.std.specs.Prelude.{◌<◌, ◌≤◌, length, IfOk};
-ghost use Rattle.std.specs.Result.{IsErrOf};
-ghost use Rattle.std.specs.Io.KnownBytes.{WriteAppends};
-ghost use Rattle.pool_io.specs.Faults.{Rose};
+//! The file that riders' notices go to. The calls of `run` and of `live` open it. It names the room `hints`.
 
-use pool_io::{Sink, SinkFault};
-use std::alloc::{AllocError, Global};
-use std::fs::{self, File, Metadata};
-use std::io;
-use std::io::{ErrorKind, Write};
-use std::marker::Model;
-use std::os::unix::fs::MetadataExt;
-use std::sync::{Arc, OnceLock};
+pub(crate) mod opening_sink;
 
-/// Whether a path leads to a file that one of the others leads to, or to standard output. A path that leads nowhere
-/// doesn't.
-pub fn is_taken(rt: &HostRuntime, path: &str, others: &[Option<&str>]) -> bool {
-    let Ok(place) = fs::metadata(rt, path) else {
-        return false;
+use crate::notices::opening_sink::{SharedFile, is_taken};
+use crate::print_line;
+use pool_base::OutOfMemory;
+use ridepool::LineNotifier;
+use rider_limits::value_of;
+
+/// The file for notices, where the words name one that is no input and no standard stream; else a line says so.
+pub(crate) fn notices_path<'a>(rt: &HostRuntime, words: &'a [String]) -> Option<&'a str> {
+    let path = value_of(words, "notices")?;
+    let script = match value_of(words, "script") {
+        Some(script) => script,
+        None => "/dev/stdin",
     };
-    leads_to(rt, "/dev/stdout", &place)
-        || others.iter().any(|other| match other {
-            Some(other) => leads_to(rt, other, &place),
-            None => false,
-        })
-}
-
-fn leads_to(rt: &HostRuntime, path: &str, place: &Metadata) -> bool {
-    match fs::metadata(rt, path) {
-        Ok(other) => other.dev() == place.dev() && other.ino() == place.ino(),
-        Err(_) => false,
-    }
-}
-
-/// A file that is opened once by one and written by another, maybe in another thread.
-#[derive(Drop)]
-pub struct SharedFile {
-    file: Arc<OnceLock<File>>,
-}
-
-impl SharedFile {
-    /// A file that isn't open.
-    pub fn new(alloc: Global) -> Result<SharedFile, AllocError> {
-        Ok(SharedFile {
-            file: Arc::new(alloc, OnceLock::new())?,
-        })
-    }
-
-    /// The same file, for another holder.
-    pub fn share(&self) -> Result<SharedFile, AllocError> {
-        Ok(SharedFile {
-            file: self.file.clone()?,
-        })
-    }
-
-    fn open(&self, rt: &HostRuntime, path: &str) {
-        if let Ok(file) = File::create(rt, path) {
-            let _ = self.file.try_set(file);
-        }
-    }
-}
-
-impl Write for SharedFile {
-    fn write(&mut self, bytes: &[u8]) -> io::Result<usize> {
-        match self.file.get() {
-            Some(mut file) => file.write(bytes),
-            None => Err(io::Error::from(ErrorKind::NotFound)),
-        }
-    }
-
-    fn flush(&mut self) -> io::Result<()> {
-        Ok(())
-    }
-}
-
-/// A sink before whose first write a file is made, or emptied; its bytes pass on unchanged.
-#[derive(Drop)]
-pub struct OpeningSink<'a, K> {
-    sink: K,
-    rt: &'a HostRuntime,
-    path: Option<&'a str>,
-    file: SharedFile,
-}
-
-impl<'a, K> Model for OpeningSink<'a, K> {
-    ghost Value = { K };
-
-    ghost view = { λ s. s.sink };
-}
-
-impl<'a, K> OpeningSink<'a, K> {
-    /// Opens the file of this path before the first write; without a path it opens none.
-    pub fn over(
-        rt: &'a HostRuntime,
-        sink: K,
-        path: Option<&'a str>,
-        file: SharedFile,
-    ) -> OpeningSink<'a, K> {
-        OpeningSink {
-            sink,
+    let inputs = [
+        value_of(words, "network"),
+        value_of(words, "fleet"),
+        Some(script),
+    ];
+    if is_taken(rt, path, &inputs) {
+        print_line(
             rt,
-            path,
-            file,
+            b"notices: the file is an input or standard output: not written",
+        );
+        return None;
+    }
+    if is_taken(rt, path, &[Some("/dev/stderr")]) {
+        print_line(rt, b"notices: the file is standard error: not written");
+        return None;
+    }
+    Some(path)
+}
+
+/// Says that notices couldn't be written, where a notifier is lost and the file could be opened; else it was said before.
+pub(crate) fn tell_lost(rt: &HostRuntime, is_lost: bool, file: &SharedFile) {
+    if is_lost && file.is_open() {
+        print_line(rt, b"notices: write failed");
+    }
+}
+
+/// A file that isn't open, with the notifier that the words ask for in a box: one that writes to it, or none.
+pub(crate) fn shared_file(
+    rt: &HostRuntime,
+    words: &[String],
+) -> Result<(SharedFile, Option<Box<LineNotifier<SharedFile>>>), OutOfMemory> {
+    let file = SharedFile::new(rt.alloc())?;
+    if value_of(words, "notices").is_none() {
+        return Ok((file, None));
+    }
+    match boxed_notifier_to(rt, &file) {
+        Ok(notifier) => Ok((file, Some(notifier))),
+        Err(fault) => {
+            drop(file);
+            Err(fault)
         }
     }
 }
 
-impl<'a, K: Sink> Sink for OpeningSink<'a, K> {
-    ghost written = { λ s. K.written s };
-
-    ghost faults = { λ s. K.faults s };
-
-    fn write(&mut self, piece: &[u8]) -> Result<usize, SinkFault> {
-        if let Some(path) = self.path.take() {
-            self.file.open(self.rt, path);
-        }
-        self.sink.write(piece)
+/// A notifier that writes to this file, in a box.
+fn boxed_notifier_to(
+    rt: &HostRuntime,
+    file: &SharedFile,
+) -> Result<Box<LineNotifier<SharedFile>>, OutOfMemory> {
+    let notifier = LineNotifier::over(rt.alloc(), Some(file.share()?));
+    match Box::new(rt.alloc(), notifier) {
+        Ok(boxed) => Ok(boxed),
+        Err(_) => Err(OutOfMemory),
     }
 }

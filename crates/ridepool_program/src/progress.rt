@@ -15,7 +15,7 @@ pub(crate) struct Progress {
     batches: u64,
     last: Option<Closed>,
     /// Of the batch that is being written.
-    rows: u64,
+    trip_rows: u64,
     cost: i64,
     /// Whether a round is being run.
     pub(crate) runs: bool,
@@ -28,7 +28,7 @@ impl Progress {
             rounds: 0,
             batches: 0,
             last: None,
-            rows: 0,
+            trip_rows: 0,
             cost: 0,
             runs: false,
         }
@@ -51,11 +51,11 @@ impl Progress {
         match line {
             Line::HeadEnd => self.runs = true,
             Line::Round => self.end_round(),
-            Line::Batch => self.rows = 0,
-            Line::Row => self.rows = self.rows.saturating_add(1),
+            Line::Batch => self.trip_rows = 0,
+            Line::TripRow => self.trip_rows = self.trip_rows.saturating_add(1),
             Line::Cost(cost) => self.cost = cost,
             Line::Bound(bound) => self.close(Closed::Planned {
-                rows: self.rows,
+                trip_rows: self.trip_rows,
                 gap: self.cost.saturating_sub(bound),
             }),
             Line::Overflow => self.close(Closed::Overflow),
@@ -87,9 +87,9 @@ impl Progress {
             Some(Closed::Overflow) => {
                 format!(in alloc; "round {round}, batches closed: {batches}, last: overflow")
             }
-            Some(Closed::Planned { rows, gap }) => {
+            Some(Closed::Planned { trip_rows, gap }) => {
                 format!(in alloc;
-                    "round {round}, batches closed: {batches}, last: {rows} rows, gap {gap}"
+                    "round {round}, batches closed: {batches}, last: {trip_rows} rows, gap {gap}"
                 )
             }
         }

@@ -5,7 +5,7 @@
 pub(crate) enum Closed {
     Overflow,
     /// A plan over so many rows, whose cost is so far above its bound.
-    Planned { rows: u64, gap: i64 },
+    Planned { trip_rows: u64, gap: i64 },
 }
 
 /// What a line says.
@@ -17,7 +17,7 @@ pub(crate) enum Line {
     Round,
     /// A batch's block begins.
     Batch,
-    Row,
+    TripRow,
     Cost(i64),
     Bound(i64),
     Overflow,
@@ -40,7 +40,7 @@ const WORDS: [(&str, Line); 5] = [
     ("fleet", Line::HeadEnd),
     ("load", Line::HeadEnd),
     ("round", Line::Round),
-    ("row", Line::Row),
+    ("row", Line::TripRow),
     ("done", Line::Done),
 ];
 
@@ -75,11 +75,11 @@ fn batch_line(rest: &str) -> Line {
 }
 
 fn planned(sums: &str) -> Option<Closed> {
-    let rows = behind(sums, " rows ")?;
+    let trip_rows = behind(sums, " rows ")?;
     let cost = behind(sums, " cost ")?;
     let bound = behind(sums, " bound ")?;
     Some(Closed::Planned {
-        rows: rows.unsigned_abs(),
+        trip_rows: trip_rows.unsigned_abs(),
         gap: cost.saturating_sub(bound),
     })
 }

@@ -90,4 +90,8 @@ impl<K: Sink, W: Write> Sink for WatchedSink<K, W> {
         self.watch(&piece[..count]);
         Ok(count)
     }
+
+    fn stopped(&mut self) {
+        self.sink.stopped();
+    }
 }

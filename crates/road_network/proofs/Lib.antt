@@ -7,3 +7,4 @@ pub mod Sorted
 pub mod RowSteps
 pub mod HopLemmas
 pub mod Common
+pub mod DirectoryLemmas

@@ -8,7 +8,7 @@
 //! ```
 //! /// The network of a file; `None` where it is refused, and for want of memory.
 //! pub fn network_of(alloc: Global, text: &[u8]) -> Option<Network> {
-//!     match rows(alloc, text, b"from,to,seconds") {
+//!     match rows(alloc, text, NETWORK_HEADER) {
 //!         Ok(table) => match read_network(alloc, &table) {
 //!             Ok(network) => Some(network),
 //!             Err(_) => None,
@@ -22,6 +22,7 @@
 #![tactic(auto)]
 
 mod arc;
+mod directory;
 mod fault;
 mod hop;
 mod network;
@@ -32,4 +33,4 @@ pub use arc::Arc;
 pub use fault::NetworkFault;
 pub use hop::Hop;
 pub use network::Network;
-pub use reading::read_network;
+pub use reading::{NETWORK_HEADER, read_network};

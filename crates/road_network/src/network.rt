@@ -1,14 +1,16 @@
 ghost use Rattle.std.specs.Prelude.{◌≡◌, ◌↔◌, ℕ, ◌+◌, ◌<◌, ◌≤◌, Some, All, Contains, IsTrue, IsSome, IfOk, IfSome, length, map, nat_eq, position, slice_get};
+ghost use Rattle.std.specs.List.{IsDistinct};
 ghost use Rattle.road_network.specs.Roads.{IsArcAmong, IsNetwork, hop_of, leaving};
 ghost use Rattle.road_network.specs.lemmas.Rows.{by_node};
 ghost use Rattle.road_network.specs.lemmas.Limits.{greatest_name, most_arcs, most_nodes};
 ghost use Rattle.road_network.specs.Storage.{start_at};
 
 use crate::arc::Arc;
+use crate::directory::Directory;
 use crate::hop::Hop;
 use crate::storage::sort_by_start;
-use pool_base::{NodeId, Numbering};
-use std::alloc::{AllocError, Global};
+use pool_base::{NodeId, OutOfMemory};
+use std::alloc::Global;
 use std::marker::Model;
 
 // Where the hops of a node begin.
@@ -25,7 +27,7 @@ fn first_place(ends: &[usize], node: usize) -> usize
 /// in one list by starting node, with the place where those of each node end.
 #[derive(Drop)]
 pub struct Network {
-    nodes: Numbering,
+    nodes: Directory,
     ends: Vec<usize>,
     hops: Vec<Hop>,
 }
@@ -38,24 +40,26 @@ impl Model for Network {
     ghost Value = { Roads };
 
     ghost view = { λ a. record {
-      nodes = a.nodes.names;
-      arcs = stored_arcs (length a.nodes.names) a.ends.items a.hops.items;
+      nodes = a.nodes;
+      arcs = stored_arcs (length a.nodes) a.ends.items a.hops.items;
     } };
 
-    ghost invariant = { λ a. ArePacked a.nodes.names a.ends.items a.hops.items };
+    ghost invariant = { λ a. ArePacked a.nodes a.ends.items a.hops.items };
 }
 
 impl Network {
     // The network of these nodes and arcs, the arcs by starting node.
-    pub(crate) fn of(alloc: Global, nodes: Numbering, arcs: &[Arc]) -> Result<Network, AllocError>
-        requires few_nodes { length nodes.names ≤ most_nodes }
+    pub(crate) fn of(alloc: Global, names: &[u32], arcs: &[Arc]) -> Result<Network, OutOfMemory>
+        requires distinct { IsDistinct nat_eq names.now }
+        requires few_nodes { length names.now ≤ most_nodes }
         requires few_arcs { length arcs.now ≤ most_arcs }
-        requires names { All (λ name. name ≤ greatest_name) nodes.names }
-        requires among { All (IsArcAmong (length nodes.names)) arcs.now }
+        requires names { All (λ name. name ≤ greatest_name) names.now }
+        requires among { All (IsArcAmong (length names.now)) arcs.now }
         ensures { IfOk result (λ network. network
-            ≡ record { nodes = nodes.names; arcs = by_node (length nodes.names) arcs.now }) }
+            ≡ record { nodes = names.now; arcs = by_node (length names.now) arcs.now }) }
     {
-        let (ends, hops) = sort_by_start(alloc, nodes.len(), arcs)?;
+        let nodes = Directory::of(alloc, names)?;
+        let (ends, hops) = sort_by_start(alloc, names.len(), arcs)?;
         Ok(Network { nodes, ends, hops })
     }
 
@@ -84,6 +88,13 @@ impl Network {
     {
         let name = self.nodes.names()[index];
         NodeId::new(u64::from(name)).unwrap()
+    }
+
+    /// A law: what every network keeps.
+    pub fn keeps(&self)
+        ensures { IsNetwork self.now }
+    {
+        self.nodes.keeps();
     }
 
     /// How many nodes there are.

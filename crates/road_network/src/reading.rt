@@ -14,6 +14,9 @@ use pool_base::{Numbering, read_number_up_to};
 use pool_io::Rows;
 use std::alloc::Global;
 
+/// The header line of a network, without its end.
+pub const NETWORK_HEADER: &[u8] = b"from,to,seconds";
+
 const MOST_ARCS: usize = 400_000;
 
 const MOST_NODES: usize = 100_000;
@@ -121,7 +124,7 @@ pub fn read_network(alloc: Global, rows: &Rows) -> Result<Network, NetworkFault>
             return Err(NetworkFault::OutOfMemory);
         }
     }
-    match Network::of(alloc, nodes, arcs.as_slice()) {
+    match Network::of(alloc, nodes.names(), arcs.as_slice()) {
         Ok(network) => Ok(network),
         Err(_) => Err(NetworkFault::OutOfMemory),
     }

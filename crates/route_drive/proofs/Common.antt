@@ -15,21 +15,21 @@ pub use Rattle.std.proofs.lemmas.Slice.Zip.{all_zipped_more, length-zip}
 unfoldable pub use Rattle.std.specs.List.{IsDistinct}
 pub use Rattle.std.specs.List.{All, AllByRecursion, AllZip, Any, filter_map, flat_map, list_any, position, position_or_len, range_with_len, sum_by, zip}
 pub use Rattle.std.specs.Option.{option_map_or, option_or}
-pub use Rattle.request_book.specs.Batch.{Batch}
-pub use Rattle.request_book.specs.Kept.{IsFleet}
-pub use Rattle.request_book.specs.Vehicle.{HasSeats, persons_aboard}
-pub use Rattle.request_book.specs.declared.passenger.Passenger.{Passenger}
-pub use Rattle.request_book.specs.declared.promise.Promise.{Promise}
-pub use Rattle.request_book.specs.declared.batch_rider.Rider.{Rider}
-pub use Rattle.request_book.specs.declared.vehicle.Vehicle.{Vehicle}
-pub use Rattle.dispatch_engine.specs.Outcome.{AnswersWith, HasGraphsWith, IsGoodOutcome, IsGoodPlan}
-pub use Rattle.dispatch_engine.specs.Told.{rider_id, told_stop}
-pub use Rattle.dispatch_engine.specs.Trips.{IsLate, IsTripOf}
-pub use Rattle.dispatch_engine.proofs.lemmas.LaneLemmas.{IsQuiet, plain-quiet}
-unfoldable pub use Rattle.dispatch_engine.specs.Lane.{ClosesAreGood}
-pub use Rattle.dispatch_engine.specs.Lane.{IsCloseOf, IsGoodClose, IsLaneRun, IsLaneRunFrom, of_lane}
-pub use Rattle.dispatch_engine.specs.Run.{IsReady, IsRoundRun, IsRun, IsSameRun, journal_of, position_after_run, state_after_run}
-pub use Rattle.dispatch_engine.specs.lemmas.Lanes.{IsPlain}
+pub use Rattle.request_book.specs.values.Batch.{Batch}
+pub use Rattle.request_book.specs.values.Kept.{IsFleet}
+pub use Rattle.request_book.specs.values.Vehicle.{HasSeats, persons_aboard}
+pub use Rattle.request_book.specs.declared.values.passenger.Passenger.{Passenger}
+pub use Rattle.request_book.specs.declared.values.promise.Promise.{Promise}
+pub use Rattle.request_book.specs.declared.values.batch_rider.Rider.{Rider}
+pub use Rattle.request_book.specs.declared.values.vehicle.Vehicle.{Vehicle}
+pub use Rattle.dispatch_engine.specs.outcome.Outcome.{AnswersWith, HasGraphsWith, IsGoodOutcome, IsGoodPlan}
+pub use Rattle.dispatch_engine.specs.outcome.Told.{rider_id, told_stop}
+pub use Rattle.dispatch_engine.specs.outcome.Trips.{IsLate, IsTripOf}
+pub use Rattle.dispatch_engine.proofs.lemmas.lanes.LaneLemmas.{IsQuiet, plain-quiet}
+unfoldable pub use Rattle.dispatch_engine.specs.lanes.Lane.{ClosesAreGood}
+pub use Rattle.dispatch_engine.specs.lanes.Lane.{IsCloseOf, IsGoodClose, IsLaneRun, IsLaneRunFrom, of_lane}
+pub use Rattle.dispatch_engine.specs.lanes.Run.{IsReady, IsRoundRun, IsRun, IsSameRun, journal_of, position_after_run, state_after_run}
+pub use Rattle.dispatch_engine.specs.lemmas.lanes.Lanes.{IsPlain}
 pub use Rattle.dispatch_report.specs.declared.day.DayCounts.{DayCounts}
 pub use Rattle.plan_rules.proofs.lemmas.GraphLemmas.{in_choice, times_served_as_count, times_served_found, times_served_some}
 pub use Rattle.plan_rules.specs.Graph.{IsRowOf, choice_at, must_be_served, riders_at}
@@ -41,56 +41,56 @@ pub use Rattle.pool_base.specs.Times.{travel_time}
 pub use Rattle.pool_base.specs.TravelTime.{IsTravelTime, longest, never}
 pub use Rattle.pool_base.specs.declared.times.Times.{Times}
 pub use Rattle.pool_io.specs.Faults.{one_more}
-pub use Rattle.dispatch_engine.proofs.lemmas.Promises.{filter_range_has, promised_trip}
-pub use Rattle.dispatch_engine.specs.Promised.{IsLive, promised_limit, promised_to}
-pub use Rattle.dispatch_engine.specs.Requests.{IsLegOf, request_at}
-pub use Rattle.dispatch_engine.specs.Settling.{IsPlaced, IsSettled}
-pub use Rattle.dispatch_engine.specs.lemmas.NamedPromises.{IsHeld, ideal_second, is_promised_to, kept_leg, kept_legs, no_request}
-pub use Rattle.request_book.proofs.lemmas.BatchLemmas.{after_seal-id}
+pub use Rattle.dispatch_engine.proofs.lemmas.limits.Promises.{filter_range_has, promised_trip}
+pub use Rattle.dispatch_engine.specs.limits.Promised.{IsLive, promised_limit, promised_to}
+pub use Rattle.dispatch_engine.specs.limits.Requests.{IsLegOf, request_at}
+pub use Rattle.dispatch_engine.specs.limits.Settling.{IsPlaced, IsSettled}
+pub use Rattle.dispatch_engine.specs.lemmas.limits.NamedPromises.{IsHeld, ideal_second, is_promised_to, kept_leg, kept_legs, no_request}
+pub use Rattle.request_book.proofs.lemmas.register.BatchLemmas.{after_seal-id}
 pub use Rattle.request_book.proofs.lemmas.ConsistentLemmas.{step-consistent}
-pub use Rattle.request_book.proofs.lemmas.KeyedLemmas.{All-look_up, KeysDiffer-filter_map, KeysDiffer-from_rise, KeysDiffer-map, by_key-order, look_up-at, look_up-changed_here, look_up-changed_there, look_up-filter_map, look_up-here, look_up-key, look_up-map, look_up-nil, look_up-push_found, look_up-push_here, look_up-push_there, look_up-there, map-changed_at, without_key-absent}
+pub use Rattle.request_book.proofs.lemmas.values.KeyedLemmas.{All-look_up, KeysDiffer-filter_map, KeysDiffer-from_rise, KeysDiffer-map, by_key-order, look_up-at, look_up-changed_here, look_up-changed_there, look_up-filter_map, look_up-here, look_up-key, look_up-map, look_up-nil, look_up-push_found, look_up-push_here, look_up-push_there, look_up-there, map-changed_at, without_key-absent}
 pub use Rattle.request_book.proofs.lemmas.LawLemmas.{reached-consistent, rounds-join}
 pub use Rattle.request_book.proofs.lemmas.NamedLemmas.{step-named}
-pub use Rattle.request_book.proofs.lemmas.StepTable.{by-table}
+pub use Rattle.request_book.proofs.lemmas.register.StepTable.{by-table}
 pub use Rattle.request_book.specs.Book.{BookView, IsBook, next_position, opening}
-unfoldable pub use Rattle.request_book.specs.Closing.{picks}
-unfoldable pub use Rattle.request_book.specs.lemmas.Closing.{trip_picks, after_answer, closed_state}
-pub use Rattle.request_book.specs.Closing.{after_plan}
-pub use Rattle.request_book.specs.Command.{closed_outcome}
+unfoldable pub use Rattle.request_book.specs.register.Closing.{picks}
+unfoldable pub use Rattle.request_book.specs.lemmas.register.Closing.{trip_picks, after_answer, closed_state}
+pub use Rattle.request_book.specs.register.Closing.{after_plan}
+pub use Rattle.request_book.specs.values.Command.{closed_outcome}
 pub use Rattle.request_book.specs.Consistent.{IsNode, seat_in}
-unfoldable pub use Rattle.request_book.specs.Keyed.{KeysDiffer, changed_at, look_up}
-unfoldable pub use Rattle.request_book.specs.lemmas.Keyed.{without}
-pub use Rattle.request_book.specs.Keyed.{KeysRise, by_key}
+unfoldable pub use Rattle.request_book.specs.values.Keyed.{KeysDiffer, changed_at, look_up}
+unfoldable pub use Rattle.request_book.specs.lemmas.values.Keyed.{without}
+pub use Rattle.request_book.specs.values.Keyed.{KeysRise, by_key}
 unfoldable pub use Rattle.request_book.specs.Replay.{RepliesAreSteps, state_after}
-pub use Rattle.request_book.specs.Rider.{is_active, passenger_of, pool_promise, with_status}
-pub use Rattle.request_book.specs.lemmas.Named.{shown, asking, in_batch, lets_out, planned_status, stands_at, takes_in}
-unfoldable pub use Rattle.request_book.specs.Sealing.{batch_of}
-unfoldable pub use Rattle.request_book.specs.lemmas.Named.{sealed_state}
-pub use Rattle.request_book.specs.Sealing.{after_seal}
-pub use Rattle.request_book.specs.State.{find_passenger, find_rider, find_vehicle}
-unfoldable pub use Rattle.request_book.specs.Step.{step}
-pub use Rattle.request_book.specs.Step.{rider_becomes, vehicle_becomes}
-pub use Rattle.request_book.specs.declared.command.Command.{Command}
-pub use Rattle.request_book.specs.declared.command.Command.TheVariants.{Cancel, Close, Dropoff, Pickup, Report, Seal, Submit}
-pub use Rattle.request_book.specs.declared.journal.Entry.{Entry}
-pub use Rattle.request_book.specs.declared.journal.Journal.{Journal}
-pub use Rattle.request_book.specs.declared.outcome.Answer.{Answer}
-pub use Rattle.request_book.specs.declared.outcome.ChosenTrip.{ChosenTrip}
-pub use Rattle.request_book.specs.declared.outcome.MoveLine.{MoveLine}
-pub use Rattle.request_book.specs.declared.outcome.Outcome.{Outcome}
-pub use Rattle.request_book.specs.declared.outcome.Planned.{Planned}
-pub use Rattle.request_book.specs.declared.outcome.PlannedStop.{PlannedStop}
-pub use Rattle.request_book.specs.declared.reply.BookRefusal.{BookRefusal}
-pub use Rattle.request_book.specs.declared.reply.Reply.{Reply}
-pub use Rattle.request_book.specs.declared.reply.Reply.TheVariants.{Accepted, Closed, Dropped, Picked, Placed, Sealed}
-pub use Rattle.request_book.specs.declared.rider.BookRider.{BookRider}
-pub use Rattle.request_book.specs.declared.rider.Status.{Status}
-pub use Rattle.request_book.specs.declared.rider.Status.TheVariants.{Aboard, Delivered, Expired, Promised, Waiting}
-pub use Rattle.request_book.specs.declared.state.State.{State}
-unfoldable pub use Rattle.request_book.specs.lemmas.Refusals.{first_of}
-pub use Rattle.request_book.specs.lemmas.Refusals.{batch_open, clock_back, duplicate_rider}
-unfoldable pub use Rattle.request_book.specs.lemmas.Table.{cancel_step, close_step, dropoff_step, pickup_step, report_step, seal_step, submit_step, table_step}
-pub use Rattle.request_book.specs.lemmas.Table.{answer, dropped_off, picked_up, submit_refusal}
+pub use Rattle.request_book.specs.values.Rider.{is_active, passenger_of, pool_promise, with_status}
+pub use Rattle.request_book.specs.lemmas.register.Named.{shown, asking, in_batch, lets_out, planned_status, stands_at, takes_in}
+unfoldable pub use Rattle.request_book.specs.register.Sealing.{batch_of}
+unfoldable pub use Rattle.request_book.specs.lemmas.register.Named.{sealed_state}
+pub use Rattle.request_book.specs.register.Sealing.{after_seal}
+pub use Rattle.request_book.specs.values.State.{find_passenger, find_rider, find_vehicle}
+unfoldable pub use Rattle.request_book.specs.register.Step.{step}
+pub use Rattle.request_book.specs.register.Step.{rider_becomes, vehicle_becomes}
+pub use Rattle.request_book.specs.declared.values.command.Command.{Command}
+pub use Rattle.request_book.specs.declared.values.command.Command.TheVariants.{Cancel, Close, Dropoff, Pickup, Report, Seal, Submit}
+pub use Rattle.request_book.specs.declared.values.journal.Entry.{Entry}
+pub use Rattle.request_book.specs.declared.values.journal.Journal.{Journal}
+pub use Rattle.request_book.specs.declared.values.outcome.Answer.{Answer}
+pub use Rattle.request_book.specs.declared.values.outcome.ChosenTrip.{ChosenTrip}
+pub use Rattle.request_book.specs.declared.values.outcome.MoveLine.{MoveLine}
+pub use Rattle.request_book.specs.declared.values.outcome.Outcome.{Outcome}
+pub use Rattle.request_book.specs.declared.values.outcome.Planned.{Planned}
+pub use Rattle.request_book.specs.declared.values.outcome.PlannedStop.{PlannedStop}
+pub use Rattle.request_book.specs.declared.values.reply.BookRefusal.{BookRefusal}
+pub use Rattle.request_book.specs.declared.values.reply.Reply.{Reply}
+pub use Rattle.request_book.specs.declared.values.reply.Reply.TheVariants.{Accepted, Closed, Dropped, Picked, Placed, Sealed}
+pub use Rattle.request_book.specs.declared.values.rider.BookRider.{BookRider}
+pub use Rattle.request_book.specs.declared.values.rider.Status.{Status}
+pub use Rattle.request_book.specs.declared.values.rider.Status.TheVariants.{Aboard, Delivered, Expired, Promised, Waiting}
+pub use Rattle.request_book.specs.declared.values.state.State.{State}
+unfoldable pub use Rattle.request_book.specs.lemmas.register.Refusals.{first_of}
+pub use Rattle.request_book.specs.lemmas.register.Refusals.{batch_open, clock_back, duplicate_rider}
+unfoldable pub use Rattle.request_book.specs.lemmas.register.Table.{cancel_step, close_step, dropoff_step, pickup_step, report_step, seal_step, submit_step, table_step}
+pub use Rattle.request_book.specs.lemmas.register.Table.{answer, dropped_off, picked_up, submit_refusal}
 pub use Rattle.rider_limits.specs.declared.settings.Settings.{Settings}
 pub use Rattle.road_network.specs.Roads.{IsArcAmong, IsNetwork, Roads, has_node, hop_of, index_in, leaving}
 pub use Rattle.road_network.specs.Walk.{HasNoWalk, IsLeastTime, IsTimeBetween, IsWalk, walk_seconds}
@@ -117,19 +117,19 @@ pub use Rattle.route_drive.specs.work.Places.{ArePlaced, heading_of, headings_of
 pub use Rattle.route_drive.specs.work.Rounds.{Adds}
 pub use Rattle.route_drive.specs.work.Serving.{AreReached, AreReported, HasCalls, HasSeatsFor, IsBound, IsBoundBy, IsDayState, IsDone, IsKept, IsOfVehicle, IsPromiseKept, IsReadyForSeal, IsRightDropoff, IsRightPickup, IsRightStop, IsServing, KeepsBounds, LeavesAll, LeavesOthers, ShowsRiders, calls_of, chosen_stops, closed, course_of, is_stop_of, party_at, seats_after, stops_with}
 pub use Rattle.route_drive.specs.work.Tree.{AreHopsOpened, Grows, IsGrowing, IsOpened, IsTight, IsTree, IsWalkBack, found_at, is_seen, no_found}
-pub use Rattle.input_rows.specs.Round.{IsRound, MayStand, NumberedLanes, empty_round, lane_at}
-pub use Rattle.dispatch_engine.specs.Locked.{sealed_by}
-pub use Rattle.stop_orders.proofs.lemmas.ClockLemmas.{AtLeastAsSoon, soon_over, soon_there}
-pub use Rattle.stop_orders.specs.Order.{IsKnown, IsOrder, is_of_passenger, is_of_rider}
-pub use Rattle.stop_orders.specs.Settled.{IsTrip, greatest, no_rider, rider_at, trip_task, vehicle_at, vehicle_task}
-pub use Rattle.stop_orders.specs.lemmas.Named.{free_seats, no_vehicle}
-pub use Rattle.stop_orders.specs.Task.{IsLeg, IsOrderOf, IsServable, IsTask, Serves, leg_at, no_leg, persons, seconds_of, visit_at, visits_of}
-pub use Rattle.stop_orders.specs.Visit.{ServesFrom, boarding_of, latest_of, place_of, room_after, seconds_from}
-pub use Rattle.stop_orders.specs.declared.leg.Leg.{Leg}
-pub use Rattle.stop_orders.specs.declared.settled.Settled.{Settled}
-pub use Rattle.stop_orders.specs.declared.stop.Stop.{Stop}
-pub use Rattle.stop_orders.specs.declared.stop.Stop.TheVariants.{Alight, Drop, Pick}
-pub use Rattle.stop_orders.specs.declared.task.Task.{Task}
-pub use Rattle.stop_orders.specs.declared.visit.Visit.{Visit}
-pub use Rattle.travel_times.proofs.lemmas.WalkLemmas.{IsWalk-append, goal_within, short_walk, walk_seconds-append}
-pub use Rattle.travel_times.specs.Table.{AreTravelTimes}
+pub use Rattle.input_rows.specs.script.Round.{IsRound, MayStand, NumberedLanes, empty_round, lane_at}
+pub use Rattle.dispatch_engine.specs.lanes.Locked.{sealed_by}
+pub use Rattle.stop_orders.proofs.lemmas.task.ClockLemmas.{AtLeastAsSoon, soon_over, soon_there}
+pub use Rattle.stop_orders.specs.task.Order.{IsKnown, IsOrder, is_of_passenger, is_of_rider}
+pub use Rattle.stop_orders.specs.task.Settled.{IsTrip, greatest, no_rider, rider_at, trip_task, vehicle_at, vehicle_task}
+pub use Rattle.stop_orders.specs.lemmas.task.Named.{free_seats, no_vehicle}
+pub use Rattle.stop_orders.specs.task.Task.{IsLeg, IsOrderOf, IsServable, IsTask, Serves, leg_at, no_leg, persons, seconds_of, visit_at, visits_of}
+pub use Rattle.stop_orders.specs.task.Visit.{ServesFrom, boarding_of, latest_of, place_of, room_after, seconds_from}
+pub use Rattle.stop_orders.specs.declared.task.leg.Leg.{Leg}
+pub use Rattle.stop_orders.specs.declared.task.settled.Settled.{Settled}
+pub use Rattle.stop_orders.specs.declared.task.stop.Stop.{Stop}
+pub use Rattle.stop_orders.specs.declared.task.stop.Stop.TheVariants.{Alight, Drop, Pick}
+pub use Rattle.stop_orders.specs.declared.task.task.Task.{Task}
+pub use Rattle.stop_orders.specs.declared.task.visit.Visit.{Visit}
+pub use Rattle.travel_times.proofs.lemmas.search.WalkLemmas.{IsWalk-append, goal_within, short_walk, walk_seconds-append}
+pub use Rattle.travel_times.specs.table.Table.{AreTravelTimes}

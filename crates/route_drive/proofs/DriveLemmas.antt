@@ -1,7 +1,7 @@
 -- A day under way, round by round.
 use Rattle.std.proofs.Common.{◌≡◌, ◌≢◌, ℕ, zero, suc, ◌+◌, ◌-◌, ◌<◌, List, [], ◌∷◌, ◌++◌, length, get_or, map, take, drop, Some, refl, sym, ap, ◌∙◌, subst, arith, append-nil, All, rules}
 use Rattle.route_drive.proofs.Common.{length-map, BookView, IsBook, next_position, state_after, Command, Entry, Journal, State, Settings, Roads, NumberedLanes, empty_round, lane_at, IsReady, IsRoundRun, IsRun, IsSameRun, journal_of, position_after_run, state_after_run, Course, DayRound, DayCounts, DriveFault, AreDriven, ComesTooLate, HasDrivenToTheEnd, IsDrivenRound, IsLateAnswer, IsTooLateDay, IsNewBook, courses_after, courses_from, courses_left, first_courses, number_after, AreCounts, entries_of, seal_of, EntersTooLate, IsInTime, left_commands, AddsServed, AreServed, HasCome, HasEnded, IsCounted, IsLastOn, IsLateAt, IsRoundOn, IsStoppedAt, IsTaken, IsUnderWay, Takes, second_of, longest, map_push, Any}
-use Rattle.dispatch_engine.proofs.lemmas.RunLemmas.{position-more, run-more, state-more}
+use Rattle.dispatch_engine.proofs.lemmas.lanes.RunLemmas.{position-more, run-more, state-more}
 use Rattle.route_drive.proofs.LeaveLemmas.{count_stays}
 use Rattle.route_drive.proofs.EntryLemmas.{served_more}
 use Rattle.route_drive.specs.declared.drive.Drive.{Drive}

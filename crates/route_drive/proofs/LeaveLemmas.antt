@@ -2,7 +2,7 @@
 -- its pickups and drop-offs, and the vehicles by their ids.
 use Rattle.std.proofs.Common.{◌≡◌, ℕ, Bool, true, false, cond, List, [], ◌∷◌, ◌++◌, length, map, Option, None, Some, refl, sym, ap, ◌∙◌, option_map, ◌==◌, rules}
 use Rattle.route_drive.proofs.Common.{false≢true, length-map, Batch, Rider, Vehicle, look_up-map, look_up-push_found, map-changed_at, after_answer, in_batch, planned_status, closed_state, changed_at, state_after, with_status, sealed_state, find_rider, step, answer, picked_up, dropped_off, stands_at, takes_in, lets_out, submit_step, submit_refusal, cancel_step, report_step, pickup_step, dropoff_step, seal_step, close_step, table_step, by-table, Command, Submit, Cancel, Report, Pickup, Dropoff, Seal, Close, Answer, BookRefusal, Entry, Reply, Accepted, Picked, Dropped, Closed, BookRider, Status, Waiting, State, is_dropped, is_picked, Outcome}
-use Rattle.request_book.specs.declared.outcome.Answer.TheVariants as answers
+use Rattle.request_book.specs.declared.values.outcome.Answer.TheVariants as answers
 
 -- a rider of whatever status
 abbrev pub IsSame : BookRider → BookRider → Type 0

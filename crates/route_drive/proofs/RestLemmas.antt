@@ -2,9 +2,9 @@
 use Rattle.std.proofs.Common.{◌≡◌, ℕ, suc, ◌+◌, ◌<◌, ◌≤◌, Bool, true, false, eqb, List, [], ◌∷◌, ◌++◌, length, map, filter, drop, refl, sym, ap, ◌∙◌, subst, arith, inl, inr, length-append, All, remove, not, rules}
 use Rattle.route_drive.proofs.Common.{AllByRecursion, cases_lt, cond-true, cond-false, false≢true, get_or_append_left, get_or-append_seam, All-append, All-cons, All-nil, sum_by_push, sum_by-cons, longest, Leg, Task, Stop, Pick, Drop, Alight, Visit, is_of_rider, is_of_passenger, IsKnown, place_of, boarding_of, room_after, ServesFrom, seconds_from, no_leg, leg_at, persons, IsLeg, IsTask, visit_at, visits_of, free_seats, IsOrderOf, Serves, seconds_of, eq-eqb, ne_eqb, not_from_false, not_from_true, map-map, nat_tests}
 use Rattle.std.proofs.lemmas.List.Edits.{length-remove}
-use Rattle.stop_orders.specs.declared.visit.Visit.TheVariants.{Pickup, Dropoff}
+use Rattle.stop_orders.specs.declared.task.visit.Visit.TheVariants.{Pickup, Dropoff}
 use Rattle.stop_orders.specs.Laws.{number_without, stop_without_passenger, without_passenger}
-use Rattle.stop_orders.proofs.lemmas.DeletionLemmas.{old_number, not_same, renumbered, renumbered_back, old_number-ne, old_number-lt, number_without-lt, leg_without, All-remove, order_without_passenger, persons_without, valid_without_passenger, visit_without_passenger, visits_renumbered}
+use Rattle.stop_orders.proofs.lemmas.task.DeletionLemmas.{old_number, not_same, renumbered, renumbered_back, old_number-ne, old_number-lt, number_without-lt, leg_without, All-remove, order_without_passenger, persons_without, valid_without_passenger, visit_without_passenger, visits_renumbered}
 use Rattle.route_drive.proofs.kept.Lists.{all_mapped, both, filter_all, filter_filter, filter_renamed, map_agrees, skips, takes}
 use Rattle.route_drive.specs.Rest.{task_after, stop_after, rest_of, MeetsNext, RestServes}
 

@@ -1,8 +1,8 @@
 -- Searches for shortest walks.
 use Rattle.std.proofs.Common.{IfNone, IfOk, IsSome, MatchOption, Result, Ok, Err, ◌≡◌, ℕ, Option, None, Some, ◌+◌, ◌*◌, ◌<◌, ◌≤◌, ◌⊎◌, Bool, true, false, cond, not, List, [], ◌∷◌, ◌++◌, length, get_or, slice_index, set, replicate, map, reverse, count_by, All, refl, sym, ap, ◌∙◌, inl, inr, subst, arith, length-append, rules}
 use Rattle.route_drive.proofs.Common.{position_or_len, cases_eq, cases_lt, get_or_append_left, reverse-append, get_or-replicate, length-replicate, All-contains, sum_by-replicate, sum_by-set, sum_by-cons, get_or-append_seam, never, Arc, Hop, Roads, index_in, IsArcAmong, IsNetwork, hop_of, leaving, IsWalk, walk_seconds, HasNoWalk, Found, WalkStep, IsShortestWalk, no_found, found_at, is_seen, IsTight, IsTree, AreHopsOpened, IsOpened, Grows, IsGrowing, IsWalkBack, true≢false, length-set, get_or-set_same, get_or-set_other, get_or_past, get_or_default, position, IsWalk-append, walk_seconds-append, short_walk, nat_tests}
-use Rattle.travel_times.proofs.lemmas.SearchLemmas.{arc_of_hop, hop_of_arc, hops_among}
-use Rattle.travel_times.specs.Near.{AreTimesUpTo}
+use Rattle.travel_times.proofs.lemmas.search.SearchLemmas.{arc_of_hop, hop_of_arc, hops_among}
+use Rattle.travel_times.specs.search.Near.{AreTimesUpTo}
 
 -- one more is marked and found
 module _ (arcs : List Arc) (times : List ℕ) (seen : List Bool) (found : List Found) (k to : ℕ) where

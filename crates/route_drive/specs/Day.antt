@@ -3,10 +3,10 @@ use Rattle.std.specs.Prelude.{ℕ, Bool, true, false, not, List, ◌∷◌, Opti
 use Rattle.std.specs.List.{list_any}
 use Rattle.std.specs.Option.{option_or}
 use Rattle.pool_base.specs.InOrder.{first_fault}
-use Rattle.request_book.specs.declared.command.Command.{Command}
-use Rattle.request_book.specs.declared.command.Command.TheVariants.{Submit, Seal}
-use Rattle.stop_orders.specs.Settled.{greatest}
-use Rattle.input_rows.specs.Round.{NumberedLanes, empty_round, lane_at}
+use Rattle.request_book.specs.declared.values.command.Command.{Command}
+use Rattle.request_book.specs.declared.values.command.Command.TheVariants.{Submit, Seal}
+use Rattle.stop_orders.specs.task.Settled.{greatest}
+use Rattle.input_rows.specs.script.Round.{NumberedLanes, empty_round, lane_at}
 use Rattle.route_drive.specs.declared.day.DayFault.{DayFault}
 use Rattle.route_drive.specs.declared.day.DayFault.TheVariants as fault
 

@@ -3,26 +3,26 @@ use Rattle.std.specs.Prelude.{◌≡◌, ◌≢◌, ℕ, ◌+◌, ◌<◌, ◌�
 use Rattle.std.specs.List.{Any}
 use Rattle.std.specs.Option.{option_or, option_map_or}
 use Rattle.pool_base.specs.TravelTime.{longest}
-use Rattle.request_book.specs.Kept.{IsFleet}
-use Rattle.request_book.specs.declared.vehicle.Vehicle.{Vehicle}
-use Rattle.request_book.specs.Command.{closed_outcome}
+use Rattle.request_book.specs.values.Kept.{IsFleet}
+use Rattle.request_book.specs.declared.values.vehicle.Vehicle.{Vehicle}
+use Rattle.request_book.specs.values.Command.{closed_outcome}
 use Rattle.request_book.specs.Book.{BookView, opening}
-use Rattle.request_book.specs.Keyed.{look_up}
+use Rattle.request_book.specs.values.Keyed.{look_up}
 use Rattle.request_book.specs.Replay.{state_after}
-use Rattle.request_book.specs.State.{find_rider}
-use Rattle.request_book.specs.declared.command.Command.{Command}
-use Rattle.request_book.specs.declared.journal.Entry.{Entry}
-use Rattle.request_book.specs.declared.journal.Journal.{Journal}
-use Rattle.request_book.specs.declared.outcome.Answer.{Answer}
-use Rattle.request_book.specs.declared.outcome.Answer.TheVariants as answer
-use Rattle.request_book.specs.declared.outcome.Planned.{Planned}
-use Rattle.request_book.specs.declared.reply.Reply.{Reply}
-use Rattle.request_book.specs.declared.rider.BookRider.{BookRider}
-use Rattle.request_book.specs.declared.state.State.{State}
+use Rattle.request_book.specs.values.State.{find_rider}
+use Rattle.request_book.specs.declared.values.command.Command.{Command}
+use Rattle.request_book.specs.declared.values.journal.Entry.{Entry}
+use Rattle.request_book.specs.declared.values.journal.Journal.{Journal}
+use Rattle.request_book.specs.declared.values.outcome.Answer.{Answer}
+use Rattle.request_book.specs.declared.values.outcome.Answer.TheVariants as answer
+use Rattle.request_book.specs.declared.values.outcome.Planned.{Planned}
+use Rattle.request_book.specs.declared.values.reply.Reply.{Reply}
+use Rattle.request_book.specs.declared.values.rider.BookRider.{BookRider}
+use Rattle.request_book.specs.declared.values.state.State.{State}
 use Rattle.rider_limits.specs.declared.settings.Settings.{Settings}
 use Rattle.road_network.specs.Roads.{Roads}
-use Rattle.input_rows.specs.Round.{NumberedLanes, empty_round, lane_at}
-use Rattle.dispatch_engine.specs.Run.{IsRun, state_after_run}
+use Rattle.input_rows.specs.script.Round.{NumberedLanes, empty_round, lane_at}
+use Rattle.dispatch_engine.specs.lanes.Run.{IsRun, state_after_run}
 use Rattle.route_drive.specs.declared.course.Course.{Course}
 use Rattle.route_drive.specs.declared.day_run.DayRound.{DayRound}
 use Rattle.route_drive.specs.declared.day_run.DriveFault.{DriveFault}

@@ -2,10 +2,10 @@
 use Rattle.std.specs.Prelude.{◌≡◌, ◌⊎◌, ℕ, ◌+◌, ◌<◌, ◌≤◌, max, nat_lt, nat_le, ◌&&◌, if◌then◌else◌, List, [], ◌∷◌, ◌++◌, Option, None, Some, map, filter, Contains, fold}
 use Rattle.std.specs.List.{Any, flat_map, list_any, zip}
 use Rattle.pool_base.specs.TravelTime.{longest}
-use Rattle.request_book.specs.declared.vehicle.Vehicle.{Vehicle}
-use Rattle.request_book.specs.declared.command.Command.{Command}
-use Rattle.request_book.specs.declared.command.Command.TheVariants.{Report, Pickup, Dropoff}
-use Rattle.request_book.specs.declared.outcome.PlannedStop.{PlannedStop}
+use Rattle.request_book.specs.declared.values.vehicle.Vehicle.{Vehicle}
+use Rattle.request_book.specs.declared.values.command.Command.{Command}
+use Rattle.request_book.specs.declared.values.command.Command.TheVariants.{Report, Pickup, Dropoff}
+use Rattle.request_book.specs.declared.values.outcome.PlannedStop.{PlannedStop}
 use Rattle.road_network.specs.Roads.{Roads, index_in}
 use Rattle.road_network.specs.Walk.{HasNoWalk}
 use Rattle.route_drive.specs.declared.course.Course.{Course}

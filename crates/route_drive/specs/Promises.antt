@@ -2,32 +2,32 @@
 use Rattle.std.specs.Prelude.{◌≡◌, ℕ, ◌+◌, ◌≤◌, false, List, [], ◌∷◌, Some, None, IfSome, All, map}
 use Rattle.pool_base.specs.Times.{travel_time}
 use Rattle.pool_base.specs.declared.times.Times.{Times}
-use Rattle.request_book.specs.Batch.{Batch}
-use Rattle.request_book.specs.Kept.{IsFleet}
-use Rattle.request_book.specs.Vehicle.{HasSeats}
-use Rattle.request_book.specs.declared.promise.Promise.{Promise}
-use Rattle.request_book.specs.declared.vehicle.Vehicle.{Vehicle}
-use Rattle.dispatch_engine.specs.Run.{state_after_run}
-use Rattle.dispatch_engine.specs.Settling.{IsSettled}
+use Rattle.request_book.specs.values.Batch.{Batch}
+use Rattle.request_book.specs.values.Kept.{IsFleet}
+use Rattle.request_book.specs.values.Vehicle.{HasSeats}
+use Rattle.request_book.specs.declared.values.promise.Promise.{Promise}
+use Rattle.request_book.specs.declared.values.vehicle.Vehicle.{Vehicle}
+use Rattle.dispatch_engine.specs.lanes.Run.{state_after_run}
+use Rattle.dispatch_engine.specs.limits.Settling.{IsSettled}
 use Rattle.request_book.specs.Book.{opening}
 use Rattle.request_book.specs.Consistent.{IsNode}
-use Rattle.request_book.specs.State.{find_rider}
-use Rattle.request_book.specs.Step.{step}
-use Rattle.request_book.specs.declared.command.Command.{Command}
-use Rattle.request_book.specs.declared.command.Command.TheVariants.{Report, Pickup, Dropoff, Close}
-use Rattle.request_book.specs.declared.journal.Entry.{Entry}
-use Rattle.request_book.specs.declared.outcome.Answer.{Answer}
-use Rattle.request_book.specs.declared.reply.Reply.{Reply}
-use Rattle.request_book.specs.declared.reply.Reply.TheVariants.{Placed, Picked, Dropped, Closed}
-use Rattle.request_book.specs.declared.rider.BookRider.{BookRider}
-use Rattle.request_book.specs.declared.rider.Status.TheVariants.{Promised}
-use Rattle.request_book.specs.declared.state.State.{State}
+use Rattle.request_book.specs.values.State.{find_rider}
+use Rattle.request_book.specs.register.Step.{step}
+use Rattle.request_book.specs.declared.values.command.Command.{Command}
+use Rattle.request_book.specs.declared.values.command.Command.TheVariants.{Report, Pickup, Dropoff, Close}
+use Rattle.request_book.specs.declared.values.journal.Entry.{Entry}
+use Rattle.request_book.specs.declared.values.outcome.Answer.{Answer}
+use Rattle.request_book.specs.declared.values.reply.Reply.{Reply}
+use Rattle.request_book.specs.declared.values.reply.Reply.TheVariants.{Placed, Picked, Dropped, Closed}
+use Rattle.request_book.specs.declared.values.rider.BookRider.{BookRider}
+use Rattle.request_book.specs.declared.values.rider.Status.TheVariants.{Promised}
+use Rattle.request_book.specs.declared.values.state.State.{State}
 use Rattle.rider_limits.specs.declared.settings.Settings.{Settings}
 use Rattle.road_network.specs.Roads.{Roads, IsNetwork, index_in}
 use Rattle.road_network.specs.Walk.{IsTimeBetween}
-use Rattle.input_rows.specs.Round.{IsRound, NumberedLanes}
-use Rattle.stop_orders.specs.declared.settled.Settled.{Settled}
-use Rattle.travel_times.specs.Table.{AreTravelTimes}
+use Rattle.input_rows.specs.script.Round.{IsRound, NumberedLanes}
+use Rattle.stop_orders.specs.declared.task.settled.Settled.{Settled}
+use Rattle.travel_times.specs.table.Table.{AreTravelTimes}
 use Rattle.route_drive.specs.declared.day_run.DayRound.{DayRound}
 use Rattle.dispatch_report.specs.declared.day.DayCounts.{DayCounts}
 use Rattle.route_drive.specs.Counts.{AreCounts, entries_of, ideal_dropoff}

@@ -2,12 +2,12 @@
 use Rattle.std.specs.Prelude.{◌≡◌, ◌==◌, ℕ, zero, suc, ◌+◌, ◌<◌, ◌≤◌, if◌then◌else◌, List, [], ◌∷◌, ◌++◌, length, map, drop, remove}
 use Rattle.pool_base.specs.TravelTime.{never, longest}
 use Rattle.stop_orders.specs.Laws.{stop_without_passenger, without_passenger, number_without}
-use Rattle.stop_orders.specs.Task.{IsTask, Serves, leg_at, seconds_of, visits_of}
-use Rattle.stop_orders.specs.Visit.{place_of}
-use Rattle.stop_orders.specs.declared.stop.Stop.{Stop}
-use Rattle.stop_orders.specs.declared.stop.Stop.TheVariants.{Pick, Drop, Alight}
-use Rattle.stop_orders.specs.declared.task.Task.{Task}
-use Rattle.stop_orders.specs.declared.visit.Visit.{Visit}
+use Rattle.stop_orders.specs.task.Task.{IsTask, Serves, leg_at, seconds_of, visits_of}
+use Rattle.stop_orders.specs.task.Visit.{place_of}
+use Rattle.stop_orders.specs.declared.task.stop.Stop.{Stop}
+use Rattle.stop_orders.specs.declared.task.stop.Stop.TheVariants.{Pick, Drop, Alight}
+use Rattle.stop_orders.specs.declared.task.task.Task.{Task}
+use Rattle.stop_orders.specs.declared.task.visit.Visit.{Visit}
 
 -- the task after its first stop: who was picked up is the last passenger, who got out is gone
 abbrev pub task_after : Stop → Task → Task

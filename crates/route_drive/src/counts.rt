@@ -2,12 +2,12 @@
 ghost use Rattle.std.specs.Prelude.{◌≡◌, ◌∷◌, [], ℕ, List, All, IfOk, OnOk, map};
 ghost use Rattle.std.specs.List.{AllZip};
 ghost use Rattle.request_book.specs.Consistent.{IsNode};
-ghost use Rattle.request_book.specs.declared.journal.Entry.{Entry as EntryValue};
+ghost use Rattle.request_book.specs.declared.values.journal.Entry.{Entry as EntryValue};
 ghost use Rattle.road_network.specs.Roads.{index_in};
 ghost use Rattle.road_network.specs.Walk.{IsTimeBetween};
 ghost use Rattle.route_drive.specs.Counts.{AreCounts, ideal_dropoff};
 ghost use Rattle.route_drive.specs.work.Counting.{AddsServed, AreServed, IsDelayed, served_by, waited};
-ghost use Rattle.stop_orders.specs.Settled.{greatest};
+ghost use Rattle.stop_orders.specs.task.Settled.{greatest};
 
 use dispatch_report::DayCounts;
 use pool_base::{NodeId, OutOfMemory, RiderId, Second, Times};

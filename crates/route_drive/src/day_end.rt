@@ -1,10 +1,10 @@
 ghost use Rattle.std.specs.Prelude.{◌≡◌, ◌≢◌, ◌<◌, [], ℕ, All, Err, IfErr, IfOk, List, MatchOption, length};
 ghost use Rattle.std.specs.List.{Any};
 ghost use Rattle.pool_base.specs.TravelTime.{longest};
-ghost use Rattle.request_book.specs.declared.journal.Entry.{Entry as EntryValue};
+ghost use Rattle.request_book.specs.declared.values.journal.Entry.{Entry as EntryValue};
 ghost use Rattle.route_drive.specs.declared.day_run.DriveFault.TheVariants.{OutOfMemory as NoMemory};
-ghost use Rattle.input_rows.specs.Round.{lane_at};
-ghost use Rattle.dispatch_engine.specs.Run.{IsReady};
+ghost use Rattle.input_rows.specs.script.Round.{lane_at};
+ghost use Rattle.dispatch_engine.specs.lanes.Run.{IsReady};
 ghost use Rattle.route_drive.specs.Counts.{AreCounts};
 ghost use Rattle.route_drive.specs.Entering.{left_commands, second_of};
 ghost use Rattle.route_drive.specs.declared.entering.Stopped.TheVariants.{TooLate as Late};
@@ -18,7 +18,7 @@ use crate::drive::{Drive, run_taken, stopped_at, with_round};
 use crate::entering::Stopped;
 use crate::keeper::RoundKeeper;
 use crate::rounds::last_round;
-use dispatch_engine::Setup;
+use dispatch_engine::BatchSolver;
 use dispatch_report::DayCounts;
 use input_rows::Round;
 use road_network::Network;
@@ -35,13 +35,13 @@ pub(crate) fn drive_end<W: Ways, D: Drafter, G: Gate, K: RoundKeeper>(
     alloc: Global,
     drive: Drive,
     rounds: &[Round],
-    setup: &Setup<'_, W, D, G>,
+    solver: &BatchSolver<'_, W, D, G>,
     keeper: &mut K,
 ) -> Result<Drive, DriveFault>
-    requires ready { IsReady setup.now.settings.now setup.now.network.now drive.book }
+    requires ready { IsReady solver.now.settings.now solver.now.network.now drive.book }
     requires entries { drive.book.entries ≡ [] }
     requires each { length drive.courses.items ≡ length drive.book.state.vehicles }
-    ensures run { IfOk result (λ next. (first : K) → HasEnded setup.now.settings.now setup.now.network.now rounds.now drive (K.took first keeper.old) (K.took first keeper.new) next) }
+    ensures run { IfOk result (λ next. (first : K) → HasEnded solver.now.settings.now solver.now.network.now rounds.now drive (K.took first keeper.old) (K.took first keeper.new) next) }
     ensures late { IfErr result (λ fault. (first : K) → IsLateAt (number_after rounds.now) (Any (λ c. longest < second_of c) (left_commands drive.book.state.vehicles drive.courses.items)) (K.took first keeper.old) (K.took first keeper.new) fault) }
 {
     let Some(number) = number_after(rounds) else {
@@ -49,7 +49,7 @@ pub(crate) fn drive_end<W: Ways, D: Drafter, G: Gate, K: RoundKeeper>(
     };
     match left_of(alloc, &drive) {
         Ok(left) => {
-            let end = run_last(rt, alloc, drive, number, &left, setup, keeper);
+            let end = run_last(rt, alloc, drive, number, &left, solver, keeper);
             drop(left);
             end
         }
@@ -95,15 +95,15 @@ fn run_last<W: Ways, D: Drafter, G: Gate, K: RoundKeeper>(
     drive: Drive,
     number: u32,
     left: &Round,
-    setup: &Setup<'_, W, D, G>,
+    solver: &BatchSolver<'_, W, D, G>,
     keeper: &mut K,
 ) -> Result<Drive, DriveFault>
-    requires ready { IsReady setup.now.settings.now setup.now.network.now drive.book }
+    requires ready { IsReady solver.now.settings.now solver.now.network.now drive.book }
     requires entries { drive.book.entries ≡ [] }
     requires first { lane_at left.now 0 ≡ left_commands drive.book.state.vehicles drive.courses.items }
     requires others { (lane : ℕ) → lane ≢ 0 → lane_at left.now lane ≡ [] }
     requires in_time { All IsInTime (left_commands drive.book.state.vehicles drive.courses.items) }
-    ensures run { IfOk result (λ next. (first : K) → IsLastOn setup.now.settings.now setup.now.network.now number drive (K.took first keeper.old) (K.took first keeper.new) next) }
+    ensures run { IfOk result (λ next. (first : K) → IsLastOn solver.now.settings.now solver.now.network.now number drive (K.took first keeper.old) (K.took first keeper.new) next) }
     ensures late { IfErr result (λ fault. fault ≡ NoMemory) }
 {
     let Drive {
@@ -111,7 +111,7 @@ fn run_last<W: Ways, D: Drafter, G: Gate, K: RoundKeeper>(
         courses,
         served,
     } = drive;
-    match run_taken(rt, alloc, book, left, setup) {
+    match run_taken(rt, alloc, book, left, solver) {
         Ok((book, journal)) => {
             let drive = Drive {
                 book,

@@ -1,7 +1,7 @@
 ghost use Rattle.std.specs.Prelude.{◌≡◌, [], ℕ, None, Some, Err, IfErr, IfOk, length, map};
 ghost use Rattle.request_book.specs.Consistent.{IsConsistent};
 ghost use Rattle.route_drive.specs.declared.day_run.DriveFault.TheVariants.{OutOfMemory as NoMemory};
-ghost use Rattle.dispatch_engine.specs.Run.{IsReady};
+ghost use Rattle.dispatch_engine.specs.lanes.Run.{IsReady};
 ghost use Rattle.route_drive.specs.Day.{day_fault, seal_of};
 ghost use Rattle.route_drive.specs.Entering.{EntersTooLate};
 ghost use Rattle.route_drive.specs.declared.entering.Stopped.TheVariants.{TooLate as Late};
@@ -17,7 +17,7 @@ use crate::entering::Stopped;
 use crate::keeper::RoundKeeper;
 use crate::plan::{courses_after, first_courses};
 use crate::rounds::driven_round;
-use dispatch_engine::{Setup, run_round};
+use dispatch_engine::{BatchSolver, run_round};
 use dispatch_report::DayCounts;
 use input_rows::{Round, Script};
 use pool_base::OutOfMemory;
@@ -44,22 +44,22 @@ pub(crate) fn driven_day<W: Ways, D: Drafter, G: Gate, K: RoundKeeper>(
     alloc: Global,
     book: Book,
     day: &Script,
-    setup: &Setup<'_, W, D, G>,
+    solver: &BatchSolver<'_, W, D, G>,
     keeper: &mut K,
 ) -> Result<DayCounts, DriveFault>
-    requires new { IsNewBook setup.now.settings.now setup.now.network.now book }
+    requires new { IsNewBook solver.now.settings.now solver.now.network.now book }
     requires day { day_fault day.now ≡ None }
     requires fresh { K.took keeper.old keeper.old [] }
-    ensures run { IfOk result (IsCounted (K.took keeper.old keeper.new) setup.now.settings.now setup.now.network.now book.state day.now) }
-    ensures late { IfErr result (IsLateAnswer setup.now.settings.now setup.now.network.now (K.took keeper.old keeper.new) book.state day.now) }
+    ensures run { IfOk result (IsCounted (K.took keeper.old keeper.new) solver.now.settings.now solver.now.network.now book.state day.now) }
+    ensures late { IfErr result (IsLateAnswer solver.now.settings.now solver.now.network.now (K.took keeper.old keeper.new) book.state day.now) }
 {
     let rounds = day.rounds();
-    let drive = match drive_rounds(rt, alloc, book, rounds, setup, keeper) {
+    let drive = match drive_rounds(rt, alloc, book, rounds, solver, keeper) {
         Ok(drive) => drive,
         Err(fault) => return Err(fault),
     };
-    match drive_end(rt, alloc, drive, rounds, setup, keeper) {
-        Ok(end) => counted(alloc, end, setup.network),
+    match drive_end(rt, alloc, drive, rounds, solver, keeper) {
+        Ok(end) => counted(alloc, end, solver.network),
         Err(fault) => Err(fault),
     }
 }
@@ -70,13 +70,13 @@ fn drive_rounds<W: Ways, D: Drafter, G: Gate, K: RoundKeeper>(
     alloc: Global,
     book: Book,
     rounds: &[Round],
-    setup: &Setup<'_, W, D, G>,
+    solver: &BatchSolver<'_, W, D, G>,
     keeper: &mut K,
 ) -> Result<Drive, DriveFault>
-    requires new { IsNewBook setup.now.settings.now setup.now.network.now book }
+    requires new { IsNewBook solver.now.settings.now solver.now.network.now book }
     requires fresh { K.took keeper.old keeper.old [] }
-    ensures run { IfOk result (HasCome (K.took keeper.old keeper.new) setup.now.settings.now setup.now.network.now book.state rounds.now) }
-    ensures late { IfErr result (IsLateAnswer setup.now.settings.now setup.now.network.now (K.took keeper.old keeper.new) book.state rounds.now) }
+    ensures run { IfOk result (HasCome (K.took keeper.old keeper.new) solver.now.settings.now solver.now.network.now book.state rounds.now) }
+    ensures late { IfErr result (IsLateAnswer solver.now.settings.now solver.now.network.now (K.took keeper.old keeper.new) book.state rounds.now) }
 {
     let mut drive = match start(alloc, book) {
         Ok(drive) => drive,
@@ -84,17 +84,17 @@ fn drive_rounds<W: Ways, D: Drafter, G: Gate, K: RoundKeeper>(
     };
     let mut driven = 0usize;
     for round in rounds {
-        setup.gate.driven(driven, rounds.len());
-        match drive_round(rt, alloc, drive, round, setup, keeper) {
+        solver.gate.driven(driven, rounds.len());
+        match drive_round(rt, alloc, drive, round, solver, keeper) {
             Ok(next) => drive = next,
             Err(fault) => {
-                setup.gate.driven(rounds.len(), rounds.len());
+                solver.gate.driven(rounds.len(), rounds.len());
                 return Err(fault);
             }
         }
         driven = driven.saturating_add(1);
     }
-    setup.gate.driven(rounds.len(), rounds.len());
+    solver.gate.driven(rounds.len(), rounds.len());
     Ok(drive)
 }
 
@@ -133,19 +133,19 @@ fn drive_round<W: Ways, D: Drafter, G: Gate, K: RoundKeeper>(
     alloc: Global,
     drive: Drive,
     round: &Round,
-    setup: &Setup<'_, W, D, G>,
+    solver: &BatchSolver<'_, W, D, G>,
     keeper: &mut K,
 ) -> Result<Drive, DriveFault>
-    requires ready { IsReady setup.now.settings.now setup.now.network.now drive.book }
+    requires ready { IsReady solver.now.settings.now solver.now.network.now drive.book }
     requires entries { drive.book.entries ≡ [] }
     requires base { drive.book.base ≡ drive.book.state }
     requires each { length drive.courses.items ≡ length drive.book.state.vehicles }
-    ensures run { IfOk result (λ next. (first : K) → IsRoundOn setup.now.settings.now setup.now.network.now round.now drive (K.took first keeper.old) (K.took first keeper.new) next) }
-    ensures late { IfErr result (λ fault. (first : K) → IsLateAt round.now.number ((now : ℕ) × (seal_of round.now ≡ Some now) × EntersTooLate setup.now.network.now setup.now.settings.now.dwell now drive.book.state.vehicles drive.courses.items) (K.took first keeper.old) (K.took first keeper.new) fault) }
+    ensures run { IfOk result (λ next. (first : K) → IsRoundOn solver.now.settings.now solver.now.network.now round.now drive (K.took first keeper.old) (K.took first keeper.new) next) }
+    ensures late { IfErr result (λ fault. (first : K) → IsLateAt round.now.number ((now : ℕ) × (seal_of round.now ≡ Some now) × EntersTooLate solver.now.network.now solver.now.settings.now.dwell now drive.book.state.vehicles drive.courses.items) (K.took first keeper.old) (K.took first keeper.new) fault) }
 {
-    match driven_of(rt, alloc, setup, &drive, round) {
+    match driven_of(rt, alloc, solver, &drive, round) {
         Ok(driven) => {
-            let next = run_driven(rt, alloc, drive, round, &driven, setup, keeper);
+            let next = run_driven(rt, alloc, drive, round, &driven, solver, keeper);
             drop(driven);
             next
         }
@@ -160,17 +160,17 @@ fn drive_round<W: Ways, D: Drafter, G: Gate, K: RoundKeeper>(
 fn driven_of<W: Ways, D: Drafter, G: Gate>(
     rt: &(impl Threads + Sync),
     alloc: Global,
-    setup: &Setup<'_, W, D, G>,
+    solver: &BatchSolver<'_, W, D, G>,
     drive: &Drive,
     round: &Round,
 ) -> Result<Round, Stopped>
     requires same { length drive.now.courses.items ≡ length drive.now.book.state.vehicles }
-    ensures driven { IfOk result (λ driven. IsDrivenRound setup.now.settings.now setup.now.network.now drive.now.book.state drive.now.courses.items round.now (record driven { number = round.now.number })) }
-    ensures late { result ≡ Err Late → (now : ℕ) × (seal_of round.now ≡ Some now) × EntersTooLate setup.now.network.now setup.now.settings.now.dwell now drive.now.book.state.vehicles drive.now.courses.items }
+    ensures driven { IfOk result (λ driven. IsDrivenRound solver.now.settings.now solver.now.network.now drive.now.book.state drive.now.courses.items round.now (record driven { number = round.now.number })) }
+    ensures late { result ≡ Err Late → (now : ℕ) × (seal_of round.now ≡ Some now) × EntersTooLate solver.now.network.now solver.now.settings.now.dwell now drive.now.book.state.vehicles drive.now.courses.items }
 {
     match drive.book.state() {
         Ok(state) => {
-            let driven = driven_round(rt, alloc, setup, &state, drive.courses.as_slice(), round);
+            let driven = driven_round(rt, alloc, solver, &state, drive.courses.as_slice(), round);
             drop(state);
             driven
         }
@@ -195,14 +195,14 @@ fn run_driven<W: Ways, D: Drafter, G: Gate, K: RoundKeeper>(
     drive: Drive,
     round: &Round,
     driven: &Round,
-    setup: &Setup<'_, W, D, G>,
+    solver: &BatchSolver<'_, W, D, G>,
     keeper: &mut K,
 ) -> Result<Drive, DriveFault>
-    requires ready { IsReady setup.now.settings.now setup.now.network.now drive.book }
+    requires ready { IsReady solver.now.settings.now solver.now.network.now drive.book }
     requires entries { drive.book.entries ≡ [] }
     requires base { drive.book.base ≡ drive.book.state }
-    requires driven { IsDrivenRound setup.now.settings.now setup.now.network.now drive.book.state drive.courses.items round.now (record driven.now { number = round.now.number }) }
-    ensures run { IfOk result (λ next. (first : K) → IsRoundOn setup.now.settings.now setup.now.network.now round.now drive (K.took first keeper.old) (K.took first keeper.new) next) }
+    requires driven { IsDrivenRound solver.now.settings.now solver.now.network.now drive.book.state drive.courses.items round.now (record driven.now { number = round.now.number }) }
+    ensures run { IfOk result (λ next. (first : K) → IsRoundOn solver.now.settings.now solver.now.network.now round.now drive (K.took first keeper.old) (K.took first keeper.new) next) }
     ensures late { IfErr result (λ fault. fault ≡ NoMemory) }
 {
     let Drive {
@@ -211,7 +211,7 @@ fn run_driven<W: Ways, D: Drafter, G: Gate, K: RoundKeeper>(
         served,
     } = drive;
     let number = round.number();
-    match run_taken(rt, alloc, book, driven, setup) {
+    match run_taken(rt, alloc, book, driven, solver) {
         Ok((book, journal)) => match next_courses(alloc, &book, round, &journal, &courses) {
             Ok(next) => {
                 drop(courses);
@@ -240,14 +240,14 @@ pub(crate) fn run_taken<W: Ways, D: Drafter, G: Gate>(
     alloc: Global,
     book: Book,
     round: &Round,
-    setup: &Setup<'_, W, D, G>,
+    solver: &BatchSolver<'_, W, D, G>,
 ) -> Result<(Book, Journal), OutOfMemory>
-    requires ready { IsReady setup.now.settings.now setup.now.network.now book }
+    requires ready { IsReady solver.now.settings.now solver.now.network.now book }
     requires entries { book.entries ≡ [] }
-    ensures taken { IfOk result (λ taken. IsTaken setup.now.settings.now setup.now.network.now round.now book taken.0 taken.1) }
+    ensures taken { IfOk result (λ taken. IsTaken solver.now.settings.now solver.now.network.now round.now book taken.0 taken.1) }
     ensures consistent { IfOk result (λ taken. IsConsistent taken.1.base) }
 {
-    match run_round(rt, alloc, book, round, setup) {
+    match run_round(rt, alloc, book, round, solver) {
         Ok(mut book) => match book.take_round() {
             Ok(journal) => Ok((book, journal)),
             Err(fault) => {

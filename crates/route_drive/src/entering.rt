@@ -2,17 +2,17 @@
 ghost use Rattle.std.specs.Prelude.{◌≡◌, ◌<◌, ◌≤◌, ◌++◌, ◌∷◌, [], List, Err, All, OnOk, length, map};
 ghost use Rattle.std.specs.List.{Any};
 ghost use Rattle.pool_base.specs.TravelTime.{longest};
-ghost use Rattle.request_book.specs.declared.command.Command.{Command};
+ghost use Rattle.request_book.specs.declared.values.command.Command.{Command};
 ghost use Rattle.route_drive.specs.Entering.{AreEntered, EntersTooLate, due, stop_command};
 ghost use Rattle.route_drive.specs.declared.entering.Stopped.TheVariants.{TooLate as Late};
 ghost use Rattle.route_drive.specs.work.Drive.{IsInTime};
 ghost use Rattle.route_drive.specs.work.Places.{told_by, told_of};
 ghost use Rattle.route_drive.specs.work.Rounds.{Adds};
-ghost use Rattle.input_rows.specs.Round.{MayStand};
+ghost use Rattle.input_rows.specs.script.Round.{MayStand};
 
 use crate::course::{Course, NodeAt};
 use crate::places::places_at;
-use dispatch_engine::Setup;
+use dispatch_engine::BatchSolver;
 use input_rows::Round;
 use pool_base::{NodeId, OutOfMemory, Second, VehicleId};
 use request_book::{Command, PlannedStop, Vehicle};
@@ -169,18 +169,18 @@ pub(crate) fn enter_all<W: Ways, D: Drafter, G: Gate>(
     rt: &(impl Threads + Sync),
     alloc: Global,
     round: &mut Round,
-    setup: &Setup<'_, W, D, G>,
+    solver: &BatchSolver<'_, W, D, G>,
     now: Second,
     vehicles: &[Vehicle],
     courses: &[Course],
 ) -> Result<(), Stopped>
     requires sixteen { length round.old.lanes ≡ 16 }
     requires same { length courses.now ≡ length vehicles.now }
-    ensures entered { OnOk result ((entered : List Command) × AreEntered setup.now.network.now setup.now.settings.now.dwell now vehicles.now courses.now entered × All IsInTime entered × Adds 0 entered round.old round.new) }
-    ensures late { result ≡ Err Late → EntersTooLate setup.now.network.now setup.now.settings.now.dwell now vehicles.now courses.now }
+    ensures entered { OnOk result ((entered : List Command) × AreEntered solver.now.network.now solver.now.settings.now.dwell now vehicles.now courses.now entered × All IsInTime entered × Adds 0 entered round.old round.new) }
+    ensures late { result ≡ Err Late → EntersTooLate solver.now.network.now solver.now.settings.now.dwell now vehicles.now courses.now }
 {
-    let network = setup.network;
-    let settings = setup.settings;
+    let network = solver.network;
+    let settings = solver.settings;
     match places_at(rt, alloc, network, settings, now, vehicles, courses) {
         Ok(places) => enter_places(round, now, vehicles, courses, &places),
         Err(_) => Err(Stopped::OutOfMemory),

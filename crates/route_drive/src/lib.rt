@@ -11,15 +11,15 @@
 //!     alloc: Global,
 //!     book: Book,
 //!     day: &Script,
-//!     setup: &Setup<'_, W, D, G>,
+//!     solver: &BatchSolver<'_, W, D, G>,
 //! ) -> Option<Vec<DayRound>>
-//!     requires new { IsNewBook setup.now.settings.now setup.now.network.now book }
+//!     requires new { IsNewBook solver.now.settings.now solver.now.network.now book }
 //! {
 //!     if is_day(day).is_err() {
 //!         return None;
 //!     }
 //!     let mut rounds = Vec::new(alloc);
-//!     match drive_day(rt, alloc, book, day, setup, &mut rounds) {
+//!     match drive_day(rt, alloc, book, day, solver, &mut rounds) {
 //!         Ok(_) => Some(rounds),
 //!         Err(_) => None,
 //!     }

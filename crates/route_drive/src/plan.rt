@@ -1,7 +1,7 @@
 //! What is on its way after a round.
 ghost use Rattle.std.specs.Prelude.{◌≡◌, ◌==◌, [], None, Some, IfNone, IfOk, IfSome, find, map, option_and_then, option_map};
 ghost use Rattle.std.specs.Option.{option_map_or};
-ghost use Rattle.request_book.specs.Command.{closed_outcome};
+ghost use Rattle.request_book.specs.values.Command.{closed_outcome};
 ghost use Rattle.route_drive.specs.Driven.{courses_after, left_course, plan_in, planned_course, planned_in};
 ghost use Rattle.route_drive.specs.work.Drive.{at_rest};
 ghost use Rattle.route_drive.specs.Entering.{to_come};

@@ -8,7 +8,7 @@ ghost use Rattle.route_drive.specs.declared.day_run.DayRound.{DayRound};
 use crate::day_run::DriveFault;
 use crate::drive::driven_day;
 use crate::keeper::RoundKeeper;
-use dispatch_engine::Setup;
+use dispatch_engine::BatchSolver;
 use dispatch_report::DayCounts;
 use input_rows::Script;
 use request_book::Book;
@@ -38,17 +38,17 @@ pub fn drive_day<W: Ways, D: Drafter, G: Gate, K: RoundKeeper>(
     alloc: Global,
     book: Book,
     day: &Script,
-    setup: &Setup<'_, W, D, G>,
+    solver: &BatchSolver<'_, W, D, G>,
     keeper: &mut K,
 ) -> Result<DayCounts, DriveFault>
-    requires new { IsNewBook setup.now.settings.now setup.now.network.now book }
+    requires new { IsNewBook solver.now.settings.now solver.now.network.now book }
     requires day { day_fault day.now ≡ None }
     requires fresh { K.took keeper.old keeper.old [] }
-    ensures run { IfOk result (λ run. (made : List DayRound) × K.took keeper.old keeper.new made × IsRunOfDay setup.now.settings.now setup.now.network.now book.state day.now made run) }
-    ensures late { IfErr result (IsLateAnswer setup.now.settings.now setup.now.network.now (K.took keeper.old keeper.new) book.state day.now) }
+    ensures run { IfOk result (λ run. (made : List DayRound) × K.took keeper.old keeper.new made × IsRunOfDay solver.now.settings.now solver.now.network.now book.state day.now made run) }
+    ensures late { IfErr result (IsLateAnswer solver.now.settings.now solver.now.network.now (K.took keeper.old keeper.new) book.state day.now) }
 {
     let _entries = book.entries();
     let _rounds = day.rounds();
-    let _nodes = setup.network.node_count();
-    driven_day(rt, alloc, book, day, setup, keeper)
+    let _nodes = solver.network.node_count();
+    driven_day(rt, alloc, book, day, solver, keeper)
 }

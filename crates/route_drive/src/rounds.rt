@@ -8,12 +8,12 @@ ghost use Rattle.route_drive.specs.Entering.{EntersTooLate, left_commands, secon
 ghost use Rattle.route_drive.specs.declared.entering.Stopped.TheVariants.{TooLate as Late};
 ghost use Rattle.route_drive.specs.work.Drive.{IsInTime};
 ghost use Rattle.route_drive.specs.work.Rounds.{Adds};
-ghost use Rattle.input_rows.specs.Round.{MayStand, lane_at};
+ghost use Rattle.input_rows.specs.script.Round.{MayStand, lane_at};
 
 use crate::course::Course;
 use crate::day::first_seal;
 use crate::entering::{Stopped, command_of, enter_all, put};
-use dispatch_engine::Setup;
+use dispatch_engine::BatchSolver;
 use input_rows::Round;
 use pool_base::{OutOfMemory, Second, VehicleId};
 use request_book::{Command, PlannedStop, State, Vehicle};
@@ -27,21 +27,21 @@ use travel_times::Ways;
 pub(crate) fn driven_round<W: Ways, D: Drafter, G: Gate>(
     rt: &(impl Threads + Sync),
     alloc: Global,
-    setup: &Setup<'_, W, D, G>,
+    solver: &BatchSolver<'_, W, D, G>,
     state: &State,
     courses: &[Course],
     round: &Round,
 ) -> Result<Round, Stopped>
     requires same { length courses.now ≡ length state.now.vehicles }
-    ensures driven { IfOk result (λ driven. IsDrivenRound setup.now.settings.now setup.now.network.now state.now courses.now round.now (record driven { number = round.now.number })) }
-    ensures late { result ≡ Err Late → (now : ℕ) × (seal_of round.now ≡ Some now) × EntersTooLate setup.now.network.now setup.now.settings.now.dwell now state.now.vehicles courses.now }
+    ensures driven { IfOk result (λ driven. IsDrivenRound solver.now.settings.now solver.now.network.now state.now courses.now round.now (record driven { number = round.now.number })) }
+    ensures late { result ≡ Err Late → (now : ℕ) × (seal_of round.now ≡ Some now) × EntersTooLate solver.now.network.now solver.now.settings.now.dwell now state.now.vehicles courses.now }
 {
     let Ok(mut driven) = Round::new(alloc, 0) else {
         return Err(Stopped::OutOfMemory);
     };
     if let Some(now) = first_seal(round.lane(0)) {
         let vehicles = state.vehicles.as_slice();
-        match enter_all(rt, alloc, &mut driven, setup, now, vehicles, courses) {
+        match enter_all(rt, alloc, &mut driven, solver, now, vehicles, courses) {
             Ok(()) => {}
             Err(stopped) => {
                 drop(driven);

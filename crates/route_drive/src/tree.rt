@@ -1,7 +1,7 @@
 //! The nodes that shortest walks from a start come to, found by a breadth-first search.
 ghost use Rattle.std.specs.Prelude.{◌≡◌, ◌≢◌, ℕ, ◌<◌, false, true, IfSome, IfNone, OnOk, length, replicate, slice_index, slice_set, ◌++◌, ◌∷◌, []};
 ghost use Rattle.pool_base.specs.TravelTime.{never};
-ghost use Rattle.travel_times.specs.Near.{AreTimesUpTo};
+ghost use Rattle.travel_times.specs.search.Near.{AreTimesUpTo};
 ghost use Rattle.route_drive.specs.work.Tree.{Grows, IsOpened, IsTree, found_at, is_seen};
 
 use pool_base::OutOfMemory;

@@ -1,7 +1,7 @@
 ghost use Rattle.std.specs.Prelude.{◌≡◌, ◌<◌, [], Contains, IfOk, MatchOption, length, slice_index};
 ghost use Rattle.road_network.specs.Roads.{index_in};
 ghost use Rattle.road_network.specs.Walk.{HasNoWalk};
-ghost use Rattle.travel_times.specs.Near.{AreTimesUpTo};
+ghost use Rattle.travel_times.specs.search.Near.{AreTimesUpTo};
 ghost use Rattle.route_drive.specs.Walk.{IsShortestWalk};
 ghost use Rattle.route_drive.specs.work.Tree.{IsTree, IsWalkBack, found_at};
 

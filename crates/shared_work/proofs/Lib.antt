@@ -2,11 +2,3 @@ pub mod Sums
 pub mod Keeps
 pub mod Ended
 pub mod Placing
-pub mod Totals
-pub mod Calls
-pub mod StageLemmas
-pub mod KeepsTurns
-pub mod Handing
-pub mod Turning
-pub mod Positions
-pub mod Common

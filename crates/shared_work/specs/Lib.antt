@@ -1,4 +1,2 @@
 pub mod Outs
 pub mod work
-pub mod Counted
-pub mod Values

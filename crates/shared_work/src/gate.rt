@@ -1,6 +1,6 @@
 //! What a caller may hook into the work.
 
-/// Hears of a piece as it begins, of a lane that was answered, and of how far long work is. It answers nothing, and
+/// Hears of a piece as it begins, of a lane that was answered, of a batch that is given up, and of how far long work is. It answers nothing, and
 /// may wait.
 pub trait Gate: Sync {
     /// A worker begins this piece.
@@ -8,6 +8,9 @@ pub trait Gate: Sync {
 
     /// A lane has its receipt.
     fn answered(&self, lane: u8);
+
+    /// A batch that is open won't be closed.
+    fn gave_up(&self) {}
 
     /// So many of all nodes are labelled, by labels of so many bytes.
     fn labelled(&self, _nodes: usize, _all: usize, _bytes: u64) {}

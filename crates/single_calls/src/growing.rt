@@ -2,8 +2,8 @@
 ghost use Rattle.std.specs.Prelude.{◌≡◌, ℕ, ◌<◌, Contains, length};
 ghost use Rattle.pool_base.specs.Times.{point_count, travel_time};
 ghost use Rattle.request_book.specs.Points.{ArePoints};
-ghost use Rattle.stop_orders.specs.Settled.{IsRrEdge};
-ghost use Rattle.stop_orders.specs.Sound.{IsSound};
+ghost use Rattle.stop_orders.specs.task.Settled.{IsRrEdge};
+ghost use Rattle.stop_orders.specs.task.Sound.{IsSound};
 
 use crate::line::{LINE, batch_on, network_of, settings};
 use crate::walking::fast;

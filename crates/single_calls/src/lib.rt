@@ -17,8 +17,6 @@ mod pieces;
 #[cfg(test)]
 mod plans;
 #[cfg(test)]
-mod solving;
-#[cfg(test)]
 mod streams;
 #[cfg(test)]
 mod turns;

@@ -4,7 +4,7 @@ use pool_base::{NodeId, Party, RiderId, Second};
 use pool_io::rows;
 use request_book::{Book, Command, Reply, Snapshot};
 use rider_limits::{Mode, Settings, TimesWay};
-use road_network::{Network, read_network};
+use road_network::{NETWORK_HEADER, Network, read_network};
 use std::alloc::Global;
 
 /// Five nodes in a line, a minute between neighbours.
@@ -33,7 +33,7 @@ pub fn settings() -> Settings {
 
 /// The network of a file; `None` where it is refused, and for want of memory.
 pub fn network_of(alloc: Global, text: &[u8]) -> Option<Network> {
-    match rows(alloc, text, b"from,to,seconds") {
+    match rows(alloc, text, NETWORK_HEADER) {
         Ok(table) => match read_network(alloc, &table) {
             Ok(network) => Some(network),
             Err(_) => None,

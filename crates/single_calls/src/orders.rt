@@ -1,7 +1,7 @@
 //! Orders of stops: one that is out of reach, and the least delay of the widest task.
 ghost use Rattle.std.specs.Prelude.{◌≡◌, ◌<◌, ◌≤◌};
 ghost use Rattle.pool_base.specs.Times.{point_count};
-ghost use Rattle.stop_orders.specs.Task.{IsTask};
+ghost use Rattle.stop_orders.specs.task.Task.{IsTask};
 
 use arrayvec::ArrayVec;
 use pool_base::{OutOfMemory, Party, Steps, Times};

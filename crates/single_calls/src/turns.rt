@@ -1,8 +1,8 @@
 //! Lanes that count in turn.
 ghost use Rattle.std.specs.Prelude.{◌≡◌, ℕ, ◌<◌, All, length, vec_len, slice_index_or};
-ghost use Rattle.shared_work.specs.Values.{IsPassOf, AreAllPasses};
+ghost use Rattle.seat_lock.specs.Values.{IsPassOf, AreAllPasses};
 
-use shared_work::{Counter, Pass, SeatLock};
+use seat_lock::{Counter, Pass, SeatLock};
 use std::alloc::Global;
 use std::sync::Wait;
 use std::test::Fail;

@@ -1,13 +1,13 @@
 use Rattle.std.proofs.lemmas.Bool.Decides.{nat_tests}
 use Rattle.std.proofs.Common.{◌≡◌, ℕ, zero, suc, ◌+◌, ◌*◌, ◌<◌, ◌≤◌, List, [], ◌∷◌, ◌++◌, length, map, get_or, take, drop, refl, sym, ap, ◌∙◌, subst, arith, inl, inr, ◌⊎◌, All, remove, rules}
 use Rattle.stop_orders.proofs.Common.{AllByRecursion, false≢true, map-append, take-map, drop-map, length-map, get_or-map, nil_from_length, length-remove, IsTravelTime, Task, Stop, Pick, Drop, Alight, Visit, Pickup, Dropoff, IsKnown, IsOrder, latest_of, lateness, ServesFrom, delay_from, no_leg, leg_at, IsTask, IsServable, IsLeastDelay, visit_at, visits_of, free_seats, Serves, order_delay, IsNextStop, no_vehicle, no_rider, vehicle_at, rider_at, trip_task, pair_task, greatest, IsTrip, IsRrEdge, without_rider, without_passenger, stops_without_rider, stops_without_passenger, StillServes}
-use Rattle.stop_orders.specs.declared.settled.Settled.{Settled}
-use Rattle.stop_orders.specs.declared.settled_vehicle.SettledVehicle.{SettledVehicle}
-use Rattle.stop_orders.specs.Sound.{IsShort, IsSound}
-use Rattle.stop_orders.proofs.lemmas.ClockLemmas.{soon_there, ServesFrom-soon}
-use Rattle.stop_orders.proofs.lemmas.DoneLemmas.{has-none, Completes-none, Completes-front}
-use Rattle.stop_orders.proofs.lemmas.ScanLemmas.{order_short}
-use Rattle.stop_orders.proofs.lemmas.DeletionLemmas.{rider_left_out, passenger_left_out}
+use Rattle.stop_orders.specs.declared.task.settled.Settled.{Settled}
+use Rattle.stop_orders.specs.declared.task.settled_vehicle.SettledVehicle.{SettledVehicle}
+use Rattle.stop_orders.specs.task.Sound.{IsShort, IsSound}
+use Rattle.stop_orders.proofs.lemmas.task.ClockLemmas.{soon_there, ServesFrom-soon}
+use Rattle.stop_orders.proofs.lemmas.task.DoneLemmas.{has-none, Completes-none, Completes-front}
+use Rattle.stop_orders.proofs.lemmas.search.ScanLemmas.{order_short}
+use Rattle.stop_orders.proofs.lemmas.task.DeletionLemmas.{rider_left_out, passenger_left_out}
 
 map-remove : {X Y : Type 0} (f : X → Y) (xs : List X) (i : ℕ) → map f (remove xs i) ≡ remove (map f xs) i
 map-remove f xs i = map-append f (take i xs) (drop (suc i) xs) ∙ ap (λ ys. ys ++ map f (drop (suc i) xs)) (sym (take-map f i xs)) ∙ ap (λ ys. take i (map f xs) ++ ys) (sym (drop-map f (suc i) xs))

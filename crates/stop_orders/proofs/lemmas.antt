@@ -1,6 +1,2 @@
-pub mod ClockLemmas
-pub mod DoneLemmas
-pub mod PlainLemmas
-pub mod ScanLemmas
-pub mod VisitLemmas
-pub mod DeletionLemmas
+pub mod task
+pub mod search

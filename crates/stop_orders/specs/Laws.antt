@@ -1,13 +1,13 @@
 use Rattle.std.specs.Prelude.{ℕ, ◌-◌, ◌<◌, ◌≤◌, not, nat_lt, if◌then◌else◌, List, [], ◌∷◌, length, map, filter, remove}
 use Rattle.pool_base.specs.TravelTime.{IsTravelTime}
-use Rattle.stop_orders.specs.declared.stop.Stop.{Stop}
-use Rattle.stop_orders.specs.declared.stop.Stop.TheVariants.{Pick, Drop, Alight}
-use Rattle.stop_orders.specs.declared.task.Task.{Task}
-use Rattle.stop_orders.specs.declared.settled.Settled.{Settled}
-use Rattle.stop_orders.specs.Order.{is_of_rider, is_of_passenger}
-use Rattle.stop_orders.specs.Task.{IsTask, IsServable, IsLeastDelay, Serves, order_delay}
-use Rattle.stop_orders.specs.Settled.{IsTrip, IsRrEdge, trip_task}
-use Rattle.stop_orders.specs.Sound.{IsSound}
+use Rattle.stop_orders.specs.declared.task.stop.Stop.{Stop}
+use Rattle.stop_orders.specs.declared.task.stop.Stop.TheVariants.{Pick, Drop, Alight}
+use Rattle.stop_orders.specs.declared.task.task.Task.{Task}
+use Rattle.stop_orders.specs.declared.task.settled.Settled.{Settled}
+use Rattle.stop_orders.specs.task.Order.{is_of_rider, is_of_passenger}
+use Rattle.stop_orders.specs.task.Task.{IsTask, IsServable, IsLeastDelay, Serves, order_delay}
+use Rattle.stop_orders.specs.task.Settled.{IsTrip, IsRrEdge, trip_task}
+use Rattle.stop_orders.specs.task.Sound.{IsSound}
 
 -- the number k when number i is left out: those above it move down
 abbrev pub number_without : ℕ → ℕ → ℕ

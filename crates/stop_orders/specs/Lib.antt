@@ -1,10 +1,5 @@
-pub mod Visit
-pub mod Order
-pub mod Task
-pub mod Settled
-pub mod Sound
+pub mod task
 pub mod PairList
-pub mod Done
 pub mod Laws
 pub mod lemmas
 pub mod work

@@ -1,3 +1,2 @@
-pub mod Named
-pub mod Plain
-pub mod Rest
+pub mod task
+pub mod search

@@ -1,10 +1,3 @@
-pub mod Rest
-pub mod Plain
-pub mod Position
+pub mod task
+pub mod search
 pub mod PairList
-pub mod Label
-pub mod Ahead
-pub mod Kept
-pub mod Search
-pub mod Unlimited
-pub mod Cost

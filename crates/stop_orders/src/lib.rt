@@ -32,49 +32,31 @@
 //! README.md quotes them.
 #![tactic(auto)]
 
-mod ahead;
-mod candidate;
-mod cost;
-mod done;
-mod kept;
-mod label;
-pub mod laws;
-mod least;
-mod leg;
-mod order;
-mod pair_list;
-mod plain;
-mod position;
-mod route;
-mod search;
-mod serving;
-mod settled;
-mod settled_rider;
-mod settled_vehicle;
-mod stop;
-mod task;
-mod trip;
-mod unlimited;
-mod validity;
-mod visit;
+// Rooms, each names only those above it: task, search.
 
-pub use cost::least_cost_with;
-pub use done::Done;
-pub use kept::Workspace;
-pub use least::{least_delay, least_delay_with};
-pub use leg::Leg;
-pub use order::is_order;
+pub mod laws;
+mod pair_list;
+mod search;
+mod task;
+mod validity;
+
 pub use pair_list::PairList;
-pub use plain::least_over_all_orders;
-pub use position::{arrival, free_seats_of};
-pub use route::{Route, copy_of_stops};
-pub use serving::{delay_of, serves, stop_second, visit_of};
-pub use settled::{Settled, SettledRiders, SettledVehicles};
-pub use settled_rider::SettledRider;
-pub use settled_vehicle::SettledVehicle;
-pub use stop::Stop;
-pub use task::Task;
-pub use trip::task_of;
-pub use unlimited::least_delay_unlimited;
+pub use search::cost::least_cost_with;
+pub use search::label_store::Workspace;
+pub use search::least::{least_delay, least_delay_with};
+pub use search::plain::least_over_all_orders;
+pub use search::position::{arrival, free_seats_of};
+pub use search::serving::{delay_of, serves, stop_second, visit_of};
+pub use search::unlimited::least_delay_unlimited;
+pub use task::done::Done;
+pub use task::leg::Leg;
+pub use task::order::is_order;
+pub use task::route::{Route, copy_of_stops};
+pub use task::settled::{Settled, SettledRiders, SettledVehicles};
+pub use task::settled_rider::SettledRider;
+pub use task::settled_vehicle::SettledVehicle;
+pub use task::stop::Stop;
+pub use task::task::Task;
+pub use task::trip::task_of;
+pub use task::visit::Visit;
 pub use validity::is_valid;
-pub use visit::Visit;

@@ -30,9 +30,17 @@ impl PairList {
         PairList { pairs }
     }
 
+    /// Whether the pair stands in the list.
+    pub fn has(&self, a: usize, b: usize) -> bool
+        ensures { IsTrue result ↔ Contains self.now (a, b) }
+    {
+        let mut near = 0;
+        self.has_near(&mut near, a, b)
+    }
+
     /// Whether the pair stands in the list. `near` is any place to look from, and becomes that of the first pair
     /// that doesn't come before this one: pairs that are looked up in order take a few steps each.
-    pub fn has(&self, near: &mut usize, a: usize, b: usize) -> bool
+    pub fn has_near(&self, near: &mut usize, a: usize, b: usize) -> bool
         ensures { IsTrue result ↔ Contains self.now (a, b) }
     {
         *near = first_not_before(&self.pairs, *near, a, b);

@@ -1,18 +1,14 @@
-use crate::Leg;
-use arrayvec::ArrayVec;
+//! What a vehicle has to do: legs, stops, the task, the settled batch, and what an order of its stops is.
+//! Crates above build tasks here, and the search reads them. It names no other room.
 
-/// A vehicle, its passengers, and the riders of a trip: what an order of stops is sought for.
-#[derive(Drop)]
-pub struct Task {
-    /// The place where the vehicle is.
-    pub start: usize,
-    /// The second from which on it can leave.
-    pub ready: u64,
-    /// How many seconds each stop takes.
-    pub dwell: u16,
-    pub seats: u8,
-    /// The passengers: who was picked up before, and still has to be dropped off.
-    pub aboard: ArrayVec<Leg, 10>,
-    /// The riders of the trip.
-    pub riders: ArrayVec<Leg, 6>,
-}
+pub(crate) mod done;
+pub(crate) mod leg;
+pub(crate) mod order;
+pub(crate) mod route;
+pub(crate) mod settled;
+pub(crate) mod settled_rider;
+pub(crate) mod settled_vehicle;
+pub(crate) mod stop;
+pub(crate) mod task;
+pub(crate) mod trip;
+pub(crate) mod visit;

@@ -1,6 +1,6 @@
 ghost use Rattle.std.specs.Prelude.{◌≡◌, ◌<◌, ◌≤◌, ◌↔◌, All, IsTrue, length};
 ghost use Rattle.pool_base.specs.TravelTime.{longest};
-ghost use Rattle.stop_orders.specs.Task.{IsLeg, IsTask, persons};
+ghost use Rattle.stop_orders.specs.task.Task.{IsLeg, IsTask, persons};
 
 use crate::{Leg, Task};
 use pool_base::Party;

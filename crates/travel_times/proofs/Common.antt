@@ -15,22 +15,22 @@ pub use Rattle.road_network.specs.Roads.{IsArcAmong, IsNetwork, Roads, hop_of, i
 pub use Rattle.road_network.specs.Walk.{HasNoWalk, IsLeastTime, IsTimeBetween, IsWalk, walk_seconds}
 pub use Rattle.road_network.specs.declared.arc.Arc.{Arc}
 pub use Rattle.road_network.specs.declared.hop.Hop.{Hop}
-pub use Rattle.travel_times.specs.Near.{AreTimesUpTo, reach}
-pub use Rattle.travel_times.specs.Search.{IsHopRelaxed, IsNextTaken, RelaxesHops, waits, work_left}
-pub use Rattle.travel_times.specs.lemmas.Search.{HasWalkOf, IsSearching}
-pub use Rattle.travel_times.specs.work.Table.{AreRows, AreWritten, IsPiece, IsPieceWritten, IsRowAt, IsUnwritten, WritesRow}
-pub use Rattle.travel_times.specs.Fault.{IsFirstWrong, IsForwardAt}
-pub use Rattle.travel_times.specs.Label.{IsBackwardHub, IsForwardHub, IsLabel}
-pub use Rattle.travel_times.specs.Labels.{AreLabelsOf, NodeLabels, label_at}
-pub use Rattle.travel_times.specs.Rank.{IsOfLowerRank, degree}
-pub use Rattle.travel_times.specs.declared.hub.Hub.{Hub}
-pub use Rattle.travel_times.specs.work.Adding.{AddsHub, AreHopsBothWays, IsClean}
-pub use Rattle.travel_times.specs.work.Building.{AreLabelled, AreMadeFrom, AreRanksOf}
-pub use Rattle.travel_times.specs.work.Cells.{AreCells}
-pub use Rattle.travel_times.specs.work.Common.{IsLeastInCommon, IsRising, RiseByRank}
-pub use Rattle.travel_times.specs.work.Difference.{IsFirstDifference}
-pub use Rattle.travel_times.specs.work.Drafts.{GainsHub, HandsOver, HasSpread, IsAmongHubs, IsSpread}
-pub use Rattle.travel_times.specs.work.Hops.{AreHopsOf, AreNodeHops, AreTurnedBefore, TurnsHops, arc_from, directed, turned}
-pub use Rattle.travel_times.specs.work.Order.{IsNodeOrder, key_of, reaching_before}
-pub use Rattle.travel_times.specs.work.Pruned.{IsPruned, IsPruning, IsTold, IsToldAt}
-pub use Rattle.travel_times.specs.work.Ranked.{AreLabelsBelow, IsLabelBelow, IsRankedHub, IsRanking}
+pub use Rattle.travel_times.specs.search.Near.{AreTimesUpTo, reach}
+pub use Rattle.travel_times.specs.search.Search.{IsHopRelaxed, IsNextTaken, RelaxesHops, waits, work_left}
+pub use Rattle.travel_times.specs.lemmas.search.Search.{HasWalkOf, IsSearching}
+pub use Rattle.travel_times.specs.work.table.Table.{AreRows, AreWritten, IsPiece, IsPieceWritten, IsRowAt, IsUnwritten, WritesRow}
+pub use Rattle.travel_times.specs.labels.Fault.{IsFirstWrong, IsForwardAt}
+pub use Rattle.travel_times.specs.labels.Label.{IsBackwardHub, IsForwardHub, IsLabel}
+pub use Rattle.travel_times.specs.labels.Labels.{AreLabelsOf, NodeLabels, label_at}
+pub use Rattle.travel_times.specs.labels.Rank.{IsOfLowerRank, degree}
+pub use Rattle.travel_times.specs.declared.labels.hub.Hub.{Hub}
+pub use Rattle.travel_times.specs.work.labels.Adding.{AddsHub, AreHopsBothWays, IsClean}
+pub use Rattle.travel_times.specs.work.labels.Building.{AreLabelled, AreMadeFrom, AreRanksOf}
+pub use Rattle.travel_times.specs.work.labels.Cells.{AreCells}
+pub use Rattle.travel_times.specs.work.labels.Common.{IsLeastInCommon, IsRising, RiseByRank}
+pub use Rattle.travel_times.specs.work.labels.Difference.{IsFirstDifference}
+pub use Rattle.travel_times.specs.work.labels.Drafts.{GainsHub, HandsOver, HasSpread, IsAmongHubs, IsSpread}
+pub use Rattle.travel_times.specs.work.labels.Hops.{AreHopsOf, AreNodeHops, AreTurnedBefore, TurnsHops, arc_from, directed, turned}
+pub use Rattle.travel_times.specs.work.labels.Order.{IsNodeOrder, key_of, reaching_before}
+pub use Rattle.travel_times.specs.work.labels.Pruned.{IsPruned, IsPruning, IsTold, IsToldAt}
+pub use Rattle.travel_times.specs.work.labels.Ranked.{AreLabelsBelow, IsLabelBelow, IsRankedHub, IsRanking}

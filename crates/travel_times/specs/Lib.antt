@@ -1,10 +1,5 @@
-pub mod Arcs
-pub mod Table
-pub mod Near
-pub mod Search
+pub mod table
+pub mod search
+pub mod labels
 pub mod lemmas
 pub mod work
-pub mod Rank
-pub mod Label
-pub mod Labels
-pub mod Fault

@@ -1,11 +1,2 @@
-pub mod Table
-pub mod Ranked
-pub mod Hops
-pub mod Pruned
-pub mod Drafts
-pub mod Common
-pub mod Order
-pub mod Adding
-pub mod Building
-pub mod Difference
-pub mod Cells
+pub mod table
+pub mod labels

@@ -30,37 +30,21 @@
 //! Main clauses: `times_between`; `build`; `seconds`. README.md quotes them.
 #![tactic(auto)]
 
-mod arcs;
-mod checked;
-mod draft;
-mod fault;
-mod hops;
-mod hub;
-mod hub_search;
-mod in_common;
-mod label;
-mod label_ways;
-mod labels;
-mod plain;
-mod rank;
-mod ring;
-mod rows;
-mod search;
-mod short_hop;
-mod space;
-mod table;
-mod via;
-mod ways;
+// Rooms, each names only those above it: search, table, labels.
 
-pub use arcs::Arcs;
-pub use fault::LabelFault;
-pub use hub::{Hub, ShortHub};
-pub use label::Label;
-pub use label_ways::LabelWays;
-pub use labels::Labels;
-pub use plain::times_by_repeated_relaxation;
-pub use ring::Ring;
-pub use search::{Search, next_near, relax};
-pub use short_hop::ShortHop;
-pub use table::{are_known, indexes_of, rows_of_a_piece, table_of_times, times_between};
-pub use ways::{NetworkWays, Ways};
+mod labels;
+mod search;
+mod table;
+
+pub use labels::fault::LabelFault;
+pub use labels::hub::{Hub, ShortHub};
+pub use labels::label::Label;
+pub use labels::label_ways::LabelWays;
+pub use labels::labels::Labels;
+pub use search::arcs::Arcs;
+pub use search::ring::Ring;
+pub use search::search::{Search, next_near, relax};
+pub use search::short_hop::ShortHop;
+pub use table::plain::times_by_repeated_relaxation;
+pub use table::table::{are_known, indexes_of, rows_of_a_piece, table_of_times, times_between};
+pub use table::ways::{NetworkWays, Ways};

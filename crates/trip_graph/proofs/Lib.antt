@@ -1,17 +1,3 @@
-pub mod RowOrder
-pub mod GraphSteps
-pub mod MoreRows
 pub mod Lists
-pub mod LevelSteps
-pub mod Runs
-pub mod GraphFaults
-pub mod SingleEdges
 pub mod Common
 pub mod lemmas
-pub mod GrownLevels
-pub mod RowGrowth
-pub mod Rule
-pub mod Joined
-pub mod StepBound
-pub mod AllRows
-pub mod PairTasks

@@ -1,3 +1,2 @@
-pub mod TripOrder
-pub mod TripSearch
-pub mod Listing
+pub mod vehicle
+pub mod pairs

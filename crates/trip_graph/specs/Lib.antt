@@ -1,7 +1,5 @@
-pub mod Answer
+pub mod vehicle
+pub mod pairs
+pub mod batch
 pub mod lemmas
 pub mod work
-pub mod Trip
-pub mod Rows
-pub mod RvGraph
-pub mod RrGraph

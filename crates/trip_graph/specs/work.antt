@@ -1,10 +1,3 @@
-pub mod Rows
-pub mod Levels
-pub mod Growth
-pub mod Runs
-pub mod Edges
-pub mod Level
-pub mod TripGrowth
-pub mod Listing
-pub mod RvGraph
-pub mod RrGraph
+pub mod vehicle
+pub mod pairs
+pub mod batch

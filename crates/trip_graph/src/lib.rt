@@ -29,41 +29,20 @@
 //! Main clauses: `grow_graph`; `grow`: `grown`, `steps`; `rider_vehicle`; `rider_rider`. README.md quotes two.
 #![tactic(auto)]
 
-mod all_levels;
-mod answer;
-mod batch_growth;
-mod candidate;
-mod edges;
-mod graph_growth;
-mod growing;
-mod grown;
-mod growth;
-mod level;
-mod level_growth;
-mod level_run;
-mod levels;
-mod pieces;
-mod rider_rider_graph;
-mod rider_vehicle_graph;
-mod route_cost;
-mod row_growth;
-mod rows;
-mod run;
-mod rv_edge;
-mod trip_of;
-mod trip_search;
-mod vehicle_growth;
-mod vehicle_trips;
-mod workers;
+// Rooms, each names only those above it: pairs, vehicle, batch.
 
-pub use answer::GraphAnswer;
-pub use graph_growth::grow_graph;
-pub use grown::Grown;
-pub use level::Level;
-pub use level_growth::{empty_level, grow_level};
-pub use rider_rider_graph::rider_rider;
-pub use rider_vehicle_graph::rider_vehicle;
-pub use rv_edge::RvEdge;
-pub use trip_of::TripOf;
-pub use vehicle_growth::grow;
-pub use vehicle_trips::VehicleTrips;
+mod batch;
+mod pairs;
+mod vehicle;
+
+pub use batch::answer::GraphAnswer;
+pub use batch::graph_growth::grow_graph;
+pub use pairs::rider_rider_graph::rider_rider;
+pub use pairs::rider_vehicle_graph::rider_vehicle;
+pub use pairs::rv_edge::RvEdge;
+pub use vehicle::grown::Grown;
+pub use vehicle::level::Level;
+pub use vehicle::level_growth::{empty_level, grow_level};
+pub use vehicle::trip_of::TripOf;
+pub use vehicle::vehicle_growth::grow;
+pub use vehicle::vehicle_trips::VehicleTrips;

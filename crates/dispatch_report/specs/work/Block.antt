@@ -3,7 +3,7 @@ use Rattle.std.specs.Prelude.{ℕ, List, ◌++◌, None, Some, codes, option_map
 use Rattle.std.specs.List.{flat_map}
 use Rattle.dispatch_report.specs.Block.{stop_text}
 use Rattle.dispatch_report.specs.Words.{spaced}
-use Rattle.request_book.specs.declared.outcome.LateVehicle.{LateVehicle}
+use Rattle.request_book.specs.declared.values.outcome.LateVehicle.{LateVehicle}
 
 -- a late vehicle's order with its delay, or `none`
 abbrev pub late_order : LateVehicle → List ℕ

@@ -7,10 +7,10 @@ use Rattle.dispatch_report.specs.Round.{entries_lines, entry_block, entry_text}
 use Rattle.pool_io.specs.Faults.{one_more}
 use Rattle.request_book.specs.Book.{next_position}
 use Rattle.request_book.specs.Replay.{state_after}
-use Rattle.request_book.specs.Step.{step}
-use Rattle.request_book.specs.declared.journal.Entry.{Entry}
-use Rattle.request_book.specs.declared.state.State.{State}
-use Rattle.request_book.specs.Notices.{entry_notices, notices_from}
+use Rattle.request_book.specs.register.Step.{step}
+use Rattle.request_book.specs.declared.values.journal.Entry.{Entry}
+use Rattle.request_book.specs.declared.values.state.State.{State}
+use Rattle.request_book.specs.notices.Notices.{entry_notices, notices_from}
 
 next-none : (p : ℕ) → p < 2 ^ 64 → next_position p [] ≡ p
 next-none p low = omega arith

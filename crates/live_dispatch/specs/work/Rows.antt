@@ -3,15 +3,15 @@ use Rattle.std.specs.Prelude.{◌≡◌, ℕ, ◌<◌, ◌≤◌, ◌==◌, true
 use Rattle.std.specs.List.{list_any}
 use Rattle.pool_base.specs.Distinct.{distinct}
 use Rattle.dispatch_report.specs.Round.{round_line}
-use Rattle.request_book.specs.declared.command.Command.{Command}
-use Rattle.input_rows.specs.declared.line.Line.{Line}
+use Rattle.request_book.specs.declared.values.command.Command.{Command}
+use Rattle.input_rows.specs.declared.script.script_row.ScriptRow.{ScriptRow}
 
 -- the numbers of rows
-abbrev pub round_numbers : List Line → List ℕ
+abbrev pub round_numbers : List ScriptRow → List ℕ
 round_numbers lines = map (λ l. l.round) lines
 
 -- the commands that rows have in a lane
-abbrev pub in_lane : List Line → ℕ → List Command
+abbrev pub in_lane : List ScriptRow → ℕ → List Command
 in_lane rows lane = map (λ l. l.command) (filter (λ l. l.lane == lane) rows)
 
 -- numbers that end in one that is there already
@@ -21,7 +21,7 @@ pub record EndsWith (ns : List ℕ) (last : ℕ) (front : List ℕ) : Type 0 whe
   pub below : All (λ n. n ≤ last) ns
 
 -- the round of the last row, if there are rows; those before it have lower numbers
-pub data EndsIn (lines : List Line) : Option ℕ → Type 0 where
+pub data EndsIn (lines : List ScriptRow) : Option ℕ → Type 0 where
   in_none : lines ≡ [] → EndsIn lines None
   in_round : (front : List ℕ) (last : ℕ) → EndsWith (round_numbers lines) last front → All (λ n. n < last) front → EndsIn lines (Some last)
 

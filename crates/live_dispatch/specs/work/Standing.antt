@@ -2,8 +2,8 @@
 use Rattle.std.specs.Prelude.{◌≡◌, ℕ, ◌<◌, ◌≤◌, ◌^◌, Bool, List, [], ◌∷◌, ◌++◌, Option, None, Some, Result, Ok, Err, OnOk, MatchResult, true}
 use Rattle.std.specs.Result.{IsErrOf}
 use Rattle.std.specs.Io.KnownBytes.{Appends}
-use Rattle.request_book.specs.Batch.{Batch}
-use Rattle.dispatch_engine.specs.Run.{IsReady, IsRun, position_after_run, state_after_run}
+use Rattle.request_book.specs.values.Batch.{Batch}
+use Rattle.dispatch_engine.specs.lanes.Run.{IsReady, IsRun, position_after_run, state_after_run}
 use Rattle.dispatch_report.specs.Round.{entry_text}
 use Rattle.pool_io.specs.Views.{Change, SinkView}
 use Rattle.dispatch_report.specs.declared.fault.ReportFault.{ReportFault}
@@ -11,23 +11,23 @@ use Rattle.dispatch_report.specs.declared.fault.ReportFault.TheVariants as repor
 use Rattle.live_dispatch.specs.Phase.{HasRunOpen, desk_after}
 use Rattle.live_dispatch.specs.declared.read_on.Halt.{Halt}
 use Rattle.live_dispatch.specs.Desk.{desk_of, Outputs}
-use Rattle.input_rows.specs.Rows.{GivesRow, TakesRows}
-use Rattle.input_rows.specs.declared.lines.LineFault.{LineFault}
-use Rattle.input_rows.specs.declared.lines.LineFault.TheVariants as line
+use Rattle.input_rows.specs.live.Rows.{GivesRow, TakesRows}
+use Rattle.input_rows.specs.declared.live.lines.LineFault.{LineFault}
+use Rattle.input_rows.specs.declared.live.lines.LineFault.TheVariants as line
 use Rattle.pool_io.specs.Faults.{Rose}
 use Rattle.request_book.specs.Book.{BookView, IsApplied, next_position}
-use Rattle.request_book.specs.Step.{step}
-use Rattle.request_book.specs.declared.command.Command.{Command}
-use Rattle.request_book.specs.declared.journal.Entry.{Entry}
-use Rattle.request_book.specs.declared.journal.Journal.{Journal}
-use Rattle.request_book.specs.declared.reply.Reply.{Reply}
+use Rattle.request_book.specs.register.Step.{step}
+use Rattle.request_book.specs.declared.values.command.Command.{Command}
+use Rattle.request_book.specs.declared.values.journal.Entry.{Entry}
+use Rattle.request_book.specs.declared.values.journal.Journal.{Journal}
+use Rattle.request_book.specs.declared.values.reply.Reply.{Reply}
 use Rattle.rider_limits.specs.declared.settings.Settings.{Settings}
-use Rattle.request_book.specs.Told.{HaveHeard, NotifierView}
+use Rattle.request_book.specs.notices.Told.{HaveHeard, NotifierView}
 use Rattle.road_network.specs.Roads.{Roads}
-use Rattle.input_rows.specs.Line.{IsBehind}
-use Rattle.input_rows.specs.declared.line.Line.{Line}
-use Rattle.input_rows.specs.lemmas.Named.{rounds_of}
-use Rattle.dispatch_engine.specs.Locked.{Fits, snapshot_before}
+use Rattle.input_rows.specs.script.ScriptRow.{IsBehind}
+use Rattle.input_rows.specs.declared.script.script_row.ScriptRow.{ScriptRow}
+use Rattle.input_rows.specs.lemmas.script.Named.{rounds_of}
+use Rattle.dispatch_engine.specs.lanes.Locked.{Fits, snapshot_before}
 use Rattle.live_dispatch.specs.Live.{BeginsRows, journals_notices, journals_text, RunsRows}
 use Rattle.live_dispatch.specs.declared.fault.LiveFault.{LiveFault}
 use Rattle.live_dispatch.specs.declared.fault.LiveFault.TheVariants as live
@@ -38,13 +38,13 @@ use Rattle.live_dispatch.specs.work.Rows.{EndsIn, last_of, start_text}
 pub record Moment : Type 0 where
   pub book : BookView
   pub round : Option ℕ
-  pub rows : Option (List Line)
+  pub rows : Option (List ScriptRow)
   pub reads : ℕ
   pub sink : SinkView
   pub notifiers : List NotifierView
 
 -- by its parts
-abbrev pub moment : BookView → Option ℕ → Option (List Line) → ℕ → Outputs → Moment
+abbrev pub moment : BookView → Option ℕ → Option (List ScriptRow) → ℕ → Outputs → Moment
 moment book round rows reads outputs = record { book = book; round = round; rows = rows; reads = reads; sink = outputs.sink; notifiers = outputs.notifiers }
 
 -- where its report and its notices go
@@ -52,17 +52,17 @@ abbrev pub outputs_of : Moment → Outputs
 outputs_of m = record { sink = m.sink; notifiers = m.notifiers }
 
 -- the rows were taken from those to come, but for one that is held
-abbrev pub HaveCome : Moment → Moment → Option Line → List Line → Type 0
+abbrev pub HaveCome : Moment → Moment → Option ScriptRow → List ScriptRow → Type 0
 HaveCome start now None lines = TakesRows start.rows now.rows lines
 HaveCome start now (Some row) lines = TakesRows start.rows now.rows (lines ++ row ∷ [])
 
 -- the row that is held stands behind the last, and is the last that came
-abbrev pub Awaits : ℕ → ℕ → Option Line → Type 0
+abbrev pub Awaits : ℕ → ℕ → Option ScriptRow → Type 0
 Awaits last came None = came ≡ last
 Awaits last came (Some row) = IsBehind last row × (came ≡ row.round)
 
 -- the row that was held, or the next that came
-abbrev pub GivesNext : Option Line → Option (List Line) → Option (List Line) → Option Line → Type 0
+abbrev pub GivesNext : Option ScriptRow → Option (List ScriptRow) → Option (List ScriptRow) → Option ScriptRow → Type 0
 GivesNext None old new row = GivesRow old new row
 GivesNext (Some held) old new row = (row ≡ Some held) × (new ≡ old)
 
@@ -84,7 +84,7 @@ abbrev pub entry_for : BookView → ℕ → Command → Entry
 entry_for b lane command = record { lane = lane; command = command; reply = (step b.nodes b.wait b.state command).1 }
 
 -- what a row writes: the line that begins its round, if it does, and its entry
-abbrev pub row_text : Bool → Option ℕ → BookView → Line → List ℕ
+abbrev pub row_text : Bool → Option ℕ → BookView → ScriptRow → List ℕ
 row_text proof round b row = start_text round row.round ++ entry_text proof (next_position b.first b.entries) (entry_for b row.lane row.command)
 
 -- the bytes written, where they are told, grow by a beginning of a text
@@ -117,8 +117,8 @@ pub record HasCut (old new : BookView) (closed : Bool) (fault : Option ReportFau
 
 module _ (settings : Settings) (roads : Roads) where
   -- from its start rows were run and are written, and their notices were told; no batch waits for its close
-  pub record Stands (start now : Moment) (Are : List Line → Type 0) : Type 0 where
-    pub lines : List Line
+  pub record Stands (start now : Moment) (Are : List ScriptRow → Type 0) : Type 0 where
+    pub lines : List ScriptRow
     pub are : Are lines
     pub ends : EndsIn lines now.round
     pub journals : List Journal
@@ -133,7 +133,7 @@ module _ (settings : Settings) (roads : Roads) where
     pub reads : start.reads ≤ now.reads
 
   -- then a row was run and is written that sealed a batch
-  pub record Opens (start : Moment) (row : Line) (b : Batch) (now : Moment) : Type 0 where
+  pub record Opens (start : Moment) (row : ScriptRow) (b : Batch) (now : Moment) : Type 0 where
     pub before : Moment
     pub stands : Stands start before (HaveCome start before (Some row))
     pub behind : IsBehind (last_of before.round) row
@@ -143,8 +143,8 @@ module _ (settings : Settings) (roads : Roads) where
     pub same : (now.rows ≡ before.rows) × (now.reads ≡ before.reads) × (now.notifiers ≡ before.notifiers)
 
   -- and the batch was open, from a new journal on, while rows of other lanes were run
-  pub record HasRunOn (start : Moment) (b : Batch) (round : ℕ) (book : BookView) (rows : Option (List Line)) (outputs : Outputs) (closed : Bool) (stop : Halt) (fault : Option ReportFault) (reads : ℕ) : Type 0 where
-    pub row : Line
+  pub record HasRunOn (start : Moment) (b : Batch) (round : ℕ) (book : BookView) (rows : Option (List ScriptRow)) (outputs : Outputs) (closed : Bool) (stop : Halt) (fault : Option ReportFault) (reads : ℕ) : Type 0 where
+    pub row : ScriptRow
     pub number : row.round ≡ round
     pub sealed : Moment
     pub opens : Opens start row b sealed

@@ -5,10 +5,10 @@ use Rattle.dispatch_report.specs.declared.fault.ReportFault.{ReportFault}
 use Rattle.dispatch_report.specs.declared.fault.ReportFault.TheVariants.{WriteFault}
 use Rattle.pool_io.specs.Faults.{Rose}
 use Rattle.pool_io.specs.Sink.{AppendsPart}
-use Rattle.request_book.specs.declared.reply.Reply.{Reply}
-use Rattle.request_book.specs.declared.reply.Reply.TheVariants.{Closed}
-use Rattle.request_book.specs.Told.{HaveHeard, NotifierView}
-use Rattle.request_book.specs.declared.notice.Notice.{Notice}
+use Rattle.request_book.specs.declared.values.reply.Reply.{Reply}
+use Rattle.request_book.specs.declared.values.reply.Reply.TheVariants.{Closed}
+use Rattle.request_book.specs.notices.Told.{HaveHeard, NotifierView}
+use Rattle.request_book.specs.declared.notices.notice.Notice.{Notice}
 use Rattle.live_dispatch.specs.Desk.{Outputs}
 
 -- the reply says that a batch is closed

@@ -5,7 +5,7 @@ use Rattle.request_book.proofs.Common.{Register, HasRoom, IsIndexed, state_of, l
 use Rattle.std.specs.List.{All}
 use Rattle.request_book.specs.work.Stored.{IsStored}
 use Rattle.request_book.proofs.lemmas.ConsistentLemmas.{step-consistent}
-use Rattle.request_book.proofs.lemmas.KeyedLemmas.{look_up-nil, All-look_up, rise_from_increasing}
+use Rattle.request_book.proofs.lemmas.values.KeyedLemmas.{look_up-nil, All-look_up, rise_from_increasing}
 use Rattle.request_book.proofs.lemmas.NamedLemmas.{step-named}
 
 -- one more entry

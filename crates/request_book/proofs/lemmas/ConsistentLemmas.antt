@@ -4,12 +4,12 @@ use Rattle.request_book.proofs.Common.{nat_tests, length-map, sum_by-cons, sum_b
 use Rattle.std.specs.List.{All, sum_by}
 use Rattle.std.proofs.lemmas.Bool.{eq-eqb}
 use Rattle.std.proofs.lemmas.List.{length-append}
-use Rattle.request_book.specs.declared.rider.Status.TheVariants.{Cancelled as GivenUp}
-use Rattle.request_book.proofs.lemmas.BatchLemmas.{after_seal-id, after_seal-active, seatless}
-use Rattle.request_book.proofs.lemmas.CloseLemmas.{after_plan-id, after_plan-active}
-use Rattle.request_book.proofs.lemmas.KeyedLemmas.{at_each, look_up-key, look_up-map, look_up-changed_here, look_up-changed_there, look_up-push_here, look_up-push_there, look_up-without_here, look_up-without_there, KeysDiffer-push, KeysDiffer-map, KeysDiffer-changed_at, KeysDiffer-from_rise, KeysDiffer-without, KeysRise-changed_at, All-changed_at, length-changed_at}
-use Rattle.request_book.proofs.lemmas.StepTable.{step-table}
-use Rattle.request_book.proofs.lemmas.StepLemmas.{first_of-none, active_left, submit-fits, closed-some}
+use Rattle.request_book.specs.declared.values.rider.Status.TheVariants.{Cancelled as GivenUp}
+use Rattle.request_book.proofs.lemmas.register.BatchLemmas.{after_seal-id, after_seal-active, seatless}
+use Rattle.request_book.proofs.lemmas.register.CloseLemmas.{after_plan-id, after_plan-active}
+use Rattle.request_book.proofs.lemmas.values.KeyedLemmas.{at_each, look_up-key, look_up-map, look_up-changed_here, look_up-changed_there, look_up-push_here, look_up-push_there, look_up-without_here, look_up-without_there, KeysDiffer-push, KeysDiffer-map, KeysDiffer-changed_at, KeysDiffer-from_rise, KeysDiffer-without, KeysRise-changed_at, All-changed_at, length-changed_at}
+use Rattle.request_book.proofs.lemmas.register.StepTable.{step-table}
+use Rattle.request_book.proofs.lemmas.register.StepLemmas.{first_of-none, active_left, submit-fits, closed-some}
 
 -- an answer keeps what the old state keeps, and the new one where nothing is refused
 pub answer-keeps : (P : State → Type 0) (s : State) (o : Option BookRefusal) (reply : Reply) (next : State) → P s → (o ≡ None → P next) → P (answer s o reply next).0

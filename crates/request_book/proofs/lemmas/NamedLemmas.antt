@@ -5,11 +5,11 @@ use Rattle.request_book.proofs.Common.{first_of, cond_both, All-nil, All-cons, A
 use Rattle.std.specs.List.{All, filter_map, flat_map}
 use Rattle.request_book.specs.Points.{named_nodes}
 use Rattle.request_book.specs.lemmas.Points.{vehicle_nodes, rider_nodes}
-use Rattle.request_book.specs.declared.rider.Status.TheVariants.{Cancelled as GivenUp}
-use Rattle.request_book.proofs.lemmas.BatchLemmas.{batch-each}
+use Rattle.request_book.specs.declared.values.rider.Status.TheVariants.{Cancelled as GivenUp}
+use Rattle.request_book.proofs.lemmas.register.BatchLemmas.{batch-each}
 use Rattle.request_book.proofs.lemmas.ConsistentLemmas.{answer-keeps, close-keeps}
-use Rattle.request_book.proofs.lemmas.KeyedLemmas.{All-changed_at, All-look_up, All-from_look_up, KeysDiffer-from_rise}
-use Rattle.request_book.proofs.lemmas.StepTable.{step-table}
+use Rattle.request_book.proofs.lemmas.values.KeyedLemmas.{All-changed_at, All-look_up, All-from_look_up, KeysDiffer-from_rise}
+use Rattle.request_book.proofs.lemmas.register.StepTable.{step-table}
 
 All-flat_map : {X Y : Type 0} (P : Y → Type 0) (f : X → List Y) (xs : List X) → All (λ x. All P (f x)) xs → All P (flat_map f xs)
 All-flat_map P f [] h = All-nil P

@@ -1,7 +1,7 @@
 use Rattle.std.specs.Prelude.{ℕ, List, [], ◌∷◌}
 use Rattle.std.specs.List.{flat_map}
-use Rattle.request_book.specs.declared.batch_rider.Rider.{Rider}
-use Rattle.request_book.specs.declared.vehicle.Vehicle.{Vehicle}
+use Rattle.request_book.specs.declared.values.batch_rider.Rider.{Rider}
+use Rattle.request_book.specs.declared.values.vehicle.Vehicle.{Vehicle}
 
 -- the nodes that a vehicle and its passengers name
 abbrev pub vehicle_nodes : Vehicle → List ℕ

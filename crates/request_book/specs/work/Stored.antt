@@ -1,6 +1,6 @@
 use Rattle.std.specs.Prelude.{ℕ, ◌+◌, ◌≤◌}
 use Rattle.request_book.specs.Book.{BookView, IsBook}
-use Rattle.request_book.specs.work.Register.{IsIndexed, HasRoom}
+use Rattle.request_book.specs.work.register.Register.{IsIndexed, HasRoom}
 use Rattle.request_book.specs.declared.register.Register.{Register}
 
 -- what a book's parts keep, where `len` entries lie in room for `capacity`

@@ -3,8 +3,8 @@ use Rattle.std.specs.Prelude.{◌≡◌, ◌≢◌, ℕ, List, Option}
 use Rattle.std.specs.Io.KnownBytes.{Appends}
 use Rattle.pool_io.specs.Views.{Change, SourceView}
 use Rattle.pool_base.specs.declared.which.Which.TheVariants as file
-use Rattle.report_audit.specs.declared.fault.Audited.{Audited}
-use Rattle.report_audit.specs.declared.fault.AuditFault.TheVariants as audit
+use Rattle.report_audit.specs.declared.report.fault.Audited.{Audited}
+use Rattle.report_audit.specs.declared.report.fault.AuditFault.TheVariants as audit
 use Rattle.ridepool.specs.Audit.{yes_text}
 use Rattle.ridepool.specs.work.Ended.{IsRunReport, IsNoReport}
 use Rattle.ridepool.specs.Inputs.{Inputs, Reads}

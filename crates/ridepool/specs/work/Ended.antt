@@ -1,13 +1,13 @@
 -- The ends of calls, and an audit's answers, as proofs call them.
 use Rattle.std.specs.Prelude.{◌≡◌, ℕ, List, ◌⊎◌}
 use Rattle.pool_base.specs.declared.which.Which.{Which}
-use Rattle.report_audit.specs.Fault.{HasFault}
-use Rattle.report_audit.specs.Report.{IsAudited}
-use Rattle.report_audit.specs.declared.fault.AuditFault.{AuditFault}
-use Rattle.report_audit.specs.declared.fault.Audited.{Audited}
+use Rattle.report_audit.specs.report.Fault.{HasFault}
+use Rattle.report_audit.specs.report.Report.{IsAudited}
+use Rattle.report_audit.specs.declared.report.fault.AuditFault.{AuditFault}
+use Rattle.report_audit.specs.declared.report.fault.Audited.{Audited}
 use Rattle.ridepool.specs.Audit.{IsRightReport}
 use Rattle.ridepool.specs.Inputs.{Inputs, IsWithin}
-use Rattle.ridepool.specs.Seen.{Sources, source_at}
+use Rattle.ridepool.specs.CallView.{Sources, source_at}
 use Rattle.ridepool.specs.declared.status.RunStatus.{RunStatus}
 use Rattle.ridepool.specs.declared.status.RunStatus.TheVariants.{TooLong}
 

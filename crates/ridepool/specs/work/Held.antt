@@ -2,7 +2,7 @@
 use Rattle.std.specs.Prelude.{◌≡◌, Bool, true, List, length}
 use Rattle.std.specs.List.{AllZip}
 use Rattle.rider_limits.specs.declared.settings.Settings.{Settings}
-use Rattle.request_book.specs.Notices.{notices}
+use Rattle.request_book.specs.notices.Notices.{notices}
 use Rattle.road_network.specs.Roads.{Roads}
 use Rattle.route_drive.specs.declared.day_run.DayRound.{DayRound}
 use Rattle.ridepool.specs.declared.held_day.HeldRound.{HeldRound}

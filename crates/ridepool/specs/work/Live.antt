@@ -3,13 +3,13 @@ use Rattle.std.specs.Prelude.{◌≡◌, List, ℕ, Option, Some, Result, Ok, Er
 use Rattle.pool_io.specs.Views.{Change, SinkView}
 use Rattle.live_dispatch.specs.declared.fault.LiveFault.{LiveFault}
 use Rattle.live_dispatch.specs.declared.fault.LiveFault.TheVariants as live
-use Rattle.input_rows.specs.declared.start.StartFault.{StartFault}
-use Rattle.input_rows.specs.declared.start.StartFault.TheVariants as start
+use Rattle.input_rows.specs.declared.live.start.StartFault.{StartFault}
+use Rattle.input_rows.specs.declared.live.start.StartFault.TheVariants as start
 use Rattle.pool_base.specs.declared.which.Which.TheVariants as file
 use Rattle.pool_io.specs.declared.input.Input.TheVariants.{Rows}
 use Rattle.pool_io.specs.declared.records.RowFault.TheVariants as row
 use Rattle.rider_limits.specs.Words.{fault_of}
-use Rattle.request_book.specs.Told.{NotifierView}
+use Rattle.request_book.specs.notices.Told.{NotifierView}
 use Rattle.ridepool.specs.Live.{LiveSeen}
 use Rattle.ridepool.specs.declared.status.RunStatus.{RunStatus}
 use Rattle.ridepool.specs.declared.status.RunStatus.TheVariants.{Done, Words, Script, ReadFault, WriteFault, OutOfMemory}

@@ -1,7 +1,7 @@
 use Rattle.std.specs.Prelude.{ℕ, List, ◌++◌, codes}
 use Rattle.dispatch_report.specs.Words.{numbered}
-use Rattle.request_book.specs.declared.notice.Notice.{Notice}
-use Rattle.request_book.specs.declared.notice.Notice.TheVariants.{Promised, Unserved}
+use Rattle.request_book.specs.declared.notices.notice.Notice.{Notice}
+use Rattle.request_book.specs.declared.notices.notice.Notice.TheVariants.{Promised, Unserved}
 
 -- a notice as a line
 unfoldable pub notice_text : Notice → List ℕ

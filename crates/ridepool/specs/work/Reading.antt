@@ -1,6 +1,6 @@
 -- What the readers of sources and of bytes say.
 use Rattle.std.specs.Prelude.{◌≡◌, ℕ, List, Some, Result, Err, IfErr, MatchResult, ◌⊎◌}
-use Rattle.input_rows.specs.Texts.{texts_of}
+use Rattle.input_rows.specs.made.Texts.{texts_of}
 use Rattle.pool_base.specs.declared.which.Which.{Which}
 use Rattle.pool_io.specs.Faults.{Rose}
 use Rattle.pool_io.specs.declared.input.Input.{Input}
@@ -9,14 +9,14 @@ use Rattle.rider_limits.specs.declared.settings.Mode.TheVariants.{Load, Drive}
 use Rattle.rider_limits.specs.declared.settings.Settings.{Settings}
 use Rattle.route_drive.specs.Day.{day_fault}
 use Rattle.route_drive.specs.declared.day.DayFault.{DayFault}
-use Rattle.input_rows.specs.Round.{NumberedLanes}
-use Rattle.input_rows.specs.declared.fault.ScriptFault.{ScriptFault}
+use Rattle.input_rows.specs.script.Round.{NumberedLanes}
+use Rattle.input_rows.specs.declared.script.fault.ScriptFault.{ScriptFault}
 use Rattle.ridepool.specs.Status.{HidesNoMemory}
 use Rattle.ridepool.specs.Inputs.{Inputs, IsWithin, IsSourceTooLong, Reads, AreReadFrom, AreUntouched, IsStop}
 use Rattle.ridepool.specs.Load.{AreTexts}
 use Rattle.ridepool.specs.Reading.{network_in, vehicles_in}
 use Rattle.pool_io.specs.Views.{Change, SourceView}
-use Rattle.ridepool.specs.Seen.{Sources}
+use Rattle.ridepool.specs.CallView.{Sources}
 use Rattle.ridepool.specs.declared.inputs.ReadInputs.{ReadInputs}
 use Rattle.ridepool.specs.declared.status.RunStatus.{RunStatus}
 use Rattle.ridepool.specs.declared.status.RunStatus.TheVariants.{Network, Fleet, Script, TooLong, ReadFault, OutOfMemory, Day}

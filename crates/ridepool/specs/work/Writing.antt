@@ -1,7 +1,7 @@
 -- What stands where a report, or a part of it, is or isn't written.
 use Rattle.std.specs.Prelude.{◌≡◌, ℕ, ◌≤◌, Bool, List, [], ◌∷◌, ◌++◌, None, length, map, take, Option}
 use Rattle.std.specs.Io.KnownBytes.{Appends, Keeps}
-use Rattle.dispatch_engine.specs.Run.{IsReady, IsRoundRun, IsRun, position_after_run}
+use Rattle.dispatch_engine.specs.lanes.Run.{IsReady, IsRoundRun, IsRun, position_after_run}
 use Rattle.dispatch_report.specs.Day.{day_end_text}
 use Rattle.dispatch_report.specs.Head.{head_text}
 use Rattle.dispatch_report.specs.Round.{end_text, round_text}
@@ -11,12 +11,12 @@ use Rattle.pool_io.specs.Faults.{Rose}
 use Rattle.pool_io.specs.Sink.{AppendsPart}
 use Rattle.request_book.specs.Book.{BookView, next_position, opening}
 use Rattle.request_book.specs.Replay.{state_after}
-use Rattle.request_book.specs.declared.journal.Journal.{Journal}
+use Rattle.request_book.specs.declared.values.journal.Journal.{Journal}
 use Rattle.rider_limits.specs.declared.settings.Mode.{Mode}
 use Rattle.rider_limits.specs.declared.settings.Mode.TheVariants.{Load, Drive}
 use Rattle.rider_limits.specs.declared.settings.Settings.{Settings}
-use Rattle.request_book.specs.Notices.{notices}
-use Rattle.request_book.specs.Told.{NotifierView, HaveHeard}
+use Rattle.request_book.specs.notices.Notices.{notices}
+use Rattle.request_book.specs.notices.Told.{NotifierView, HaveHeard}
 use Rattle.road_network.specs.Roads.{Roads}
 use Rattle.route_drive.specs.Day.{day_fault}
 use Rattle.route_drive.specs.Driven.{IsTooLateDay}
@@ -24,7 +24,7 @@ use Rattle.route_drive.specs.Promises.{IsKeptDay}
 use Rattle.route_drive.specs.declared.day_run.DayRound.{DayRound}
 use Rattle.route_drive.specs.declared.day_run.DriveFault.{DriveFault}
 use Rattle.route_drive.specs.declared.day_run.DriveFault.TheVariants as drive
-use Rattle.input_rows.specs.Round.{NumberedLanes}
+use Rattle.input_rows.specs.script.Round.{NumberedLanes}
 use Rattle.ridepool.specs.Inputs.{Inputs}
 use Rattle.ridepool.specs.Drive.{DrivesDay}
 use Rattle.ridepool.specs.Report.{journals_of, rounds_notices, IsCutShort, IsPart, IsWhole}

@@ -6,7 +6,7 @@ use Rattle.route_drive.proofs.kept.Replies.{close_is}
 use Rattle.route_drive.proofs.kept.States.{pickup_done, dropoff_done, stepped}
 use Rattle.route_drive.proofs.kept.Trips.{all_in_time, nothing_lapses}
 use Rattle.route_drive.proofs.kept.Made.{closed_kept, closed_bounds}
-use Rattle.request_book.specs.declared.outcome.Answer.TheVariants as answer
+use Rattle.request_book.specs.declared.values.outcome.Answer.TheVariants as answer
 
 -- a vehicle's next stop is answered picked or dropped, and the vehicle then serves the stops after it, each at its
 -- second, while every other vehicle goes on as it was and no promised pickup is put off

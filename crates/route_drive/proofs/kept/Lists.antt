@@ -1,7 +1,7 @@
 -- Filters, and lists whose parts are counted.
 use Rattle.std.proofs.Common.{◌≡◌, ℕ, zero, suc, ◌*◌, ◌<◌, ◌≤◌, Bool, true, false, not, List, [], ◌∷◌, length, map, filter, refl, ap, ◌∙◌, arith, inl, inr}
 use Rattle.route_drive.proofs.Common.{AllByRecursion, cases_Bool, length-filter_both, nat_tests}
-pub use Rattle.stop_orders.proofs.lemmas.DeletionLemmas.{skips, takes}
+pub use Rattle.stop_orders.proofs.lemmas.task.DeletionLemmas.{skips, takes}
 
 -- the test of the renamed is a test of what was
 pub filter_renamed : {X Y : Type 0} (p : Y → Bool) (q : X → Bool) (g : X → Y) (P : X → Type 0) → ((x : X) → P x → p (g x) ≡ q x) → (xs : List X) → AllByRecursion P xs → filter p (map g xs) ≡ map g (filter q xs)

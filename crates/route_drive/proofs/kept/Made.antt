@@ -6,16 +6,16 @@ use Rattle.route_drive.proofs.kept.Served.{passenger_at, request_rider, vehicle_
 use Rattle.route_drive.proofs.kept.Trips.{vehicle_of_number, not_late, number_of_vehicle, promise_is_held, trip_of, trip_back, trip_is, one_trip, told_id, row_of, rider_aboard, known, member_calls, passenger_calls, other_calls}
 use Rattle.route_drive.proofs.kept.Told.{told_from, none_promised, one_promised, IsPickPromised, found_among, none_among, IsTold, told_reached, told_seats, told_all, told_length}
 use Rattle.route_drive.proofs.kept.Walks.{has_index, name_at, is_node_at}
-use Rattle.request_book.specs.Closing.{Pick as PlanPick}
-use Rattle.request_book.proofs.lemmas.CloseLemmas.{after_plan-id}
-use Rattle.stop_orders.proofs.lemmas.DoneLemmas.{length-IsOrder}
+use Rattle.request_book.specs.register.Closing.{Pick as PlanPick}
+use Rattle.request_book.proofs.lemmas.register.CloseLemmas.{after_plan-id}
+use Rattle.stop_orders.proofs.lemmas.task.DoneLemmas.{length-IsOrder}
 use Rattle.route_drive.proofs.kept.Lists.{all_weaker, both}
 use Rattle.route_drive.proofs.kept.Riders.{found_id}
 use Rattle.route_drive.proofs.kept.Tables.{time_between}
 use Rattle.route_drive.proofs.kept.States.{stepped, vehicle_id}
 use Rattle.route_drive.proofs.kept.Sealing.{first_call}
-use Rattle.trip_graph.specs.Answer.{IsRowWith}
-use Rattle.dispatch_engine.specs.declared.point.Point.TheVariants as point
+use Rattle.trip_graph.specs.batch.Answer.{IsRowWith}
+use Rattle.dispatch_engine.specs.declared.outcome.point.Point.TheVariants as point
 
 all_each : {A X : Type 0} (P : A → X → Type 0) (xs : List X) → ((a : A) → AllByRecursion (P a) xs) → AllByRecursion (λ x. (a : A) → P a x) xs
 all_each P [] each = tt

@@ -1,7 +1,7 @@
 -- How the book answers what is entered on a driven day.
 use Rattle.std.proofs.Common.{◌≡◌, ◌⊎◌, ℕ, ◌+◌, ◌≤◌, true, List, [], ◌∷◌, ◌++◌, Option, Some, None, refl, ap, inl, inr}
 use Rattle.route_drive.proofs.Common.{Batch, persons_aboard, Promise, Vehicle, one_more, after_answer, closed_state, first_of, duplicate_rider, batch_open, clock_back, sealed_state, find_rider, find_vehicle, step, rider_becomes, vehicle_becomes, stands_at, takes_in, lets_out, answer, submit_step, submit_refusal, report_step, pickup_step, dropoff_step, seal_step, close_step, table_step, by-table, Submit, Report, Pickup, Dropoff, Seal, Close, BookRefusal, Accepted, Placed, Picked, Dropped, Sealed, Closed, BookRider, Waiting, Promised, Aboard, Delivered, State, has_node, Outcome, eq-eqb, le-ltb, le-leb}
-use Rattle.request_book.proofs.lemmas.StepLemmas.{first_of-none}
+use Rattle.request_book.proofs.lemmas.register.StepLemmas.{first_of-none}
 
 -- nothing speaks against a seal
 seal_free : (sealed : Option Batch) (last : Option ℕ) (now : ℕ) → sealed ≡ None → ((l : ℕ) → last ≡ Some l → l ≤ now) → first_of (batch_open sealed ∷ clock_back last now ∷ []) ≡ None

@@ -9,7 +9,7 @@ use Rattle.route_drive.proofs.kept.Pending.{IsPending, IsRunning}
 use Rattle.route_drive.proofs.kept.Replies.{close_is, seal_is}
 use Rattle.route_drive.proofs.kept.Sealing.{sealed_bounds, sealed_kept, sealed_shows, submit_done}
 use Rattle.route_drive.proofs.kept.Sequence.{ArePending, EachEnters, IsOneOn, IsOwned, IsWay, asked_pending, entered_each, finished, is_for, left_each, one_on, owners, part_of, pending_way, running_way, still_owned, vehicle_in}
-use Rattle.request_book.specs.declared.outcome.Answer.TheVariants as answer
+use Rattle.request_book.specs.declared.values.outcome.Answer.TheVariants as answer
 
 -- the stops after an answer alone
 after_is : (a : Answer) (stops : ℕ → List PlannedStop) → stops_with (planned_in a) stops ≡ stops_with (option_or (planned_in a) None) stops

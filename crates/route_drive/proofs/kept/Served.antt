@@ -1,7 +1,7 @@
 -- At a seal the stops of a vehicle serve, by the batch's table, its passengers and the riders promised to it.
 use Rattle.std.proofs.Common.{◌≡◌, ℕ, ◌+◌, ◌-◌, ◌*◌, ◌<◌, ◌≤◌, true, false, List, [], ◌∷◌, length, get_or, map, filter, max, min, Some, refl, sym, ap, ◌∙◌, subst, arith, inl, inr, option_and_then, slice_get, Contains}
 use Rattle.route_drive.proofs.Common.{AllByRecursion, range_with_len, cases_Bool, false≢true, get_or-map, length-map, get_or_default, filter_passes, slice_get_within, get_or_from_slice_get, slice_get-get_or, travel_time, Times, Batch, persons_aboard, Passenger, Promise, Rider, Vehicle, IsLegOf, request_at, no_request, promised_limit, is_promised_to, promised_to, kept_legs, kept_leg, IsPlaced, IsSettled, filter_range_has, promised_trip, seat_in, look_up, KeysDiffer, shown, passenger_of, find_rider, find_vehicle, find_passenger, PlannedStop, BookRider, Status, Promised, Aboard, State, look_up-at, KeysDiffer-from_rise, All-look_up, Settings, Roads, index_in, has_node, Leg, Settled, Stop, Pick, Drop, Alight, Task, IsOrder, vehicle_at, rider_at, no_rider, vehicle_task, IsTrip, no_leg, leg_at, visit_at, visits_of, free_seats, IsServable, soon_there, ServesFrom, boarding_of, AreTravelTimes, IsDroppedInTime, IsRightStop, IsRightPickup, IsRightDropoff, IsOfVehicle, IsServing, IsKept, HasCalls, calls_of, ShowsRiders, eq-eqb, map-map, nat_tests}
-use Rattle.stop_orders.specs.declared.visit.Visit.TheVariants.{Pickup, Dropoff}
+use Rattle.stop_orders.specs.declared.task.visit.Visit.TheVariants.{Pickup, Dropoff}
 use Rattle.route_drive.proofs.kept.Lists.{all_weaker, both, map_agrees, all_filtered, all_from}
 use Rattle.route_drive.proofs.kept.Walks.{has_index, name_at, is_node_at}
 use Rattle.route_drive.proofs.kept.Riders.{found_id, right_cases}

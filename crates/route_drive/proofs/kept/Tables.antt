@@ -2,7 +2,7 @@
 use Rattle.std.proofs.lemmas.Bool.Decides.{nat_tests}
 use Rattle.std.proofs.Common.{◌≡◌, ℕ, ◌+◌, ◌<◌, ◌≤◌, Bool, true, cond, ltb, List, [], ◌∷◌, length, get_or, map, filter, Some, sym, ap, ◌∙◌, subst, arith, inl, inr, slice_get}
 use Rattle.route_drive.proofs.Common.{AllByRecursion, cases_Bool, get_or-map, length-map, slice_get_within, get_or_from_slice_get, never, IsTravelTime, travel_time, Times, ideal_second, PlannedStop, BookRider, Roads, index_in, IsTimeBetween, AtLeastAsSoon, soon_over, soon_there, Stop, Visit, place_of, boarding_of, room_after, ServesFrom, AreTravelTimes, ideal_dropoff, AreReached, party_at, HasSeatsFor}
-use Rattle.stop_orders.specs.declared.visit.Visit.TheVariants.{Pickup, Dropoff}
+use Rattle.stop_orders.specs.declared.task.visit.Visit.TheVariants.{Pickup, Dropoff}
 use Rattle.route_drive.proofs.kept.Lists.{takes, skips}
 use Rattle.route_drive.proofs.kept.Walks.{between_unique}
 

@@ -1,8 +1,8 @@
 -- The stops that a plan tells of a serving order: their seconds, their seats, whose they are, and what they promise.
 use Rattle.std.proofs.Common.{◌≡◌, ℕ, zero, suc, ◌+◌, ◌≤◌, Bool, true, false, List, [], ◌∷◌, ◌++◌, length, map, filter, Some, None, refl, sym, ap, ◌∙◌, subst, arith, inl, inr, slice_get, rules}
 use Rattle.route_drive.proofs.Common.{AllByRecursion, cases_eq, travel_time, Times, trip_picks, look_up, PlannedStop, BookRider, look_up-nil, Roads, index_in, Stop, Visit, place_of, latest_of, boarding_of, room_after, seconds_from, ServesFrom, AreTravelTimes, AreReached, party_at, seats_after, HasSeatsFor, is_stop_of, calls_of, true≢false, zip, flat_map, nat_tests}
-use Rattle.request_book.specs.Closing.{Pick}
-use Rattle.stop_orders.specs.declared.stop.Stop.TheVariants.{Pick as PickStop}
+use Rattle.request_book.specs.register.Closing.{Pick}
+use Rattle.stop_orders.specs.declared.task.stop.Stop.TheVariants.{Pick as PickStop}
 use Rattle.route_drive.proofs.kept.Lists.{all_weaker}
 use Rattle.route_drive.proofs.kept.Walks.{least_between}
 use Rattle.route_drive.proofs.kept.Riders.{calls_own, calls_other, no_pickup}

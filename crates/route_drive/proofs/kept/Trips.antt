@@ -11,7 +11,7 @@ use Rattle.plan_rules.proofs.lemmas.SumLemmas.{count_below_two}
 use Rattle.plan_rules.specs.Plan.{IsLawful}
 use Rattle.route_drive.proofs.kept.Walks.{index_at, is_node_at}
 use Rattle.route_drive.proofs.kept.Told.{is_pick, told_calls}
-use Rattle.dispatch_engine.specs.declared.point.Point.TheVariants as point
+use Rattle.dispatch_engine.specs.declared.outcome.point.Point.TheVariants as point
 
 none_zip : {A B : Type 0} (R : A → B → Type 0) (xs : List A) (ys : List B) → xs ≡ [] → AllZip R xs ys → ys ≡ []
 none_zip R [] [] e zip = refl

@@ -1,10 +1,10 @@
 -- Who was picked up and who was dropped, as it is counted.
 use Rattle.std.specs.Prelude.{◌≡◌, ℕ, ◌-◌, List, ◌++◌, MatchOption, map}
 use Rattle.std.specs.Option.{option_map_or}
-use Rattle.request_book.specs.State.{find_rider}
-use Rattle.request_book.specs.declared.command.Command.{Command}
-use Rattle.request_book.specs.declared.journal.Entry.{Entry}
-use Rattle.request_book.specs.declared.rider.BookRider.{BookRider}
+use Rattle.request_book.specs.values.State.{find_rider}
+use Rattle.request_book.specs.declared.values.command.Command.{Command}
+use Rattle.request_book.specs.declared.values.journal.Entry.{Entry}
+use Rattle.request_book.specs.declared.values.rider.BookRider.{BookRider}
 use Rattle.road_network.specs.Roads.{Roads, index_in}
 use Rattle.road_network.specs.Walk.{IsTimeBetween}
 use Rattle.route_drive.specs.declared.counts.Served.{Served}

@@ -3,13 +3,13 @@ use Rattle.std.specs.Prelude.{◌≡◌, ◌≢◌, ◌<◌, ◌≤◌, ℕ, Lis
 use Rattle.std.specs.List.{Any}
 use Rattle.request_book.specs.Book.{BookView, next_position}
 use Rattle.request_book.specs.Replay.{state_after}
-use Rattle.request_book.specs.declared.command.Command.{Command}
-use Rattle.request_book.specs.declared.journal.Journal.{Journal}
-use Rattle.request_book.specs.declared.state.State.{State}
+use Rattle.request_book.specs.declared.values.command.Command.{Command}
+use Rattle.request_book.specs.declared.values.journal.Journal.{Journal}
+use Rattle.request_book.specs.declared.values.state.State.{State}
 use Rattle.rider_limits.specs.declared.settings.Settings.{Settings}
 use Rattle.road_network.specs.Roads.{Roads}
-use Rattle.input_rows.specs.Round.{NumberedLanes, lane_at, empty_round}
-use Rattle.dispatch_engine.specs.Run.{IsReady, IsRoundRun, IsRun, position_after_run, state_after_run}
+use Rattle.input_rows.specs.script.Round.{NumberedLanes, lane_at, empty_round}
+use Rattle.dispatch_engine.specs.lanes.Run.{IsReady, IsRoundRun, IsRun, position_after_run, state_after_run}
 use Rattle.route_drive.specs.declared.course.Course.{Course}
 use Rattle.route_drive.specs.declared.day_run.DayRound.{DayRound}
 use Rattle.dispatch_report.specs.declared.day.DayCounts.{DayCounts}
@@ -25,7 +25,7 @@ use Rattle.route_drive.specs.work.Counting.{AddsServed, AreServed}
 use Rattle.pool_base.specs.TravelTime.{longest}
 use Rattle.route_drive.specs.Entering.{EntersTooLate, left_commands, second_of}
 use Rattle.route_drive.specs.declared.day.DayFault.{DayFault}
-use Rattle.request_book.specs.declared.vehicle.Vehicle.{Vehicle}
+use Rattle.request_book.specs.declared.values.vehicle.Vehicle.{Vehicle}
 use Rattle.route_drive.specs.declared.course.Stay.{Stay}
 
 -- where a vehicle was reported, and from when on it can leave

@@ -1,9 +1,9 @@
 -- Where vehicles are at a seal, and what is entered of them.
 use Rattle.std.specs.Prelude.{ℕ, List, [], ◌∷◌, ◌++◌, map}
 use Rattle.std.specs.List.{AllZip, flat_map, zip}
-use Rattle.request_book.specs.declared.vehicle.Vehicle.{Vehicle}
-use Rattle.request_book.specs.declared.command.Command.{Command}
-use Rattle.request_book.specs.declared.command.Command.TheVariants.{Report}
+use Rattle.request_book.specs.declared.values.vehicle.Vehicle.{Vehicle}
+use Rattle.request_book.specs.declared.values.command.Command.{Command}
+use Rattle.request_book.specs.declared.values.command.Command.TheVariants.{Report}
 use Rattle.road_network.specs.Roads.{Roads}
 use Rattle.route_drive.specs.declared.course.Course.{Course}
 use Rattle.route_drive.specs.declared.course.Heading.{Heading}

@@ -1,7 +1,7 @@
 -- Rounds as they are built.
 use Rattle.std.specs.Prelude.{◌≡◌, ◌≢◌, ℕ, List, ◌++◌, length}
-use Rattle.request_book.specs.declared.command.Command.{Command}
-use Rattle.input_rows.specs.Round.{NumberedLanes, lane_at}
+use Rattle.request_book.specs.declared.values.command.Command.{Command}
+use Rattle.input_rows.specs.script.Round.{NumberedLanes, lane_at}
 
 -- a lane gained commands at its end
 pub record Adds (lane : ℕ) (more : List Command) (old new : NumberedLanes) : Type 0 where

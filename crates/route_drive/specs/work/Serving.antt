@@ -14,27 +14,27 @@ use Rattle.std.specs.Prelude.{◌≡◌, ◌==◌, ℕ, ◌+◌, ◌*◌, ◌-�
 use Rattle.std.specs.List.{AllByRecursion}
 use Rattle.std.specs.Option.{option_map_or}
 use Rattle.pool_base.specs.TravelTime.{never}
-use Rattle.request_book.specs.Batch.{Batch}
-use Rattle.request_book.specs.Vehicle.{persons_aboard}
-use Rattle.request_book.specs.declared.promise.Promise.{Promise}
-use Rattle.request_book.specs.declared.batch_rider.Rider.{Rider}
-use Rattle.request_book.specs.declared.vehicle.Vehicle.{Vehicle}
-use Rattle.request_book.specs.lemmas.Closing.{after_answer}
+use Rattle.request_book.specs.values.Batch.{Batch}
+use Rattle.request_book.specs.values.Vehicle.{persons_aboard}
+use Rattle.request_book.specs.declared.values.promise.Promise.{Promise}
+use Rattle.request_book.specs.declared.values.batch_rider.Rider.{Rider}
+use Rattle.request_book.specs.declared.values.vehicle.Vehicle.{Vehicle}
+use Rattle.request_book.specs.lemmas.register.Closing.{after_answer}
 use Rattle.request_book.specs.Consistent.{IsConsistent, NamesNodes}
-use Rattle.request_book.specs.Keyed.{look_up, KeysRise}
-use Rattle.request_book.specs.lemmas.Named.{shown, asking}
-use Rattle.request_book.specs.State.{find_rider, find_vehicle}
-use Rattle.request_book.specs.Step.{step}
-use Rattle.request_book.specs.declared.command.Command.{Command}
-use Rattle.request_book.specs.declared.outcome.ChosenTrip.{ChosenTrip}
-use Rattle.request_book.specs.declared.outcome.Outcome.{Outcome}
-use Rattle.request_book.specs.declared.outcome.Planned.{Planned}
-use Rattle.request_book.specs.declared.outcome.PlannedStop.{PlannedStop}
-use Rattle.request_book.specs.declared.reply.Reply.{Reply}
-use Rattle.request_book.specs.declared.rider.BookRider.{BookRider}
-use Rattle.request_book.specs.declared.rider.Status.{Status}
-use Rattle.request_book.specs.declared.rider.Status.TheVariants.{Promised, Aboard, Delivered}
-use Rattle.request_book.specs.declared.state.State.{State}
+use Rattle.request_book.specs.values.Keyed.{look_up, KeysRise}
+use Rattle.request_book.specs.lemmas.register.Named.{shown, asking}
+use Rattle.request_book.specs.values.State.{find_rider, find_vehicle}
+use Rattle.request_book.specs.register.Step.{step}
+use Rattle.request_book.specs.declared.values.command.Command.{Command}
+use Rattle.request_book.specs.declared.values.outcome.ChosenTrip.{ChosenTrip}
+use Rattle.request_book.specs.declared.values.outcome.Outcome.{Outcome}
+use Rattle.request_book.specs.declared.values.outcome.Planned.{Planned}
+use Rattle.request_book.specs.declared.values.outcome.PlannedStop.{PlannedStop}
+use Rattle.request_book.specs.declared.values.reply.Reply.{Reply}
+use Rattle.request_book.specs.declared.values.rider.BookRider.{BookRider}
+use Rattle.request_book.specs.declared.values.rider.Status.{Status}
+use Rattle.request_book.specs.declared.values.rider.Status.TheVariants.{Promised, Aboard, Delivered}
+use Rattle.request_book.specs.declared.values.state.State.{State}
 use Rattle.rider_limits.specs.declared.settings.Settings.{Settings}
 use Rattle.road_network.specs.Roads.{Roads, index_in}
 use Rattle.road_network.specs.Walk.{IsLeastTime}

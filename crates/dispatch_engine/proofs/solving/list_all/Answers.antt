@@ -1,5 +1,5 @@
 use Rattle.std.proofs.Common.{◌≡◌, Result, Ok, Err, IfOk, IsOkAnd, ◌<◌, ◌≤◌, ℕ, List, length, map, All, sym, ap, ◌∙◌, subst, arith}
-use Rattle.dispatch_engine.proofs.Common.{get_or_default, no_row, TripRow, travel_time, rider_id, row_line, AreTrips, AreLate, AreMoves, idle_vehicles}
+use Rattle.dispatch_engine.proofs.Common.{get_or_default, no_row, TripRow, travel_time, rider_id, trip_row_line, AreTrips, AreLate, AreMoves, idle_vehicles}
 use Rattle.std.specs.Global.{Vec}
 use Rattle.dispatch_engine.proofs.solving.list_all.Goals as goal
 
@@ -14,13 +14,13 @@ items_are r {items = items} said is = items_have r (λ list. list ≡ items) sai
 pub rv_lines-requires-clause-riders : goal.rv_lines-requires-clause-riders
 rv_lines-requires-clause-riders c = λ k d l. (c.requires.exact.edges_exact.right k d l).riders.within 0 0 (omega arith)
 
-pub row_lines-requires-clause-riders : goal.row_lines-requires-clause-riders
-row_lines-requires-clause-riders c =
+pub trip_row_lines-requires-clause-riders : goal.trip_row_lines-requires-clause-riders
+trip_row_lines-requires-clause-riders c =
     subst (λ (rows : List TripRow). All (λ row. All (λ r. r < length c.args.graphs.now.instance.now.settled.now.riders) row.riders.items) rows) (sym c.rows.ensures.value)
     (λ k d below. (c.requires.exact.exact.right k d below).served.riders.within)
 
-pub row_lines-requires-clause-few : goal.row_lines-requires-clause-few
-row_lines-requires-clause-few c =
+pub trip_row_lines-requires-clause-few : goal.trip_row_lines-requires-clause-few
+trip_row_lines-requires-clause-few c =
     subst (λ (rows : List TripRow). All (λ row. length row.riders.items ≤ 6) rows) (sym c.rows.ensures.value)
     (λ k d below. subst (λ (row : TripRow). length row.riders.items ≤ 6) (get_or_default c.args.graphs.now.graph.now.rows k no_row d below) (c.requires.exact.exact.good.rows k below).few)
 
@@ -37,7 +37,7 @@ returns-clause-lists c =
       lapsed = items_are c.lapsed_ids.result c.lapsed_ids.ensures c.in_ok-put.ensures;
       rv = items_are c.rv_lines.result c.rv_lines.ensures c.in_ok-put-3.ensures;
       rr = items_are c.rr_lines.result c.rr_lines.ensures c.in_ok-put-4.ensures ∙ ap (λ (pairs : List (ℕ × ℕ)). map (λ (pair : ℕ × ℕ). (rider_id settled pair.0, rider_id settled pair.1)) pairs) c.all.ensures;
-      rows = items_are c.row_lines.result c.row_lines.ensures c.in_ok-put-5.ensures ∙ ap (λ (rows : List TripRow). map (row_line settled) rows) c.rows.ensures.value;
+      rows = items_are c.trip_row_lines.result c.trip_row_lines.ensures c.in_ok-put-5.ensures ∙ ap (λ (rows : List TripRow). map (trip_row_line settled) rows) c.rows.ensures.value;
       late = items_have c.late_lines.result (AreLate points tau settled) c.late_lines.ensures c.in_ok-put-2.ensures;
       trips = items_have c.chosen_trips.result (AreTrips points tau settled graph chosen) c.chosen_trips.ensures c.in_ok-put-6.ensures;
       left = items_are c.rider_ids.result c.rider_ids.ensures c.in_ok-put-7.ensures ∙ ap (λ (riders : List ℕ). map (rider_id settled) riders) (c.deref.ensures.value ∙ left);

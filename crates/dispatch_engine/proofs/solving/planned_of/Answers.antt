@@ -2,7 +2,7 @@ use Rattle.std.proofs.Common.{◌≡◌, List, Option, ℕ, ◌∙◌, subst, to
 use Rattle.dispatch_engine.proofs.Common.{AreLists, posed_by}
 use mir.Syntax.{w128}
 use Rattle.std.proofs.lemmas.Int.{to_z-of_z}
-use Rattle.dispatch_engine.proofs.ListLemmas.{good_plan}
+use Rattle.dispatch_engine.proofs.outcome.ListLemmas.{good_plan}
 use Rattle.dispatch_engine.proofs.solving.planned_of.Goals as goal
 
 pub returns-in-Ok : goal.returns-in-Ok

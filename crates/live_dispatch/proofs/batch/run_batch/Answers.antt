@@ -4,7 +4,7 @@ use Rattle.live_dispatch.proofs.batch.run_batch.Goals as goal
 
 pub returns-in-Err-clause-went : goal.returns-in-Err-clause-went
 returns-in-Err-clause-went g c = λ start row is opens.
-    opened-ended c.args.setup.now.settings.now c.args.setup.now.network.now start row c.args.snapshot.now _ opens
+    opened-ended c.args.solver.now.settings.now c.args.solver.now.network.now start row c.args.snapshot.now _ opens
     (g.L.RowSource.faults c.args.run.rows) _ _ refl refl
 
 pub returns-in-Ok-run_open-clause-went : goal.returns-in-Ok-run_open-clause-went
@@ -22,6 +22,6 @@ returns-in-Ok-run_open-clause-went g c = λ start row is opens.
 
 pub returns-in-Err-run_open-clause-went : goal.returns-in-Err-run_open-clause-went
 returns-in-Err-run_open-clause-went g c = λ start row is opens.
-    opened-ended c.args.setup.now.settings.now c.args.setup.now.network.now start row c.args.snapshot.now _ opens
+    opened-ended c.args.solver.now.settings.now c.args.solver.now.network.now start row c.args.snapshot.now _ opens
     (g.L.RowSource.faults c.in-Err-run_open.field-0.lines) _ _ refl
     (λ i. record { sink = record { written = c.in-Err-run_open.ensures.kept.0 i; faults = c.in-Err-run_open.ensures.kept.1 i }; notifiers = c.in-Err-run_open.ensures.kept.3 i })

@@ -1,6 +1,6 @@
 use Rattle.std.proofs.Common.{◌≡◌, ◌∷◌, ◌++◌, [], List, All, length, ap, subst, ◌∙◌, arith}
 use Rattle.std.proofs.lemmas.List.{length_push}
-use Rattle.shared_work.specs.Values.{AreAllPasses, IsNew}
+use Rattle.seat_lock.specs.Values.{AreAllPasses, IsNew}
 use Rattle.live_dispatch.proofs.open.two_of.Goals as goal
 
 -- a list of two, taken from its end

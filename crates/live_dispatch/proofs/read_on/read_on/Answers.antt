@@ -1,6 +1,6 @@
 use Rattle.std.proofs.Common.{ℕ, sym, subst, ◌∷◌, [], ◌∙◌, refl, arith}
-use Rattle.shared_work.specs.Values.{entry}
-use Rattle.input_rows.specs.Line.{IsBehind}
+use Rattle.seat_lock.specs.Values.{entry}
+use Rattle.input_rows.specs.script.ScriptRow.{IsBehind}
 use Rattle.live_dispatch.specs.Phase.{GoesOn}
 use Rattle.live_dispatch.proofs.ReadLemmas.{ran-so, run-more, called_ok, refused_err}
 use Rattle.live_dispatch.proofs.lemmas.TakenLemmas.{takes-all, takes-more, takes-start}

@@ -1,5 +1,5 @@
 use Rattle.std.proofs.Common.{◌≡◌, ◌≤◌}
-use Rattle.shared_work.specs.Values.{IsPassOf}
+use Rattle.seat_lock.specs.Values.{IsPassOf}
 use Rattle.live_dispatch.proofs.ReadLemmas.{HasRun}
 use Rattle.live_dispatch.proofs.read_on.read_on.Given as goal
 

@@ -2,7 +2,7 @@ use Rattle.std.proofs.Common.{◌++◌, ◌∷◌, [], eqb, get_or, take, sym, a
 use Rattle.request_book.proofs.Common.{list_any, take_more, position-Some}
 use Rattle.std.proofs.lemmas.Bool.{eqb-true}
 use Rattle.request_book.proofs.lemmas.BookLemmas.{list_any-take}
-use Rattle.request_book.proofs.lemmas.RegisterLemmas.{eqb_comm, inserted, list_any-agree}
+use Rattle.request_book.proofs.lemmas.register.RegisterLemmas.{eqb_comm, inserted, list_any-agree}
 use Rattle.request_book.proofs.book.number_nodes.Goals as goal
 
 pub loop-index-preserved : goal.loop-index-preserved

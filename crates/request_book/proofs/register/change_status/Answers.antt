@@ -1,6 +1,6 @@
 use Rattle.std.proofs.Common.{refl}
 use Rattle.request_book.proofs.Common.{with_status}
-use Rattle.request_book.proofs.lemmas.RegisterLemmas.{write_found, write_none, eqb_comm}
+use Rattle.request_book.proofs.lemmas.register.RegisterLemmas.{write_found, write_none, eqb_comm}
 use Rattle.request_book.proofs.register.change_status.Goals as goal
 
 pub returns-in-Some-clause-changed : goal.returns-in-Some-clause-changed

@@ -2,7 +2,7 @@ use Rattle.std.proofs.Common.{◌≡◌, ℕ, List, Result, Ok, Err, true, ap, �
 use Rattle.request_book.proofs.Common.{IsBinarySearchResult, cond-true}
 use Rattle.std.specs.List.{insert}
 use Rattle.std.specs.Ordering.{nat_cmp}
-use Rattle.request_book.proofs.lemmas.RegisterLemmas.{insert_sought, present_sought}
+use Rattle.request_book.proofs.lemmas.register.RegisterLemmas.{insert_sought, present_sought}
 use Rattle.request_book.proofs.register.join.Goals.{in-Ok, in-Err}
 use Rattle.request_book.proofs.register.join.Goals as goal
 

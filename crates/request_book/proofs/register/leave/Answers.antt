@@ -1,7 +1,7 @@
 use Rattle.std.proofs.Common.{ℕ, List, Result, Ok, Err, subst, sym, ◌∙◌}
 use Rattle.request_book.proofs.Common.{IsBinarySearchResult}
 use Rattle.std.specs.Ordering.{nat_cmp}
-use Rattle.request_book.proofs.lemmas.RegisterLemmas.{remove_sought, without_sought}
+use Rattle.request_book.proofs.lemmas.register.RegisterLemmas.{remove_sought, without_sought}
 use Rattle.request_book.proofs.register.leave.Goals as goal
 
 pub returns-in-Ok-clause-items : goal.returns-in-Ok-clause-items

@@ -1,6 +1,6 @@
 use Rattle.std.proofs.Common.{Result, Ok, Err, ◌∙◌, IsOk, IfOk}
 use Rattle.request_book.proofs.Common.{false≢true}
-use Rattle.request_book.proofs.lemmas.RegisterLemmas.{inserted}
+use Rattle.request_book.proofs.lemmas.register.RegisterLemmas.{inserted}
 use Rattle.request_book.proofs.register.number.Goals as goal
 
 -- what holds of the value of an `Ok`, where it doesn't speak of that value

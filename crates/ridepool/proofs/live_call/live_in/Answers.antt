@@ -3,8 +3,8 @@ use Rattle.ridepool.proofs.Common.{SinkView, Streamed, BookView, EndsLive}
 use Rattle.ridepool.proofs.LiveLemmas.{ready-live, rows-ended}
 use Rattle.ridepool.proofs.live_call.live_in.Goals as goal
 
-pub invariant_of-setup : goal.invariant_of-setup
-invariant_of-setup g c = search rules
+pub invariant_of-solver : goal.invariant_of-solver
+invariant_of-solver g c = search rules
 
 pub start_live-requires-clause-named : goal.start_live-requires-clause-named
 start_live-requires-clause-named g c κs within = c.requires.named

@@ -12,7 +12,7 @@ opened_book-requires g c = c.requires.named
 
 pub drive_day-driven-requires-clause-new : goal.drive_day-driven-requires-clause-new
 drive_day-driven-requires-clause-new g c κs within =
-    new_book (record { settings = c.args.setup.now.settings.now; roads = c.args.setup.now.network.now; vehicles = c.args.fleet.now; rounds = c.args.script.now }) c.in-Ok.book c.vehicles-vehicles.ensures.kept c.in-Ok.ensures
+    new_book (record { settings = c.args.solver.now.settings.now; roads = c.args.solver.now.network.now; vehicles = c.args.fleet.now; rounds = c.args.script.now }) c.in-Ok.book c.vehicles-vehicles.ensures.kept c.in-Ok.ensures
 
 pub drive_day-driven-requires-clause-day : goal.drive_day-driven-requires-clause-day
 drive_day-driven-requires-clause-day g c κs within = subst (λ m. IsDayFor m c.args.script.now) c.in-Drive.is c.requires.day
@@ -33,14 +33,14 @@ returns-in-Err-clause-report g c =
 
 pub write_each-requires-clause-ready : goal.write_each-requires-clause-ready
 write_each-requires-clause-ready g c κs within =
-    ready_book (record { settings = c.args.setup.now.settings.now; roads = c.args.setup.now.network.now; vehicles = c.args.fleet.now; rounds = c.args.script.now }) c.in-Ok.book c.in-Ok.ensures
+    ready_book (record { settings = c.args.solver.now.settings.now; roads = c.args.solver.now.network.now; vehicles = c.args.fleet.now; rounds = c.args.script.now }) c.in-Ok.book c.in-Ok.ensures
 
 pub write_each-requires-clause-empty : goal.write_each-requires-clause-empty
 write_each-requires-clause-empty g c κs within = ap (λ b. b.entries) c.in-Ok.ensures
 
 pub returns-in-Ok-driven-clause-report : goal.returns-in-Ok-driven-clause-report
 returns-in-Ok-driven-clause-report g c =
-    let i : Inputs = record { settings = c.args.setup.now.settings.now; roads = c.args.setup.now.network.now; vehicles = c.args.fleet.now; rounds = c.args.script.now } in
+    let i : Inputs = record { settings = c.args.solver.now.settings.now; roads = c.args.solver.now.network.now; vehicles = c.args.fleet.now; rounds = c.args.script.now } in
     let run = c.in-Ok-driven.run' in
     let made = c.in-Ok-driven.ensures.run.0 in
     let took = c.in-Ok-driven.ensures.run.1 in
@@ -52,7 +52,7 @@ returns-in-Ok-driven-clause-report g c =
 
 pub returns-in-Ok-write_first-clause-report : goal.returns-in-Ok-write_first-clause-report
 returns-in-Ok-write_first-clause-report g c =
-    let i : Inputs = record { settings = c.args.setup.now.settings.now; roads = c.args.setup.now.network.now; vehicles = c.args.fleet.now; rounds = c.args.script.now } in
+    let i : Inputs = record { settings = c.args.solver.now.settings.now; roads = c.args.solver.now.network.now; vehicles = c.args.fleet.now; rounds = c.args.script.now } in
     let P = RunsFirst i.settings i.roads c.in-Ok.book c.rounds.result.now in
     let Q = RunsAll i.settings i.roads c.in-Ok.book c.rounds.result.now in
     report_from i P Q (run_serves i c.in-Ok.book c.rounds.result.now c.in_default-mode.not-Drive c.in-Ok.ensures c.rounds.ensures.rounds)
@@ -63,7 +63,7 @@ returns-in-Ok-write_first-clause-report g c =
 
 pub returns-in-Err-write_first-clause-report : goal.returns-in-Err-write_first-clause-report
 returns-in-Err-write_first-clause-report g c =
-    let i : Inputs = record { settings = c.args.setup.now.settings.now; roads = c.args.setup.now.network.now; vehicles = c.args.fleet.now; rounds = c.args.script.now } in
+    let i : Inputs = record { settings = c.args.solver.now.settings.now; roads = c.args.solver.now.network.now; vehicles = c.args.fleet.now; rounds = c.args.script.now } in
     let P = RunsFirst i.settings i.roads c.in-Ok.book c.args.script.now in
     let Q = RunsAll i.settings i.roads c.in-Ok.book c.args.script.now in
     let before = g.K.Sink.written c.args.out.now in

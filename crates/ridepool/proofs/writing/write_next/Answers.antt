@@ -1,6 +1,6 @@
 use Rattle.std.proofs.Common.{◌≡◌, ℕ, List, refl, subst}
 use Rattle.ridepool.proofs.Common.{Keeps-refl, DayRound, IsRoundFault, IsUnput, NotifierView, PutsRound}
-use Rattle.request_book.specs.declared.journal.Journal.{Journal}
+use Rattle.request_book.specs.declared.values.journal.Journal.{Journal}
 use Rattle.ridepool.proofs.WriteLemmas.{next_journal, wrote_round}
 use Rattle.ridepool.proofs.writing.write_next.Goals as goal
 
@@ -17,8 +17,8 @@ returns-in_default-take_round-clause-round g c = IsRoundFault.unrun (Keeps-refl 
 
 pub returns-in-Ok-put-clause-round : goal.returns-in-Ok-put-clause-round
 returns-in-Ok-put-clause-round g c =
-    let s = c.args.setup.now.settings.now in
-    let roads = c.args.setup.now.network.now in
+    let s = c.args.solver.now.settings.now in
+    let roads = c.args.solver.now.network.now in
     let before = g.K.Sink.written c.args.out.now in
     let after = g.K.Sink.written c.put_round-put.new.out in
     let journal = c.in-Ok-take_round.journal in
@@ -28,8 +28,8 @@ returns-in-Ok-put-clause-round g c =
 
 pub returns-in-Err-clause-round : goal.returns-in-Err-clause-round
 returns-in-Err-clause-round g c =
-    let s = c.args.setup.now.settings.now in
-    let roads = c.args.setup.now.network.now in
+    let s = c.args.solver.now.settings.now in
+    let roads = c.args.solver.now.network.now in
     let before = g.K.Sink.written c.args.out.now in
     let after = g.K.Sink.written c.put_round-put.new.out in
     let journal = c.in-Ok-take_round.journal in

@@ -50,10 +50,13 @@ rows-preserved c =
       All-with_name (λ name. name ≤ greatest_name) _ _ (All-with_name (λ name. name ≤ greatest_name) c.rows.nodes.names _ inv.6 (rw (← accepted.1) small.0)) (rw (← accepted.2) small.1),
     )
 
+pub of-requires-clause-distinct : goal.of-requires-clause-distinct
+of-requires-clause-distinct c = rw c.names.ensures.names c.names.ensures.distinct
+
 pub of-requires-clause-among : goal.of-requires-clause-among
 of-requires-clause-among c =
     let inv = c.rows.invariant in
-    All-same (IsArcAmong (length c.rows.nodes.names)) c.as_slice.result.now (map (arc_in c.rows.nodes.names) (take c.rows.row c.args.rows.now.records)) (c.as_slice.ensures.value ∙ inv.3) (All-arc_in c.rows.nodes.names (take c.rows.row c.args.rows.now.records) inv.4 inv.5)
+    rw c.names.ensures.names (All-same (IsArcAmong (length c.rows.nodes.names)) c.as_slice.result.now (map (arc_in c.rows.nodes.names) (take c.rows.row c.args.rows.now.records)) (c.as_slice.ensures.value ∙ inv.3) (All-arc_in c.rows.nodes.names (take c.rows.row c.args.rows.now.records) inv.4 inv.5))
 
 pub returns-in-Ok-clause-network : goal.returns-in-Ok-clause-network
 returns-in-Ok-clause-network c =
@@ -64,7 +67,7 @@ returns-in-Ok-clause-network c =
     let nodes = rw whole at inv.1 in
     let arcs = rw (whole, nodes) at (c.as_slice.ensures.value ∙ inv.3) in
     let accepted = network_of-accepted c.args.rows.now.records few (first_refusal-end c.args.rows.now.records c.rows.row all inv.0) in
-    let network = rw (arcs, nodes) at c.in-Ok.ensures in
+    let network = rw (c.names.ensures.names, arcs, nodes) at c.in-Ok.ensures in
     accepted ∙ ap Ok (sym network)
 
 pub returns-in-Ok-clause-every_row : goal.returns-in-Ok-clause-every_row
@@ -74,4 +77,5 @@ returns-in-Ok-clause-every_row c =
     let whole = take_all c.rows.row c.args.rows.now.records all in
     let arcs = rw whole at (c.as_slice.ensures.value ∙ inv.3) in
     let among = All-same (IsArcAmong (length c.rows.nodes.names)) c.as_slice.result.now (map (arc_in c.rows.nodes.names) (take c.rows.row c.args.rows.now.records)) (c.as_slice.ensures.value ∙ inv.3) (All-arc_in c.rows.nodes.names (take c.rows.row c.args.rows.now.records) inv.4 inv.5) in
-    rw c.in-Ok.ensures (length-by_start-all (length c.rows.nodes.names) c.as_slice.result.now among ∙ ap length arcs ∙ length-map c.args.rows.now.records (arc_in c.rows.nodes.names))
+    let network = rw c.names.ensures.names at c.in-Ok.ensures in
+    rw network (length-by_start-all (length c.rows.nodes.names) c.as_slice.result.now among ∙ ap length arcs ∙ length-map c.args.rows.now.records (arc_in c.rows.nodes.names))

@@ -9,7 +9,7 @@ returns-in_default-clause-run g c = λ first. rw c.in_default.ensures (refl, (λ
 
 pub returns-in-Ok-clause-run : goal.returns-in-Ok-clause-run
 returns-in-Ok-clause-run g c =
-    if_ok_map c.run_last-end.result _ _ c.run_last-end.ensures.run (λ end on first. end_of c.args.setup.now.settings.now c.args.setup.now.network.now c.args.rounds.now c.in-Some.number
+    if_ok_map c.run_last-end.result _ _ c.run_last-end.ensures.run (λ end on first. end_of c.args.solver.now.settings.now c.args.solver.now.network.now c.args.rounds.now c.in-Some.number
     c.args.drive end (g.K.RoundKeeper.took first c.args.keeper.now) (g.K.RoundKeeper.took first c.run_last-end.new.keeper) c.in-Some.ensures.0 c.in-Some.ensures.1 (on first))
 
 pub returns-in-Ok-clause-late : goal.returns-in-Ok-clause-late

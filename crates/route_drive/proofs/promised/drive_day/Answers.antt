@@ -6,8 +6,8 @@ use Rattle.route_drive.proofs.promised.drive_day.Goals as goal
 
 pub returns-clause-run : goal.returns-clause-run
 returns-clause-run g c =
-    let settings = c.args.setup.now.settings.now in
-    let roads = c.args.setup.now.network.now in
+    let settings = c.args.solver.now.settings.now in
+    let roads = c.args.solver.now.network.now in
     let s = c.args.book.state in
     let rounds = c.args.day.now in
     if_ok_map c.driven_day.result _ _ c.driven_day.ensures.run (λ run counted.

@@ -1,5 +1,5 @@
 use Rattle.std.proofs.Common.{◌≡◌}
-use Rattle.shared_work.specs.Values.{IsPassOf}
+use Rattle.seat_lock.specs.Values.{IsPassOf}
 use Rattle.single_calls.proofs.turns.play_all.Given as goal
 
 abbrev pub invariant-loop-amount : goal.invariant-loop-amount

@@ -1,4 +1,4 @@
-use Rattle.stop_orders.proofs.lemmas.DeletionLemmas.{passenger_left_out}
+use Rattle.stop_orders.proofs.lemmas.task.DeletionLemmas.{passenger_left_out}
 use Rattle.stop_orders.proofs.laws.passengers_can_be_left_out.Goals as goal
 
 pub returns : goal.returns

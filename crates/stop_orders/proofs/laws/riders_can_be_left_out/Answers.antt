@@ -1,4 +1,4 @@
-use Rattle.stop_orders.proofs.lemmas.DeletionLemmas.{rider_left_out}
+use Rattle.stop_orders.proofs.lemmas.task.DeletionLemmas.{rider_left_out}
 use Rattle.stop_orders.proofs.laws.riders_can_be_left_out.Goals as goal
 
 pub returns : goal.returns

@@ -1,6 +1,6 @@
 use Rattle.std.proofs.Common.{◌≡◌, None, sym, subst, refl, ◌∙◌}
 use Rattle.request_book.specs.Book.{IsApplied, next_position}
-use Rattle.request_book.specs.declared.journal.Entry.{Entry}
+use Rattle.request_book.specs.declared.values.journal.Entry.{Entry}
 use Rattle.dispatch_report.specs.Round.{entry_text}
 use Rattle.live_dispatch.specs.Desk.{DeskView, HasEntered, IsDesk, IsSameDesk, Outputs, outputs_seen}
 use Rattle.live_dispatch.specs.work.Telling.{WroteLast}

@@ -1,5 +1,4 @@
-use Rattle.std.proofs.Common.{rules, ◌∙◌, ap}
-use Rattle.std.specs.Prelude.{is_some}
+use Rattle.std.proofs.Common.{rules}
 use Rattle.pool_base.proofs.NumberingLemmas.{found}
 use Rattle.pool_base.proofs.numbering.Numbering.number_of.Goals as goal
 

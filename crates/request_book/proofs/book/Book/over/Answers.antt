@@ -1,7 +1,7 @@
 use Rattle.std.proofs.Common.{◌≡◌, ℕ, List, [], sym, ap, subst, ◌∙◌, arith}
 use Rattle.request_book.proofs.Common.{Vehicle, Entry, State, BookView, IsBook, opening, KeysRise, state_of}
 use Rattle.request_book.proofs.lemmas.BookLemmas.{opening-book, fleet-rise}
-use Rattle.request_book.proofs.lemmas.IndexLemmas.{no-room}
+use Rattle.request_book.proofs.lemmas.register.IndexLemmas.{no-room}
 use Rattle.request_book.proofs.book.Book.over.Goals as goal
 
 pub of-requires : goal.of-requires

@@ -2,7 +2,7 @@ use Rattle.std.proofs.Common.{◌≡◌, ℕ, List, [], sym, ap, subst, ◌∙�
 use Rattle.request_book.proofs.Common.{Entry, State, BookView, IsBook, state_of}
 use Rattle.std.specs.Global.{Vec}
 use Rattle.request_book.proofs.lemmas.BookLemmas.{round-book}
-use Rattle.request_book.proofs.lemmas.IndexLemmas.{no-room}
+use Rattle.request_book.proofs.lemmas.register.IndexLemmas.{no-room}
 use Rattle.request_book.proofs.book.Book.take_round.Goals as goal
 
 pub invariant_of-self : goal.invariant_of-self

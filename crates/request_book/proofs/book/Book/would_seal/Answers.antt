@@ -1,6 +1,6 @@
 use Rattle.std.proofs.Common.{◌≡◌, true, false, Some, ap, ◌∙◌, is_some}
 use Rattle.request_book.proofs.Common.{BookView, would_seal, state_of}
-use Rattle.request_book.proofs.lemmas.StepTable.{would_seal-refused, would_seal-open}
+use Rattle.request_book.proofs.lemmas.register.StepTable.{would_seal-refused, would_seal-open}
 use Rattle.request_book.proofs.book.Book.would_seal.Goals as goal
 
 pub returns-then-is_some : goal.returns-then-is_some

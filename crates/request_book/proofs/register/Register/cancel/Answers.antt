@@ -1,7 +1,7 @@
 use Rattle.std.proofs.Common.{Some, None, sym, ap, ◌∙◌}
 use Rattle.request_book.proofs.Common.{Reply, Cancelled, State, state_of}
-use Rattle.request_book.proofs.lemmas.IndexLemmas.{less-room}
-use Rattle.request_book.proofs.lemmas.StepLemmas.{cancel-unknown, cancel-known}
+use Rattle.request_book.proofs.lemmas.register.IndexLemmas.{less-room}
+use Rattle.request_book.proofs.lemmas.register.StepLemmas.{cancel-unknown, cancel-known}
 use Rattle.request_book.proofs.register.Register.cancel.Goals as goal
 
 pub returns-in_default-clause-stepped : goal.returns-in_default-clause-stepped

@@ -1,9 +1,9 @@
 use Rattle.std.proofs.Common.{◌≡◌, List, Option, Some, None, map, refl, sym, ap, subst, ◌∙◌}
 use Rattle.request_book.proofs.Common.{Batch, Rider, Register, Reply, Closed, BookRider, State, after_answer, KeysDiffer, KeysRise, not_this_batch, state_of, IsIndexed}
-use Rattle.request_book.proofs.lemmas.CloseLemmas.{answer-settled}
-use Rattle.request_book.proofs.lemmas.IndexLemmas.{IsPool-same}
-use Rattle.request_book.proofs.lemmas.KeyedLemmas.{rise_from_increasing}
-use Rattle.request_book.proofs.lemmas.StepLemmas.{close-known, closed-some}
+use Rattle.request_book.proofs.lemmas.register.CloseLemmas.{answer-settled}
+use Rattle.request_book.proofs.lemmas.register.IndexLemmas.{IsPool-same}
+use Rattle.request_book.proofs.lemmas.values.KeyedLemmas.{rise_from_increasing}
+use Rattle.request_book.proofs.lemmas.register.StepLemmas.{close-known, closed-some}
 use Rattle.request_book.proofs.register.Register.close.Goals.{in-Some-take, in_default-take}
 use Rattle.request_book.proofs.register.Register.close.Goals as goal
 

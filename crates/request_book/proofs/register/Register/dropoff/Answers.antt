@@ -1,7 +1,7 @@
 use Rattle.std.proofs.Common.{◌≡◌, List, Some, None, refl, sym, ap, subst, ◌∙◌, set}
 use Rattle.request_book.proofs.Common.{All-get_or, Vehicle, Reply, Dropped, Delivered, State, KeysDiffer, state_of, lets_out, BookRider, changed_at, with_status}
-use Rattle.request_book.proofs.lemmas.IndexLemmas.{vehicle-set, IsIndexed-vehicle, less-room}
-use Rattle.request_book.proofs.lemmas.StepLemmas.{dropoff-no_vehicle, dropoff-no_rider_at, dropoff-known}
+use Rattle.request_book.proofs.lemmas.register.IndexLemmas.{vehicle-set, IsIndexed-vehicle, less-room}
+use Rattle.request_book.proofs.lemmas.register.StepLemmas.{dropoff-no_vehicle, dropoff-no_rider_at, dropoff-known}
 use Rattle.request_book.proofs.register.Register.dropoff.Goals as goal
 
 pub returns-in_default-clause-stepped : goal.returns-in_default-clause-stepped

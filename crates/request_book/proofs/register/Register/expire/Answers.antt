@@ -1,6 +1,6 @@
 use Rattle.std.proofs.Common.{◌+◌, drop, sym, ap, ◌∙◌, arith}
 use Rattle.request_book.proofs.Common.{State, changed_at, changed_in_turn, with_status, Expired, state_of}
-use Rattle.request_book.proofs.lemmas.SealLemmas.{changed_in_turn-more, changed_in_turn-all}
+use Rattle.request_book.proofs.lemmas.register.SealLemmas.{changed_in_turn-more, changed_in_turn-all}
 use Rattle.request_book.proofs.register.Register.expire.Goals as goal
 
 pub loop-rider-preserved : goal.loop-rider-preserved

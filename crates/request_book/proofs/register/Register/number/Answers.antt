@@ -1,6 +1,6 @@
 use Rattle.std.proofs.Common.{ℕ, [], map, sym, ap, subst, ◌∙◌, arith, option_and_then}
 use Rattle.request_book.proofs.Common.{Vehicle, BookRider, look_up, KeysRise, KeysDiffer, pool_id, find_rider}
-use Rattle.request_book.proofs.lemmas.KeyedLemmas.{look_up-nil, KeysDiffer-from_rise}
+use Rattle.request_book.proofs.lemmas.values.KeyedLemmas.{look_up-nil, KeysDiffer-from_rise}
 use Rattle.request_book.proofs.register.Register.number.Goals as goal
 
 pub number_vehicles-requires-clause-differ : goal.number_vehicles-requires-clause-differ

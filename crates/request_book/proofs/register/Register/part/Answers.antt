@@ -2,7 +2,7 @@ use Rattle.std.proofs.Common.{◌≡◌, ℕ, Option, ap, ◌∙◌, arith, opti
 use Rattle.request_book.proofs.Common.{BookRider, Rider, after_seal, asking, find_rider, over_id}
 use Rattle.std.specs.List.{filter_map}
 use Rattle.std.proofs.lemmas.List.{take_all}
-use Rattle.request_book.proofs.lemmas.SealLemmas.{made-more}
+use Rattle.request_book.proofs.lemmas.register.SealLemmas.{made-more}
 use Rattle.request_book.proofs.register.Register.part.Goals as goal
 
 pub loop-id-preserved : goal.loop-id-preserved

@@ -1,8 +1,8 @@
 use Rattle.std.proofs.Common.{◌≡◌, ◌<◌, ◌≤◌, List, Some, None, length, get_or, refl, sym, ap, subst, ◌∙◌, arith, set}
 use Rattle.request_book.proofs.Common.{All-get_or, HasSeats, Vehicle, Reply, Picked, Aboard, State, state_of, takes_in, BookRider, changed_at, with_status}
 use Rattle.std.proofs.lemmas.Option.{MatchOption-at_none}
-use Rattle.request_book.proofs.lemmas.IndexLemmas.{vehicle-set, IsIndexed-vehicle, less-room}
-use Rattle.request_book.proofs.lemmas.StepLemmas.{pickup-no_vehicle, pickup-no_rider_at, pickup-known, fifth-none}
+use Rattle.request_book.proofs.lemmas.register.IndexLemmas.{vehicle-set, IsIndexed-vehicle, less-room}
+use Rattle.request_book.proofs.lemmas.register.StepLemmas.{pickup-no_vehicle, pickup-no_rider_at, pickup-known, fifth-none}
 use Rattle.request_book.proofs.register.Register.pickup.Goals as goal
 
 pub returns-in_default-clause-stepped : goal.returns-in_default-clause-stepped

@@ -1,7 +1,7 @@
 use Rattle.std.proofs.Common.{ℕ, ◌∷◌, [], ◌++◌, Bool, map, refl, sym, ap, subst, ◌∙◌, arith, is_some, option_and_then, ◌==◌}
 use Rattle.request_book.proofs.Common.{list_any, map-append, State, BookRider, KeysDiffer, KeysRise, state_of, pool_id, is_active}
-use Rattle.request_book.proofs.lemmas.KeyedLemmas.{look_up-list_any, KeysDiffer-push}
-use Rattle.request_book.proofs.lemmas.IndexLemmas.{IsPool-entered, IsPool-same, rise-entered, length-pool}
+use Rattle.request_book.proofs.lemmas.values.KeyedLemmas.{look_up-list_any, KeysDiffer-push}
+use Rattle.request_book.proofs.lemmas.register.IndexLemmas.{IsPool-entered, IsPool-same, rise-entered, length-pool}
 use Rattle.request_book.proofs.register.Register.place.Goals as goal
 
 pub number-requires-clause-new : goal.number-requires-clause-new

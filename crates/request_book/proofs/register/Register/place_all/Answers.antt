@@ -1,8 +1,8 @@
 use Rattle.std.proofs.Common.{◌≡◌, ℕ, ◌+◌, ◌-◌, ◌<◌, ◌++◌, ◌∷◌, [], List, None, length, take, sym, ap, subst, ◌∙◌, arith}
 use Rattle.request_book.proofs.Common.{take_more, State, BookRider, find_rider, pool_count, state_of, HasRoom}
 use Rattle.std.proofs.lemmas.List.{take_all}
-use Rattle.request_book.proofs.lemmas.KeyedLemmas.{look_up-take}
-use Rattle.request_book.proofs.lemmas.IndexLemmas.{pool_count-more}
+use Rattle.request_book.proofs.lemmas.values.KeyedLemmas.{look_up-take}
+use Rattle.request_book.proofs.lemmas.register.IndexLemmas.{pool_count-more}
 use Rattle.request_book.proofs.register.Register.place_all.Goals as goal
 
 pub place-requires-clause-new : goal.place-requires-clause-new

@@ -1,7 +1,7 @@
 use Rattle.std.proofs.Common.{List, Some, None, refl, sym, ap, ◌∙◌}
 use Rattle.request_book.proofs.Common.{Vehicle, Reply, Placed, State, state_of, stands_at}
-use Rattle.request_book.proofs.lemmas.IndexLemmas.{vehicle-set, IsIndexed-vehicle}
-use Rattle.request_book.proofs.lemmas.StepLemmas.{report-unknown, report-known}
+use Rattle.request_book.proofs.lemmas.register.IndexLemmas.{vehicle-set, IsIndexed-vehicle}
+use Rattle.request_book.proofs.lemmas.register.StepLemmas.{report-unknown, report-known}
 use Rattle.request_book.proofs.register.Register.report.Goals as goal
 
 pub returns-in_default-clause-stepped : goal.returns-in_default-clause-stepped

@@ -1,4 +1,4 @@
-use Rattle.request_book.proofs.lemmas.IndexLemmas.{IsIndexed-leaves}
+use Rattle.request_book.proofs.lemmas.register.IndexLemmas.{IsIndexed-leaves}
 use Rattle.request_book.proofs.register.Register.retire.Goals as goal
 
 pub returns-clause-indexed : goal.returns-clause-indexed

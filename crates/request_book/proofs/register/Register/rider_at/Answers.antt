@@ -1,4 +1,4 @@
-use Rattle.request_book.proofs.lemmas.RegisterLemmas.{found_by_keys, eqb_comm}
+use Rattle.request_book.proofs.lemmas.register.RegisterLemmas.{found_by_keys, eqb_comm}
 use Rattle.request_book.proofs.register.Register.rider_at.Goals as goal
 
 pub returns : goal.returns

@@ -1,8 +1,8 @@
 use Rattle.std.proofs.Common.{◌≡◌, ◌∙◌}
 use Rattle.request_book.proofs.Common.{Seal, state_of, step, table_step}
 use Rattle.std.proofs.lemmas.Result.{IfOk-weaker}
-use Rattle.request_book.proofs.lemmas.StepTable.{step-is}
-use Rattle.request_book.proofs.lemmas.IndexLemmas.{less-room}
+use Rattle.request_book.proofs.lemmas.register.StepTable.{step-is}
+use Rattle.request_book.proofs.lemmas.register.IndexLemmas.{less-room}
 use Rattle.request_book.proofs.register.Register.run.Goals as goal
 
 pub returns-in-Submit-clause-ok : goal.returns-in-Submit-clause-ok

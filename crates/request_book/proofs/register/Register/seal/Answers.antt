@@ -1,7 +1,7 @@
 use Rattle.std.proofs.Common.{◌≡◌, ℕ, Some, None, map, sym, ap, subst, ◌∙◌}
 use Rattle.request_book.proofs.Common.{Batch, Reply, Sealed, Expired, State, changed_in_turn, state_of, with_status, after_seal, batch_of, sealed_state, one_more}
-use Rattle.request_book.proofs.lemmas.BatchLemmas.{expired-map}
-use Rattle.request_book.proofs.lemmas.StepLemmas.{seal-known}
+use Rattle.request_book.proofs.lemmas.register.BatchLemmas.{expired-map}
+use Rattle.request_book.proofs.lemmas.register.StepLemmas.{seal-known}
 use Rattle.request_book.proofs.register.Register.seal.Goals.{Joined-self}
 use Rattle.request_book.proofs.register.Register.seal.Goals as goal
 

@@ -1,7 +1,7 @@
 use Rattle.std.proofs.Common.{◌≡◌, ℕ, List, map, sym, ap, subst, ◌∙◌}
 use Rattle.request_book.proofs.Common.{Batch, IsKept, Rider, Vehicle, state_of, by_key, batch_of, after_seal, asking, one_more}
 use Rattle.std.specs.List.{filter_map}
-use Rattle.request_book.proofs.lemmas.BatchLemmas.{batch-riders, batch-expired, batch-kept}
+use Rattle.request_book.proofs.lemmas.register.BatchLemmas.{batch-riders, batch-expired, batch-kept}
 use Rattle.request_book.proofs.register.Register.snapshot.Goals.{After-of-3}
 use Rattle.request_book.proofs.register.Register.snapshot.Goals as goal
 

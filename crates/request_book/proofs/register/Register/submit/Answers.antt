@@ -1,6 +1,6 @@
 use Rattle.std.proofs.Common.{Some, None, sym, ap, ◌∙◌}
 use Rattle.request_book.proofs.Common.{Reply, Accepted, State, state_of}
-use Rattle.request_book.proofs.lemmas.StepLemmas.{submit-fits, submit-known}
+use Rattle.request_book.proofs.lemmas.register.StepLemmas.{submit-fits, submit-known}
 use Rattle.request_book.proofs.register.Register.submit.Goals as goal
 
 pub place-requires-clause-new : goal.place-requires-clause-new

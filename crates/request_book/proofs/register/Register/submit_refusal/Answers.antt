@@ -1,6 +1,6 @@
 use Rattle.std.proofs.Common.{◌≡◌, ℕ, [], ◌∷◌, Option, Some, None, ap, ◌∙◌, arith, vec_len, nat_le, length, if◌then◌else◌}
 use Rattle.request_book.proofs.Common.{BookRefusal, PoolFull, BookFull, first_of, duplicate_rider, unknown_node, same_place, pool_full, book_full, find_rider, pool_count}
-use Rattle.request_book.proofs.lemmas.IndexLemmas.{length-pool}
+use Rattle.request_book.proofs.lemmas.register.IndexLemmas.{length-pool}
 use Rattle.request_book.proofs.register.Register.submit_refusal.Goals as goal
 
 pub returns : goal.returns

@@ -1,5 +1,5 @@
-use Rattle.request_book.proofs.lemmas.KeyedLemmas.{KeysDiffer-from_rise}
-use Rattle.request_book.proofs.lemmas.RegisterLemmas.{found_by_keys, eqb_comm}
+use Rattle.request_book.proofs.lemmas.values.KeyedLemmas.{KeysDiffer-from_rise}
+use Rattle.request_book.proofs.lemmas.register.RegisterLemmas.{found_by_keys, eqb_comm}
 use Rattle.request_book.proofs.register.Register.vehicle_at.Goals as goal
 
 pub returns : goal.returns

@@ -1,5 +1,0 @@
-use Rattle.dispatch_engine.proofs.Common.{IsChosen}
-use Rattle.dispatch_engine.proofs.best_moves.chosen_pairs.Given as goal
-
-abbrev pub invariant-loop-vehicle : goal.invariant-loop-vehicle
-invariant-loop-vehicle l = IsChosen l.matching l.vehicle l.pairs.items

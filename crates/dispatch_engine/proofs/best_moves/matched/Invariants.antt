@@ -1,5 +1,0 @@
-use Rattle.dispatch_engine.proofs.Common.{IsPricedMatching, IsSized, IsSameProblem, HasRoom}
-use Rattle.dispatch_engine.proofs.best_moves.matched.Given as goal
-
-abbrev pub invariant-loop-vehicle : goal.invariant-loop-vehicle
-invariant-loop-vehicle l = IsPricedMatching l.vehicle l.vehicle l.matching × IsSized l.matching × HasRoom l.riders l.tree × IsSameProblem l.initial.matching l.matching

@@ -1,0 +1,5 @@
+pub mod CrewLemmas
+pub mod FinishLemmas
+pub mod PassLemmas
+pub mod RoundLemmas
+pub mod SameLemmas

@@ -1,0 +1,4 @@
+pub mod LeftLemmas
+pub mod MoveLemmas
+pub mod PointLemmas
+pub mod TripLemmas

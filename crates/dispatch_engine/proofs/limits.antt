@@ -1,0 +1,5 @@
+pub mod Assembly
+pub mod Pairing
+pub mod Places
+pub mod Searches
+pub mod Seats

@@ -1,6 +1,0 @@
-use Rattle.std.proofs.Common.{◌≡◌, take, map}
-use Rattle.dispatch_engine.proofs.Common.{row_line}
-use Rattle.dispatch_engine.proofs.lines.row_lines.Given as goal
-
-abbrev pub invariant-loop-row : goal.invariant-loop-row
-invariant-loop-row l = l.lines.items ≡ map (row_line l.settled) (take l.row-index l.rows)

@@ -1,5 +1,0 @@
-use Rattle.dispatch_engine.proofs.TreePrices.{IsFalling}
-use Rattle.dispatch_engine.proofs.matching_tree.lower.Given as goal
-
-abbrev pub invariant-loop-vehicle : goal.invariant-loop-vehicle
-invariant-loop-vehicle l = IsFalling l.vehicles l.by l.vehicle-index l.initial.prices l.prices

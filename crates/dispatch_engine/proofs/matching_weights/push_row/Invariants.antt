@@ -1,6 +1,0 @@
-use Rattle.std.proofs.Common.{◌≡◌, ◌++◌, map, take}
-use Rattle.dispatch_engine.proofs.Common.{travel_time, weight_of}
-use Rattle.dispatch_engine.proofs.matching_weights.push_row.Given as goal
-
-abbrev pub invariant-loop-other : goal.invariant-loop-other
-invariant-loop-other l = l.weights.items ≡ l.initial.weights.items ++ map (λ other. weight_of (travel_time l.times l.place other)) (take l.other-index l.wanted)

@@ -1,4 +1,0 @@
-use Rattle.dispatch_engine.proofs.trips.chosen_trips.Given as goal
-
-abbrev pub ghosts-all_trips : goal.ghosts-all_trips
-ghosts-all_trips a = record { name = a.blank.name; parts = a.blank.parts }

@@ -1,8 +1,0 @@
-use Rattle.request_book.specs.declared.command.Command.{Command}
-use Rattle.request_book.specs.declared.command.Command.TheVariants.{Seal, Close}
-
--- the command is no seal and no close
-abbrev pub IsPlain : Command → Type 0
-IsPlain (Seal now) = ⊥
-IsPlain (Close batch outcome) = ⊥
-IsPlain _ = Unit {0}

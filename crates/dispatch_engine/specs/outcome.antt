@@ -1,0 +1,6 @@
+pub mod Instance
+pub mod Moves
+pub mod Outcome
+pub mod Points
+pub mod Told
+pub mod Trips

@@ -1,6 +1,0 @@
-/// How many commands of a lane were taken, and the batch that it sealed and hasn't closed.
-#[derive(Clone, Copy)]
-pub struct LaneStand {
-    pub taken: usize,
-    pub pending: Option<u64>,
-}

@@ -1,0 +1,3 @@
+pub mod FleetPlaceLemmas
+pub mod FleetRowLemmas
+pub mod FleetLemmas

@@ -1,6 +1,0 @@
-use Rattle.std.proofs.Common.{take}
-use Rattle.input_rows.specs.work.Pieces.{EndsNoLine}
-use Rattle.input_rows.proofs.lines.line_end.Given as goal
-
-abbrev pub invariant-loop-place : goal.invariant-loop-place
-invariant-loop-place l = EndsNoLine (take l.place l.bytes)

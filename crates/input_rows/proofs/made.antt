@@ -1,0 +1,11 @@
+pub mod FieldLemmas
+pub mod TextLemmas
+pub mod PartLemmas
+pub mod NetworkLemmas
+pub mod NodeLemmas
+pub mod MadeFleetLemmas
+pub mod MadeScriptLemmas
+pub mod ShapeLemmas
+pub mod ReadLemmas
+pub mod WrittenLemmas
+pub mod RowTextLemmas

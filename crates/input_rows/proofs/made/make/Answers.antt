@@ -1,9 +1,0 @@
-use Rattle.input_rows.proofs.RowTextLemmas.{texts_of-written}
-use Rattle.input_rows.proofs.made.make.Goals as goal
-
-pub returns : goal.returns
-returns c =
-    texts_of-written c.args.shape.now _ _ _ _ _ _ _ c.seed_from_u64-rng.ensures.same
-    (rw c.in_ok-network.ensures.items at c.in_ok-put_network.ensures)
-    (rw c.in_ok-fleet.ensures.items at c.in_ok-put_fleet.ensures)
-    (rw c.in_ok-script.ensures.items at c.in_ok-put_script.ensures)

@@ -1,6 +1,0 @@
-use Rattle.input_rows.proofs.ShapeLemmas.{accepted}
-use Rattle.input_rows.proofs.made_law.made_inputs_are_accepted.Goals as goal
-
--- src/made_law.rt:7:1
-pub returns : goal.returns
-returns c = accepted c.args.shape.now c.args.shape.now.in_range

@@ -1,0 +1,4 @@
+pub mod Accepted
+pub mod MadeRow
+pub mod Part
+pub mod Texts

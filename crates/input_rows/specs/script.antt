@@ -1,0 +1,4 @@
+pub mod Word
+pub mod ScriptRow
+pub mod Round
+pub mod Script

@@ -1,0 +1,163 @@
+//! The accepted rows of a script, one by one.
+ghost use Rattle.std.specs.Prelude.{◌≡◌, ◌≤◌, IfOk, if◌then◌else◌};
+ghost use Rattle.std.specs.Result.{IsErrOf};
+ghost use Rattle.pool_io.specs.Faults.{Rose};
+ghost use Rattle.input_rows.specs.live.Rows.{ComesBehind, GivesRow, rows_to_come};
+ghost use Rattle.input_rows.specs.work.live.Steps.{HasStepped, StepsBehind};
+
+use crate::live::judge::{Judged, RowRefusal, judge_row};
+use crate::live::lines::{LineFault, LineStream};
+use crate::script::script_row::ScriptRow;
+use crate::script::version::ScriptVersion;
+use pool_io::Source;
+use std::alloc::Global;
+
+/// Who hears of the rows that are refused. Nothing is promised of it.
+pub trait RefusalListener {
+    /// The row of this number is refused. Rows count from 1, and refused rows count too.
+    fn refused(&mut self, row: u64, refusal: &RowRefusal);
+}
+
+/// What gives the accepted rows of a script one by one.
+pub trait RowSource {
+    ghost use Rattle.std.specs.Prelude.{ℕ, List, Option};
+    ghost use Rattle.input_rows.specs.declared.script.script_row.ScriptRow.{ScriptRow};
+
+    /// The rows still to come, where they are told.
+    ghost to_come: { Self → Option (List ScriptRow) };
+
+    /// The round of the row that came last, or 0.
+    ghost last: { Self → ℕ };
+
+    /// How many reads of the source have failed.
+    ghost faults: { Self → ℕ };
+
+    /// The next accepted row, if there is one.
+    fn next(&mut self) -> Result<Option<ScriptRow>, LineFault>
+        ensures row { IfOk result (GivesRow (to_come self.old) (to_come self.new)) }
+        ensures behind { IfOk result (ComesBehind (last self.old) (last self.new)) }
+        ensures fault { IsErrOf result LineFault.ReadFault → Rose (faults self.old) (faults self.new) }
+        ensures never_falls { faults self.old ≤ faults self.new };
+}
+
+/// The rows of a script behind its header.
+#[derive(Drop)]
+pub struct LiveRows<S: Source, L: RefusalListener + Drop> {
+    alloc: Global,
+    lines: LineStream<S>,
+    line: Vec<u8>,
+    text: Vec<u8>,
+    version: ScriptVersion,
+    last: u32,
+    row: u64,
+    listener: L,
+}
+
+impl<S: Source, L: RefusalListener + Drop> LiveRows<S, L> {
+    /// The rows to come of these lines, behind a header of this version.
+    pub fn behind(
+        alloc: Global,
+        lines: LineStream<S>,
+        version: ScriptVersion,
+        listener: L,
+    ) -> LiveRows<S, L>
+        ensures lines { result.lines ≡ lines }
+        ensures version { result.version ≡ version }
+        ensures last { result.last ≡ 0 }
+    {
+        LiveRows {
+            alloc,
+            lines,
+            line: Vec::new(alloc),
+            text: Vec::new(alloc),
+            version,
+            last: 0,
+            row: 0,
+            listener,
+        }
+    }
+
+    /// The source, of which bytes may be lost that were read ahead.
+    pub fn into_source(self) -> S
+        ensures { S.faults result ≡ self.lines.faults }
+    {
+        let LiveRows {
+            lines,
+            line,
+            text,
+            listener,
+            ..
+        } = self;
+        drop(line);
+        drop(text);
+        drop(listener);
+        lines.into_source()
+    }
+
+    /// Reads a line, and judges it.
+    fn step(&mut self) -> Result<Step, LineFault>
+        ensures step { IfOk result (HasStepped (rows_to_come self.old.version self.old.last self.old.lines.to_come)
+            (rows_to_come self.new.version self.new.last self.new.lines.to_come)) }
+        ensures behind { IfOk result (StepsBehind self.old.last self.new.last) }
+        ensures fault { IsErrOf result LineFault.ReadFault → Rose self.old.lines.faults self.new.lines.faults }
+        ensures never_falls { self.old.lines.faults ≤ self.new.lines.faults }
+    {
+        let ended = self.lines.next_line(&mut self.line)?;
+        match judge_row(
+            self.alloc,
+            &mut self.text,
+            &self.line,
+            self.version,
+            self.last,
+        ) {
+            Ok(Judged::Empty) => Ok(without_row(ended)),
+            Ok(Judged::Accepted(row)) => {
+                self.row = self.row.saturating_add(1);
+                self.last = row.round;
+                Ok(Step::Row(row))
+            }
+            Ok(Judged::Refused(refusal)) => {
+                self.row = self.row.saturating_add(1);
+                self.listener.refused(self.row, &refusal);
+                Ok(without_row(ended))
+            }
+            Err(fault) => Err(fault),
+        }
+    }
+}
+
+/// What a line gives.
+#[derive(Drop)]
+pub(crate) enum Step {
+    Row(ScriptRow),
+    /// No row.
+    Skipped,
+    /// No row, and it is the last.
+    Ended,
+}
+
+fn without_row(ended: bool) -> Step
+    ensures { result ≡ (if ended then Step.Skipped else Step.Ended) }
+{
+    if ended { Step::Skipped } else { Step::Ended }
+}
+
+impl<S: Source, L: RefusalListener + Drop> RowSource for LiveRows<S, L> {
+    ghost to_come = { λ r. rows_to_come r.version r.last r.lines.to_come };
+
+    ghost last = { λ r. r.last };
+
+    ghost faults = { λ r. r.lines.faults };
+
+    fn next(&mut self) -> Result<Option<ScriptRow>, LineFault> {
+        'lines: for _ in 0..u64::MAX {
+            match self.step() {
+                Ok(Step::Row(row)) => return Ok(Some(row)),
+                Ok(Step::Skipped) => {}
+                Ok(Step::Ended) => return Ok(None),
+                Err(fault) => return Err(fault),
+            }
+        }
+        Err(LineFault::OutOfMemory)
+    }
+}

@@ -1,0 +1,11 @@
+pub mod Augmenting
+pub mod Choosing
+pub mod Common
+pub mod Growing
+pub mod Inserting
+pub mod MatchingLaw
+pub mod PlaceSums
+pub mod Relaxing
+pub mod Rows
+pub mod Shifting
+pub mod TreePrices

@@ -1,0 +1,5 @@
+pub mod Chosen
+pub mod Prices
+pub mod Relaxation
+pub mod SearchTree
+pub mod Weights

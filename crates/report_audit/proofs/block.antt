@@ -1,0 +1,6 @@
+pub mod LawLemmas
+pub mod NumberedLemmas
+pub mod OutcomeLemmas
+pub mod ShapeLemmas
+pub mod TellingLemmas
+pub mod BlockListsLemmas

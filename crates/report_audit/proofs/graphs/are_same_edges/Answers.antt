@@ -1,6 +1,0 @@
-use Rattle.std.proofs.Common.{rules}
-use Rattle.report_audit.proofs.Common.{slice_eq-Decides}
-use Rattle.report_audit.proofs.graphs.are_same_edges.Goals as goal
-
-pub returns : goal.returns
-returns c = slice_eq-Decides (λ a b. search rules) c.args.edges.now c.args.others.now c.eq.result c.eq.ensures

@@ -1,5 +1,0 @@
-use Rattle.report_audit.proofs.LawLemmas.{long_late_fails}
-use Rattle.report_audit.proofs.laws.long_orders_fail_by_the_late.Goals as goal
-
-pub returns : goal.returns
-returns c = long_late_fails

@@ -1,5 +1,0 @@
-use Rattle.report_audit.proofs.LawLemmas.{long_row_fails}
-use Rattle.report_audit.proofs.laws.long_rows_fail_by_the_graphs.Goals as goal
-
-pub returns : goal.returns
-returns c = long_row_fails

@@ -1,5 +1,0 @@
-use Rattle.report_audit.proofs.LawLemmas.{untold_fails}
-use Rattle.report_audit.proofs.laws.untold_lines_fail_by_the_bound.Goals as goal
-
-pub returns : goal.returns
-returns c = untold_fails

@@ -1,0 +1,10 @@
+use Rattle.std.proofs.Common.{sym, ◌∙◌, arith}
+use Rattle.report_audit.proofs.lemmas.lines.ReadingLemmas.{line_none, line_more, numbered_once}
+use Rattle.report_audit.proofs.lines.words.read_numbered.Goals as goal
+
+pub returns-in_err-n : goal.returns-in_err-n
+returns-in_err-n c = rw c.from_residual.ensures (line_none c.in_err-n.ensures)
+
+pub returns-else-is_empty : goal.returns-else-is_empty
+returns-else-is_empty c =
+    line_more (numbered_once c.args.words.now c.args.most (omega arith)) c.in_ok-n.ensures (sym c.is_empty.ensures ∙ c.if-is_empty.false)

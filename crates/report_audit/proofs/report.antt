@@ -1,0 +1,13 @@
+pub mod CauseLemmas
+pub mod ClosingLemmas
+pub mod EntryLemmas
+pub mod FaultLemmas
+pub mod JournalLemmas
+pub mod LaneLemmas
+pub mod NextLemmas
+pub mod OneEnd
+pub mod OneFault
+pub mod ReplyLemmas
+pub mod RoundLemmas
+pub mod TextLemmas
+pub mod WholeLemmas

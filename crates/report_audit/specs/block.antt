@@ -1,0 +1,4 @@
+pub mod Block
+pub mod Fits
+pub mod Judged
+pub mod BlockLists

@@ -1,0 +1,11 @@
+pub mod Reading
+pub mod Cut
+pub mod Line
+pub mod BlockLine
+pub mod Order
+pub mod BlockLines
+pub mod HeadLines
+pub mod Settings
+pub mod Head
+pub mod HeadFault
+pub mod Next

@@ -1,0 +1,5 @@
+pub mod Orders
+pub mod Trips
+pub mod Moves
+pub mod Refusals
+pub mod Nodes

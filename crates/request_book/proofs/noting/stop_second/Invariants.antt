@@ -1,6 +1,0 @@
-use Rattle.std.proofs.Common.{◌≡◌, drop}
-use Rattle.request_book.specs.Notices.{stop_second}
-use Rattle.request_book.proofs.noting.stop_second.Given as goal
-
-abbrev pub invariant-loop-stop : goal.invariant-loop-stop
-invariant-loop-stop l = stop_second l.pick l.rider (drop l.stop-index l.stops) ≡ stop_second l.pick l.rider l.stops

@@ -1,0 +1,4 @@
+pub mod Closing
+pub mod Named
+pub mod Refusals
+pub mod Table

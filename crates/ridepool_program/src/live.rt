@@ -1,0 +1,6 @@
+//! A script that is run while it is written: its session, the sink that gives up a wait, and what is told of refused rows.
+//! `main` calls it. It names the rooms `hints` and `notices`.
+
+pub(crate) mod giving_sink;
+pub(crate) mod refused_rows;
+pub(crate) mod session;

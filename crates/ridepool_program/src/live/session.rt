@@ -1,0 +1,142 @@
+use crate::hints::{LiveHints, are_wanted};
+use crate::input::Input;
+use crate::live::giving_sink::GivingSink;
+use crate::live::refused_rows::RefusedRows;
+use crate::named::{named_file, source_of};
+use crate::notices::opening_sink::{OpeningSink, SharedFile};
+use crate::notices::{notices_path, tell_lost};
+use crate::relay::{GivingUp, Relayed, start_relay};
+use crate::terminal_of;
+use crate::watched_gate::WatchedGate;
+use crate::watched_sink::WatchedSink;
+use pool_base::OutOfMemory;
+use pool_io::{StdSink, StdSource};
+use ridepool::{LineNotifier, LiveEnd, RunStatus, live, words_of_run};
+use rider_limits::{read_words, value_of};
+use std::io::Stderr;
+use std::sync::Wait;
+use std::thread::Threads;
+
+/// Runs rows as they come, from standard input or from the file that the words name. Faulty words touch no file.
+pub(crate) fn run_live(
+    rt: &HostRuntime,
+    threads: &(impl Threads + Wait + Copy + Send + Sync + 'static),
+    words: &[String],
+) -> RunStatus {
+    let passes = match words_of_run(rt.alloc(), words) {
+        Ok(whole) => read_words(&whole).is_ok(),
+        Err(OutOfMemory) => return RunStatus::OutOfMemory,
+    };
+    let named: &[String] = if passes { words } else { &[] };
+    let script = match value_of(named, "script") {
+        Some(path) => match named_file(rt, path) {
+            Ok(file) => file,
+            Err(OutOfMemory) => return RunStatus::OutOfMemory,
+        },
+        None => Input::Standard(rt.stdin()),
+    };
+    let Ok((script, giving)) = start_relay(rt.alloc(), *threads, script) else {
+        return RunStatus::OutOfMemory;
+    };
+    live_from(rt, threads, words, named, StdSource::over(script), giving)
+}
+
+/// Runs the rows of this source.
+fn live_from<R: Threads + Wait + Copy + Send + Sync + 'static>(
+    rt: &HostRuntime,
+    threads: &R,
+    words: &[String],
+    named: &[String],
+    script: StdSource<Relayed<R>>,
+    giving: GivingUp<R>,
+) -> RunStatus {
+    let path = notices_path(rt, named);
+    let Ok(theirs) = giving.share() else {
+        return RunStatus::OutOfMemory;
+    };
+    let Ok(opened) = Opened::by(rt, named) else {
+        return RunStatus::OutOfMemory;
+    };
+    let Opened {
+        file,
+        told,
+        notifiers,
+        listener,
+    } = opened;
+    let given = notifiers.len();
+    let sink = OpeningSink::over(rt, StdSink::over(rt.stdout()), path, file);
+    let sink = WatchedSink::over(rt.alloc(), sink, None::<Stderr>);
+    let ended = live(
+        threads,
+        rt.alloc(),
+        words,
+        &mut source_of(rt, named, "network"),
+        &mut source_of(rt, named, "fleet"),
+        script,
+        GivingSink::over(sink, Some(theirs)),
+        notifiers,
+        &WatchedGate::giving(rt.alloc(), terminal_of(rt), Some(giving)),
+        listener,
+    );
+    let LiveEnd {
+        script,
+        out,
+        notifiers,
+        status,
+    } = ended;
+    drop(script);
+    drop(out);
+    tell_lost(rt, notifiers.len() < given, &told);
+    status
+}
+
+/// What a call opens before it begins.
+#[derive(Drop)]
+struct Opened {
+    file: SharedFile,
+    /// The same file, to ask whether it could be opened.
+    told: SharedFile,
+    notifiers: Vec<LineNotifier<SharedFile>>,
+    listener: RefusedRows<Stderr>,
+}
+
+impl Opened {
+    /// What these words name.
+    fn by(rt: &HostRuntime, named: &[String]) -> Result<Opened, OutOfMemory> {
+        let file = SharedFile::new(rt.alloc())?;
+        let told = file.share()?;
+        let notifiers = notifiers_to(rt, named, &file)?;
+        let listener = RefusedRows {
+            alloc: rt.alloc(),
+            error: rt.stderr(),
+            hints: live_hints(rt, named)?,
+        };
+        Ok(Opened {
+            file,
+            told,
+            notifiers,
+            listener,
+        })
+    }
+}
+
+/// Hints on refused rows, where somebody wants them.
+fn live_hints(rt: &HostRuntime, named: &[String]) -> Result<Option<LiveHints>, OutOfMemory> {
+    if !are_wanted(rt) {
+        return Ok(None);
+    }
+    Ok(Some(LiveHints::of(rt, value_of(named, "script"))?))
+}
+
+/// The notifiers that the words ask for: one that writes to this file, or none.
+fn notifiers_to(
+    rt: &HostRuntime,
+    words: &[String],
+    file: &SharedFile,
+) -> Result<Vec<LineNotifier<SharedFile>>, OutOfMemory> {
+    let mut notifiers = Vec::new(rt.alloc());
+    if value_of(words, "notices").is_some() {
+        notifiers.push(LineNotifier::over(rt.alloc(), Some(file.share()?)))?;
+    }
+    Ok(notifiers)
+}

@@ -1,6 +1,0 @@
-use Rattle.std.proofs.Common.{rules}
-use Rattle.shared_work.proofs.KeepsTurns.{draws}
-use Rattle.shared_work.proofs.steps.draw.Goals as goal
-
-pub fetch_add-requires : goal.fetch_add-requires
-fetch_add-requires g c = (search rules, search rules, draws _ _ _ _ _ _ _ _ c.requires.rests.idle c.requires.rests.claims)

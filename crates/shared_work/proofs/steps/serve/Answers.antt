@@ -1,6 +1,0 @@
-use Rattle.std.proofs.Common.{rules}
-use Rattle.shared_work.proofs.KeepsTurns.{serves_as}
-use Rattle.shared_work.proofs.steps.serve.Goals as goal
-
-pub fetch_add-requires : goal.fetch_add-requires
-fetch_add-requires g c = (search rules, search rules, serves_as _ _ _ _ _ _ _ _ c.requires.serves)

@@ -1,8 +1,0 @@
--- The log of a counter.
-use Rattle.std.specs.Prelude.{ℕ}
-use Rattle.shared_work.specs.declared.counter.Addition.{Addition}
-use Rattle.shared_work.specs.declared.logged.LoggedCall.{LoggedCall}
-
--- what was added, by whom, and the count after it
-abbrev pub counted_entry : Addition → LoggedCall ℕ ℕ
-counted_entry a = record { lane = a.lane; call = a.amount; reply = a.count }

@@ -1,0 +1,4 @@
+pub mod ClockLemmas
+pub mod DoneLemmas
+pub mod VisitLemmas
+pub mod DeletionLemmas

@@ -1,5 +1,0 @@
-use Rattle.std.proofs.Common.{◌≡◌, ◌++◌, take}
-use Rattle.travel_times.proofs.arcs.push_hops.Given as goal
-
-abbrev pub invariant-loop-hop : goal.invariant-loop-hop
-invariant-loop-hop l = l.hops.items ≡ l.initial.hops.items ++ take l.hop-index l.leaving

@@ -1,5 +1,0 @@
-use Rattle.std.proofs.Common.{◌≡◌, [], replicate}
-use Rattle.travel_times.proofs.hops.no_hops.Given as goal
-
-abbrev pub invariant-loop : goal.invariant-loop
-invariant-loop l = l.hops.items ≡ replicate l.counter []

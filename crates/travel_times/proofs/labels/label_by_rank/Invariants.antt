@@ -1,9 +1,0 @@
-use Rattle.std.proofs.Common.{List, ℕ, length}
-use Rattle.travel_times.proofs.Common.{Arc, IsClean, AreMadeFrom, AreLabelled}
-use Rattle.travel_times.proofs.labels.label_by_rank.Given as goal
-
-abbrev pub invariant-loop-node : goal.invariant-loop-node
-invariant-loop-node g l = record {
-  clean : IsClean (length l.ahead) l.space.seconds.items l.space.waiting.items l.space.taken.items l.space.via.items;
-  labelled : (arcs : List Arc) (rank : List ℕ) → AreMadeFrom arcs rank l.order l.ahead l.back → AreLabelled arcs rank (length l.ahead) l.node-index l.forward l.backward;
-}

@@ -1,5 +1,0 @@
-use Rattle.travel_times.proofs.Common.{HasSpread}
-use Rattle.travel_times.proofs.via.spread.Given as goal
-
-abbrev pub invariant-loop-hub : goal.invariant-loop-hub
-invariant-loop-hub l = HasSpread l.label l.hub-index l.via

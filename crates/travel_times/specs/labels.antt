@@ -1,0 +1,4 @@
+pub mod Rank
+pub mod Label
+pub mod Labels
+pub mod Fault

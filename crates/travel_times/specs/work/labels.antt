@@ -1,0 +1,10 @@
+pub mod Ranked
+pub mod Hops
+pub mod Pruned
+pub mod Drafts
+pub mod Common
+pub mod Order
+pub mod Adding
+pub mod Building
+pub mod Difference
+pub mod Cells

@@ -1,0 +1,2 @@
+pub mod TripOrder
+pub mod TripSearch

@@ -1,4 +1,0 @@
-use Rattle.trip_graph.proofs.pieces.empty_piece.Given as goal
-
-abbrev pub ghosts-count_empty : goal.ghosts-count_empty
-ghosts-count_empty a = record { name = a.blank.name; parts = a.blank.parts }

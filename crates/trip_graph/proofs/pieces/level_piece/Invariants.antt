@@ -1,4 +1,0 @@
-use Rattle.trip_graph.proofs.pieces.level_piece.Given as goal
-
-abbrev pub ghosts-count_level : goal.ghosts-count_level
-ghosts-count_level a = record { name = a.blank.name; parts = a.blank.parts }

@@ -1,4 +1,0 @@
-use Rattle.trip_graph.proofs.rider_vehicle_graph.rider_vehicle.Given as goal
-
-abbrev pub ghosts-all_edges : goal.ghosts-all_edges
-ghosts-all_edges a = record { name = a.blank.name; parts = a.blank.parts }

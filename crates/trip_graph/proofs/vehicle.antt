@@ -1,0 +1,6 @@
+pub mod GrownLevels
+pub mod RowGrowth
+pub mod Rule
+pub mod Joined
+pub mod StepBound
+pub mod AllRows

@@ -1,0 +1,2 @@
+pub mod RvGraph
+pub mod RrGraph

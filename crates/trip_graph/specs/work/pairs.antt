@@ -1,0 +1,3 @@
+pub mod Listing
+pub mod RvGraph
+pub mod RrGraph

@@ -1,0 +1,1 @@
+"""Days that the program drives."""

@@ -1,0 +1,348 @@
+"""A dispatcher's desk: a page with a map and calls over HTTP, around a running `ridepool live`."""
+
+import asyncio
+import importlib.metadata
+import os
+import pathlib
+import signal
+import socket
+import sys
+import tempfile
+import time
+
+from ridepool import program
+from ridepool.inputs.tables import MOST_NUMBER, read_network, read_nodes, read_table, whole, FLEET
+from ridepool.words import DESK_INSTALL, Fault, need, number, run_tool, split_words
+
+USAGE = """use: %(prog)s demo [words]
+     %(prog)s network=network.csv nodes=nodes.csv fleet=fleet.csv [day=FOLDER] [words]
+     %(prog)s day=FOLDER [words]                     goes on with a day
+words: port=8000 host=127.0.0.1 name=HOSTNAME[,..] token=FILE tiles=https://PLACE/{z}/{x}/{y}.png
+       every=30 silent=10 speed=1 far=500 drivers=1 riders=1 seed=1 program=FILE
+       and the settings of live: wait delay trip penalty budget pairs workers proof dwell times"""
+SHORT = "%(prog)s --help lists the words"
+SETTINGS = ("wait", "delay", "trip", "penalty", "budget", "pairs", "workers", "proof", "dwell", "times")
+INPUTS = ("network", "nodes", "fleet")
+WORDS = SETTINGS + INPUTS + ("day", "port", "host", "name", "token", "tiles", "every", "silent", "speed", "far",
+                             "drivers", "riders", "seed", "program")
+FREE = ("workers", "every")  # what may change from opening to opening, since no reply depends on it
+FIXED = (*(it for it in SETTINGS if it not in FREE), "speed")
+STATUS_ENDED = 3
+FAREWELL = 1.0  # real seconds in which callers still hear why the desk ends
+MOST_LEAD = 900  # seconds that a position or a stop may lie ahead
+LOOPBACK = ("127.0.0.1", "localhost", "::1")
+DEMO = {"every": "30", "speed": "10", "drivers": "1", "riders": "1", "wait": "420", "delay": "600"}
+
+
+def with_demo(plain, values):
+    """The words of the demo, where it is asked for."""
+    if not plain:
+        return values
+    if plain != ["demo"] or any(it in values for it in INPUTS):
+        raise Fault(SHORT)
+    files = {name: str(program.town() / f"{name}.csv") for name in INPUTS}
+    day = values.get("day") or tempfile.mkdtemp(prefix="ridepool-demo-")
+    return {**DEMO, **values, **files, "day": day}
+
+
+def description_of(values):
+    """What makes a day what it is, as its folder keeps it."""
+    return {
+        "settings": [f"{key}={values[key]}" for key in SETTINGS if key in values],
+        "speed": number(values, "speed", 1, 100, 1),
+        "every": number(values, "every", 0, 100_000, 30),
+        "began": time.time(),
+    }
+
+
+def day_of(values):
+    """The folder of the day, begun where it isn't there."""
+    from ridepool.desk.folder import Folder
+
+    given = [it for it in INPUTS if it in values]
+    if "day" not in values and len(given) < len(INPUTS):
+        raise Fault(SHORT)
+    folder = Folder(values.get("day") or time.strftime("day-%Y-%m-%d-%H%M%S"))
+    if folder.description is None:
+        if len(given) < len(INPUTS):
+            raise Fault(f"{folder.path}: no day began there; give network=, nodes= and fleet=")
+        folder.begin(values, description_of(values))
+        print(f"desk: a day begins; {', '.join(FREE)} may be others when it is opened again. All other settings are "
+              "those of the whole day, since its report has one line of settings", file=sys.stderr)
+        return folder
+    hold_inputs(folder, given, values)
+    hold_settings(folder, values)
+    return folder
+
+
+def hold_settings(folder, values):
+    """A day goes on with its own settings but for those on which no reply depends: they are taken as given."""
+    before = folder.description
+    now = {**description_of({**described(folder), **values}), "began": before["began"]}
+    if fixed(now) != fixed(before):
+        raise Fault(f"{folder.path}: the day there has other settings: {' '.join(words_of(before))}. "
+                    f"Of them {' and '.join(FREE)} can be changed")
+    if now != before:
+        folder.describe(now)
+
+
+def fixed(description):
+    """The words of a description that can't change."""
+    return sorted(word for word in words_of(description) if word.split("=")[0] in FIXED)
+
+
+def words_of(description):
+    """The words that a description was made of."""
+    return [*description["settings"], f"every={description['every']}", f"speed={description['speed']}"]
+
+
+def described(folder):
+    """The same by key."""
+    return dict(word.split("=", 1) for word in words_of(folder.description))
+
+
+def hold_inputs(folder, given, values):
+    """A day goes on with its own inputs: those that are given again must be the same."""
+    for name in given:
+        if pathlib.Path(values[name]).read_bytes() != folder.input(name).read_bytes():
+            raise Fault(f"{values[name]}: the day in {folder.path} has another {name}")
+
+
+def fleet_of(path):
+    """The vehicles of a fleet, each where it begins."""
+    from ridepool.sessions.state import Vehicle
+
+    return [Vehicle(*(whole(path, count, text) for text in row)) for count, row in read_table(path, FLEET)]
+
+
+def map_of(folder, far):
+    """The places of the nodes, and the streets."""
+    from ridepool.inputs.roads import Places
+
+    places = Places(read_nodes(folder.input("nodes")), far)
+    streets = read_network(folder.input("network"))
+    missing = {node for start, end, _ in streets for node in (start, end)} - set(places.at)
+    if missing:
+        raise Fault(f"nodes: node {min(missing)} of the network isn't there")
+    used = {node for start, end, _ in streets for node in (start, end)}
+    places.keep(used)
+    return places, streets
+
+
+def last_second(kept, now):
+    """The second that the day's clock had reached, by its transcript. What vehicles did may lie a little ahead of the
+    clock; where it is further ahead than anyone may enter it, the clock was there, too."""
+    from ridepool.sessions.rows import entries_of
+
+    entries = [it for it in entries_of(kept) if not it.reply.startswith("refused ")]
+    sealed = max((it.fields[0] for it in entries if it.command == "seal"), default=0)
+    entered = max((it.fields[-1] for it in entries if it.command in ("report", "pickup", "dropoff")), default=0)
+    return max(sealed, entered) if entered > max(sealed, now) + MOST_LEAD else sealed
+
+
+def clock_of(folder, kept):
+    """The day's clock, which never goes back behind the transcript. One that runs at another speed than the world's
+    goes on where the transcript ends."""
+    from ridepool.desk.dispatcher import Clock
+
+    began, speed = folder.description["began"], folder.description["speed"]
+    if speed != 1 and kept:
+        return Clock(time.time() - last_second(kept, 0) / speed, speed)
+    least = last_second(kept, time.time() - began)
+    clock = Clock(began, speed, least)
+    if clock.behind >= 1:
+        print(f"desk: this machine's clock is {clock.behind:.0f} s behind the day's last second; "
+              f"the day goes on from second {least}", file=sys.stderr)
+    return clock
+
+
+def token_of(values):
+    """The bearer token that writing calls need; required where others than this machine can call."""
+    if "token" not in values:
+        if values.get("host", LOOPBACK[0]) not in LOOPBACK:
+            raise Fault("host= needs token=FILE: whoever reaches the desk could send commands")
+        return None
+    token = pathlib.Path(values["token"]).read_text(encoding="utf-8").strip()
+    if len(token) < 16 or not token.isascii() or len(token.split()) != 1:
+        raise Fault(f"{values['token']}: a token is one word of at least 16 letters and digits")
+    return token
+
+
+def hosts_of(host, port, names):
+    """The names under which the desk may be called, with the port."""
+    hosts = {*LOOPBACK, host, *names}
+    if host in ("0.0.0.0", "::"):
+        hosts |= {socket.gethostname(), socket.getfqdn()}
+    named = {f"[{it}]" if ":" in it else it for it in hosts}
+    return {f"{it}:{port}" for it in named} | (named if port in (80, 443) else set()) | set(names)
+
+
+def bound(host, port):
+    """A socket of the desk's address."""
+    listener = socket.socket(socket.AF_INET6 if ":" in host else socket.AF_INET, socket.SOCK_STREAM)
+    listener.setsockopt(socket.SOL_SOCKET, socket.SO_REUSEADDR, 1)
+    try:
+        listener.bind((host, port))
+    except OSError as fault:
+        raise Fault(f"{host} port {port}: {fault.strerror}") from None
+    return listener
+
+
+def tiles_of(values):
+    """The address of map tiles and the place that the page may load them from."""
+    tiles = values.get("tiles")
+    if tiles is None:
+        return None, None
+    scheme, _, rest = tiles.partition("://")
+    place = rest.split("/")[0]
+    if scheme not in ("http", "https") or not place or any(it in place for it in " ;,{}'\"") or "{z}" not in rest:
+        raise Fault(f"tiles={tiles} is not an address such as https://tiles.example.org/{{z}}/{{x}}/{{y}}.png")
+    return tiles, f"{scheme}://{place}"
+
+
+def asked(found, path):
+    """Whether the operator goes on with other replies than before."""
+    print(f"{path}: the replies of the day so far differ at {found}", file=sys.stderr)
+    print("Go on with the new replies? The old transcript is kept beside the new one. (yes/no) ",
+          end="", file=sys.stderr, flush=True)
+    return sys.stdin.readline().strip().lower() in ("y", "yes")
+
+
+async def replayed(dispatcher, folder, kept):
+    """Gives the day so far to `live`."""
+    from ridepool.desk.dispatcher import Unavailable
+
+    if kept:
+        print(f"desk: giving {len(kept)} lines of {folder.path} to ridepool live", file=sys.stderr)
+    try:
+        found = await dispatcher.begin()
+    except Unavailable as fault:
+        raise Fault(str(fault)) from None
+    if found is not None and not await asyncio.to_thread(asked, found, folder.path / "transcript"):
+        await dispatcher.live.kill()
+        raise Fault("the day was left as it is")
+    dispatcher.go_on(replaced=found is not None)
+
+
+async def opened(values, folder):
+    """The dispatcher, with the day so far."""
+    from ridepool.desk.dispatcher import Dispatcher
+    from ridepool.desk.trouble import Watch
+
+    kept = folder.kept_lines()
+    words = [f"network={folder.input('network')}", f"fleet={folder.input('fleet')}", *folder.description["settings"]]
+    watch = Watch(folder.description["every"], 60 * number(values, "silent", 0, 1440, 10))
+    dispatcher = Dispatcher(values.get("program") or program.path(), words, folder,
+                            lambda: fleet_of(folder.input("fleet")), clock_of(folder, kept), watch)
+    await replayed(dispatcher, folder, kept)
+    return dispatcher
+
+
+async def serve(values):
+    """Opens the desk, until it is told to end. Gives the status with which it ends."""
+    host, port = values.get("host", LOOPBACK[0]), number(values, "port", 0, 65_535, 8000)
+    token, (tiles, tiles_place) = token_of(values), tiles_of(values)
+    listener = bound(host, port)
+    port, folder = listener.getsockname()[1], day_of(values)
+    try:
+        places, streets = map_of(folder, number(values, "far", 1, 100_000, 500))
+        dispatcher = await opened(values, folder)
+    except (Fault, OSError):
+        folder.forget_unbegun()
+        raise
+    hosts = hosts_of(host, port, [it for it in values.get("name", "").split(",") if it])
+    page = {"needs_token": token is not None, "tiles": tiles, "drivers": number(values, "drivers", 0, 1, 0) == 1}
+    from ridepool.desk.guard import Guard
+    from ridepool.desk.web import Desk, make_app
+
+    app = Guard(make_app(Desk(dispatcher, places, streets, page)), hosts, token, tiles_place)
+    return await run_desk(dispatcher, app, listener, clients_of(values, folder, dispatcher, places, streets))
+
+
+def clients_of(values, folder, dispatcher, places, streets):
+    """What goes on by itself: seals, and the demo's drivers and riders."""
+    from ridepool.desk import demo
+    from ridepool.inputs.roads import Roads
+
+    clients = [dispatcher.keep_watch()]
+    if folder.description["every"]:
+        clients.append(dispatcher.keep_sealing(folder.description["every"]))
+    if number(values, "drivers", 0, 1, 0):
+        dwell = int(described(folder).get("dwell", 0))
+        riders, seed = number(values, "riders", 0, 1, 0), number(values, "seed", 0, MOST_NUMBER, 1)
+        clients.append(demo.run(dispatcher, Roads(streets), places.at, dwell, seed, riders == 1))
+    return clients
+
+
+async def run_desk(dispatcher, app, listener, clients):
+    """Serves the page and the calls. Gives the status with which the desk ends."""
+    import uvicorn
+
+    config = uvicorn.Config(app, log_level="error", access_log=False, lifespan="off", timeout_keep_alive=30,
+                            limit_concurrency=1000)
+    server = uvicorn.Server(config)
+    tasks = [dispatcher.spawn(it) for it in clients]
+    try:
+        await ended(server, listener, dispatcher)
+    finally:
+        for task in tasks:
+            task.cancel()
+        await asyncio.gather(*tasks, return_exceptions=True)
+        await dispatcher.end()
+    return status_of(dispatcher)
+
+
+def status_of(dispatcher):
+    """0 where the desk was told to end; else what ended it is said."""
+    from ridepool.desk.dispatcher import Ended
+
+    fault = dispatcher.failed.result() if dispatcher.failed.done() else None
+    if isinstance(fault, Ended):
+        print(f"desk: the desk ends: {fault}", file=sys.stderr)
+        return STATUS_ENDED
+    if fault is not None:
+        raise fault
+    return 0
+
+
+async def ended(server, listener, dispatcher):
+    """Serves until a signal comes or something ends the desk. Listeners are let go first, since they would never end."""
+    serving = asyncio.ensure_future(server.serve(sockets=[listener]))
+    while not server.started and not serving.done():
+        await asyncio.sleep(0.01)
+    host, port = listener.getsockname()[:2]
+    print(f"desk: http://{host}:{port} keeps its day in {dispatcher.folder.path}", file=sys.stderr, flush=True)
+
+    def stop():
+        if server.should_exit:  # a second signal doesn't wait for a batch that is being solved
+            asyncio.ensure_future(dispatcher.live.kill())
+        dispatcher.release_listeners()
+        server.force_exit = server.should_exit
+        server.should_exit = True
+
+    def fail(_):
+        dispatcher.fail_waiting()
+        asyncio.get_running_loop().call_later(FAREWELL, stop)
+
+    dispatcher.failed.add_done_callback(fail)
+    for which in (signal.SIGINT, signal.SIGTERM):
+        asyncio.get_running_loop().add_signal_handler(which, stop)
+    await serving
+
+
+def open_desk(arguments):
+    """The tool."""
+    plain, values = split_words(arguments, WORDS, SHORT)
+    values = with_demo(plain, values)
+    need("fastapi", "uvicorn", install=DESK_INSTALL)
+    version = importlib.metadata.version("pydantic")
+    if not version.startswith("1."):
+        raise Fault(f"the desk needs pydantic 1, as Debian 12 has it; here is {version}")
+    if not os.path.exists("/usr/share/javascript/leaflet/leaflet.js"):
+        raise Fault(f"there is no Leaflet for the map: {DESK_INSTALL}")
+    sys.exit(asyncio.run(serve(values)))
+
+
+def main():
+    """The command."""
+    run_tool(open_desk, USAGE)

@@ -1,0 +1,139 @@
+"""The folder of a day: the inputs, the words, the accepted rows and the transcript. It outlives the desk at any moment."""
+
+import contextlib
+import fcntl
+import json
+import os
+import pathlib
+import shutil
+
+from ridepool.sessions.rows import HEADER, rows_of
+from ridepool.words import Fault
+
+INPUTS = ("network", "fleet", "nodes")
+DESCRIPTION, ROWS, TRANSCRIPT = "day.json", "rows.csv", "transcript"
+KINDS = {"settings": list, "speed": int, "every": int, "began": (int, float)}
+
+
+def write_whole(path, text):
+    """Writes a file that is there whole or not at all, whenever the machine stops."""
+    part = path.with_name(path.name + ".part")
+    with open(part, "w", encoding="utf-8") as file:
+        file.write(text)
+        file.flush()
+        os.fsync(file.fileno())
+    os.replace(part, path)
+    sync_folder(path.parent)
+
+
+def sync_folder(path):
+    """Makes the names in a folder last."""
+    handle = os.open(path, os.O_RDONLY)
+    try:
+        os.fsync(handle)
+    finally:
+        os.close(handle)
+
+
+class Folder:
+    """A day's folder, held by one desk at a time. `description` has the words and the second's beginning."""
+
+    def __init__(self, path):
+        self.path = pathlib.Path(path)
+        self.path.mkdir(parents=True, exist_ok=True)
+        self.lock = open(self.path / "lock", "w", encoding="ascii")
+        try:
+            fcntl.flock(self.lock, fcntl.LOCK_EX | fcntl.LOCK_NB)
+        except BlockingIOError:
+            raise Fault(f"{path}: another desk keeps this day") from None
+        self.rows = self.transcript = None
+        self.begun = []  # the files that began the day, where it begins now
+        self.description = self.described()
+
+    def described(self):
+        """What the folder says of its day, or None where the day begins now."""
+        path = self.path / DESCRIPTION
+        if not path.exists():
+            if (self.path / TRANSCRIPT).exists():
+                raise Fault(f"{path}: the file is missing, so the day can't go on")
+            return None
+        try:
+            found = json.loads(path.read_text(encoding="utf-8"))
+            if all(isinstance(found[key], kind) for key, kind in KINDS.items()):
+                return found
+        except (ValueError, TypeError, KeyError):
+            pass
+        raise Fault(f"{path}: not the description of a day")
+
+    def begin(self, inputs, description):
+        """Begins a day: copies of its inputs, then its description. A file that is there already isn't overwritten."""
+        copies = {self.input(name): inputs[name] for name in INPUTS}
+        for path in (*copies, self.path / ROWS):
+            if path.exists():
+                raise Fault(f"{path}: the file is there already; a day begins in a folder of its own")
+        self.begun = [*copies, self.path / DESCRIPTION]
+        try:
+            for path, given in copies.items():
+                shutil.copyfile(given, path)
+            self.describe(description)
+        except OSError:
+            self.forget_unbegun()
+            raise
+
+    def describe(self, description):
+        """Keeps what the day is."""
+        write_whole(self.path / DESCRIPTION, json.dumps(description, indent=1) + "\n")
+        self.description = description
+
+    def forget_unbegun(self):
+        """Takes away what began the day, where no transcript stands: it may begin with other words."""
+        if not (self.path / TRANSCRIPT).exists():
+            for path in self.begun:
+                path.unlink(missing_ok=True)
+
+    def input(self, name):
+        """The day's own copy of an input."""
+        return self.path / f"{name}.csv"
+
+    def kept_lines(self):
+        """The whole lines of the transcript so far, but for last ones that answer no row: `done N`, where the day
+        ended, and the line of a round of which no entry was written yet."""
+        path = self.path / TRANSCRIPT
+        if not path.exists():
+            return []
+        lines = path.read_text(encoding="ascii", errors="replace").split("\n")[:-1]
+        while lines and lines[-1].startswith(("done ", "round ")):
+            lines.pop()
+        return lines
+
+    def keep(self, lines, replaced=False):
+        """Begins the files anew with the lines of a transcript. A replaced transcript stays beside them."""
+        self.close()
+        path = self.path / TRANSCRIPT
+        if replaced:
+            count = len(list(self.path.glob(f"{TRANSCRIPT}.*"))) + 1
+            shutil.copyfile(path, self.path / f"{TRANSCRIPT}.{count}")
+        write_whole(path, "".join(line + "\n" for line in lines))
+        write_whole(self.path / ROWS, HEADER + "\n" + rows_of(lines))
+        self.rows = open(self.path / ROWS, "a", encoding="ascii")
+        self.transcript = open(path, "a", encoding="ascii")
+
+    def append(self, rows, lines):
+        """Hands rows and lines to the system; `sync` makes them last."""
+        self.rows.write(rows)
+        self.rows.flush()
+        self.transcript.write(lines)
+        self.transcript.flush()
+
+    def sync(self):
+        """Waits until all that was appended is on disk."""
+        os.fdatasync(self.rows.fileno())
+        os.fdatasync(self.transcript.fileno())
+
+    def close(self):
+        """Closes the files of rows and transcript. What could not be written was told when it was appended."""
+        for file in (self.rows, self.transcript):
+            if file is not None:
+                with contextlib.suppress(OSError):
+                    file.close()
+        self.rows = self.transcript = None

@@ -1,0 +1,83 @@
+// What the page says of rides and vehicles: states, times and the rows of lists.
+
+const MARKS = { waiting: "◆", promised: "◆", aboard: "●", delivered: "✓", cancelled: "–", expired: "✕" };
+
+// Whether a rider still waits for the vehicle.
+export function isAhead(ride) {
+  return ride.state === "waiting" || ride.state === "promised";
+}
+
+// Whether a ride isn't over.
+export function isOpen(ride) {
+  return isAhead(ride) || ride.state === "aboard";
+}
+
+// The step of a wait's colour: under 1, 3, 5 minutes, and above.
+export function waitStep(seconds) {
+  return seconds < 60 ? 0 : seconds < 180 ? 1 : seconds < 300 ? 2 : 3;
+}
+
+// How long something takes, as minutes:seconds or hours:minutes:seconds.
+export function span(seconds) {
+  return seconds < 3600 ? moment(seconds).slice(2).replace(/^0(?=.:)/, "") : moment(seconds);
+}
+
+// A second of the book as hours:minutes:seconds.
+export function moment(second) {
+  const whole = Math.max(0, Math.floor(second)), two = it => String(it % 60).padStart(2, "0");
+  return `${Math.floor(whole / 3600)}:${two(Math.floor(whole / 60))}:${two(whole)}`;
+}
+
+export function persons(count) {
+  return count === 1 ? "1 person" : `${count} persons`;
+}
+
+// How long from now something is due, or by how much it is late.
+export function due(second, now) {
+  return second < now ? `${span(now - second)} late` : `in ${span(second - now)}`;
+}
+
+// The seconds by which a vehicle's next stop is overdue; 0 where it isn't.
+export function lateness(vehicle, now) {
+  const next = vehicle.stops[0];
+  return next && next.second !== null ? Math.max(0, now - next.second) : 0;
+}
+
+// The row of a trouble in its list, at a second of the book.
+export function troubleWords(it, now) {
+  const past = span(Math.max(0, now - it.second));
+  const when = { "late-vehicle": `${past} late`, "broken-promise": `${past} late`, "expires-soon": due(it.second, now) }[it.kind]
+    || (it.kind === "hangs" || it.kind === "slow-plan" ? `for ${past}` : `${past} ago`);
+  return { over: false, mark: "!", markClass: "bad", number: "", what: it.text, when };
+}
+
+// What a trouble is about, as the same thing whenever it is told again.
+export function troubleKey(it) {
+  return [it.kind, it.ride, it.vehicle, it.batch].join(" ");
+}
+
+// The row of a ride in its list, at a second of the book.
+export function rideWords(ride, now) {
+  const waits = isAhead(ride), place = `${ride.from} → ${ride.to}`;
+  const state = waits && ride.left_out ? "left out" : ride.state;
+  const when = ride.state === "promised" ? due(ride.pickup_second, now)
+    : ride.state === "waiting" ? `waits ${span(now - ride.time)}`
+    : ride.state === "aboard" && ride.drop_off_second !== null ? `out ${due(ride.drop_off_second, now)}` : "";
+  const who = ride.vehicle === null || !isOpen(ride) ? "" : (waits ? " to " : " ") + ride.vehicle;
+  return {
+    over: !isOpen(ride), mark: waits && ride.left_out ? "✕" : MARKS[ride.state], number: String(ride.ride),
+    markClass: waits ? "w" + waitStep(now - ride.time) : ride.state, what: `${state}${who}, ${place}`, when,
+  };
+}
+
+// The row of a vehicle in its list, at a second of the book.
+export function vehicleWords(vehicle, now) {
+  const next = vehicle.stops[0];
+  const what = next ? `${next.kind === "pick" ? "picks up" : "drops off"} ${next.ride} at ${next.node}`
+    : vehicle.move !== null ? `drives toward ${vehicle.move}` : `stands at ${vehicle.node}`;
+  return {
+    over: !next, mark: vehicle.persons ? "●" : "○", markClass: "car-mark", number: String(vehicle.vehicle),
+    what: `${vehicle.persons} of ${vehicle.max_capacity}, ${what}`,
+    when: !next || next.second === null ? "" : due(next.second, now),
+  };
+}

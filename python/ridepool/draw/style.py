@@ -1,0 +1,61 @@
+"""Colours, sizes and the writing of a picture.
+
+The colours are those of Paul Tol's scheme "muted" for trips and of Okabe and Ito for all else; both were
+chosen so that the colour-blind tell them apart. Whatever differs by colour differs by shape or place, too.
+"""
+
+import matplotlib
+from matplotlib.backends.backend_agg import FigureCanvasAgg
+from matplotlib.figure import Figure
+from matplotlib.ticker import FuncFormatter, MaxNLocator
+
+from ridepool.words import Fault
+
+BLACK, DARK, GREY, OTHERS, PALE = "#000000", "#444444", "#777777", "#a8a8a8", "#dddddd"
+BLUE, ORANGE, SEAL = "#0072b2", "#d55e00", "#a0a0a0"
+DARK_SKY, SKY, MIST = "#56b4e9", "#8ecbf0", "#cfe8f8"
+TRIPS = ("#332288", "#cc6677", "#117733", "#88ccee", "#882255", "#ddcc77", "#44aa99", "#aa4499", "#999933")
+ENDINGS = (".svg", ".png", ".pdf")
+COARSE, FINE = 110, 200
+
+matplotlib.rcParams.update({
+    "svg.fonttype": "none",
+    "svg.hashsalt": "ridepool",
+    "font.family": "sans-serif",
+    "font.sans-serif": ["DejaVu Sans", "Verdana", "Arial", "Helvetica"],
+    "font.size": 9,
+    "axes.titlesize": 10,
+    "axes.spines.top": False,
+    "axes.spines.right": False,
+    "hatch.linewidth": 0.5,
+})
+
+
+def check_ending(path):
+    """Refuses a picture's name whose ending says nothing."""
+    if not path.lower().endswith(ENDINGS):
+        raise Fault(f"{path}: a picture's name ends in {' or '.join(ENDINGS)}")
+
+
+def figure(width, height, fine=False, layout="constrained"):
+    """An empty picture of so many inches; a fine one has more dots for what is small."""
+    picture = Figure(figsize=(width, height), layout=layout, dpi=FINE if fine else COARSE)
+    FigureCanvasAgg(picture)
+    return picture
+
+
+def write(picture, path):
+    """Writes a picture. The same report always gives the same SVG and PNG."""
+    undated = {"Date": None} if path.lower().endswith(".svg") else None
+    picture.savefig(path, dpi="figure", metadata=undated)
+
+
+def whole_ticks(axis, most=10, steps=(1, 2, 5, 10)):
+    """So many ticks at most, at whole numbers, with a comma before each three digits."""
+    axis.set_major_locator(MaxNLocator(most, integer=True, steps=steps, min_n_ticks=1))
+    axis.set_major_formatter(FuncFormatter(lambda value, _: f"{value:,.0f}"))
+
+
+def counted(count, word, words=None):
+    """`1 rider`, `2 riders`, `1,000 riders`."""
+    return f"{count:,} {word if count == 1 else words or word + 's'}"

@@ -1,0 +1,275 @@
+"""Makes fleet.csv and script.csv of past trips, one row of a CSV file each.
+
+A trip becomes a request between the nodes nearest to its ends. Second 0 of the script is the beginning of
+the span. Every so many seconds the batch is sealed, in a round of its own. Vehicles stand at drawn nodes.
+"""
+
+import csv
+import math
+import os
+import random
+from collections import Counter
+from dataclasses import dataclass
+from datetime import datetime, timezone
+
+from ridepool.inputs import tables
+from ridepool.words import Fault, need, number, run_tool, split_words
+
+USAGE = ("use: %(prog)s TRIPS.csv nodes.csv OUT/ [time= from_lon= from_lat= to_lon= to_lat= persons=] "
+         "[vehicles= seats= seed= every= from= to= far=]")
+COLUMNS = {
+    "time": "tpep_pickup_datetime",
+    "from_lon": "pickup_longitude",
+    "from_lat": "pickup_latitude",
+    "to_lon": "dropoff_longitude",
+    "to_lat": "dropoff_latitude",
+    "persons": "passenger_count",
+}
+WORDS = (*COLUMNS, "vehicles", "seats", "seed", "every", "from", "to", "far")
+EARTH = 6_371_000.0
+
+NO_TIME = "without a time"
+OUTSIDE = "outside the span"
+NO_PLACE = "without coordinates"
+NO_PERSONS = "without a number of persons"
+MANY_PERSONS = f"of more than {tables.MOST_PARTY} persons"
+FAR = "too far from a street"
+NO_LENGTH = "that begin and end at one node"
+
+
+@dataclass(frozen=True)
+class PastTrip:
+    """A row of the trips' file: seconds as the file counts them, ends as (lon, lat) or (x, y)."""
+
+    second: int
+    start: tuple
+    end: tuple
+    persons: int
+
+
+@dataclass(frozen=True)
+class Request:
+    """A trip as the script has it."""
+
+    second: int
+    origin: int
+    destination: int
+    persons: int
+
+
+@dataclass(frozen=True)
+class Plane:
+    """Where the nodes lie, in metres, and how a trip's coordinates become metres."""
+
+    nodes: list
+    degrees: bool
+    shrink: float
+
+    @staticmethod
+    def of(nodes):
+        """The plane of these nodes: over longitude and latitude where all have them, else x and y."""
+        degrees = all(node.lon is not None and node.lat is not None for node in nodes)
+        latitude = sum(node.lat for node in nodes) / len(nodes) if degrees else 0.0
+        return Plane(nodes, degrees, math.cos(math.radians(latitude)))
+
+    def metres(self, point):
+        """A point's metres east and north."""
+        if not self.degrees:
+            return point
+        east, north = (math.radians(angle) * EARTH for angle in point)
+        return east * self.shrink, north
+
+    def places(self):
+        """The nodes' metres, in order."""
+        return [self.metres((n.lon, n.lat) if self.degrees else (n.x, n.y)) for n in self.nodes]
+
+
+def moment(text):
+    """A date with a time of day, or a number, as whole seconds; None where it is neither."""
+    value = tables.finite(text)
+    if value is not None:
+        return math.floor(value)
+    try:
+        date = datetime.fromisoformat(text.strip())
+    except (AttributeError, ValueError):
+        return None
+    return math.floor((date if date.tzinfo else date.replace(tzinfo=timezone.utc)).timestamp())
+
+
+def point(row, columns, degrees):
+    """A trip's end, or None where the row has none. Records write 0, 0 for an unknown place."""
+    place = tuple(tables.finite(row[column]) for column in columns)
+    if None in place or degrees and (place == (0.0, 0.0) or abs(place[0]) > 180 or abs(place[1]) > 90):
+        return None
+    return place
+
+
+def persons_of(row, column):
+    """How many persons a trip has, 1 where no column says so; None where the column says nothing."""
+    if not column:
+        return 1
+    value = tables.finite(row[column])
+    return int(value) if value is not None and value >= 1 else None
+
+
+def judge(row, columns, degrees, span):
+    """The trip of a row, or the reason why it can't be used."""
+    second = moment(row[columns["time"]])
+    if second is None:
+        return NO_TIME
+    if second < span[0] or second >= span[1]:
+        return OUTSIDE
+    start = point(row, (columns["from_lon"], columns["from_lat"]), degrees)
+    end = point(row, (columns["to_lon"], columns["to_lat"]), degrees)
+    if start is None or end is None:
+        return NO_PLACE
+    persons = persons_of(row, columns["persons"])
+    if persons is None:
+        return NO_PERSONS
+    return PastTrip(second, start, end, persons) if persons <= tables.MOST_PARTY else MANY_PERSONS
+
+
+def check_columns(path, there, columns):
+    """Refuses a file in which a column is missing."""
+    for key, column in columns.items():
+        if column and column not in there:
+            raise Fault(f"{path}: no column {column} ({key}=NAME says another); there are: {', '.join(there)}")
+
+
+def read_trips(path, columns, degrees, span):
+    """The trips that can be used so far, the count of rows, and the others counted by reason."""
+    trips, left_out, count = [], Counter(), 0
+    try:
+        with open(path, newline="", encoding="utf-8-sig") as file:
+            table = csv.DictReader(file)
+            table.fieldnames = [name.strip() for name in table.fieldnames or ()]
+            check_columns(path, table.fieldnames, columns)
+            for count, row in enumerate(table, 1):
+                trip = judge(row, columns, degrees, span)
+                if isinstance(trip, PastTrip):
+                    trips.append(trip)
+                else:
+                    left_out[trip] += 1
+    except (UnicodeDecodeError, csv.Error) as fault:
+        raise Fault(f"{path}: not a CSV file: {fault}") from None
+    return trips, count, left_out
+
+
+def nearest(plane, trips, far, left_out):
+    """The trips as requests between nodes, by rising second. Distances are taken by a k-d tree."""
+    from scipy.spatial import cKDTree
+
+    if not trips:
+        return []
+    tree = cKDTree(plane.places())
+    from_far, origins = tree.query([plane.metres(trip.start) for trip in trips])
+    to_far, destinations = tree.query([plane.metres(trip.end) for trip in trips])
+    requests = []
+    for trip, origin, destination, *distances in zip(trips, origins, destinations, from_far, to_far):
+        if max(distances) > far:
+            left_out[FAR] += 1
+        elif origin == destination:
+            left_out[NO_LENGTH] += 1
+        else:
+            ends = plane.nodes[origin].node, plane.nodes[destination].node
+            requests.append(Request(trip.second, *ends, trip.persons))
+    return sorted(requests, key=lambda request: request.second)
+
+
+def input_rows(requests, length, every):
+    """The script: a round of requests, then one of their seal, and so on to the end of the span."""
+    rows, rider = [], 0
+    for batch in range(math.ceil(length / every)):
+        seal = (batch + 1) * every
+        while rider < len(requests) and requests[rider].second < seal:
+            r = requests[rider]
+            rider += 1
+            rows.append((2 * batch, 0, "submit", rider, r.origin, r.destination, r.second, r.persons))
+        rows.append((2 * batch + 1, 0, "seal", seal, "", "", "", ""))
+    return rows
+
+
+def fleet_rows(nodes, vehicles, seats, seed):
+    """The fleet: each vehicle free from second 0 on, at a drawn node."""
+    drawn = random.Random(seed)
+    places = (nodes[int(drawn.random() * len(nodes))] for _ in range(vehicles))
+    return [(vehicle, seats, place.node, 0) for vehicle, place in enumerate(places, 1)]
+
+
+def span_of(values):
+    """The span's first second and the second after its last; infinite where no word says it."""
+    span = []
+    for key, default in (("from", -math.inf), ("to", math.inf)):
+        second = moment(values[key]) if key in values else default
+        if second is None:
+            raise Fault(f"{key}={values[key]} is neither a date (2015-01-15T19:00:00) nor a number of seconds")
+        span.append(second)
+    if span[0] >= span[1]:
+        raise Fault("from= is not before to=")
+    return span
+
+
+def from_span_start(requests, span):
+    """The requests with their seconds counted from the span's beginning, and the span's length."""
+    seconds = [request.second for request in requests]
+    start = span[0] if span[0] > -math.inf else min(seconds)
+    end = span[1] if span[1] < math.inf else max(seconds) + 1
+    shifted = [Request(r.second - start, r.origin, r.destination, r.persons) for r in requests]
+    return shifted, end - start
+
+
+def check_limits(path, riders, rows, last):
+    """Refuses what ridepool doesn't take, with the figure. `last` is the last seal's second."""
+    shorter = "take a shorter span by from= and to="
+    if riders > tables.MOST_RIDERS:
+        raise Fault(f"{path}: {riders} trips, and ridepool's book takes {tables.MOST_RIDERS} riders: {shorter}")
+    if rows > tables.MOST_ROWS:
+        raise Fault(f"{path}: {rows} rows, and ridepool's script takes {tables.MOST_ROWS}: {shorter}")
+    if last > tables.MOST_NUMBER:
+        figure = f"second {last}, and ridepool takes {tables.MOST_NUMBER}"
+        raise Fault(f"{path}: the last seal is at {figure}: {shorter}")
+
+
+def tell(path, count, requests, left_out, seats):
+    """Says how many trips are used, and how many aren't for which reason."""
+    print(f"{path}: {count} trips, {len(requests)} used")
+    for reason, times in sorted(left_out.items()):
+        print(f"  left out: {times} {reason}")
+    large = sum(1 for request in requests if request.persons > seats)
+    if large:
+        print(f"  note: {large} of those used have more persons than the {seats} seats of a vehicle")
+
+
+def convert(arguments):
+    """The tool."""
+    plain, values = split_words(arguments, WORDS, USAGE)
+    if len(plain) != 3:
+        raise Fault(USAGE)
+    path, nodes_path, out = plain
+    vehicles = number(values, "vehicles", 1, tables.MOST_VEHICLES, 10)
+    seats = number(values, "seats", 1, tables.MOST_SEATS, 4)
+    seed = number(values, "seed", 0, tables.MOST_NUMBER, 1)
+    every = number(values, "every", 1, tables.MOST_NUMBER, 60)
+    far = number(values, "far", 0, tables.MOST_NUMBER, 500)
+    columns = {key: values.get(key, name) for key, name in COLUMNS.items()}
+    span = span_of(values)
+    need("scipy")
+    plane = Plane.of(tables.read_nodes(nodes_path))
+    trips, count, left_out = read_trips(path, columns, plane.degrees, span)
+    requests = nearest(plane, trips, far, left_out)
+    tell(path, count, requests, left_out, seats)
+    if not requests:
+        raise Fault(f"{path}: none of the {count} trips can be used")
+    requests, length = from_span_start(requests, span)
+    seals = math.ceil(length / every)
+    check_limits(path, len(requests), len(requests) + seals, seals * every)
+    fleet, script = os.path.join(out, "fleet.csv"), os.path.join(out, "script.csv")
+    tables.write_table(fleet, tables.FLEET, fleet_rows(plane.nodes, vehicles, seats, seed))
+    tables.write_table(script, tables.SCRIPT, input_rows(requests, length, every))
+    print(f"{fleet}: {vehicles} vehicles of {seats} seats")
+    print(f"{script}: {len(requests)} riders, {seals} seals, the last at second {seals * every}")
+
+
+def main():
+    """The command."""
+    run_tool(convert, USAGE)

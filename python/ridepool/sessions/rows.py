@@ -1,0 +1,46 @@
+"""The rows that `ridepool live` is sent. All of a day stand in one round, so that no row waits for another lane."""
+
+from typing import Iterable, List, Sequence
+
+from ridepool.report.reader import Entry, entry_of
+from ridepool.words import Fault
+
+HEADER = "round,lane,command,a,b,c,d,e"
+RIDER_LANES, VEHICLE_LANES = range(1, 12), range(12, 16)
+
+
+def lane_of(command: str, fields: Sequence[int]) -> int:
+    """The lane of a command: each rider's commands stand in one lane, and so do each vehicle's."""
+    if command == "seal":
+        return 0
+    lanes = RIDER_LANES if command in ("submit", "cancel") else VEHICLE_LANES
+    return lanes[fields[0] % len(lanes)]
+
+
+def row_of(lane: int, command: str, fields: Sequence[int], party: int = 1) -> str:
+    """The row of a command, with its line feed."""
+    numbers = list(map(str, fields)) + [""] * (4 - len(fields))
+    last = str(party) if command == "submit" else ""
+    return ",".join(["0", str(lane), command, *numbers, last]) + "\n"
+
+
+def entrys_row(entry: Entry) -> str:
+    """The row that an entry of a transcript answers."""
+    return row_of(entry.lane, entry.command, entry.fields, entry.party)
+
+
+def entries_of(lines: Iterable[str]) -> List[Entry]:
+    """The entries among the lines of a transcript: those of rows, and the closes."""
+    found = []
+    for number, line in enumerate(lines, 1):
+        if line[:1].isdigit():
+            try:
+                found.append(entry_of(0, line.split(" ")))
+            except (ValueError, KeyError, IndexError):
+                raise Fault(f"transcript: line {number} is not one of a report") from None
+    return found
+
+
+def rows_of(lines: Iterable[str]) -> str:
+    """The rows that a transcript answers, as a text."""
+    return "".join(entrys_row(it) for it in entries_of(lines) if it.command != "close")

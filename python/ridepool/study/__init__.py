@@ -1,0 +1,1 @@
+"""Studies: which days one has, what they are made of, what is kept of them."""

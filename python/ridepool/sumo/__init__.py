@@ -1,0 +1,1 @@
+"""The taxis of a SUMO simulation, dispatched by `ridepool live`."""
