@@ -97,7 +97,7 @@ def an_overdue_pickup_is_late_in_each_call():
         pickup = it.plan()["second"] + 60
         until(lambda: it.call("GET", "/health")[1]["second"] > pickup + 40, "40 s late")
         ride, vehicle = it.gives("GET", "/rides/1"), it.gives("GET", "/vehicles/1")
-        assert ride["late"] > 40 and ride["wait_time"] <= -ride["late"] + 50 < 0, ride
+        assert ride["late"] > 40 and ride["wait_time"] == -ride["late"], ride
         assert vehicle["late"] > 40, vehicle
         told = it.gives("GET", "/trouble")
         first, *others = told["trouble"]
