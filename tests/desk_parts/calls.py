@@ -9,20 +9,22 @@ import socket
 import tempfile
 import time
 
-from desk_parts.shared import LINE, PATIENCE, TOWN, desk, fails, folder_for_days, inputs, test
+from desk_parts.shared import LINE, LONG, PATIENCE, TOWN, desk, fails, folder_for_days, inputs, test
 
 
 @test
 def a_ride_from_asking_to_arrival():
-    with desk(*inputs(LINE), "wait=200", "delay=300") as it:
+    with desk(*inputs(LINE), *LONG) as it:
         asked = it.gives("POST", "/rides", {"from": 2, "to": 4, "persons": 2, "time": 0})
         assert asked == {"ride": 1, "from": 2, "to": 4, "reply": "accepted", "state": "waiting"}, asked
         batch = it.plan()
+        pickup, before = batch["second"] + 60, it.second()
         ride = it.gives("GET", "/rides/1")
-        pickup = batch["second"] + 60
+        after = it.second()
         assert (ride["state"], ride["vehicle"], ride["pickup_second"]) == ("promised", 1, pickup), ride
         assert (ride["drop_off_second"], ride["travel_time"]) == (pickup + 120, 120), ride
-        assert 58 <= ride["wait_time"] <= 60 and 178 <= ride["arrival_time"] <= 180, ride
+        assert pickup - after <= ride["wait_time"] <= pickup - before, (before, ride, after)
+        assert ride["arrival_time"] == ride["wait_time"] + 120, ride
         stops = [{"kind": "pick", "ride": 1, "node": 2, "second": pickup},
                  {"kind": "drop", "ride": 1, "node": 4, "second": pickup + 120}]
         assert it.gives("GET", "/vehicles/1/stops") == stops
@@ -37,10 +39,10 @@ def a_ride_from_asking_to_arrival():
 
 @test
 def batches_say_what_a_plan_is_worth():
-    with desk(*inputs(LINE), "wait=200", "delay=300") as it:
+    with desk(*inputs(LINE), *LONG) as it:
         it.gives("POST", "/rides", {"from": 2, "to": 4, "time": 0})
         it.gives("POST", "/rides", {"from": 3, "to": 5, "time": 0})
-        it.gives("POST", "/rides", {"from": 5, "to": 1, "persons": 4, "time": 0})
+        it.gives("POST", "/rides", {"from": 5, "to": 1, "persons": 5, "time": 0})
         batch = it.plan()
         seconds = batch.pop("seconds")
         late = batch["second"]
@@ -82,7 +84,7 @@ def places_become_the_nearest_nodes():
 
 @test
 def the_books_refusals_are_409_with_their_word():
-    with desk(*inputs(LINE)) as it:
+    with desk(*inputs(LINE), *LONG) as it:
         ask = {"from": 2, "to": 4, "time": 0}
         it.gives("POST", "/rides", {**ask, "ride": 1})
         it.refuses(409, "duplicate-rider", "POST", "/rides", {**ask, "ride": 1})
@@ -125,7 +127,7 @@ def unknown_ones_are_404_and_bad_values_422():
                 ("/rides", {**good, "from": True}), ("/rides", {**good, "ride": "1,2\n0,0,seal"}),
                 ("/vehicles/1/position", {}), ("/vehicles/1/position", {"node": "1"}), ("/vehicles/1/pickup", {}),
                 ("/vehicles/1/position", {"lat": 91e9, "lon": 1}), ("/vehicles/x/pickup", {"ride": 1}),
-                ("/rides", {**good, "time": 100_000}), ("/vehicles/1/position", {"node": 1, "second": 1_000}),
+                ("/rides", {**good, "time": 1_000_000}), ("/vehicles/1/position", {"node": 1, "second": 1_000_000}),
                 ("/vehicles/1/position", {"node": 1, "lat": 1, "lon": 1})):
             status, answer = it.call("POST", path, body)
             assert status == 422 and answer["text"], (path, body, status, answer)
@@ -209,7 +211,7 @@ def faults_of_the_words_are_said_in_a_line():
 
 
 class Events:
-    """A stream of events that is read as it comes."""
+    """A stream of events that is read as it comes. What a slow machine may add to it is passed over."""
 
     def __init__(self, it):
         self.socket = socket.create_connection(("127.0.0.1", it.port), timeout=PATIENCE)
@@ -217,7 +219,7 @@ class Events:
         self.text = b""
 
     def next(self, kind):
-        """The next event of this kind; clocks between are passed over, other events are not."""
+        """The next event of this kind; clocks and trouble between are passed over, other events are not."""
         end = time.monotonic() + PATIENCE
         while time.monotonic() < end:
             found = re.search(rb"event: (\w+)\ndata: (.*)\n\n", self.text)
@@ -231,13 +233,13 @@ class Events:
             name = found.group(1).decode()
             if name == kind:
                 return json.loads(found.group(2))
-            assert name in ("clock", "status", "places"), (name, kind, found.group(2))
+            assert name in ("clock", "status", "places", "trouble"), (name, kind, found.group(2))
         raise AssertionError(f"no event {kind}")
 
 
 @test
 def events_tell_the_state_then_each_reply_and_plan():
-    with desk(*inputs(LINE), "wait=200", "delay=300") as it:
+    with desk(*inputs(LINE), *LONG) as it:
         it.gives("POST", "/rides", {"from": 2, "to": 4, "time": 0})
         events = Events(it)
         state = events.next("state")

@@ -99,7 +99,8 @@ def a_kill_between_any_two_calls_loses_nothing_answered():
                 assert [r["ride"] for r in it.gives("GET", "/rides")] == answered
                 with concurrent.futures.ThreadPoolExecutor(4) as pool:
                     calls = [pool.submit(it.call, "POST", "/rides", {"from": 1, "to": 2 + n}) for n in range(30)]
-                    time.sleep(0.02 * turn)
+                    for _ in zip(range(4 * turn), concurrent.futures.as_completed(calls)):
+                        pass  # the kill comes when so many are answered
                     it.child.send_signal(signal.SIGKILL)
                     it.end()
                 for call in calls:
@@ -237,5 +238,7 @@ def a_demo_drives_by_itself_and_is_confirmed():
             batches = it.gives("GET", "/batches?last=1000")
             assert all(b["late"] == [] and b["lapsed"] == [] for b in batches), batches
         text = (folder / "transcript").read_text()
-        assert " refused " not in text, re.findall(".* refused .*", text)
+        cancelled = set(re.findall(r" cancel (\d+) ", text))
+        refused = [it for it in re.findall(".* refused .*", text) if not cancelled & set(it.split(" ")[3:5])]
+        assert refused == [], refused  # a rider may cancel in the moment of the pickup
         audited(folder, text.count("\nbatch "))

@@ -17,6 +17,7 @@ TOP = pathlib.Path(__file__).resolve().parent.parent.parent
 TOOLS, LINE, TOWN = TOP / "tools", TOP / "examples" / "line", TOP / "examples" / "town"
 PROGRAM = None  # desk.py sets it before the first test; other modules read it as shared.PROGRAM
 PATIENCE = 120
+LONG = ("wait=7200", "delay=7200")  # no rider of a test expires, however slow the machine is
 TESTS = []
 
 
@@ -89,6 +90,10 @@ class Desk:
         found, answer = self.call(method, path, body)
         assert (found, answer.get("word")) == (status, word), (method, path, body, found, answer)
         assert answer["text"], answer
+
+    def second(self):
+        """The second of the book."""
+        return self.call("GET", "/health")[1]["second"]
 
     def plan(self):
         """Seals a batch and waits for its plan."""
