@@ -9,7 +9,7 @@ import signal
 import socket
 import time
 
-from desk_parts.shared import LINE, PATIENCE, TOWN, audited, desk, fails, folder_for_days, inputs, test, until
+from desk_parts.shared import LINE, OWN, PATIENCE, TOWN, audited, desk, fails, folder_for_days, inputs, test, until
 
 
 def one_client(it, number):
@@ -34,11 +34,14 @@ def a_number_of_a_clients_own_stops_no_other_client():
     with folder_for_days() as folder:
         with desk(*inputs(LINE), folder=folder) as it:
             it.gives("POST", "/rides", {"from": 2, "to": 4, "ride": 1_000_000_000})
-            it.gives("POST", "/rides", {"from": 2, "to": 4, "ride": 1})
-            assert it.gives("POST", "/rides", {"from": 2, "to": 4})["ride"] == 2
+            assert it.gives("POST", "/rides", {"from": 2, "to": 4})["ride"] == 1
+            with concurrent.futures.ThreadPoolExecutor(8) as pool:
+                bodies = [{"from": 2, "to": 4, **({"ride": OWN + number} if number % 2 else {})} for number in range(40)]
+                found = [answer["ride"] for answer in pool.map(lambda body: it.gives("POST", "/rides", body), bodies)]
+            assert sorted(found) == [*range(2, 22), *range(OWN + 1, OWN + 40, 2)], found
             it.end(signal.SIGKILL)
         with desk(folder=folder) as it:
-            assert it.gives("POST", "/rides", {"from": 2, "to": 4})["ride"] == 3
+            assert it.gives("POST", "/rides", {"from": 2, "to": 4})["ride"] == 22
 
 
 @test
@@ -124,7 +127,7 @@ def a_day_that_was_cut_behind_any_line_goes_on():
         path = folder / "transcript"
         lines = path.read_text().splitlines(keepends=True)
         assert lines[4] == "round 0\n" and lines[-1] == "done 4\n", lines
-        for count in range(len(lines) + 1):
+        for count in range(4, len(lines) + 1):
             path.write_text("".join(lines[:count]))
             with desk(folder=folder) as it:
                 rides = len(it.gives("GET", "/rides"))

@@ -15,6 +15,16 @@ from skips import Skipped
 @contextlib.contextmanager
 def page(it, width, height):
     """The desk's page in a browser without a window, which must say nothing in its console."""
+    with opened(f"http://127.0.0.1:{it.port}/", width, height) as browser:
+        until(lambda: text_of(browser, "#status-text").startswith(("Ready", "Solving")), "the page is ready")
+        yield browser
+        said = browser.get_log("browser")
+        assert said == [], said
+
+
+@contextlib.contextmanager
+def opened(address, width, height):
+    """A browser without a window, on an address."""
     try:
         from selenium import webdriver
         from selenium.webdriver.chrome.service import Service
@@ -31,11 +41,8 @@ def page(it, width, height):
     try:
         browser.execute_cdp_cmd("Emulation.setDeviceMetricsOverride", {
             "width": width, "height": height, "deviceScaleFactor": 1, "mobile": width < 500})
-        browser.get(f"http://127.0.0.1:{it.port}/")
-        until(lambda: text_of(browser, "#status-text").startswith(("Ready", "Solving")), "the page is ready")
+        browser.get(address)
         yield browser
-        said = browser.get_log("browser")
-        assert said == [], said
     finally:
         browser.quit()
 
