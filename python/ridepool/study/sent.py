@@ -6,7 +6,8 @@ import zipfile
 from typing import Any
 
 PACKAGE = pathlib.Path(__file__).resolve().parent.parent
-SENT = ("words.py", "report/__init__.py", "report/reader.py", "report/measure.py", "days/__init__.py", "days/one_day.py")
+SENT = ("words.py", "report/__init__.py", "report/reader.py", "report/measure.py", "days/__init__.py", "days/one_day.py",
+        "days/batch_times.py", "days/on_worker.py")
 # A worker may have these modules of an earlier study, or of another version. They are forgotten when this is loaded.
 FIRST = """import sys
 
