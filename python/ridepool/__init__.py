@@ -11,6 +11,7 @@ import importlib
 from typing import TYPE_CHECKING, Any
 
 if TYPE_CHECKING:
+    from ridepool.city.day import CityDay, drive_fleets, parted
     from ridepool.days.calls import Audit, audit, drive, load, run
     from ridepool.days.day import Day
     from ridepool.faults import AuditFailed, ProgramFailed, RefusedInput, UnlawfulPlan
@@ -34,6 +35,7 @@ PLACES = {
     "Audit": "days.calls",
     "AuditFailed": "faults",
     "CheapestInsertion": "policies.known",
+    "CityDay": "city.day",
     "Day": "days.day",
     "Decision": "policies.state",
     "Fleet": "inputs.fleet",
@@ -55,8 +57,10 @@ PLACES = {
     "alive": "sessions.awaited",
     "audit": "days.calls",
     "drive": "days.calls",
+    "drive_fleets": "city.day",
     "live": "sessions.blocking",
     "load": "days.calls",
+    "parted": "city.day",
     "run": "days.calls",
     "simulate": "policies.simulation",
     "sweep": "study.sweep",

@@ -46,7 +46,7 @@ def picture_of(kind, path, values):
 
 def convert(arguments):
     """The tool."""
-    plain, values = split_words(arguments, (*WORDS, *SETTINGS), USAGE)
+    plain, values = split_words(arguments, (*WORDS, *SETTINGS, "split"), USAGE)
     kind, (path, out) = which_picture(plain, values)
     need("matplotlib", "scipy")
     from ridepool.draw import style

@@ -226,8 +226,27 @@ class Network:
         self._keep(at, found)
         return found
 
+    def seconds_to(self, end: int) -> Numbers:
+        """The least seconds to a node from each node, in the order of `names`; -1 where there is no way. It is exact.
+
+        >>> net = Network.made(side=3, seed=1)
+        >>> int(net.seconds_to(9)[0]) == net.seconds(1, 9)
+        True
+        """
+        at = self.index(end)
+        if -1 - at not in self._kept:
+            self._keep(-1 - at, self._back._search([at])[0])
+        self._kept.move_to_end(-1 - at)
+        return self._kept[-1 - at]
+
+    @cached_property
+    def _back(self) -> "Network":
+        """The same streets the other way round. It has the same nodes in the same order."""
+        columns = dict(zip(limits.NETWORK, (self.ends, self.starts, self.durations)))
+        return Network.from_frame(pd.DataFrame(columns))
+
     def _keep(self, at: int, found: Numbers) -> None:
-        """Keeps what a search found, and forgets what wasn't asked for longest."""
+        """Keeps what a search found, and forgets what wasn't asked for longest. Searches to a node are below 0."""
         self._kept[at] = found
         if len(self._kept) > max(16, KEPT_NUMBERS // max(1, len(self))):
             self._kept.popitem(last=False)

@@ -59,6 +59,8 @@ class Ridepool(Policy):
             rider, origin, destination, second = entry.fields
             answer = self.session.submit(rider=rider, origin=origin, destination=destination, second=second,
                                          persons=entry.party)
+        elif entry.command == "cancel":
+            answer = self.session.cancel(rider=entry.fields[0])
         elif entry.command == "report":
             vehicle, node, second = entry.fields
             answer = self.session.report(vehicle=vehicle, node=node, second=second)
