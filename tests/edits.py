@@ -10,9 +10,10 @@ changes of their crates. The first line of an edit names the function and the go
 
     # refused by: stop_orders::search::least::least_delay returns-clause-least
 
-Each that the gate tries has such a line. A try compares it with the goals that the prover leaves open. The last line
-of a try is `N passed, M failed`, by edits that are refused, by the goal that they name where they name one. That edits
-still apply is no test, and isn't counted as one.
+Of a clause it names the label alone, or nothing where there is one clause, whatever the way to the return: the
+prover also says on which way, as in `returns-then-eq`. Each edit that the gate tries has such a line. A try compares
+it with the goals that the prover leaves open. The last line of a try is `N passed, M failed`, by edits that are
+refused, by the goal that they name where they name one. That edits still apply is no test, and isn't counted as one.
 """
 
 import re
@@ -108,6 +109,18 @@ def open_goals(crate, said):
     return goals
 
 
+def clause_of(goal):
+    """The label of the clause that a goal of a return is of: nothing where it is of all."""
+    return goal.partition("-clause-")[2]
+
+
+def is_of(goal, named):
+    """Whether the open goal is the named one: of a return, whether it is of the named clause, on any way to it."""
+    if not (goal.startswith("returns") and named.startswith("returns")):
+        return goal == named
+    return not clause_of(goal) or not clause_of(named) or clause_of(goal) == clause_of(named)
+
+
 def fault_of_try(edit, crate, said):
     """Why the edit isn't refused as it must be, if so."""
     if not any(line.startswith("logic=not-proved") for line in said.splitlines()):
@@ -116,7 +129,7 @@ def fault_of_try(edit, crate, said):
     if (named := named_goal(edit)) is None:
         return "" if goals else "the prover names no goal"
     unproved = re.findall(r"^fn (\S+): (?:no proof|not proved)", said, re.M)
-    if named[0] in unproved and goals & {named, ("", named[1])}:
+    if named[0] in unproved and any(function in ("", named[0]) and is_of(goal, named[1]) for function, goal in goals):
         return ""
     return "refused by " + ", ".join(sorted(" ".join(it).strip() for it in goals)) + " of " + ", ".join(unproved)
 
