@@ -136,6 +136,7 @@ def a_driver_makes_a_whole_trip_on_a_line_that_is_cut_twice():
             assert len(statuses) >= 3 and set(statuses) == {200}, statuses
             press(browser, "Dropped off")
             says(browser, "#message", "Rider 1 has arrived.")
+            assert "Drop off rider 2" in text_of(browser, "#next-stop"), "what was pressed is shown again"
             press(browser, "Dropped off")
             says(browser, "#next-stop", "No stops ahead")
         assert [ride["state"] for ride in it.gives("GET", "/rides")] == ["delivered"] * 2

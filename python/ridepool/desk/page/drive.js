@@ -6,7 +6,9 @@ import { Presses } from "./presses.js";
 
 const POLL = 3000, POSITION_EVERY = 15000;
 const token = new Token("driver-token"), clock = new BookClock();
+const made = new Set();  // what was answered since the trip was asked for
 let vehicle = null, trip = null, online = false, watching = null, placed = 0, shown = "";
+let asked = 0, taken = 0;  // trips that were asked for, and the last of them that came
 
 const presses = new Presses("driver-presses", press => call(token, "POST", press.path, press.body, { "idempotency-key": press.key }), told, draw);
 
@@ -17,8 +19,10 @@ function say(text, bad = false) {
 
 // What the desk answered to a press. One that was made before the line was lost may be refused as made already.
 function told(press, status, answer) {
+  const known = ["is-aboard", "not-aboard", "ended"].includes(answer.word);
+  if (status < 300 || known) made.add(press.about);
   if (status < 300) say(press.done);
-  else if (["is-aboard", "not-aboard", "ended"].includes(answer.word)) say(`${press.done} The desk knew it already.`);
+  else if (known) say(`${press.done} The desk knew it already.`);
   else say(`Not taken: ${press.what}. ${answer.text}.`, true);
   load();
 }
@@ -27,12 +31,15 @@ function told(press, status, answer) {
 
 async function load() {
   if (vehicle === null) return;
+  const before = [...made], turn = ++asked;
   try {
     const { status, answer } = await call(token, "GET", `vehicles/${vehicle}/trip`);
     online = status < 500;
     if (status === 401 || status === 403 || status === 404) return login(answer.text);
-    if (status === 200) {
+    if (status === 200 && turn > taken) {
+      taken = turn;
       trip = answer;
+      for (const about of before) made.delete(about);
       clock.set(answer.at, answer.speed);
       presses.flush();
     }
@@ -144,7 +151,8 @@ function stopWatching() {
 // --- drawing ----------------------------------------------------------------------------------------------------
 
 function stopsAhead() {
-  return trip.stops.filter(it => !presses.waits(`${it.kind} ${it.ride}`));
+  const isMade = about => made.has(about) || presses.waits(about);
+  return trip.stops.filter(it => !isMade(`${it.kind} ${it.ride}`));
 }
 
 function stopWords(stop) {

@@ -49,8 +49,8 @@ export class Presses {
     }
     if (LATER.includes(status) || status === 401) return false;
     this.kept.shift();
-    this.keep();
     this.told(press, status, answer);
+    this.keep();
     return true;
   }
 }
