@@ -8,6 +8,7 @@ import matplotlib
 from matplotlib.backends.backend_agg import FigureCanvasAgg
 from matplotlib.colors import to_hex, to_rgb, to_rgba_array
 from matplotlib.figure import Figure
+from matplotlib.text import Text
 from matplotlib.ticker import FuncFormatter, MaxNLocator
 
 from ridepool.words import Fault
@@ -35,7 +36,7 @@ matplotlib.rcParams.update({
 # On a dark ground these take the place of the plain ones; the colours of trips and measures stay.
 GROUND = "#14171c"
 ON_DARK = {BLACK: "#f2f2f2", DARK: "#d0d0d0", GREY: "#a0a0a0", OTHERS: "#6a6f78", PALE: "#343a44", SEAL: "#787878",
-           BLUE: "#4aa3df", "#ffffff": GROUND}
+           BLUE: "#4aa3df", "#332288": "#8f80e0", "#882255": "#c4609a", "#ffffff": GROUND}
 COLOURED = ("color", "facecolor", "edgecolor", "markerfacecolor", "markeredgecolor")
 
 
@@ -75,6 +76,8 @@ def darken_one(artist, name):
     """The same for one colour of what is drawn. What has none, or takes it from elsewhere, stays."""
     given = getattr(artist, f"get_{name}")()
     if isinstance(given, str) and given in ("none", "auto") or given is None or len(given) == 0:
+        return
+    if isinstance(artist, Text) and given == "white":
         return
     found = darker(given)
     is_many = not isinstance(given, (str, tuple)) and hasattr(given[0], "__len__")
