@@ -19,6 +19,7 @@ if TYPE_CHECKING:
     from ridepool.inputs.network import Network
     from ridepool.inputs.requests import Requests
     from ridepool.policies.known import CheapestInsertion, NearestFree, Policy, Ridepool
+    from ridepool.policies.matching import OptimalMatching
     from ridepool.policies.simulation import simulate
     from ridepool.policies.state import Asking, Decision, Standing, State, Visit
     from ridepool.sessions.awaited import Alive, alive
@@ -42,6 +43,7 @@ PLACES = {
     "Live": "sessions.blocking",
     "NearestFree": "policies.known",
     "Network": "inputs.network",
+    "OptimalMatching": "policies.matching",
     "Plan": "sessions.dialogue",
     "Policy": "policies.known",
     "ProgramFailed": "faults",

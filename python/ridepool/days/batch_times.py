@@ -62,7 +62,8 @@ class Timing:
 
     def seal(self, entry: Entry, batch: Batch) -> float:
         """Seals a batch. Gives the seconds from the row to the end of its plan, which must cost what it cost before."""
-        begun, lines = time.monotonic(), []
+        begun = time.monotonic()
+        lines: List[str] = []
         self.send(row_of(entry))
         while not lines or lines[-1] != "end\n":
             lines.append(self.line())
@@ -74,7 +75,9 @@ class Timing:
 
 def batch_times(folder: str, call: Sequence[str], report: Report) -> List[float]:
     """The seconds of each batch of a report. `call` is that of `drive` in a folder."""
-    timing, told, times, batches = Timing(folder, call), [], [], iter(report.batches)
+    timing, batches = Timing(folder, call), iter(report.batches)
+    told: List[Entry] = []
+    times: List[float] = []
     try:
         for entry in report.entries:
             if entry.command == "seal" and entry.reply.startswith("sealed"):

@@ -26,7 +26,8 @@ FIRST_LOOK, LAST_LOOK = 0.001, 0.05
 
 class Task(NamedTuple):
     """A day: its fleet and script as texts, the words of the call, the least seconds of each rider's ride by rider, how
-    long the program may take, and whether each batch is timed, by another run of the same day."""
+    long the program may take, and whether each batch is timed, by another run of the same day. The day of a city whose
+    riders go from fleet to fleet has `fleets` in place of one."""
 
     fleet: str
     script: str
@@ -34,6 +35,7 @@ class Task(NamedTuple):
     direct: Mapping[int, int]
     limit: Optional[int]
     timed: bool = False
+    fleets: Tuple[str, ...] = ()
 
 
 class NotDriven(Exception):

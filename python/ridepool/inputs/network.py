@@ -245,6 +245,26 @@ class Network:
         columns = dict(zip(limits.NETWORK, (self.ends, self.starts, self.durations)))
         return Network.from_frame(pd.DataFrame(columns))
 
+    @cached_property
+    def islands(self) -> "list[Numbers]":
+        """The parts of the network in each of which every node reaches every other, as their nodes, the largest first. A
+        rider from one to another may have no way there, or none back. Needs scipy.
+
+        >>> [len(island) for island in Network.made(side=3, seed=1).islands]
+        [9]
+        """
+        from scipy.sparse.csgraph import connected_components
+
+        count, labels = connected_components(self._graph, directed=True, connection="strong")
+        return sorted((self.names[labels == label] for label in range(count)), key=lambda nodes: (-len(nodes), nodes[0]))
+
+    def largest_island(self) -> "Network":
+        """The network of the largest island alone: its nodes with their places, and the streets between them."""
+        inside = np.isin(self.starts, self.islands[0]) & np.isin(self.ends, self.islands[0])
+        arcs = pd.DataFrame(dict(zip(limits.NETWORK, (self.starts[inside], self.ends[inside], self.durations[inside]))))
+        nodes = None if self.nodes is None else self.nodes.loc[self.islands[0]].reset_index()
+        return Network.from_frame(arcs, nodes)
+
     def _keep(self, at: int, found: Numbers) -> None:
         """Keeps what a search found, and forgets what wasn't asked for longest. Searches to a node are below 0."""
         self._kept[at] = found

@@ -29,11 +29,19 @@ CLOSE_SECONDS = 5
 FULL = (errno.ENOSPC, errno.EDQUOT)
 
 
+def is_city(cell):
+    """Whether the riders of a cell go from fleet to fleet, so that its fleets are planned side by side."""
+    return cell.fleets > 1 and cell.split == "nearest"
+
+
 def tasks_of(cell, ground, limit, timed):
     """The days of a cell as tasks."""
     from ridepool.study.plan import OF_THE_CALL
 
     words = tuple(f"{name}={getattr(cell, name)}" for name in OF_THE_CALL)
+    if is_city(cell):
+        fleets, script, direct = ground.city(cell)
+        return [Task("", script, words, dict(enumerate(direct, 1)), limit, False, fleets)]
     return [Task(*texts, words, dict(enumerate(direct, 1)), limit, timed) for *texts, direct in ground.days(cell)]
 
 
@@ -208,7 +216,18 @@ class Study:
         return sum(1 for row in self.rows.values() if row["state"] in states)
 
 
-def run(study, values, packed_program, network, table):
+def outcomes(study, todo, workers, out, program_path):
+    """What becomes of each day. Those of cities come last, one after the other: each takes a worker for each fleet."""
+    cities = [key for key in todo if is_city(study.of[key][0][0])]
+    yield from workers.drive([key for key in todo if key not in set(cities)], study.task)
+    if cities:
+        from ridepool.study.cities import outcome_of
+
+        for key in cities:
+            yield outcome_of(key, study.task(key), workers, study.ground.network, out, program_path)
+
+
+def run(study, values, program_path, out, table):
     """Drives the days that aren't known, on the cluster. Each cell's row is appended to the table."""
     from ridepool.study.workers import Lost, Workers
 
@@ -216,10 +235,12 @@ def run(study, values, packed_program, network, table):
     progress = Progress(len(todo))
     if not todo:
         return
+    packed = [zlib.compress(it) for it in (pathlib.Path(program_path).read_bytes(), study.ground.network.encode())]
     with client_of(values) as client:
         progress.show()
         try:
-            for outcome in Workers(client, packed_program, network, progress.say).drive(todo, study.task):
+            workers = Workers(client, *packed, progress.say)
+            for outcome in outcomes(study, todo, workers, out, program_path):
                 for cell in study.take(outcome):
                     progress.say(study.line(cell))
                     table.append(study.rows[cell])
@@ -246,11 +267,12 @@ def convert(arguments):
     need("distributed", "scipy")
     from ridepool.study.plan import read_plan
 
-    bytes_of_program = pathlib.Path(values.get("program") or program.path()).read_bytes()
+    program_path = values.get("program") or program.path()
+    pathlib.Path(program_path).read_bytes()
     plan = read_plan(path)
     try:
         with held(out):
-            failed = studied(plan, os.path.dirname(path), out, values, bytes_of_program, limit, timed)
+            failed = studied(plan, os.path.dirname(path), out, values, program_path, limit, timed)
     except KeyboardInterrupt:
         raise Fault(f"interrupted: the days that were driven are kept in {out}; the same call goes on from there") from None
     except OSError as fault:
@@ -262,18 +284,19 @@ def convert(arguments):
         sys.exit(1)
 
 
-def studied(plan, here, out, values, bytes_of_program, limit, timed):
+def studied(plan, here, out, values, program_path, limit, timed):
     """The study of a plan in a folder that is held. Gives how many cells failed."""
     from ridepool.study.ground import ground_of
     from ridepool.study.kept import Kept, checksum
     from ridepool.study.table import COLUMNS, DONE, MARKED, Table
 
     ground = ground_of(plan, here, out)
-    study = Study(plan, ground, Kept(out, checksum(bytes_of_program), ground.network), limit, timed)
+    of_program = checksum(pathlib.Path(program_path).read_bytes())
+    study = Study(plan, ground, Kept(out, of_program, ground.network), limit, timed)
     driven, days = len(study.open()), len({key for keys in study.days.values() for key in keys})
     table = Table(os.path.join(out, "cells.csv"))
     table.write(study.rows[cell] for cell in study.cells if cell in study.rows)
-    run(study, values, zlib.compress(bytes_of_program), zlib.compress(ground.network.encode()), table)
+    run(study, values, program_path, out, table)
     table.write(study.rows[cell] for cell in study.cells)
     failed, marked = len(study.rows) - study.count(DONE, MARKED), study.count(MARKED)
     print(f"{table.path}: {len(study.rows)} cells of {days} days, {driven} driven now, {failed} cells failed"

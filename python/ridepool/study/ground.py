@@ -10,6 +10,7 @@ from dataclasses import dataclass, field
 from ridepool.inputs import from_trips
 from ridepool.inputs import made_city
 from ridepool.inputs import tables
+from ridepool.inputs.moments import zone_of
 from ridepool.inputs.streets import Streets
 from ridepool.study.zones import parts_of, zones_of
 from ridepool.words import Fault, number
@@ -73,6 +74,16 @@ class Ground:
             key = "script", cell.demand, count_of(cell), split_of(cell), seed_of(cell), cell.every, at
             script, direct = self.recent.get(key, lambda: self.script(part.riders, cell.every))
             yield tables.table_text(tables.FLEET, fleet), script, direct
+
+    def city(self, cell):
+        """The fleets of a city whose riders go from fleet to fleet, with vehicles counted through, then as `days`."""
+        fleets, first = [], 0
+        for at, part in enumerate(self.parts(cell)):
+            rows = from_trips.fleet_rows(part.nodes, part.vehicles, cell.seats, fleet_seed(cell.seed, at, cell.fleets))
+            fleets.append(tables.table_text(tables.FLEET, [(first + vehicle, *rest) for vehicle, *rest in rows]))
+            first += part.vehicles
+        key = "script", cell.demand, 1, "nearest", None, cell.every, 0
+        return tuple(fleets), *self.recent.get(key, lambda: self.script(self.riders(cell.demand), cell.every))
 
     def script(self, riders, every):
         """The script of these riders as from_trips.py makes it, and their least seconds."""
@@ -151,14 +162,15 @@ def stream(name):
 
 def read_ground(network, nodes, trips, columns, values):
     """The ground of three files. `values` has the span and how far a trip may begin from a street."""
-    far, span = number(values, "far", 0, tables.MOST_NUMBER, 500), from_trips.span_of(values)
-    plane = from_trips.Plane.of(tables.read_nodes(nodes))
-    rows, count, left_out = from_trips.read_trips(trips, columns, plane.degrees, span)
-    requests = from_trips.nearest(plane, rows, far, left_out)
-    from_trips.tell(trips, count, requests, left_out, tables.MOST_SEATS)
+    far, zone = number(values, "far", 0, tables.MOST_NUMBER, 500), zone_of(values.get("zone"))
+    span, plane = from_trips.span_of(values, zone), from_trips.Plane.of(tables.read_nodes(nodes))
+    read = from_trips.read_trips(trips, columns, plane.degrees, span, zone)
+    requests = from_trips.nearest(plane, read.trips, far, read.left_out)
+    from_trips.tell(trips, read, requests, tables.MOST_SEATS)
     if not requests:
-        raise Fault(f"{trips}: none of the {count} trips can be used")
+        raise Fault(f"{trips}: none of the {read.count} trips can be used")
     requests, length = from_trips.from_span_start(requests, span)
+    from_trips.check_length(trips, span, length)
     pairs = [(request.origin, request.destination) for request in requests]
     times = Streets(tables.read_network(network)).times(set(pairs))
     draw = random.Random(PART_SEED)

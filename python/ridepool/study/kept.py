@@ -44,6 +44,8 @@ class Kept:
         made: Dict[str, Any] = {"form": FORM, "program": self.program, "network": self.network,
                                 "fleet": checksum(task.fleet.encode()), "script": checksum_of_text(task.script),
                                 "words": list(task.words)}
+        if task.fleets:
+            made["fleets"] = [checksum(fleet.encode()) for fleet in task.fleets]
         return {**made, "timed": True} if task.timed else made
 
     def key_of(self, task: Task) -> str:

@@ -32,7 +32,7 @@ OLD_SETTINGS = tuple(name for name in SETTINGS if name != "fleets")
 NEW_SETTINGS = ("fleets", "split")
 OF_THE_CALL = ("wait", "delay", "trip", "penalty", "budget", "pairs", "dwell", "workers")
 FILES = ("network", "nodes", "trips")
-SPAN = ("from", "to", "far")
+SPAN = ("from", "to", "zone", "far")
 
 Cell = namedtuple("Cell", (*SETTINGS, "split"), defaults=SPLITS[:1])
 

@@ -62,6 +62,11 @@ class Sum:
         """The largest of those that are known, None where none is."""
         return max((day[name] for day in self.days if day.get(name) is not None), default=None)
 
+    def seconds(self):
+        """Processor seconds of the program; nothing where they aren't known of each day."""
+        seconds = [day["seconds"] for day in self.days]
+        return "" if None in seconds else f"{sum(seconds):.2f}"
+
     def minutes(self):
         """Persons aboard a vehicle, the mean over the fleet in each minute. What comes behind the last seal isn't
         counted."""
@@ -81,7 +86,7 @@ def old_results_of(days):
         days.total("shared"), part(days.total("aboard_seconds"), vehicle_seconds),
         days.total("empty_seconds"), days.total("driven_seconds"),
         days.total("batches"), days.total("overflows"), days.total("open"), f"{days.worst('gap'):.4f}",
-        f"{days.total('seconds'):.2f}", "" if memory is None else f"{memory:.0f}")
+        days.seconds(), "" if memory is None else f"{memory:.0f}")
 
 
 def new_results_of(cell, days, marks):
