@@ -484,3 +484,27 @@ def test_a_task_of_many_fleets_has_another_name(tmp_path):
     names = {kept.key_of(it) for it in (task, task._replace(timed=True), task._replace(fleets=("a", "b")),
                                         task._replace(fleets=("ab",)), task._replace(words=("wait=1",)))}
     assert len(names) == 5
+
+
+def test_policies_are_compared(tmp_path):
+    """Each policy on two small cities: the table has the mean, the least and the most, and the figure a bar for each row."""
+    pytest.importorskip("matplotlib")
+    from ridepool.study import compared
+
+    words = {"vehicles": "3", "seeds": "2", "requests": "25", "seconds": "300", "avenues": "4", "streets": "12"}
+    compared.compare(str(tmp_path), words)
+    table = pandas.read_csv(tmp_path / "policies.csv")
+    assert table[["policy", "seats"]].values.tolist() == [
+        ["nearest free vehicle", 4], ["optimal matching", 4], ["cheapest insertion", 4], ["ridepool without moves", 4],
+        *(["ridepool", seats] for seats in (1, 2, 4, 10))]
+    assert (table["share_least"] <= table["share"]).all() and (table["share"] <= table["share_most"]).all()
+    assert (table["seeds"] == 2).all() and (table["marked"] == 0).all()
+    days = []
+    for seed in (1, 2):
+        net, requests = compared.ground(str(tmp_path), seed, words, 60)
+        days.append(rp.drive(net, rp.Fleet.drawn(net, 3, 4, seed), requests, rp.Settings(wait=300, delay=600, budget=1)))
+    share = [day.measures()["share"] for day in days]
+    found = table[(table["policy"] == "ridepool") & (table["seats"] == 4)].iloc[0]
+    assert (found["share"], found["share_least"]) == (pytest.approx(sum(share) / 2, abs=1e-4), pytest.approx(min(share), abs=1e-4))
+    picture = compared.picture(str(tmp_path / "policies.csv"))
+    assert [len(axes.patches) for axes in picture.axes] == [8, 8, 8]

@@ -149,13 +149,11 @@ class There(Hands):
         while True:
             try:
                 return future.result(timeout=LOOK_SECONDS)
-            except (TimeoutError, OSError) as late:
+            except Exception as fault:  # whatever the worker raises: another may do better
                 if self.homes[at] not in self.workers.there():
                     raise Died(f"worker {self.homes[at]} ended") from None
-                if not is_timeout(late):
-                    raise Died(str(late)) from None
-            except Exception as fault:  # whatever the worker raises: another may do better
-                raise Died(f"{type(fault).__name__}: {' '.join(str(fault).split())}") from None
+                if not is_timeout(fault):
+                    raise Died(f"{type(fault).__name__}: {' '.join(str(fault).split())}") from None
 
     def batch(self, at: int, told: Batch) -> Sealed:
         """What comes of a fleet's batch."""
@@ -181,7 +179,7 @@ class There(Hands):
 
 
 def is_timeout(fault: BaseException) -> bool:
-    """Whether an exception says that nothing has come yet."""
+    """Whether an exception says that nothing has come yet. Python before 3.11 has several that are called so."""
     return isinstance(fault, TimeoutError) or type(fault).__name__ == "TimeoutError"
 
 

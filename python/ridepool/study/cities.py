@@ -29,13 +29,15 @@ def script_of(text: str) -> "tuple[list[Ask], list[int]]":
     """The requests and the seconds of the seals of a script."""
     frame = frame_of(text)
     submits, seals = (frame[frame["command"] == command] for command in ("submit", "seal"))
-    asks: List[Ask] = [tuple(map(int, row)) for row in submits[list("abcde")].itertuples(index=False, name=None)]
+    asks: List[Ask] = [(int(a), int(b), int(c), int(d), int(e))
+                       for a, b, c, d, e in submits[list("abcde")].itertuples(index=False, name=None)]
     return asks, seals["a"].astype(int).tolist()
 
 
 def settings_of(words: Tuple[str, ...]) -> Settings:
     """The settings of a call, with the trees that an audit needs."""
-    return Settings(**{name: int(value) for name, value in (word.split("=") for word in words)}, proof=True)
+    values: Dict[str, Any] = {name: int(value) for name, value in (word.split("=") for word in words)}
+    return Settings(**values, proof=True)
 
 
 def outcome_of(key: str, task: Task, workers: Any, network: str, out: str, program: str) -> Outcome:

@@ -1,5 +1,6 @@
 """The workers of a cluster: each is tried before it gets a day, and a day whose worker fails goes to another."""
 
+import asyncio
 import contextlib
 import queue
 import time
@@ -65,7 +66,7 @@ class Workers:
             if self.client.status != "running":
                 raise Lost
             workers = self.client.scheduler_info()["workers"]
-        except (OSError, RuntimeError, TimeoutError) as fault:
+        except (OSError, RuntimeError, TimeoutError, asyncio.TimeoutError) as fault:
             raise Lost from fault
         return {address: int(it["nthreads"]) for address, it in workers.items()}
 
