@@ -51,7 +51,7 @@ def edited(edit, crate):
     texts, at, old = {}, None, None
     for line in edit.read_text().splitlines():
         word, _, rest = line.partition(":")
-        rest = rest.removeprefix(" ") if hasattr(rest, "removeprefix") else re.sub(r"\A ", "", rest)
+        rest = rest.removeprefix(" ")
         if word == "file":
             at = crate / rest
             if not at.is_file():
