@@ -6,11 +6,12 @@ import queue
 import time
 import uuid
 from collections import deque
-from typing import Any, Callable, Deque, Dict, Iterable, Iterator, List, NamedTuple, Optional, Set, Tuple
+from typing import Any, Callable, Deque, Dict, Iterable, Iterator, List, NamedTuple, Optional, Tuple
 
 from ridepool.days.on_worker import NotHere, drive_here, take
 from ridepool.days.one_day import NotDriven, Task
 from ridepool.study.sent import send
+from ridepool.words import Fault
 
 # Days that wait at a worker, beside one for each of its threads.
 AHEAD = 1
@@ -53,7 +54,9 @@ class Workers:
         self.client, self.town, self.say = client, (program, network), say
         self.name = uuid.uuid4().hex
         self.fit: Dict[str, int] = {}
-        self.unfit: Set[str] = set()
+        self.unfit: Dict[str, str] = {}
+        # To a cluster that is named others may come; that of this machine's processors has all that it ever has.
+        self.may_come = getattr(client, "cluster", None) is None
         self.has_sent, self.has_said = False, False
         self.sent: Dict[str, Sent] = {}
         self.done: "queue.Queue[Sent]" = queue.Queue()
@@ -74,9 +77,11 @@ class Workers:
         """Tries the workers that came. Gives the days of those that are gone."""
         self.looked, there = time.monotonic(), self.there()
         self.fit = {address: threads for address, threads in self.fit.items() if address in there}
-        self.unfit &= set(there)
+        self.unfit = {address: why for address, why in self.unfit.items() if address in there}
         for address in [address for address in there if address not in self.fit and address not in self.unfit]:
             self.try_out(address, there[address])
+        if self.unfit and not self.fit and not self.may_come:
+            raise Fault(f"no worker can drive a day: {next(iter(self.unfit.values()))}")
         if not self.fit and not self.has_said:
             self.has_said = True
             self.say("no workers yet: the days wait for one")
@@ -86,7 +91,7 @@ class Workers:
         """Tries a worker."""
         why = self.why_unfit(address)
         if why:
-            self.unfit.add(address)
+            self.unfit[address] = why
             self.say(f"worker {address} gets no day: {why}")
         else:
             self.fit[address] = threads
