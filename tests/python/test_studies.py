@@ -277,7 +277,7 @@ class Future:
     """A day at a pretended worker."""
 
     def __init__(self, status, value=None):
-        self.status, self.value, self.is_cancelled = status, value, False
+        self.status, self.value, self.is_cancelled, self.call = status, value, False, None
 
     def result(self, timeout=None):
         return self.value
@@ -286,9 +286,12 @@ class Future:
         return self.value
 
     def cancel(self):
-        self.is_cancelled = True
+        self.is_cancelled, self.status = True, "cancelled"
+        if self.call is not None:
+            self.call(self)
 
     def add_done_callback(self, call):
+        self.call = call
         if self.status != "pending":
             call(self)
 
@@ -321,8 +324,9 @@ GOOD = ("linux", "x86_64", (3, 11))
 def shared(cluster, days="abcdefgh"):
     """What becomes of days, and what was said."""
     said = Said()
-    found = {it.key: it for it in workers.Workers(cluster, b"", b"", said).drive(days, lambda key: key)}
-    return found, said
+    found = list(workers.Workers(cluster, b"", b"", said).drive(days, lambda key: key))
+    assert len({it.key for it in found}) == len(found), "a day came back twice"
+    return {it.key: it for it in found}, said
 
 
 @pytest.fixture(autouse=True)

@@ -133,18 +133,19 @@ class Workers:
         """What becomes of each day, in the order in which they end. A day's task is made when it is sent."""
         waiting: Deque[str] = deque(days)
         while waiting or self.sent:
-            ended = [(sent, self.lost(sent)) for sent in self.look()] if time.monotonic() - self.looked > LOOK_SECONDS else []
+            gone = self.look() if time.monotonic() - self.looked > LOOK_SECONDS else []
+            ended = [(self.taken(sent), self.lost(sent)) for sent in gone]
             self.fill(waiting, task_of)
             with contextlib.suppress(queue.Empty):
                 sent = self.done.get(timeout=LOOK_SECONDS)
                 if self.sent.get(sent.key) is sent:
-                    ended.append((sent, self.outcome(sent)))
-            for sent, outcome in ended:
-                self.sent.pop(sent.key, None)
-                if outcome is None:
-                    waiting.appendleft(sent.key)
-                else:
-                    yield outcome
+                    ended.append((self.taken(sent), self.outcome(sent)))
+            waiting.extendleft(key for key, outcome in ended if outcome is None)
+            yield from (outcome for _, outcome in ended if outcome is not None)
+
+    def taken(self, sent: Sent) -> str:
+        """Takes a day from its worker, so that what is told of it later doesn't count. Gives its key."""
+        return self.sent.pop(sent.key).key
 
     def fill(self, waiting: Deque[str], task_of: Callable[[str], Task]) -> None:
         """Gives waiting days to workers with room. A day goes to one that hasn't failed with it, where there is one."""
