@@ -78,7 +78,7 @@ def client_of(values):
             yield client
         return
     count = number(values, "processors", 1, 1024, len(os.sched_getaffinity(0)))
-    with tempfile.TemporaryDirectory(prefix="ridepool-study-", ignore_cleanup_errors=True) as folder:
+    with tempfile.TemporaryDirectory(prefix="ridepool-study-") as folder:
         with without_interrupt():
             cluster = LocalCluster(n_workers=count, threads_per_worker=1, memory_limit=None, dashboard_address=None,
                                    local_directory=folder, silence_logs=logging.CRITICAL)
