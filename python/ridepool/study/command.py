@@ -219,7 +219,7 @@ class Study:
 def outcomes(study, todo, workers, out, program_path):
     """What becomes of each day. Those of cities come last, one after the other: each takes a worker for each fleet."""
     cities = [key for key in todo if is_city(study.of[key][0][0])]
-    yield from workers.drive([key for key in todo if key not in set(cities)], study.task)
+    yield from workers.drive([key for key in todo if not is_city(study.of[key][0][0])], study.task)
     if cities:
         from ridepool.study.cities import outcome_of
 
