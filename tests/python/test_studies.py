@@ -103,7 +103,7 @@ def of_files(folder, row):
 
 def test_columns_are_those_of_the_frames(tmp_path):
     lines, (row,) = studied(tmp_path, "[[grid]]\nvehicles = 5\n", "timed=1")
-    day, riders = of_files(tmp_path, row), None
+    day = of_files(tmp_path, row)
     riders, done = day.riders, day.riders.dropna(subset=["dropoff"])
     direct = day.net.seconds_of(done["origin"], done["destination"])
     in_car = done["dropoff"] - done["pickup"] - direct
@@ -277,7 +277,7 @@ class Future:
     """A day at a pretended worker."""
 
     def __init__(self, status, value=None):
-        self.status, self.value, self.is_cancelled = status, value, False
+        self.status, self.value, self.is_cancelled, self.call = status, value, False, None
 
     def result(self, timeout=None):
         return self.value
@@ -286,9 +286,12 @@ class Future:
         return self.value
 
     def cancel(self):
-        self.is_cancelled = True
+        self.is_cancelled, self.status = True, "cancelled"
+        if self.call is not None:
+            self.call(self)
 
     def add_done_callback(self, call):
+        self.call = call
         if self.status != "pending":
             call(self)
 
@@ -318,18 +321,18 @@ class Cluster:
 GOOD = ("linux", "x86_64", (3, 11))
 
 
-def shared(cluster, days="abcdefgh", monkeypatch=None):
+def shared(cluster, days="abcdefgh"):
     """What becomes of days, and what was said."""
     said = Said()
-    found = {it.key: it for it in workers.Workers(cluster, b"", b"", said).drive(days, lambda key: key)}
-    return found, said
+    found = list(workers.Workers(cluster, b"", b"", said).drive(days, lambda key: key))
+    assert len({it.key for it in found}) == len(found), "a day came back twice"
+    return {it.key: it for it in found}, said
 
 
 @pytest.fixture(autouse=True)
 def quick(monkeypatch):
     """Pretended clusters needn't be waited for."""
-    if "Cluster" in globals():
-        monkeypatch.setattr(workers, "LOOK_SECONDS", 0.05)
+    monkeypatch.setattr(workers, "LOOK_SECONDS", 0.05)
 
 
 def test_unfit_workers_get_no_day():
@@ -343,6 +346,14 @@ def test_unfit_workers_get_no_day():
         "worker arm gets no day: it is linux on aarch64, and the program is for linux on x86_64",
         "worker full gets no day: it can't keep the program: No space left on device",
         "worker old gets no day: its Python is 3.7, and days need 3.9"]
+
+
+def test_where_no_other_worker_comes_nothing_waits():
+    """The workers of this machine's processors are all there are: where none is fit the study ends."""
+    cluster = Cluster(lambda address, task: Future("finished", {}), {"one": GOOD}, {"one": "the program doesn't run: no"})
+    cluster.cluster = object()
+    with pytest.raises(Fault, match="no worker can drive a day: the program doesn't run: no"):
+        shared(cluster)
 
 
 def test_a_day_whose_worker_fails_goes_to_another():

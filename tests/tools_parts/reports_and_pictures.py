@@ -138,6 +138,20 @@ def test_map_of_two_riders(folder):
     assert svg.marks("vehicles") == 0 and "name fleet=fleet.csv for these" in svg.texts(), svg.texts()
 
 
+def test_scale_numbers_and_ground_of_a_map(folder):
+    """A bar of half a kilometre, the vehicle's number at each stop, and on a dark ground no black and no white but on marks."""
+    from ridepool.draw import batch_map, style
+
+    assert [batch_map.bar_metres(metres) for metres in (9.9, 10, 49, 50, 1234)] == [5, 10, 20, 50, 1000]
+    words_of_map = ("batch=1", f"nodes={LINE / 'nodes.csv'}", f"network={LINE / 'network.csv'}")
+    svg = drawn(folder, LINE / "two-riders.report", *words_of_map)
+    assert svg.lines("scale") == 1 and "500 m" in svg.texts() and len(svg.group("stop-of-1")) == 4
+    assert style.darker("#000000") == [(*style.to_rgb("#f2f2f2"), 1.0)] and style.darker(style.ORANGE)[0][:3] == style.to_rgb(style.ORANGE)
+    plain, dark = svg.bytes.decode(), drawn(folder, LINE / "two-riders.report", *words_of_map, "dark=1").bytes.decode()
+    assert style.GROUND in dark and style.GROUND not in plain
+    assert style.PALE in plain and style.PALE not in dark and style.ON_DARK[style.PALE] in dark
+
+
 def test_ways_of_a_map(folder):
     """A trip's line follows shortest ways, over one-way streets and streets of no time, too."""
     from ridepool.inputs.streets import Streets

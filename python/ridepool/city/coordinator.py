@@ -1,5 +1,6 @@
 """The coordinator of a city: which fleet each rider is given to, and who goes to another."""
 
+from bisect import bisect_left
 from dataclasses import dataclass, field
 from typing import Any, Callable, Dict, List, Optional, Sequence
 
@@ -85,14 +86,14 @@ class Coordinator:
         self.together = Together(len(self.fleets))
 
     def drive(self, asks: Sequence[Ask], seals: Sequence[int]) -> List[str]:
-        """The whole day. Gives the report of each fleet."""
+        """The whole day; requests stand by rising second. Gives the report of each fleet."""
         try:
-            numbers, at = range(len(self.fleets)), 0
+            numbers, seconds, first = range(len(self.fleets)), [ask[3] for ask in asks], 0
             self.together.all(self.hands.begin, numbers, self.fleets)
             for seal in seals:
-                new = [ask for ask in asks[at:at + len(asks)] if ask[3] < seal] if at < len(asks) else []
-                at += len(new)
-                self.batch(new, seal)
+                last = bisect_left(seconds, seal)
+                self.batch(asks[first:last], seal)
+                first = last
             return [str(text) for text in self.together.all(self.close, numbers)]
         finally:
             self.hands.end()

@@ -17,7 +17,7 @@ from ridepool.inputs.fleet import Fleet
 from ridepool.inputs.network import Network
 from ridepool.inputs.tables import whole_file
 from ridepool.settings import Settings
-from ridepool.study.workers import Lost, Outcome
+from ridepool.study.workers import Outcome
 
 
 def frame_of(text: str) -> Any:
@@ -46,8 +46,6 @@ def outcome_of(key: str, task: Task, workers: Any, network: str, out: str, progr
         return Outcome(key, facts_of(task, workers, network, os.path.join(out, "cities", key), program), None)
     except (ProgramFailed, RefusedInput, AuditFailed) as fault:
         return Outcome(key, None, NotDriven(" ".join(str(fault).split())))
-    except OSError as fault:
-        raise Lost from fault
 
 
 def facts_of(task: Task, workers: Any, network: str, folder: str, program: str) -> Dict[str, Any]:

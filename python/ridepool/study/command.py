@@ -78,7 +78,7 @@ def client_of(values):
             yield client
         return
     count = number(values, "processors", 1, 1024, len(os.sched_getaffinity(0)))
-    with tempfile.TemporaryDirectory(prefix="ridepool-study-", ignore_cleanup_errors=True) as folder:
+    with tempfile.TemporaryDirectory(prefix="ridepool-study-") as folder:
         with without_interrupt():
             cluster = LocalCluster(n_workers=count, threads_per_worker=1, memory_limit=None, dashboard_address=None,
                                    local_directory=folder, silence_logs=logging.CRITICAL)
@@ -219,7 +219,7 @@ class Study:
 def outcomes(study, todo, workers, out, program_path):
     """What becomes of each day. Those of cities come last, one after the other: each takes a worker for each fleet."""
     cities = [key for key in todo if is_city(study.of[key][0][0])]
-    yield from workers.drive([key for key in todo if key not in set(cities)], study.task)
+    yield from workers.drive([key for key in todo if not is_city(study.of[key][0][0])], study.task)
     if cities:
         from ridepool.study.cities import outcome_of
 

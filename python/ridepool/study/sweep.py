@@ -6,14 +6,14 @@ import os
 import pathlib
 import zlib
 from concurrent.futures import ThreadPoolExecutor
-from typing import Any, Callable, Iterable, Mapping, Optional, Tuple
+from typing import Any, Iterator, Mapping, Optional, Sequence, Tuple
 
 import pandas as pd
 
 from ridepool.days.calls import program_path
 from ridepool.days.day import measures_of
 from ridepool.days.one_day import NotDriven, Stopped, Task, drive
-from ridepool.faults import RefusedInput
+from ridepool.faults import ProgramFailed, RefusedInput
 from ridepool.inputs.checks import Path
 from ridepool.inputs.fleet import Fleet
 from ridepool.inputs.network import Network
@@ -47,44 +47,48 @@ class Days:
         """What is kept of a day: its facts, or a text; None where nothing is."""
         return None if self.kept is None else self.kept.find(self.kept.key_of(task), self.limit)
 
-    def taken(self, task: Task, future: Any) -> Any:
+    def taken(self, task: Task, facts: Any, fault: Optional[BaseException]) -> Any:
         """What became of a day: its facts, or why there are none."""
-        try:
-            facts = future.result()
-        except Stopped:
+        if isinstance(fault, Stopped):
             facts = {"stopped": self.limit}
-        except (NotDriven, Fault) as fault:
+        elif fault is not None:
             return str(fault)
         if self.kept is not None:
             self.kept.keep(self.kept.made_of(task), facts)
         return stopped_text(self.limit) if "stopped" in facts else facts
 
 
-Submit = Callable[..., Any]
+def here(days: Days, tasks: "Mapping[int, Task]") -> "Iterator[Tuple[int, Any]]":
+    """What becomes of days that are driven on this machine, as many at once as there are processors."""
+    with ThreadPoolExecutor(len(os.sched_getaffinity(0))) as pool:
+        futures = {at: pool.submit(drive, days.program, days.network, task) for at, task in tasks.items()}
+        for at, future in futures.items():
+            fault = future.exception()
+            if fault is not None and not isinstance(fault, (NotDriven, Fault)):
+                raise fault
+            yield at, days.taken(tasks[at], None if fault else future.result(), fault)
 
 
-def on_cluster(client: Any) -> Submit:
-    """How a day is driven by a cluster of Dask. Its workers are sent what they need, unless they are threads of this
-    process."""
-    from ridepool.study.sent import send
+def there(days: Days, tasks: "Mapping[int, Task]", client: Any) -> "Iterator[Tuple[int, Any]]":
+    """What becomes of days that a cluster drives. Who of its workers gets none is printed."""
+    from ridepool.study.workers import Lost, Workers
 
-    if not all(address.startswith("inproc:") for address in client.scheduler_info()["workers"]):
-        send(client)
-    return lambda *given: client.submit(*given, pure=False)
+    try:
+        for key, facts, fault in Workers(client, days.program, days.network, print).drive(
+                map(str, tasks), lambda key: tasks[int(key)]):
+            yield int(key), days.taken(tasks[int(key)], facts, fault)
+    except Lost:
+        raise ProgramFailed("the scheduler is gone; days that were driven are kept where keep= names a folder") from None
+    except Fault as fault:
+        raise ProgramFailed(str(fault)) from None
 
 
-def driven(days: Days, tasks: Iterable[Task], client: Any) -> "list[Any]":
-    """What becomes of each day, in order. Without a client as many are driven at once as there are processors."""
-    pool = ThreadPoolExecutor(len(os.sched_getaffinity(0)))
-    submit: Submit = pool.submit
-    if client is not None:
-        submit = on_cluster(client)
-    with pool:
-        begun: "list[Tuple[Task, Any]]" = []
-        for task in tasks:
-            known = days.known(task)
-            begun.append((task, known if known is not None else submit(drive, days.program, days.network, task)))
-        return [found if isinstance(found, (dict, str)) else days.taken(task, found) for task, found in begun]
+def driven(days: Days, tasks: Sequence[Task], client: Any) -> "list[Any]":
+    """What becomes of each day, in order."""
+    found: "dict[int, Any]" = {at: days.known(task) for at, task in enumerate(tasks)}
+    left = {at: tasks[at] for at, known in found.items() if known is None}
+    found.update(here(days, left) if client is None else there(days, left, client))
+    return [found[at] for at in range(len(tasks))]
 
 
 def sweep(net: Network, fleet: Fleet, requests: Requests, settings: Optional[Settings] = None, *, client: Any = None,

@@ -6,11 +6,12 @@ import queue
 import time
 import uuid
 from collections import deque
-from typing import Any, Callable, Deque, Dict, Iterable, Iterator, List, NamedTuple, Optional, Set, Tuple
+from typing import Any, Callable, Deque, Dict, Iterable, Iterator, List, NamedTuple, Optional, Tuple
 
 from ridepool.days.on_worker import NotHere, drive_here, take
 from ridepool.days.one_day import NotDriven, Task
 from ridepool.study.sent import send
+from ridepool.words import Fault
 
 # Days that wait at a worker, beside one for each of its threads.
 AHEAD = 1
@@ -53,7 +54,9 @@ class Workers:
         self.client, self.town, self.say = client, (program, network), say
         self.name = uuid.uuid4().hex
         self.fit: Dict[str, int] = {}
-        self.unfit: Set[str] = set()
+        self.unfit: Dict[str, str] = {}
+        # To a cluster that is named others may come; that of this machine's processors has all that it ever has.
+        self.may_come = getattr(client, "cluster", None) is None
         self.has_sent, self.has_said = False, False
         self.sent: Dict[str, Sent] = {}
         self.done: "queue.Queue[Sent]" = queue.Queue()
@@ -74,9 +77,11 @@ class Workers:
         """Tries the workers that came. Gives the days of those that are gone."""
         self.looked, there = time.monotonic(), self.there()
         self.fit = {address: threads for address, threads in self.fit.items() if address in there}
-        self.unfit &= set(there)
+        self.unfit = {address: why for address, why in self.unfit.items() if address in there}
         for address in [address for address in there if address not in self.fit and address not in self.unfit]:
             self.try_out(address, there[address])
+        if self.unfit and not self.fit and not self.may_come:
+            raise Fault(f"no worker can drive a day: {next(iter(self.unfit.values()))}")
         if not self.fit and not self.has_said:
             self.has_said = True
             self.say("no workers yet: the days wait for one")
@@ -86,7 +91,7 @@ class Workers:
         """Tries a worker."""
         why = self.why_unfit(address)
         if why:
-            self.unfit.add(address)
+            self.unfit[address] = why
             self.say(f"worker {address} gets no day: {why}")
         else:
             self.fit[address] = threads
@@ -128,18 +133,19 @@ class Workers:
         """What becomes of each day, in the order in which they end. A day's task is made when it is sent."""
         waiting: Deque[str] = deque(days)
         while waiting or self.sent:
-            ended = [(sent, self.lost(sent)) for sent in self.look()] if time.monotonic() - self.looked > LOOK_SECONDS else []
+            gone = self.look() if time.monotonic() - self.looked > LOOK_SECONDS else []
+            ended = [(self.taken(sent), self.lost(sent)) for sent in gone]
             self.fill(waiting, task_of)
             with contextlib.suppress(queue.Empty):
                 sent = self.done.get(timeout=LOOK_SECONDS)
                 if self.sent.get(sent.key) is sent:
-                    ended.append((sent, self.outcome(sent)))
-            for sent, outcome in ended:
-                self.sent.pop(sent.key, None)
-                if outcome is None:
-                    waiting.appendleft(sent.key)
-                else:
-                    yield outcome
+                    ended.append((self.taken(sent), self.outcome(sent)))
+            waiting.extendleft(key for key, outcome in ended if outcome is None)
+            yield from (outcome for _, outcome in ended if outcome is not None)
+
+    def taken(self, sent: Sent) -> str:
+        """Takes a day from its worker, so that what is told of it later doesn't count. Gives its key."""
+        return self.sent.pop(sent.key).key
 
     def fill(self, waiting: Deque[str], task_of: Callable[[str], Task]) -> None:
         """Gives waiting days to workers with room. A day goes to one that hasn't failed with it, where there is one."""
