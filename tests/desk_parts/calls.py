@@ -227,8 +227,8 @@ class Events:
         self.socket.sendall(f"GET /events HTTP/1.1\r\nhost: 127.0.0.1:{it.port}\r\n\r\n".encode())
         self.text = b""
 
-    def next(self, kind):
-        """The next event of this kind; clocks and trouble between are passed over, other events are not."""
+    def next(self, kind, passing=("clock", "status", "places", "trouble", "notices")):
+        """The next event of this kind; only events of those kinds are passed over."""
         end = time.monotonic() + PATIENCE
         while time.monotonic() < end:
             found = re.search(rb"event: (\w+)\ndata: (.*)\n\n", self.text)
@@ -242,7 +242,7 @@ class Events:
             name = found.group(1).decode()
             if name == kind:
                 return json.loads(found.group(2))
-            assert name in ("clock", "status", "places", "trouble"), (name, kind, found.group(2))
+            assert name in passing, (name, kind, found.group(2))
         raise AssertionError(f"no event {kind}")
 
 
@@ -274,7 +274,8 @@ def the_calls_describe_themselves_without_other_places():
                   "/vehicles/{number}/position", "/vehicles/{number}/pickup", "/vehicles/{number}/dropoff",
                   "/vehicles/{number}/mistake", "/trouble", "/batches", "/batches/{number}", "/seal", "/events", "/health",
                   "/network", "/me", "/metrics", "/rides/{number}/contact", "/rides/{number}/trip",
-                  "/vehicles/{number}/trip", "/vehicles/{number}/noshow"}
+                  "/vehicles/{number}/trip", "/vehicles/{number}/noshow", "/vehicles/{number}/break", "/search", "/totals",
+                  "/rides.csv", "/batches.csv"}
         assert paths == wanted, paths ^ wanted
         it.gives("POST", "/rides", {"from": 2, "to": 4})
         it.plan()

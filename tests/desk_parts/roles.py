@@ -3,12 +3,12 @@
 import contextlib
 import json
 import pathlib
+import socket
 import subprocess
 import sys
 import tempfile
 
-from desk_parts import shared
-from desk_parts.shared import LINE, LONG, TOOLS, desk, fails, inputs, test
+from desk_parts.shared import LINE, LONG, PATIENCE, TOOLS, desk, fails, inputs, test
 
 CALLS = {
     ("GET", "/rides"): "dispatcher reader",
@@ -20,6 +20,9 @@ CALLS = {
     ("GET", "/vehicles/2/stops"): "dispatcher reader",
     ("GET", "/batches"): "dispatcher reader",
     ("GET", "/trouble"): "dispatcher reader",
+    ("GET", "/totals"): "dispatcher reader",
+    ("GET", "/rides.csv"): "dispatcher reader",
+    ("GET", "/search?q=1"): "dispatcher reader",
     ("GET", "/network"): "dispatcher reader",
     ("GET", "/openapi.json"): "dispatcher reader",
     ("GET", "/metrics"): "dispatcher reader",
@@ -119,6 +122,15 @@ def a_driver_and_a_rider_do_a_whole_trip():
     assert not any(it in json.dumps(log) for it in tokens.values())
 
 
+def read_until(stream, text, holds):
+    """What comes behind a text, up to where something holds of all of it."""
+    while not holds(text):
+        more = stream.recv(65_536)
+        assert more, text[-200:]
+        text += more
+    return text
+
+
 @test
 def a_token_is_withdrawn_while_the_desk_runs():
     with tokens_of_all_roles() as (path, tokens), desk(*inputs(LINE), f"tokens={path}") as it:
@@ -129,8 +141,14 @@ def a_token_is_withdrawn_while_the_desk_runs():
             ["dispatcher"], ["reader"], ["driver", "vehicle=1"], ["rider", "ride=1"]], lines
         it.token = tokens["reader"]
         assert it.call("GET", "/rides")[0] == 200
+        stream = socket.create_connection(("127.0.0.1", it.port), timeout=PATIENCE)
+        stream.sendall(f"GET /events HTTP/1.1\r\nhost: 127.0.0.1:{it.port}\r\n"
+                       f"authorization: Bearer {it.token}\r\n\r\n".encode())
+        text = read_until(stream, b"", lambda text: b"event: clock" in text)
         assert token(path, f"withdraw={lines[1].split()[0]}")[0] == 0
         assert it.call("GET", "/rides")[0] == 401
+        read_until(stream, text, lambda text: text.endswith(b"\r\n0\r\n\r\n"))
+        stream.close()
         it.token = tokens["driver"]
         assert it.call("GET", "/vehicles/1")[0] == 200
         it.token = made(path, "role=reader")

@@ -20,13 +20,14 @@ USAGE = """use: %(prog)s demo [words]
      %(prog)s token role=ROLE [vehicle=N] [ride=N]   makes a token: dispatcher, driver, rider or reader
      %(prog)s token [withdraw=ID]                    lists the tokens, or withdraws one; all three take tokens=FILE
 words: port=8000 host=127.0.0.1 name=HOSTNAME[,..] tokens=FILE token=FILE tiles=https://PLACE/{z}/{x}/{y}.png
+       hook=https://PLACE/PATH secret=FILE
        every=30 silent=10 speed=1 far=500 drivers=1 riders=1 seed=1 program=FILE
        and the settings of live: wait delay trip penalty budget pairs workers proof dwell times"""
 SHORT = "%(prog)s --help lists the words"
 SETTINGS = ("wait", "delay", "trip", "penalty", "budget", "pairs", "workers", "proof", "dwell", "times")
 INPUTS = ("network", "nodes", "fleet")
-WORDS = SETTINGS + INPUTS + ("day", "port", "host", "name", "token", "tokens", "tiles", "every", "silent", "speed", "far",
-                             "drivers", "riders", "seed", "program")
+WORDS = SETTINGS + INPUTS + ("day", "port", "host", "name", "token", "tokens", "hook", "secret", "tiles", "every", "silent",
+                             "speed", "far", "drivers", "riders", "seed", "program")
 TOKEN_WORDS = ("tokens", "role", "vehicle", "ride", "withdraw")
 FREE = ("workers", "every")  # what may change from opening to opening, since no reply depends on it
 FIXED = (*(it for it in SETTINGS if it not in FREE), "speed")
@@ -137,13 +138,15 @@ def map_of(folder, far):
 
 def last_second(kept, now):
     """The second that the day's clock had reached, by its transcript. What vehicles did may lie a little ahead of the
-    clock; where it is further ahead than anyone may enter it, the clock was there, too."""
+    clock, and what is told of those out of service by the longest wait; where it is further ahead, the clock was there, too."""
     from ridepool.sessions.rows import entries_of
+
+    lead = MOST_LEAD + max((int(word[5:]) for line in kept[1:2] for word in line.split() if word.startswith("wait=")), default=0)
 
     entries = [it for it in entries_of(kept) if not it.reply.startswith("refused ")]
     sealed = max((it.fields[0] for it in entries if it.command == "seal"), default=0)
     entered = max((it.fields[-1] for it in entries if it.command in ("report", "pickup", "dropoff")), default=0)
-    return max(sealed, entered) if entered > max(sealed, now) + MOST_LEAD else sealed
+    return max(sealed, entered) if entered > max(sealed, now) + lead else sealed
 
 
 def clock_of(folder, kept):
@@ -283,17 +286,21 @@ async def opened(values, folder):
 async def serve(values):
     """Opens the desk, until it is told to end. Gives the status with which it ends."""
     host, port = values.get("host", LOOPBACK[0]), number(values, "port", 0, 65_535, 8000)
+    from ridepool.desk.hook import hook_of
+
     tokens, (tiles, tiles_place) = tokens_of(values), tiles_of(values)
+    hook = hook_of(values.get("hook"), values.get("secret"))
     listener = bound(host, port)
     port, folder = listener.getsockname()[1], day_of(values)
     try:
         places, streets = map_of(folder, number(values, "far", 1, 100_000, 500))
         dispatcher = await opened(values, folder)
+        dispatcher.hook = hook
     except (Fault, OSError):
         folder.forget_unbegun()
         raise
     hosts = hosts_of(host, port, [it for it in values.get("name", "").split(",") if it])
-    page = {"needs_token": tokens is not None, "tiles": tiles, "drivers": number(values, "drivers", 0, 1, 0) == 1}
+    page = {"needs_token": tokens is not None, "tiles": tiles, **page_of(values, dispatcher)}
     from ridepool.desk.access import AccessLog
     from ridepool.desk.guard import Guard, Who
     from ridepool.desk.web import Desk, make_app
@@ -305,12 +312,29 @@ async def serve(values):
     return await run_desk(dispatcher, app, listener, clients_of(values, folder, dispatcher, places, streets))
 
 
+def page_of(values, dispatcher):
+    """What the page has to know of the day."""
+    from ridepool.desk.trouble import setting
+
+    return {"drivers": number(values, "drivers", 0, 1, 0) == 1, "wait": setting(dispatcher.state, "wait"),
+            "began": time.time() - dispatcher.clock.exact(), "speed": dispatcher.clock.speed, "zone": zone()}
+
+
+def zone():
+    """The name of this machine's time zone."""
+    if os.environ.get("TZ"):
+        return os.environ["TZ"].lstrip(":")
+    return os.path.realpath("/etc/localtime").partition("/zoneinfo/")[2] or "UTC"
+
+
 def clients_of(values, folder, dispatcher, places, streets):
     """What goes on by itself: seals, and the demo's drivers and riders."""
     from ridepool.desk import demo
     from ridepool.inputs.roads import Roads
 
     clients = [dispatcher.keep_watch()]
+    if dispatcher.hook is not None:
+        clients.append(dispatcher.hook.run())
     if folder.description["every"]:
         clients.append(dispatcher.keep_sealing(folder.description["every"]))
     if number(values, "drivers", 0, 1, 0):

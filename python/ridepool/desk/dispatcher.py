@@ -6,10 +6,13 @@ import time
 from collections import Counter, deque
 
 from ridepool.desk import log, replay
+from ridepool.desk.breaks import Breaks
+from ridepool.desk.contacts import Contacts
+from ridepool.desk.folder import HEAD_LINES
 from ridepool.desk.metrics import Meter
 from ridepool.desk.numbers import FIRST_OWN
-from ridepool.desk.folder import HEAD_LINES
-from ridepool.desk.trouble import MOST_SHOWN, Trouble
+from ridepool.desk.totals import Trip
+from ridepool.desk.trouble import MOST_SHOWN, Trouble, setting
 from ridepool.sessions.process import Live
 from ridepool.sessions.rows import entrys_row, lane_of, row_of
 from ridepool.sessions.state import ENDED, State
@@ -23,6 +26,8 @@ ANSWER_SECONDS = 5  # a command or the disk that takes longer hangs
 SLOW_PLANS = 10  # a plan that takes so many times `every` hangs
 PLAN_SECONDS = 30  # what stands for `every` where plans are made by calls alone
 RESTART_PAUSE = 0.5
+CONTACTS, BREAKS = "contacts.jsonl", "breaks.json"  # in the day's folder
+TOLD = ("waiting", "promised", "expired")
 COUNTED = {"dropped": "delivered", "cancelled": "cancelled"}
 
 
@@ -81,6 +86,8 @@ class Dispatcher:
         self.restarts, self.listeners, self.places = 0, set(), {}
         self.before_seal, self.sealing = [], asyncio.Lock()
         self.to_sync, self.syncing, self.stopping = deque(), None, False
+        self.contacts, self.breaks, self.hook = Contacts(folder.path / CONTACTS), Breaks(folder.path / BREAKS), None
+        self.before_seal.append(self.keep_breaks)
         self.live, self.told = None, asyncio.Condition()
         self.hang, self.stopped_since, self.sync_began, self.troubles_told = None, None, None, []
         self.clear()
@@ -92,7 +99,7 @@ class Dispatcher:
         self.waiting = {lane: deque() for lane in range(16)}
         self.sent, self.ran, self.numbers = 0, 0, {}
         self.solving_since, self.solved_in = None, {}
-        self.next_ride, self.lines, self.tally = 1, None, Counter()
+        self.next_ride, self.lines, self.tally, self.trips = 1, None, Counter(), []
         self.numbers_of_fleet = sorted(self.state.vehicles)
 
     # Beginning, going on and ending
@@ -259,6 +266,9 @@ class Dispatcher:
             self.tally["lapsed"] += len(change.batch.lapsed)
         elif change.entry.reply in COUNTED:
             self.tally[COUNTED[change.entry.reply]] += 1
+            if change.entry.command == "dropoff":
+                ride = self.state.rides[change.entry.fields[1]]
+                self.trips.append(Trip(ride.vehicle, ride.second, ride.pickup, ride.dropoff))
 
     def release_after_sync(self, answers, events):
         """Answers and events that wait for the disk."""
@@ -485,9 +495,11 @@ class Dispatcher:
 
     def publish_change(self, change):
         """Tells what a line changed."""
+        if change.batch is not None:
+            self.publish_notices(change)
         if not self.listeners:
             return
-        rides = [self.state.rides[it].view() for it in sorted(change.rides)]
+        rides = [self.ride_view(self.state.rides[it]) for it in sorted(change.rides)]
         vehicles = [self.vehicle_view(it) for it in sorted(change.vehicles)]
         if change.batch is not None:
             batch = self.state.batches[change.batch.number]
@@ -498,12 +510,41 @@ class Dispatcher:
                                    "reply": it.reply, "rides": rides, "vehicles": vehicles,
                                    "open_batch": self.open_batch()})
 
+    def publish_notices(self, change):
+        """Tells what riders are to be told after a plan: when they are picked up, or that they aren't for now, or no more."""
+        rides = [self.state.rides[it] for it in sorted(change.rides)]
+        told = [{"ride": it.ride, "state": it.state, "vehicle": it.vehicle, "pickup_second": it.pickup,
+                 "drop_off_second": it.dropoff} for it in rides if it.state in TOLD]
+        value = {"batch": change.batch.number, "second": change.batch.second, "notices": told}
+        self.publish("notices", value)
+        if self.hook is not None and told:
+            self.hook.tell(value)
+
+    def ride_view(self, ride):
+        """A ride with its rider's name."""
+        return {**ride.view(), "who": self.contacts.of(ride.ride)["who"]}
+
+    def publish_ride(self, number):
+        """Tells that something else is known of a ride."""
+        self.publish("ride", self.ride_view(self.state.rides[number]))
+
+    async def keep_breaks(self, second):
+        """Before a seal: vehicles out of service are free so late that they can pick up nobody in time."""
+        wait = setting(self.state, "wait")
+        for vehicle, node in list(self.breaks.nodes.items()):
+            if vehicle in self.state.vehicles:
+                await self.command("report", vehicle, node, second + wait + 1)
+
+    def publish_vehicle(self, number):
+        """Tells that something else is known of a vehicle."""
+        self.publish("vehicle", self.vehicle_view(number))
+
     def vehicle_view(self, number):
         """A vehicle with the place where it was last seen, if somebody told it."""
         view = self.state.vehicle_view(number)
         due = view["stops"][0]["second"] if view["stops"] else None
         late = None if due is None else max(0, self.clock.now() - due)
-        return {**view, "late": late, "place": self.places.get(number)}
+        return {**view, "late": late, "place": self.places.get(number), "out": number in self.breaks.nodes}
 
     def show(self, places):
         """Takes where vehicles are on the map, and the node that each comes to next. Nothing of it is kept."""
@@ -533,7 +574,7 @@ class Dispatcher:
         over = [it for it in list(state.rides.values())[-200:] if it.state in ENDED]
         batches = [state.batches[it] for it in sorted(state.batches)[-20:]]
         return {**self.health(), "delivered": self.tally["delivered"], "troubles": self.trouble_view(),
-                "rides": [it.view() for it in over + ahead],
+                "rides": [self.ride_view(it) for it in over + ahead],
                 "vehicles": [self.vehicle_view(it) for it in self.numbers_of_fleet], "last_batches": batches}
 
 

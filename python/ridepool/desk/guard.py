@@ -88,7 +88,8 @@ class Guard:
         if body and headers.get(b"content-type", b"").split(b";")[0].strip().lower() != b"application/json":
             return NO_TYPE
         method = "GET" if scope["method"] == "HEAD" and scope["path"] != "/events" else scope["method"]
-        scope = {**scope, "method": method, "holder": holder or ANYONE}
+        scope = {**scope, "method": method, "holder": holder or ANYONE,
+                 "is_welcome": lambda: holder is None or self.holder(headers) == holder}
         key = headers.get(b"idempotency-key", b"").decode("latin-1")
 
         async def call(send: Send) -> None:

@@ -14,6 +14,7 @@ from ridepool.desk.calls.batches import add_batches
 from ridepool.desk.calls.files import add_files
 from ridepool.desk.calls.riders import add_contacts, add_rides
 from ridepool.desk.calls.shared import Desk, answered
+from ridepool.desk.calls.shift import add_breaks, add_shift, add_tables
 from ridepool.desk.calls.trips import add_trips
 from ridepool.desk.calls.vehicles import add_entries, add_vehicles
 from ridepool.desk.dispatcher import Refused, Unavailable
@@ -27,7 +28,8 @@ def make_app(desk: Desk) -> FastAPI:
     app = FastAPI(title="ridepool desk", version="1", docs_url=None, redoc_url=None,
                   description="Calls of a dispatcher's desk. Seconds are those of the book.")
     add_faults(app)
-    for add in (add_rides, add_contacts, add_vehicles, add_entries, add_trips, add_batches, add_desk):
+    for add in (add_tables, add_rides, add_contacts, add_vehicles, add_entries, add_trips, add_breaks, add_batches, add_shift,
+                add_desk):
         add(app, desk)
     add_files(app)
     return app

@@ -59,8 +59,9 @@ def add_desk(app: FastAPI, desk: Desk) -> None:
 
 
 async def stream(desk: Desk, request: Request, queue: "asyncio.Queue[Any]") -> AsyncIterator[str]:
-    """The events as they come. Something comes every three seconds, so that a lost connection is seen."""
-    while not await request.is_disconnected():
+    """The events as they come. Something comes every three seconds, so that a lost connection is seen. The stream ends
+    soon after the caller's token was withdrawn."""
+    while request.scope["is_welcome"]() and not await request.is_disconnected():
         try:
             text = await asyncio.wait_for(queue.get(), QUIET_SECONDS)
         except asyncio.TimeoutError:

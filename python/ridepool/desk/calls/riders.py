@@ -27,10 +27,14 @@ def add_rides(app: FastAPI, desk: Desk) -> None:
         destination = desk.end(body.destination, body.drop_off_lat, body.drop_off_lon, "to")
         ride = desk.dispatcher.new_ride() if body.ride is None else body.ride
         fields = ride, origin, destination, desk.second(body.time)
+        is_new = ride not in desk.state.rides
+        if is_new:
+            desk.contacts.put(ride, {"who": body.who, "phone": body.phone, "note": body.note})
         status, answer = await desk.command("submit", *fields, party=body.persons, made=201)
         if status == 201:
             answer["state"] = desk.state.rides[ride].state
-            desk.contacts.put(ride, {"who": body.who, "phone": body.phone, "note": body.note})
+        elif is_new and ride not in desk.state.rides:
+            desk.contacts.delete(ride)
         return answered(status, {"ride": ride, "from": origin, "to": destination, **answer})
 
     @app.get("/rides", tags=["rides"], responses=answers([RIDE]))
@@ -74,12 +78,15 @@ def add_contacts(app: FastAPI, desk: Desk) -> None:
         """Keeps them in place of those before. They stand in no row and in no report."""
         ride = desk.ride(number).ride
         desk.contacts.put(ride, {"who": body.who, "phone": body.phone, "note": body.note})
+        desk.dispatcher.publish_ride(ride)
         return answered(200, desk.contacts.of(ride))
 
     @app.delete("/rides/{number}/contact", tags=["rides"], responses=answers({"deleted": True}))
     async def forget(number: int) -> Response:
         """Deletes them, from the day's folder, too."""
-        return answered(200, {"deleted": desk.contacts.delete(desk.ride(number).ride)})
+        deleted = desk.contacts.delete(desk.ride(number).ride)
+        desk.dispatcher.publish_ride(number)
+        return answered(200, {"deleted": deleted})
 
 
 def listed(path: str, items: Any, words: Any, following: Optional[int]) -> Response:

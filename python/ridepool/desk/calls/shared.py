@@ -15,7 +15,6 @@ from ridepool.inputs.roads import Places
 from ridepool.sessions.state import Ride, State
 
 MOST_AHEAD = 86_400  # a request may be made a day before
-CONTACTS = "contacts.jsonl"  # in the day's folder
 MOST_LEAD = 900  # a position or a stop may be entered so many seconds before
 UNKNOWN = ("unknown-rider", "unknown-vehicle")
 TEXTS = {
@@ -42,7 +41,7 @@ class Desk:
 
     def __init__(self, dispatcher: Dispatcher, places: Places, streets: List[Sequence[int]], page: Dict[str, Any]) -> None:
         self.dispatcher, self.places, self.streets = dispatcher, places, streets
-        self.entered, self.page, self.contacts = LastEntered(), page, Contacts(dispatcher.folder.path / CONTACTS)
+        self.entered, self.page = LastEntered(), page
         self.network_text: Optional[bytes] = None
 
     @property
@@ -57,6 +56,11 @@ class Desk:
             value = {"degrees": self.places.degrees, "nodes": at, "streets": self.streets, **self.page}
             self.network_text = json.dumps(value, separators=(",", ":")).encode()
         return self.network_text
+
+    @property
+    def contacts(self) -> Contacts:
+        """Who the riders are."""
+        return self.dispatcher.contacts
 
     def name(self, node: int) -> str:
         """What a node is called."""
@@ -116,7 +120,7 @@ class Desk:
 
     def ride_view(self, ride: Ride) -> Dict[str, Any]:
         """A ride with the seconds from now."""
-        view, now = ride.view(), self.dispatcher.clock.now()
+        view, now = self.dispatcher.ride_view(ride), self.dispatcher.clock.now()
         ahead = ride.state in ("promised", "aboard")
         view["wait_time"] = ride.pickup - now if ride.state == "promised" and ride.pickup is not None else None
         view["arrival_time"] = ride.dropoff - now if ahead and ride.dropoff is not None else None
