@@ -29,7 +29,7 @@ from ridepool.study.plan import SETTINGS, Cell, Plan  # noqa: E402
 from ridepool.words import Fault  # noqa: E402
 
 TOP = pathlib.Path(__file__).resolve().parent.parent.parent
-PATIENCE = 900
+PATIENCE = 3600
 CITY = """[city]
 seed = 5
 avenues = 6

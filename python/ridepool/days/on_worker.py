@@ -13,7 +13,7 @@ from ridepool.days.one_day import NotDriven, Task, drive_in, place_town
 
 TOWNS: Dict[str, str] = {}
 LOCK = threading.Lock()
-TRIED_SECONDS = 60
+TRIED_SECONDS = 600
 
 
 class NotHere(NotDriven):

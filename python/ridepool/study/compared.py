@@ -2,7 +2,7 @@
 
 import os
 import statistics
-from typing import Any, Callable, Dict, List, Mapping, NamedTuple, Sequence, Tuple
+from typing import Any, Callable, List, Mapping, NamedTuple, Sequence, Tuple
 
 import pandas as pd
 
@@ -62,8 +62,9 @@ def ground(out: str, seed: int, values: Mapping[str, str], every: int) -> "Tuple
 
 def cell_of(row: Row, days: Sequence[Day]) -> "List[Any]":
     """A row of the table: each measure's mean over the seeds, with the least and the most."""
-    found: Dict[str, List[float]] = {name: [day.measures()[name] for day in days] for name in MEASURES}
-    spread = [f"{of(found[name]):.4f}" for name in MEASURES for of in (statistics.fmean, min, max)]
+    measures = [day.measures() for day in days]
+    columns: List[List[float]] = [[it[name] for it in measures] for name in MEASURES]
+    spread = [f"{value:.4f}" for found in columns for value in (statistics.fmean(found), min(found), max(found))]
     return [row.name, row.seats, len(days), *spread, sum(1 for day in days if day.marks)]
 
 
