@@ -21,6 +21,8 @@ mod plans;
 #[cfg(test)]
 mod replying;
 #[cfg(test)]
+mod solving;
+#[cfg(test)]
 mod streams;
 #[cfg(test)]
 mod tables;
