@@ -157,9 +157,17 @@ fn command(alloc: Global, ask: Ask) -> Result<Command, AllocError> {
 }
 
 /// The reply in lane 0; none for want of memory.
+fn applied(book: &mut Book, command: Command) -> Option<Reply> {
+    match book.apply(0, command) {
+        Ok(reply) => Some(reply),
+        Err(_) => None,
+    }
+}
+
+/// The same of what is asked.
 fn replied(alloc: Global, book: &mut Book, ask: Ask) -> Option<Reply> {
     match command(alloc, ask) {
-        Ok(command) => book.apply(0, command).ok(),
+        Ok(command) => applied(book, command),
         Err(_) => None,
     }
 }
@@ -285,6 +293,14 @@ const GIVEN_AWAY: [Ask; 7] = [
     },
 ];
 
+/// Whether the reply says that the rider is aboard of the vehicle of this name.
+fn is_aboard_of(reply: Option<Reply>, name: u32) -> bool {
+    match reply {
+        Some(Reply::Refused(BookRefusal::IsAboard { vehicle })) => vehicle.get() == name,
+        _ => false,
+    }
+}
+
 #[test]
 fn who_is_aboard_stays_so(rt: HostRuntime) {
     let alloc = rt.alloc();
@@ -296,15 +312,7 @@ fn who_is_aboard_stays_so(rt: HostRuntime) {
     );
     assert!(rt; matches!(reply_of(alloc, TWO, &GIVEN_AWAY, 5), Some(Reply::Picked)));
     assert!(rt; matches!(reply_of(alloc, TWO, &GIVEN_AWAY, 6), Some(Reply::Closed)));
-    let Some(Reply::Refused(BookRefusal::IsAboard { vehicle: carrier })) = reply_of(
-        alloc,
-        TWO,
-        &GIVEN_AWAY,
-        7,
-    ) else {
-        panic!(rt; "another reply")
-    };
-    assert!(rt; carrier == vehicle(1));
+    assert!(rt; is_aboard_of(reply_of(alloc, TWO, &GIVEN_AWAY, 7), 1));
 }
 
 /// A notifier with room for two notices of which this call fails.

@@ -3,7 +3,7 @@ use Rattle.dispatch_engine.proofs.lemmas.outcome.PointLemmas.{named_known}
 use Rattle.single_calls.proofs.solving.solved_by.Goals as goal
 
 pub solved_with-requires : goal.solved_with-requires
-solved_with-requires g c κs within = record {
+solved_with-requires g c = record {
   named =
       let nodes = c.args.solver.now.network.now.nodes in
       named_known c.args.snapshot.now nodes c.in-Ok.points c.in-Ok.ensures.points
