@@ -43,6 +43,7 @@ MEASURES = ("share", "mean_wait", "mean_delay", "aboard")
 COLUMNS = ("time=second", "from_lon=from_x", "from_lat=from_y", "to_lon=to_x", "to_lat=to_y", "persons=persons",
            "from=0", "to=600")
 WAITING = """#!/bin/sh
+[ "$1" = --version ] && exit 0
 echo $PPID > {folder}/begun/$$
 until [ -e {folder}/go ]; do sleep 0.1; done
 exec {program} "$@"
@@ -353,7 +354,7 @@ def test_zones_add_up(folder):
     _, (one, three) = studied(folder, f"program={program()}", text=text)
     assert (one["requests"], three["requests"], three["batches"]) == ("80", "80", "30"), (one, three)
     assert int(one["batches"]) == 10 and 0 < int(three["served"]) <= 80
-    days = [json.loads(file.read_text()) for file in (folder / "out" / "kept").iterdir()]
+    days = [json.loads(file.read_text())["facts"] for file in (folder / "out" / "kept").iterdir()]
     zones = [day for day in days if day["requests"] < 80]
     assert len(zones) == 3 and sum(day["requests"] for day in zones) == 80
     assert sum(len(day["waits"]) for day in zones) == int(three["served"])
@@ -364,12 +365,13 @@ def test_zones_add_up(folder):
 
 def test_the_study_of_the_guide(_):
     """Its table has the cells of STUDY.toml, all done by one program, and its picture has their lines."""
-    from ridepool.study.plan import SETTINGS, read_plan
+    from ridepool.study.plan import SETTINGS, Cell, read_plan
 
     with open(STUDY / "cells.csv", newline="") as file:
         rows = list(csv.DictReader(file))
     cells = read_plan(STUDY / "STUDY.toml").cells
-    assert [tuple(int(row[name]) for name in SETTINGS) for row in rows] == cells
+    found = [{"fleets": "1", "split": "nearest", **row} for row in rows]
+    assert [Cell(*(int(row[name]) for name in SETTINGS), row["split"]) for row in found] == cells
     assert {row["state"] for row in rows} == {"done"} and len({row["program"] for row in rows}) == 1
     drawn = [cell for cell in cells if cell.zones == 1]
     svg = Svg(PICTURES / "study.svg")
@@ -392,8 +394,10 @@ def test_studies_that_are_refused(folder):
             ("[city]\n[[grid]]\ncars = 3\n", "unknown word cars in grid"),
             ("[grids]\n", "unknown table grids"),
             ("[city\n", "not a TOML file"),
-            (CITY + "[[grid]]\nzones = 3\nvehicles = 2\n", "2 vehicles are too few for 3 zones"),
-            (CITY + "[[grid]]\nvehicles = 501\n", "501 vehicles in one zone, and ridepool takes 500")):
+            (CITY + "[[grid]]\nzones = 3\nvehicles = 2\n", "2 vehicles are too few for zones=3"),
+            (CITY + "[[grid]]\nsplit = \"near\"\n", "split = near is none of nearest, random, zones"),
+            (CITY + "[[grid]]\nzones = 2\nfleets = 2\n", "zones = 2 and fleets = 2: name one of the two"),
+            (CITY + "[[grid]]\nvehicles = 501\n", "vehicles=501 fleets=1: 501 vehicles in one, and ridepool takes 500")):
         path.write_text(text)
         refuses(said, "study", path, folder / "out", playing)
     refuses("use: study.py", "study", path)

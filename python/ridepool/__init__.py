@@ -11,6 +11,7 @@ import importlib
 from typing import TYPE_CHECKING, Any
 
 if TYPE_CHECKING:
+    from ridepool.city.day import CityDay, drive_fleets, parted
     from ridepool.days.calls import Audit, audit, drive, load, run
     from ridepool.days.day import Day
     from ridepool.faults import AuditFailed, ProgramFailed, RefusedInput, UnlawfulPlan
@@ -18,6 +19,7 @@ if TYPE_CHECKING:
     from ridepool.inputs.network import Network
     from ridepool.inputs.requests import Requests
     from ridepool.policies.known import CheapestInsertion, NearestFree, Policy, Ridepool
+    from ridepool.policies.matching import OptimalMatching
     from ridepool.policies.simulation import simulate
     from ridepool.policies.state import Asking, Decision, Standing, State, Visit
     from ridepool.sessions.awaited import Alive, alive
@@ -34,12 +36,14 @@ PLACES = {
     "Audit": "days.calls",
     "AuditFailed": "faults",
     "CheapestInsertion": "policies.known",
+    "CityDay": "city.day",
     "Day": "days.day",
     "Decision": "policies.state",
     "Fleet": "inputs.fleet",
     "Live": "sessions.blocking",
     "NearestFree": "policies.known",
     "Network": "inputs.network",
+    "OptimalMatching": "policies.matching",
     "Plan": "sessions.dialogue",
     "Policy": "policies.known",
     "ProgramFailed": "faults",
@@ -55,8 +59,10 @@ PLACES = {
     "alive": "sessions.awaited",
     "audit": "days.calls",
     "drive": "days.calls",
+    "drive_fleets": "city.day",
     "live": "sessions.blocking",
     "load": "days.calls",
+    "parted": "city.day",
     "run": "days.calls",
     "simulate": "policies.simulation",
     "sweep": "study.sweep",

@@ -17,6 +17,8 @@ TOP = pathlib.Path(__file__).resolve().parent.parent.parent
 TOOLS, LINE, TOWN = TOP / "tools", TOP / "examples" / "line", TOP / "examples" / "town"
 PROGRAM = None  # desk.py sets it before the first test; other modules read it as shared.PROGRAM
 PATIENCE = 120
+LONG = ("wait=7200", "delay=7200")  # no rider of a test expires, however slow the machine is
+OWN = 1_000_000  # the least number of a ride that a caller may give
 TESTS = []
 
 
@@ -40,13 +42,13 @@ def until(holds, what, patience=PATIENCE):
 class Desk:
     """A started desk. Its port is a free one; batches are sealed by calls alone, if `every` isn't given."""
 
-    def __init__(self, folder, *arguments, answer=None, most_bytes=None):
-        extra = ["port=0", f"program={PROGRAM}"]
+    def __init__(self, folder, *arguments, answer=None, most_bytes=None, tool=TOOLS / "desk.py", program=True):
+        extra = ["port=0", *([f"program={PROGRAM}"] if program else [])]
         if not {"demo", "every=0"} & set(arguments) and not pathlib.Path(folder, "day.json").exists():
             extra.append("every=0")
         extra = [word for word in extra if not any(it.startswith(word.split("=")[0] + "=") for it in arguments)]
         self.child = subprocess.Popen(
-            [sys.executable, str(TOOLS / "desk.py"), *arguments, f"day={folder}", *extra],
+            [sys.executable, str(tool), *arguments, f"day={folder}", *extra],
             stdin=subprocess.PIPE, stderr=subprocess.PIPE, text=True,
             preexec_fn=most_bytes and (lambda: resource.setrlimit(resource.RLIMIT_FSIZE, (most_bytes, most_bytes))))
         if answer is not None:
@@ -89,6 +91,10 @@ class Desk:
         found, answer = self.call(method, path, body)
         assert (found, answer.get("word")) == (status, word), (method, path, body, found, answer)
         assert answer["text"], answer
+
+    def second(self):
+        """The second of the book."""
+        return self.call("GET", "/health")[1]["second"]
 
     def plan(self):
         """Seals a batch and waits for its plan."""

@@ -9,7 +9,7 @@ import sys
 import time
 
 from desk_parts import shared
-from desk_parts.shared import LINE, PATIENCE, TOP, desk, folder_for_days, inputs, test, until
+from desk_parts.shared import LINE, LONG, PATIENCE, TOP, desk, folder_for_days, inputs, test, until
 
 
 def book(*words):
@@ -92,7 +92,7 @@ def an_overflow_says_that_nothing_was_planned():
 
 @test
 def an_overdue_pickup_is_late_in_each_call():
-    with desk(*inputs(LINE), "wait=7200", "delay=7200", "speed=50", "silent=1") as it:
+    with desk(*inputs(LINE), *LONG, "speed=50", "silent=1") as it:
         it.gives("POST", "/rides", {"from": 2, "to": 4, "time": 0})
         pickup = it.plan()["second"] + 60
         until(lambda: it.call("GET", "/health")[1]["second"] > pickup + 40, "40 s late")
@@ -107,7 +107,7 @@ def an_overdue_pickup_is_late_in_each_call():
 
 @test
 def a_dispatcher_that_does_not_answer_is_told():
-    with desk(*inputs(LINE)) as it, concurrent.futures.ThreadPoolExecutor(1) as pool:
+    with desk(*inputs(LINE), *LONG) as it, concurrent.futures.ThreadPoolExecutor(1) as pool:
         assert it.gives("GET", "/trouble")["count"] == 0
         os.kill(it.live(), signal.SIGSTOP)
         asked = pool.submit(it.call, "POST", "/rides", {"from": 2, "to": 4})
@@ -177,7 +177,7 @@ def a_little_lead_of_a_vehicle_moves_no_clock():
 
 @test
 def a_mistake_is_taken_back_where_the_book_allows_it():
-    with desk(*inputs(LINE), "wait=200", "delay=300") as it:
+    with desk(*inputs(LINE), *LONG) as it:
         it.refuses(409, "no-mistake", "POST", "/vehicles/1/mistake")
         it.gives("POST", "/vehicles/1/position", {"node": 4})
         back = it.gives("POST", "/vehicles/1/mistake")

@@ -52,7 +52,7 @@ def test_the_town(town, day):
     pandas.testing.assert_frame_equal(day.batches[columns], simulated.batches[columns])
 
 
-@pytest.mark.parametrize("policy, most", [(rp.NearestFree(), 1), (rp.CheapestInsertion(), 4)])
+@pytest.mark.parametrize("policy, most", [(rp.NearestFree(), 1), (rp.OptimalMatching(), 1), (rp.CheapestInsertion(), 4)])
 def test_the_policies_that_come_with_it(town, policy, most):
     day = rp.simulate(*town, policy)
     riders = day.riders[day.riders["state"] == "delivered"]
@@ -66,6 +66,43 @@ def test_the_policies_that_come_with_it(town, policy, most):
 def test_pooling_serves_more(town):
     served = [rp.simulate(*town, policy).measures()["served"] for policy in (rp.NearestFree(), rp.CheapestInsertion())]
     assert served[0] < served[1]
+
+
+def test_optimal_matching_is_as_good_as_any(town):
+    """At each seal of the town's day no way to match riders and empty vehicles costs less: all are tried, vehicle by vehicle."""
+    from ridepool.policies.matching import matrix
+
+    class Held(rp.OptimalMatching):
+        seen = 0
+
+        def plan(self, state):
+            decision, free = super().plan(state), [it for it in state.vehicles if not it.aboard]
+            costs = matrix(state, free)
+            if len(state.riders) <= 6:
+                self.seen += len(state.riders) > 1
+                chosen = {order[0].rider: vehicle for vehicle, order in decision.orders.items() if order}
+                columns = {it.vehicle: at for at, it in enumerate(free)}
+                cost = sum(costs[at, columns[chosen[it.rider]] if it.rider in chosen else len(free) + at]
+                           for at, it in enumerate(state.riders))
+                assert cost == least(costs, len(free), 0, frozenset())
+            return decision
+
+    def least(costs, free, rider, taken):
+        if rider == len(costs):
+            return 0
+        ways = [at for at in range(free) if at not in taken] + [free + rider]
+        return min(costs[rider, at] + least(costs, free, rider + 1, taken | {at} if at < free else taken)
+                   for at in ways if costs[rider, at] < 1 << 40)
+
+    held = Held()
+    day = rp.simulate(*town, held)
+    assert held.seen > 3 and day.measures()["served"] >= rp.simulate(*town, rp.NearestFree()).measures()["served"]
+
+
+def test_without_moves_idle_vehicles_stay(town):
+    with_moves, without = (rp.simulate(*town, rp.Ridepool(moves=moves)) for moves in (True, False))
+    assert len(with_moves.moves) and not len(without.moves)
+    assert without.measures()["rebalancing_seconds"] == 0 < with_moves.measures()["rebalancing_seconds"]
 
 
 def asked(*rows):

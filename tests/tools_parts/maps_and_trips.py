@@ -68,7 +68,7 @@ def test_limits_of_maps_and_scripts(folder):
             assert str(fault).startswith("file: ") and text in str(fault), fault
 
 
-SPAN = ("from=2015-01-15T08:00:00", "to=2015-01-15 08:04")
+SPAN = ("from=2015-01-15T08:00:00", "to=2015-01-15 08:04", "zone=UTC")
 
 
 def test_ten_trips(folder):
@@ -114,7 +114,7 @@ def test_trips_that_are_refused(folder):
     refuses("seats=0 is not", "from_trips", trips, nodes, folder, "seats=0")
     refuses("from=soon is neither a date", "from_trips", trips, nodes, folder, "from=soon")
     refuses("from= is not before to=", "from_trips", trips, nodes, folder, "from=10", "to=10")
-    refuses("none of the 19 trips can be used", "from_trips", trips, nodes, folder, "from=10", "to=20")
+    refuses("none of the 19 trips can be used", "from_trips", trips, nodes, folder, "from=10", "to=20", "zone=UTC")
     refuses("the first row is not node,x,y,lon,lat,name", "from_trips", trips, trips, folder)
     refuses("unknown word cars=3", "from_trips", trips, nodes, folder, "cars=3")
     refuses("use: from_trips.py", "from_trips", trips, nodes)

@@ -185,7 +185,7 @@ def test_pictures_of_500_vehicles(folder):
 def test_town_trips(folder):
     """The worked example: its trips become the day's files."""
     works("from_trips", TOWN / "trips.csv", TOWN / "nodes.csv", folder, "vehicles=10",
-          "from=2015-01-15T08:00:00", "to=2015-01-15T08:30:00")
+          "from=2015-01-15T08:00:00", "to=2015-01-15T08:30:00", "zone=UTC")
     for name in ("fleet.csv", "script.csv"):
         assert (folder / name).read_text() == (TOWN / name).read_text(), name
 

@@ -14,6 +14,7 @@ from ridepool.inputs.fleet import Fleet
 from ridepool.inputs.network import Network
 from ridepool.report.batch_frames import BatchFrames
 from ridepool.report.lines import Lines
+from ridepool.report.marks import marks_of
 from ridepool.report.measure import Day as Walk, measure
 from ridepool.report.reader import Entry, Report
 from ridepool.report.riders import Rider, Riders
@@ -210,11 +211,38 @@ class Day:
         return frame_of(rows, MOVE_COLUMNS)
 
     def measures(self) -> "dict[str, float]":
-        """The day in numbers: requests, served, share (of 1), mean_wait, p95_wait, mean_delay, p95_delay (seconds; not a
-        number where nobody was served), shared (riders who shared a vehicle), aboard (mean persons in a vehicle between
-        the first and the last seal), empty_seconds, driven_seconds, batches, overflows, open (batches whose bound is
-        below the cost), largest_gap (percent of the cost)."""
-        return measures_of(measure(self.report, self._direct))
+        """The day in numbers. Their units stand in docs/python/columns.md.
+
+        Of requests: requests, served, share (of 1), refused, over_seats (of more persons than any vehicle has seats),
+        shared (riders who shared a vehicle). Of persons: persons, persons_served, persons_share, aboard (the mean in a
+        vehicle between the first and the last seal). Seconds of riders, not a number where nobody was served: mean_wait,
+        p95_wait, mean_delay, p95_delay, mean_in_car, p95_in_car (the delay less the wait). Seconds of vehicles:
+        empty_seconds, which are approach_seconds and rebalancing_seconds; driven_seconds; driven_a_vehicle. Of batches:
+        batches, overflows, open (those whose bound is below the cost), largest_gap (percent of the cost)."""
+        return measures_of(self.facts, int(self.fleet.seats.max()) if len(self.fleet) else 0)
+
+    @cached_property
+    def facts(self) -> "dict[str, Any]":
+        """What the measures are made of: each rider's seconds, and counts that add up over days."""
+        return measure(self.report, self._direct)
+
+    @property
+    def refusals(self) -> "dict[str, int]":
+        """How many requests were refused, by the book's reason."""
+        return dict(self.facts["refused"])
+
+    @property
+    def aboard_by_minute(self) -> "list[float]":
+        """Persons in a vehicle, the mean over the fleet in each minute up to the last seal."""
+        vehicles = max(1, self.facts["vehicles"])
+        return [seconds / 60 / vehicles for seconds in self.facts["minutes"]]
+
+    @property
+    def marks(self) -> "list[str]":
+        """Why the measures must not be taken as they stand: batches overflowed, or more than one of a hundred requests
+        were refused. Nothing where neither is so."""
+        facts = self.facts
+        return marks_of(facts["requests"], facts["refused"], facts["batches"], facts["overflows"])
 
     def draw(self, batch: Optional[int] = None, service: bool = False) -> Any:
         """A figure of matplotlib: the day of the vehicles, or the map of a batch, or how well each batch serves its
@@ -240,17 +268,31 @@ def reply_row(entry: Entry) -> "tuple[Any, ...]":
             entry.reply)
 
 
-def measures_of(facts: "dict[str, Any]") -> "dict[str, float]":
-    """The facts of a day as single numbers."""
-    waits, delays = np.sort(facts["waits"]), np.sort(facts["delays"])
-    seconds = facts["vehicle_seconds"]
-    found = {"requests": facts["requests"], "served": len(waits),
-             "share": len(waits) / facts["requests"] if facts["requests"] else float("nan")}
-    for name, values in (("wait", waits), ("delay", delays)):
-        at = -(-len(values) * 95 // 100) - 1
-        found[f"mean_{name}"] = float(values.mean()) if len(values) else float("nan")
-        found[f"p95_{name}"] = float(values[at]) if len(values) else float("nan")
-    found.update({"shared": facts["shared"], "aboard": facts["aboard_seconds"] / seconds if seconds else 0.0})
-    found.update({name: facts[name] for name in ("empty_seconds", "driven_seconds", "batches", "overflows", "open")})
+def spread(name: str, values: Any) -> "dict[str, float]":
+    """The mean of some seconds, and what 95 of 100 don't exceed."""
+    values = np.sort(values)
+    at = -(-len(values) * 95 // 100) - 1
+    return {f"mean_{name}": float(values.mean()) if len(values) else float("nan"),
+            f"p95_{name}": float(values[at]) if len(values) else float("nan")}
+
+
+def part(some: float, whole: float, none: float = float("nan")) -> float:
+    """A part of a whole."""
+    return some / whole if whole else none
+
+
+def measures_of(facts: Mapping[str, Any], seats: int) -> "dict[str, float]":
+    """The facts of a day as single numbers. `seats` are those of the fleet's largest vehicle."""
+    served, vehicles = len(facts["waits"]), facts["vehicles"]
+    found = {"requests": facts["requests"], "served": served, "share": part(served, facts["requests"]),
+             **spread("wait", facts["waits"]), **spread("delay", facts["delays"]), **spread("in_car", facts["rides"]),
+             "shared": facts["shared"], "aboard": part(facts["aboard_seconds"], facts["vehicle_seconds"], 0.0)}
+    names = ("empty_seconds", "approach_seconds", "rebalancing_seconds", "driven_seconds", "batches", "overflows", "open")
+    found.update({name: facts[name] for name in names})
+    found["driven_a_vehicle"] = part(facts["driven_seconds"], vehicles)
     found["largest_gap"] = facts["gap"]
+    found.update({name: facts[name] for name in ("persons", "persons_served")})
+    found["persons_share"] = part(facts["persons_served"], facts["persons"])
+    found["refused"] = sum(facts["refused"].values())
+    found["over_seats"] = sum(times for persons, times in facts["parties"].items() if int(persons) > seats)
     return found

@@ -1,11 +1,12 @@
 """Drives one day by the program, wherever this is, and measures its report.
 
-Dask sends this file to its workers, with measure.py, report.py and words.py, so all of them stand on Python alone.
+Dask sends this file to its workers, with those that it imports, so all of them stand on Python alone.
 """
 
 import os
 import pathlib
 import resource
+import shutil
 import signal
 import subprocess
 import tempfile
@@ -13,23 +14,28 @@ import time
 import zlib
 from typing import Any, Dict, List, Mapping, NamedTuple, Optional, Tuple
 
+from ridepool.days.batch_times import batch_times
 from ridepool.report.measure import measure
-from ridepool.report.reader import read_report
+from ridepool.report.reader import Report, read_report
 from ridepool.words import Fault
 
 DIES_WITH_ITS_WORKER = ("setpriv", "--pdeathsig", "KILL")
-LOOK = 0.05
+# How often a running program is looked at: soon after its start, since small days are over in milliseconds.
+FIRST_LOOK, LAST_LOOK = 0.001, 0.05
 
 
 class Task(NamedTuple):
-    """A day: its fleet and script as texts, the words of the call, the least seconds of each rider's ride by rider, and
-    how long the program may take."""
+    """A day: its fleet and script as texts, the words of the call, the least seconds of each rider's ride by rider, how
+    long the program may take, and whether each batch is timed, by another run of the same day. The day of a city whose
+    riders go from fleet to fleet has `fleets` in place of one."""
 
     fleet: str
     script: str
     words: Tuple[str, ...]
     direct: Mapping[int, int]
     limit: Optional[int]
+    timed: bool = False
+    fleets: Tuple[str, ...] = ()
 
 
 class NotDriven(Exception):
@@ -40,17 +46,27 @@ class Stopped(NotDriven):
     """The day ran longer than it may."""
 
 
-def placed(where: str, program: bytes, network: bytes, task: Task) -> List[str]:
-    """Writes the program and the files of a day into a folder. Gives the words of the call. The program and the network
-    are compressed, since they are sent with every day."""
+def place_town(where: str, program: bytes, network: bytes) -> None:
+    """Writes the program and the network into a folder. Both are compressed, since they were sent."""
     folder = pathlib.Path(where)
     (folder / "ridepool").write_bytes(zlib.decompress(program))
     (folder / "ridepool").chmod(0o700)
     (folder / "network.csv").write_bytes(zlib.decompress(network))
+
+
+def without_orphans() -> Tuple[str, ...]:
+    """The words that end a program with the worker that called it; none where there is no setpriv."""
+    return DIES_WITH_ITS_WORKER if shutil.which(DIES_WITH_ITS_WORKER[0]) else ()
+
+
+def placed(where: str, town: str, task: Task) -> List[str]:
+    """Writes the files of a day into a folder. Gives the words of the call, from the folder that has program and
+    network."""
+    folder = pathlib.Path(where)
     (folder / "fleet.csv").write_text(task.fleet)
     (folder / "script.csv").write_text(task.script)
-    files = [f"{name}={name}.csv" for name in ("network", "fleet", "script")]
-    return [*DIES_WITH_ITS_WORKER, str(folder / "ridepool"), "drive", *files, *task.words]
+    files = [f"network={town}/network.csv", "fleet=fleet.csv", "script=script.csv"]
+    return [*without_orphans(), f"{town}/ridepool", "drive", *files, *task.words]
 
 
 def peak_of(process: int) -> int:
@@ -69,13 +85,14 @@ def waited(process: "subprocess.Popen[bytes]", limit: Optional[int]) -> Tuple[fl
     What the system counts as a process's peak is at least that of this Python, which it began as; where it is no more
     than that, the peak is what was last seen, or None where the process was too short to be seen.
     """
-    begun, peak, stopped, pid = time.monotonic(), 0, False, 0
+    begun, peak, stopped, pid, look = time.monotonic(), 0, False, 0, FIRST_LOOK
     while not pid:
         peak = max(peak, peak_of(process.pid))
         if limit and not stopped and time.monotonic() - begun > limit:
             stopped = True
             os.kill(process.pid, signal.SIGKILL)
-        time.sleep(LOOK)
+        time.sleep(look)
+        look = min(2 * look, LAST_LOOK)
         pid, status, usage = os.wait4(process.pid, os.WNOHANG)
     process.returncode = os.waitstatus_to_exitcode(status)
     if usage.ru_maxrss > resource.getrusage(resource.RUSAGE_SELF).ru_maxrss:
@@ -87,19 +104,32 @@ def waited(process: "subprocess.Popen[bytes]", limit: Optional[int]) -> Tuple[fl
 def drive(program: bytes, network: bytes, task: Task) -> Dict[str, Any]:
     """The facts of one day, with the seconds and the memory that it took; NotDriven where it has no report."""
     with tempfile.TemporaryDirectory(prefix="ridepool-study-") as folder:
-        command = placed(folder, program, network, task)
+        place_town(folder, program, network)
+        return drive_in(folder, task)
+
+
+def drive_in(town: str, task: Task) -> Dict[str, Any]:
+    """The same, with the program and the network that lie in a folder."""
+    with tempfile.TemporaryDirectory(prefix="ridepool-study-") as folder:
+        command, begun = placed(folder, town, task), time.monotonic()
         with open(f"{folder}/report", "wb") as out, open(f"{folder}/errors", "wb") as errors:
             process = subprocess.Popen(command, cwd=folder, stdin=subprocess.DEVNULL, stdout=out, stderr=errors)
         seconds, memory, stopped = waited(process, task.limit)
+        took = time.monotonic() - begun
         if process.returncode != 0:
             said = pathlib.Path(folder, "errors").read_text(errors="replace")
             raise reason(process.returncode, task.limit if stopped else None, " ".join(said.split()))
-        try:
-            report = read_report(f"{folder}/report")
-        except Fault as fault:
-            raise NotDriven(str(fault).removeprefix(f"{folder}/")) from None
-    facts = measure(report, task.direct)
-    return {**facts, "seconds": seconds, "memory": memory}
+        report = read(folder)
+        times = batch_times(folder, command, report) if task.timed else None
+    return {**measure(report, task.direct), "seconds": seconds, "memory": memory, "wall": took, "batch_seconds": times}
+
+
+def read(folder: str) -> Report:
+    """The report in a folder; NotDriven where it is none."""
+    try:
+        return read_report(f"{folder}/report")
+    except Fault as fault:
+        raise NotDriven(str(fault).removeprefix(f"{folder}/")) from None
 
 
 def reason(status: int, limit: Optional[int], said: str) -> NotDriven:

@@ -1,7 +1,6 @@
 """A dispatcher's desk: a page with a map and calls over HTTP, around a running `ridepool live`."""
 
 import asyncio
-import importlib.metadata
 import os
 import pathlib
 import signal
@@ -11,25 +10,30 @@ import tempfile
 import time
 
 from ridepool import program
+from ridepool.desk import log
 from ridepool.inputs.tables import MOST_NUMBER, read_network, read_nodes, read_table, whole, FLEET
-from ridepool.words import DESK_INSTALL, Fault, need, number, run_tool, split_words
+from ridepool.words import DESK_INSTALL, Fault, fail, need, number, run_tool, split_words
 
 USAGE = """use: %(prog)s demo [words]
      %(prog)s network=network.csv nodes=nodes.csv fleet=fleet.csv [day=FOLDER] [words]
      %(prog)s day=FOLDER [words]                     goes on with a day
-words: port=8000 host=127.0.0.1 name=HOSTNAME[,..] token=FILE tiles=https://PLACE/{z}/{x}/{y}.png
+     %(prog)s token role=ROLE [vehicle=N] [ride=N]   makes a token: dispatcher, driver, rider or reader
+     %(prog)s token [withdraw=ID]                    lists the tokens, or withdraws one; all three take tokens=FILE
+words: port=8000 host=127.0.0.1 name=HOSTNAME[,..] tokens=FILE token=FILE tiles=https://PLACE/{z}/{x}/{y}.png
        every=30 silent=10 speed=1 far=500 drivers=1 riders=1 seed=1 program=FILE
        and the settings of live: wait delay trip penalty budget pairs workers proof dwell times"""
 SHORT = "%(prog)s --help lists the words"
 SETTINGS = ("wait", "delay", "trip", "penalty", "budget", "pairs", "workers", "proof", "dwell", "times")
 INPUTS = ("network", "nodes", "fleet")
-WORDS = SETTINGS + INPUTS + ("day", "port", "host", "name", "token", "tiles", "every", "silent", "speed", "far",
+WORDS = SETTINGS + INPUTS + ("day", "port", "host", "name", "token", "tokens", "tiles", "every", "silent", "speed", "far",
                              "drivers", "riders", "seed", "program")
+TOKEN_WORDS = ("tokens", "role", "vehicle", "ride", "withdraw")
 FREE = ("workers", "every")  # what may change from opening to opening, since no reply depends on it
 FIXED = (*(it for it in SETTINGS if it not in FREE), "speed")
 STATUS_ENDED = 3
 FAREWELL = 1.0  # real seconds in which callers still hear why the desk ends
 MOST_LEAD = 900  # seconds that a position or a stop may lie ahead
+ACCESS = "access.log"  # in the day's folder
 LOOPBACK = ("127.0.0.1", "localhost", "::1")
 DEMO = {"every": "30", "speed": "10", "drivers": "1", "riders": "1", "wait": "420", "delay": "600"}
 
@@ -67,10 +71,12 @@ def day_of(values):
         if len(given) < len(INPUTS):
             raise Fault(f"{folder.path}: no day began there; give network=, nodes= and fleet=")
         folder.begin(values, description_of(values))
-        print(f"desk: a day begins; {', '.join(FREE)} may be others when it is opened again. All other settings are "
-              "those of the whole day, since its report has one line of settings", file=sys.stderr)
+        log.say(f"a day begins; {', '.join(FREE)} may be others when it is opened again. All other settings are those of "
+                "the whole day, since its report has one line of settings")
         return folder
     hold_inputs(folder, given, values)
+    if changed := folder.changed_inputs():
+        raise Fault(f"{folder.input(changed[0])}: the file isn't that with which the day began")
     hold_settings(folder, values)
     return folder
 
@@ -78,7 +84,7 @@ def day_of(values):
 def hold_settings(folder, values):
     """A day goes on with its own settings but for those on which no reply depends: they are taken as given."""
     before = folder.description
-    now = {**description_of({**described(folder), **values}), "began": before["began"]}
+    now = {**before, **description_of({**described(folder), **values}), "began": before["began"]}
     if fixed(now) != fixed(before):
         raise Fault(f"{folder.path}: the day there has other settings: {' '.join(words_of(before))}. "
                     f"Of them {' and '.join(FREE)} can be changed")
@@ -151,21 +157,30 @@ def clock_of(folder, kept):
     least = last_second(kept, time.time() - began)
     clock = Clock(began, speed, least)
     if clock.behind >= 1:
-        print(f"desk: this machine's clock is {clock.behind:.0f} s behind the day's last second; "
-              f"the day goes on from second {least}", file=sys.stderr)
+        log.say(f"this machine's clock is {clock.behind:.0f} s behind the day's last second; the day goes on from second "
+                f"{least}", log.WARNING)
     return clock
 
 
-def token_of(values):
-    """The bearer token that writing calls need; required where others than this machine can call."""
-    if "token" not in values:
-        if values.get("host", LOOPBACK[0]) not in LOOPBACK:
-            raise Fault("host= needs token=FILE: whoever reaches the desk could send commands")
+def tokens_of(values):
+    """The tokens that calls need; required where others than this machine can call."""
+    from ridepool.desk.tokens import LEAST_LETTERS, Tokens
+
+    if "token" not in values and "tokens" not in values:
+        if is_open(values):
+            raise Fault("host= needs tokens=FILE or token=FILE: whoever reaches the desk could send commands")
         return None
+    if "token" not in values:
+        return Tokens(None, pathlib.Path(values["tokens"]))
     token = pathlib.Path(values["token"]).read_text(encoding="utf-8").strip()
-    if len(token) < 16 or not token.isascii() or len(token.split()) != 1:
-        raise Fault(f"{values['token']}: a token is one word of at least 16 letters and digits")
-    return token
+    if len(token) < LEAST_LETTERS or not token.isascii() or len(token.split()) != 1:
+        raise Fault(f"{values['token']}: a token is one word of at least {LEAST_LETTERS} letters and digits")
+    return Tokens(token, pathlib.Path(values["tokens"]) if "tokens" in values else None)
+
+
+def is_open(values):
+    """Whether others than this machine can call."""
+    return values.get("host", LOOPBACK[0]) not in LOOPBACK
 
 
 def hosts_of(host, port, names):
@@ -179,7 +194,9 @@ def hosts_of(host, port, names):
 
 def bound(host, port):
     """A socket of the desk's address."""
-    listener = socket.socket(socket.AF_INET6 if ":" in host else socket.AF_INET, socket.SOCK_STREAM)
+    family = socket.AF_INET6 if ":" in host else socket.AF_INET
+    # asyncio sends small answers at once where the socket says that it is TCP's.
+    listener = socket.socket(family, socket.SOCK_STREAM, socket.IPPROTO_TCP)
     listener.setsockopt(socket.SOL_SOCKET, socket.SO_REUSEADDR, 1)
     try:
         listener.bind((host, port))
@@ -208,12 +225,34 @@ def asked(found, path):
     return sys.stdin.readline().strip().lower() in ("y", "yes")
 
 
+def rebuild_asked(folder):
+    """Whether the operator has the transcript made anew of the rows."""
+    print(f"{folder.path}: the transcript is missing or empty, and rows.csv has {len(folder.kept_rows())} rows of this day",
+          file=sys.stderr)
+    print("Make the transcript anew of these rows? (yes/no) ", end="", file=sys.stderr, flush=True)
+    return sys.stdin.readline().strip().lower() in ("y", "yes")
+
+
+async def rebuilt(dispatcher, folder):
+    """Makes a lost transcript anew, where the operator wants it: it is never taken for that of a new day."""
+    from ridepool.desk.dispatcher import Unavailable
+
+    if not await asyncio.to_thread(rebuild_asked, folder):
+        raise Fault("the day was left as it is; put the transcript back, or answer yes")
+    try:
+        await dispatcher.rebuild()
+    except Unavailable as fault:
+        raise Fault(str(fault)) from None
+    dispatcher.go_on()
+    log.say(f"the transcript was made anew of {folder.path}/rows.csv", log.WARNING)
+
+
 async def replayed(dispatcher, folder, kept):
     """Gives the day so far to `live`."""
     from ridepool.desk.dispatcher import Unavailable
 
     if kept:
-        print(f"desk: giving {len(kept)} lines of {folder.path} to ridepool live", file=sys.stderr)
+        log.say(f"giving {len(kept)} lines of {folder.path} to ridepool live")
     try:
         found = await dispatcher.begin()
     except Unavailable as fault:
@@ -234,14 +273,17 @@ async def opened(values, folder):
     watch = Watch(folder.description["every"], 60 * number(values, "silent", 0, 1440, 10))
     dispatcher = Dispatcher(values.get("program") or program.path(), words, folder,
                             lambda: fleet_of(folder.input("fleet")), clock_of(folder, kept), watch)
-    await replayed(dispatcher, folder, kept)
+    if folder.has_lost_transcript():
+        await rebuilt(dispatcher, folder)
+    else:
+        await replayed(dispatcher, folder, kept)
     return dispatcher
 
 
 async def serve(values):
     """Opens the desk, until it is told to end. Gives the status with which it ends."""
     host, port = values.get("host", LOOPBACK[0]), number(values, "port", 0, 65_535, 8000)
-    token, (tiles, tiles_place) = token_of(values), tiles_of(values)
+    tokens, (tiles, tiles_place) = tokens_of(values), tiles_of(values)
     listener = bound(host, port)
     port, folder = listener.getsockname()[1], day_of(values)
     try:
@@ -251,11 +293,15 @@ async def serve(values):
         folder.forget_unbegun()
         raise
     hosts = hosts_of(host, port, [it for it in values.get("name", "").split(",") if it])
-    page = {"needs_token": token is not None, "tiles": tiles, "drivers": number(values, "drivers", 0, 1, 0) == 1}
-    from ridepool.desk.guard import Guard
+    page = {"needs_token": tokens is not None, "tiles": tiles, "drivers": number(values, "drivers", 0, 1, 0) == 1}
+    from ridepool.desk.access import AccessLog
+    from ridepool.desk.guard import Guard, Who
     from ridepool.desk.web import Desk, make_app
 
-    app = Guard(make_app(Desk(dispatcher, places, streets, page)), hosts, token, tiles_place)
+    # Where it has other names, a server may stand before it that others can call.
+    reading = is_open(values) or "name" in values or "tokens" in values
+    who = Who(tokens, reading, AccessLog(folder.path / ACCESS))
+    app = Guard(make_app(Desk(dispatcher, places, streets, page)), hosts, who, tiles_place)
     return await run_desk(dispatcher, app, listener, clients_of(values, folder, dispatcher, places, streets))
 
 
@@ -278,8 +324,13 @@ async def run_desk(dispatcher, app, listener, clients):
     """Serves the page and the calls. Gives the status with which the desk ends."""
     import uvicorn
 
-    config = uvicorn.Config(app, log_level="error", access_log=False, lifespan="off", timeout_keep_alive=30,
-                            limit_concurrency=1000)
+    from uvicorn.protocols.http.auto import AutoHTTPProtocol
+
+    from ridepool.desk.connections import Connections, allow_files, limited
+
+    allow_files()
+    config = uvicorn.Config(app, log_level="error", access_log=False, lifespan="off", timeout_keep_alive=30, ws="none",
+                            http=limited(AutoHTTPProtocol, Connections()))
     server = uvicorn.Server(config)
     tasks = [dispatcher.spawn(it) for it in clients]
     try:
@@ -298,7 +349,7 @@ def status_of(dispatcher):
 
     fault = dispatcher.failed.result() if dispatcher.failed.done() else None
     if isinstance(fault, Ended):
-        print(f"desk: the desk ends: {fault}", file=sys.stderr)
+        log.say(f"the desk ends: {fault}", log.ERROR)
         return STATUS_ENDED
     if fault is not None:
         raise fault
@@ -311,7 +362,7 @@ async def ended(server, listener, dispatcher):
     while not server.started and not serving.done():
         await asyncio.sleep(0.01)
     host, port = listener.getsockname()[:2]
-    print(f"desk: http://{host}:{port} keeps its day in {dispatcher.folder.path}", file=sys.stderr, flush=True)
+    log.say(f"http://{host}:{port} keeps its day in {dispatcher.folder.path}")
 
     def stop():
         if server.should_exit:  # a second signal doesn't wait for a batch that is being solved
@@ -332,12 +383,14 @@ async def ended(server, listener, dispatcher):
 
 def open_desk(arguments):
     """The tool."""
+    if arguments[:1] == ["token"]:
+        from ridepool.desk.tokens import token_tool
+
+        plain, values = split_words(arguments[1:], TOKEN_WORDS, SHORT)
+        return token_tool(values) if not plain else fail(SHORT)
     plain, values = split_words(arguments, WORDS, SHORT)
     values = with_demo(plain, values)
     need("fastapi", "uvicorn", install=DESK_INSTALL)
-    version = importlib.metadata.version("pydantic")
-    if not version.startswith("1."):
-        raise Fault(f"the desk needs pydantic 1, as Debian 12 has it; here is {version}")
     if not os.path.exists("/usr/share/javascript/leaflet/leaflet.js"):
         raise Fault(f"there is no Leaflet for the map: {DESK_INSTALL}")
     sys.exit(asyncio.run(serve(values)))

@@ -2,11 +2,13 @@
 
 import asyncio
 import json
-import sys
 import time
 from collections import Counter, deque
 
-from ridepool.desk import replay
+from ridepool.desk import log, replay
+from ridepool.desk.metrics import Meter
+from ridepool.desk.numbers import FIRST_OWN
+from ridepool.desk.folder import HEAD_LINES
 from ridepool.desk.trouble import MOST_SHOWN, Trouble
 from ridepool.sessions.process import Live
 from ridepool.sessions.rows import entrys_row, lane_of, row_of
@@ -74,7 +76,7 @@ class Dispatcher:
 
     def __init__(self, program, words, folder, fleet, clock, watch):
         self.program, self.words, self.folder, self.fleet, self.clock = program, words, folder, fleet, clock
-        self.watch, self.failed = watch, asyncio.get_running_loop().create_future()
+        self.watch, self.failed, self.meter = watch, asyncio.get_running_loop().create_future(), Meter()
         self.status, self.why = "starting", "the dispatcher is starting"
         self.restarts, self.listeners, self.places = 0, set(), {}
         self.before_seal, self.sealing = [], asyncio.Lock()
@@ -82,6 +84,7 @@ class Dispatcher:
         self.live, self.told = None, asyncio.Condition()
         self.hang, self.stopped_since, self.sync_began, self.troubles_told = None, None, None, []
         self.clear()
+        self.meter.watch(self)
 
     def clear(self):
         """What a new `live` begins with."""
@@ -90,8 +93,18 @@ class Dispatcher:
         self.sent, self.ran, self.numbers = 0, 0, {}
         self.solving_since, self.solved_in = None, {}
         self.next_ride, self.lines, self.tally = 1, None, Counter()
+        self.numbers_of_fleet = sorted(self.state.vehicles)
 
     # Beginning, going on and ending
+
+    async def rebuild(self):
+        """Starts `live` and gives it the rows that were kept, each batch closed before the next row is sent."""
+        await self.start_live("the transcript is made anew")
+        for piece in replay.pieces_of_rows(self.folder.kept_rows()):
+            self.live.send(piece)
+            self.sent += piece.count("\n")
+            await self.until(lambda: self.status == "ended" or self.ran == self.sent and self.state.sealing is None)
+        await self.head()
 
     async def begin(self):
         """Starts `live` and gives it the day so far. Gives the Difference where it answers otherwise.
@@ -108,17 +121,24 @@ class Dispatcher:
 
     async def replay(self, kept):
         """Starts `live` and sends it the rows of a transcript."""
-        self.clear()
-        self.lines, self.status = [], "starting"
-        self.why = f"the dispatcher is starting; the day so far has {len(kept)} lines"
-        self.live = Live(self.program, self.words, self.on_lines, self.on_refused, self.on_end)
-        await self.live.start()
-        self.watched(self.live.reading)
+        await self.start_live(f"the day so far has {len(kept)} lines")
         for rows, batch in replay.pieces(kept):
             self.live.send(rows)
             self.sent += rows.count("\n")
             await self.until(lambda: self.status == "ended" or self.has_run(batch))
-        await self.until(lambda: self.status == "ended" or len(self.lines) >= 4)
+        await self.head()
+
+    async def start_live(self, why):
+        """Starts `live`."""
+        self.clear()
+        self.lines, self.status, self.why = [], "starting", f"the dispatcher is starting; {why}"
+        self.live = Live(self.program, self.words, self.on_lines, self.on_refused, self.on_end)
+        await self.live.start()
+        self.watched(self.live.reading)
+
+    async def head(self):
+        """Waits for the transcript's first lines."""
+        await self.until(lambda: self.status == "ended" or len(self.lines) >= HEAD_LINES)
         if self.status == "ended":
             raise Unavailable(self.why)
 
@@ -169,10 +189,16 @@ class Dispatcher:
         self.live.send(row_of(lane, command, fields, party))
         return await waiting.answer
 
+    def fleet_numbers(self):
+        """The vehicles' numbers in their order."""
+        return self.numbers_of_fleet
+
     def new_ride(self):
-        """The least number that no ride has and that was not given out before."""
+        """The least number that no ride has and that was not given out before. Callers' own numbers begin above."""
         while self.next_ride in self.state.rides:
             self.next_ride += 1
+        if self.next_ride >= FIRST_OWN:
+            raise Unavailable(f"all numbers of rides below {FIRST_OWN:,} were given in this day")
         self.next_ride += 1
         return self.next_ride - 1
 
@@ -255,6 +281,7 @@ class Dispatcher:
         """Takes the time from a seal to its block."""
         if change.batch is not None:
             seconds = time.monotonic() - self.solving_since
+            self.meter.planned(seconds)
             self.state.batches[change.batch.number]["seconds"] = round(seconds, 3)
             self.solving_since = None
         elif change.entry.command == "seal" and self.state.sealing is not None:
@@ -276,6 +303,7 @@ class Dispatcher:
                 break
             for answers, events in pieces:
                 for waiting, entry in answers:
+                    self.meter.answered(time.monotonic() - waiting.sent)
                     if not waiting.answer.done():
                         waiting.answer.set_result(entry)
                 for change in events:
@@ -316,7 +344,7 @@ class Dispatcher:
 
     def go_on_after(self, text):
         """Starts `live` again after an end or a failed start; after three times the desk ends."""
-        print(f"desk: {text}", file=sys.stderr)
+        log.say(text, log.ERROR)
         if self.restarts == MOST_RESTARTS:
             return self.give_up(f"{text}; it was started again {MOST_RESTARTS} times already")
         self.set_status("starting", f"{text}; it is started again")
@@ -338,7 +366,7 @@ class Dispatcher:
         if found is not None:
             await self.live.kill()
             return self.give_up(f"the replies differ at {found}; start the desk again to decide")
-        print("desk: ridepool live goes on from the folder", file=sys.stderr)
+        log.say("ridepool live goes on from the folder")
 
     def give_up(self, text):
         """Ends the desk, since `live` can't go on."""
@@ -371,7 +399,7 @@ class Dispatcher:
         """Looks once."""
         before, self.hang = self.hang, self.hanging()
         if before != self.hang:
-            print(f"desk: {self.hang or 'nothing hangs any more'}", file=sys.stderr)
+            log.say(self.hang or "nothing hangs any more", log.ERROR if self.hang else log.INFO)
             self.publish("status", self.health())
         found = self.troubles()
         if found != self.troubles_told:
@@ -504,8 +532,9 @@ class Dispatcher:
         ahead = [it for it in state.rides.values() if it.state not in ENDED]
         over = [it for it in list(state.rides.values())[-200:] if it.state in ENDED]
         batches = [state.batches[it] for it in sorted(state.batches)[-20:]]
-        return {**self.health(), "delivered": self.tally["delivered"], "troubles": self.trouble_view(), "rides": [it.view() for it in over + ahead],
-                "vehicles": [self.vehicle_view(it) for it in sorted(state.vehicles)], "last_batches": batches}
+        return {**self.health(), "delivered": self.tally["delivered"], "troubles": self.trouble_view(),
+                "rides": [it.view() for it in over + ahead],
+                "vehicles": [self.vehicle_view(it) for it in self.numbers_of_fleet], "last_batches": batches}
 
 
 def event_text(kind, value):

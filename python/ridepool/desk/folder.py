@@ -2,6 +2,7 @@
 
 import contextlib
 import fcntl
+import hashlib
 import json
 import os
 import pathlib
@@ -12,18 +13,28 @@ from ridepool.words import Fault
 
 INPUTS = ("network", "fleet", "nodes")
 DESCRIPTION, ROWS, TRANSCRIPT = "day.json", "rows.csv", "transcript"
+HEAD_LINES = 4  # of a transcript, before the first round
 KINDS = {"settings": list, "speed": int, "every": int, "began": (int, float)}
 
 
-def write_whole(path, text):
+def write_whole(path, text, mode=0o666):
     """Writes a file that is there whole or not at all, whenever the machine stops."""
     part = path.with_name(path.name + ".part")
-    with open(part, "w", encoding="utf-8") as file:
+    part.unlink(missing_ok=True)
+    with open(os.open(part, os.O_WRONLY | os.O_CREAT | os.O_EXCL, mode), "w", encoding="utf-8") as file:
         file.write(text)
         file.flush()
         os.fsync(file.fileno())
     os.replace(part, path)
     sync_folder(path.parent)
+
+
+def checksum_of(path):
+    """The SHA-256 of a file; a word that is none where it can't be read."""
+    try:
+        return hashlib.sha256(path.read_bytes()).hexdigest()
+    except OSError:
+        return "missing"
 
 
 def sync_folder(path):
@@ -75,7 +86,7 @@ class Folder:
         try:
             for path, given in copies.items():
                 shutil.copyfile(given, path)
-            self.describe(description)
+            self.describe({**description, "inputs": {name: checksum_of(self.input(name)) for name in INPUTS}})
         except OSError:
             self.forget_unbegun()
             raise
@@ -91,9 +102,25 @@ class Folder:
             for path in self.begun:
                 path.unlink(missing_ok=True)
 
+    def changed_inputs(self):
+        """The inputs that aren't those with which the day began. Days of older desks have no checksums."""
+        return [name for name, checksum in self.description.get("inputs", {}).items()
+                if name in INPUTS and checksum_of(self.input(name)) != checksum]
+
     def input(self, name):
         """The day's own copy of an input."""
         return self.path / f"{name}.csv"
+
+    def has_lost_transcript(self):
+        """Whether rows were kept, and the transcript is missing or has lost its first lines, which are written at once."""
+        path = self.path / TRANSCRIPT
+        head = path.read_bytes().count(b"\n", 0, 4096) if path.exists() else 0
+        return head < HEAD_LINES and (self.path / ROWS).exists()
+
+    def kept_rows(self):
+        """The whole rows of the script that stands beside the transcript."""
+        lines = (self.path / ROWS).read_text(encoding="ascii", errors="replace").split("\n")[1:-1]
+        return [line + "\n" for line in lines]
 
     def kept_lines(self):
         """The whole lines of the transcript so far, but for last ones that answer no row: `done N`, where the day

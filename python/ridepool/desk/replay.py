@@ -35,6 +35,18 @@ def pieces(lines):
     return found + [("".join(rows), None)]
 
 
+def pieces_of_rows(rows):
+    """The rows of a script in pieces, each of which ends with a seal."""
+    piece = ""
+    for row in rows:
+        piece += row
+        if row.split(",")[2:3] == ["seal"]:
+            yield piece
+            piece = ""
+    if piece:
+        yield piece
+
+
 def has_rows_among_batches(lines):
     """Whether rows came while a batch was open."""
     return any(batch is not None and rows.count("\n") > 1 for rows, batch in pieces(lines))

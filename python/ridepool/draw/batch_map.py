@@ -181,9 +181,27 @@ def draw_stops(canvas, ways, ground, taken):
                 *zip(*(place for place, _ in shown)), s=(1.25 * MARK) ** 2, marker=shape, zorder=5, gid=name,
                 color=[colour_of(rank) for _, rank in shown], edgecolors="white", linewidths=0.8)
     for (x, y), (rank, order, stop) in zip(placed, stops):
+        canvas.axes.text(x, y - MARK / canvas.scale, f"{ways[rank].trip.vehicle}", color=style.DARK, fontsize=4.5, ha="center",
+                         va="center", zorder=6, gid=f"stop-of-{ways[rank].trip.vehicle}")
         lift = (-1.2 if stop.kind == "pick" else 1.2) / canvas.scale
         canvas.axes.text(x, y + lift, str(order), color=ink_on(colour_of(rank)), fontsize=6.5, ha="center",
                          va="center_baseline", zorder=6)
+
+
+def bar_metres(metres):
+    """The length of a scale bar: the longest of 1, 2 and 5 with noughts that is at most so many metres."""
+    least = 10 ** math.floor(math.log10(metres))
+    return max(times * least for times in (1, 2, 5) if times * least <= metres)
+
+
+def draw_scale(canvas):
+    """A bar of so many metres, at the lower left."""
+    (west, east), (south, north) = canvas.axes.get_xlim(), canvas.axes.get_ylim()
+    metres = bar_metres((east - west) / 4)
+    x, y = west + 0.02 * (east - west), south + 0.02 * (north - south)
+    canvas.axes.plot([x, x + metres], [y, y], color=style.DARK, linewidth=2, solid_capstyle="butt", zorder=8, gid="scale")
+    text = f"{metres:,.0f} m" if metres < 1000 else f"{metres / 1000:,.0f} km"
+    canvas.axes.text(x, y + 3 / canvas.scale, text, color=style.DARK, fontsize=7, va="bottom", zorder=8)
 
 
 def draw_vehicles(canvas, named, before, ground):
@@ -255,6 +273,7 @@ def draw(report, number, ground):
     draw_lines(canvas, named)
     draw_stops(canvas, named, ground, taken)
     draw_vehicles(canvas, named, before, ground)
+    draw_scale(canvas)
     unknown_moves = draw_left(canvas, batch, requests, before, ground)
     key(canvas, named, others, batch, before)
     canvas.axes.text(1.03, 0.0, notes(ways, unknown_moves), transform=canvas.axes.transAxes, fontsize=8,

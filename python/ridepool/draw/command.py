@@ -7,9 +7,10 @@ from ridepool.inputs.tables import MOST_NUMBER
 from ridepool.words import Fault, need, number, run_tool, split_words
 
 USAGE = ("use: %(prog)s REPORT day|service|batch=N [nodes=nodes.csv|made=1] [network=network.csv] "
-         "[fleet=fleet.csv] OUT.svg|png|pdf, or %(prog)s cells.csv study [SETTING=VALUE ..] OUT.svg|png|pdf")
+         "[fleet=fleet.csv] [dark=1] OUT.svg|png|pdf, or %(prog)s cells.csv study [SETTING=VALUE ..] [dark=1] "
+         "OUT.svg|png|pdf")
 PICTURES = ("day", "service", "study")
-WORDS = ("batch", "nodes", "network", "fleet", "made")
+WORDS = ("batch", "nodes", "network", "fleet", "made", "dark")
 
 
 def which_picture(plain, values):
@@ -46,13 +47,16 @@ def picture_of(kind, path, values):
 
 def convert(arguments):
     """The tool."""
-    plain, values = split_words(arguments, (*WORDS, *SETTINGS), USAGE)
+    plain, values = split_words(arguments, (*WORDS, *SETTINGS, "split"), USAGE)
     kind, (path, out) = which_picture(plain, values)
     need("matplotlib", "scipy")
     from ridepool.draw import style
 
     style.check_ending(out)
-    style.write(picture_of(kind, path, values), out)
+    picture = picture_of(kind, path, values)
+    if number(values, "dark", 0, 1, 0):
+        style.darken(picture)
+    style.write(picture, out)
 
 
 def main():

@@ -6,6 +6,8 @@ from dataclasses import dataclass
 from matplotlib.ticker import MaxNLocator
 
 from ridepool.draw import style
+from ridepool.report.marks import refusals_text
+from ridepool.report.measure import refused_of
 from ridepool.words import Fault
 
 WIDTH, HEIGHT = 9.0, 9.5
@@ -14,7 +16,9 @@ GAP = "gap,\n% of cost"
 
 @dataclass(frozen=True)
 class Service:
-    """What a batch's plan gives its riders. Waits are of its pickups, delays of its drop-offs.
+    """What a batch's plan gives its riders. Waits are of its pickups, delays of its drop-offs. `served` are those whom no
+    batch before has picked up in its plan: a rider whose vehicle comes some batches later stands in each of their plans,
+    and counts once.
 
     `worst_delay` is None where no network tells how long each ride takes at least.
     """
@@ -44,15 +48,28 @@ def delay_of(stop, requests, direct):
     return max(0.0, stop.second - requests[stop.rider].second - direct[stop.rider])
 
 
-def service_of(batch, requests, direct):
-    """A batch's service."""
+def picked_by(batch):
+    """The riders whom a batch's plan picks up."""
+    return {stop.rider for trip in batch.plans() for stop in trip.stops if stop.kind == "pick"}
+
+
+def services_of(report, requests, direct):
+    """The service of each batch."""
+    seen = set()
+    for batch in report.batches:
+        yield service_of(batch, requests, direct, seen)
+        seen |= picked_by(batch)
+
+
+def service_of(batch, requests, direct, seen=frozenset()):
+    """A batch's service. `seen` are the riders whom a batch before has in its plan."""
     stops = [stop for trip in batch.plans() for stop in trip.stops]
     drops = [stop for stop in stops if stop.kind == "drop"]
     waits = [stop.second - requests[stop.rider].second for stop in stops if stop.kind == "pick"]
     delays = [delay_of(drop, requests, direct) for drop in drops if drop.rider in direct]
     total = sum(trip.delay for trip in batch.plans())
     return Service(
-        batch.number, len(waits), len(batch.out), tuple(waits),
+        batch.number, len(picked_by(batch) - seen), len(batch.out), tuple(waits),
         total / len(drops) if drops else math.nan, max(delays, default=math.nan),
         math.nan if batch.cost is None else batch.cost, math.nan if batch.bound is None else batch.bound,
         batch.counts["row"])
@@ -64,7 +81,7 @@ def looks(numbers):
 
 
 def draw_served(axes, numbers, services, overflows):
-    """Riders that the plan picks up, and riders left out on top of them."""
+    """Riders whom a plan picks up first, and riders left out on top of them."""
     served, out = [s.served for s in services], [s.out for s in services]
     axes.bar(numbers, served, color=style.BLUE, label="served")
     axes.bar(numbers, out, bottom=served, color=style.ORANGE, hatch="////", edgecolor="white", linewidth=0,
@@ -104,12 +121,28 @@ def draw_gap(axes, numbers, services):
     axes.bar(numbers, [0.0 if math.isnan(gap) else gap for gap in gaps], color=style.SKY)
     known = [gap for gap in gaps if not math.isnan(gap)]
     axes.set_ylim(0, 1.05 * max(known) if known and max(known) > 0 else 1)
-    if known and max(known) == 0:
-        axes.text(0.01, 0.5, "no gap: cost and bound meet", transform=axes.transAxes, va="center")
+    if not known or max(known) == 0:
+        axes.text(0.01, 0.5, no_gap(len(known), len(gaps)), transform=axes.transAxes, va="center")
         axes.set_yticks([0])
     else:
         axes.yaxis.set_major_locator(MaxNLocator(4))
     axes.set_ylabel(GAP)
+
+
+def no_gap(planned, batches):
+    """What is said where no planned batch has a gap. A batch that overflowed has no plan, and so neither cost nor bound."""
+    if not planned:
+        return "no batch has a plan"
+    return "no gap: cost and bound meet" + ("" if planned == batches else f" in the {planned} of {batches} batches planned")
+
+
+def title_of(report, services):
+    """How many batches, requests and vehicles; how many requests were refused, and for which reason."""
+    refused = refused_of(report)
+    count = len(report.requests()) + sum(refused.values())
+    why = f" ({sum(refused.values()):,} refused: {refusals_text(refused)})" if refused else ""
+    return f"Service: {style.counted(len(services), 'batch', 'batches')}, " \
+           f"{style.counted(count, 'request')}{why}, {style.counted(report.vehicles, 'vehicle')}"
 
 
 def draw_pairs(axes, numbers, services):
@@ -139,7 +172,7 @@ def draw(report, streets):
     if not report.batches:
         raise Fault("nothing to draw: no batch was closed")
     requests, direct = report.requests(), direct_times(report, streets)
-    services = [service_of(batch, requests, direct) for batch in report.batches]
+    services = list(services_of(report, requests, direct))
     numbers = [service.number for service in services]
     picture = style.figure(WIDTH, HEIGHT)
     panels = picture.subplots(6, 1, sharex=True, gridspec_kw={"height_ratios": (3, 3, 3, 3, 2, 2)})
@@ -155,8 +188,6 @@ def draw(report, streets):
     draw_cost(panels[3], numbers, services)
     draw_gap(panels[4], numbers, services)
     draw_pairs(panels[5], numbers, services)
-    title = f"Service: {style.counted(len(services), 'batch', 'batches')}, " \
-            f"{style.counted(len(requests), 'request')}, {style.counted(report.vehicles, 'vehicle')}"
-    picture.suptitle(title, x=0.01, ha="left")
+    picture.suptitle(title_of(report, services), x=0.01, ha="left")
     finish(picture, panels, numbers)
     return picture

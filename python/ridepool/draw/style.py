@@ -6,7 +6,9 @@ chosen so that the colour-blind tell them apart. Whatever differs by colour diff
 
 import matplotlib
 from matplotlib.backends.backend_agg import FigureCanvasAgg
+from matplotlib.colors import to_hex, to_rgb, to_rgba_array
 from matplotlib.figure import Figure
+from matplotlib.text import Text
 from matplotlib.ticker import FuncFormatter, MaxNLocator
 
 from ridepool.words import Fault
@@ -31,6 +33,13 @@ matplotlib.rcParams.update({
 })
 
 
+# On a dark ground these take the place of the plain ones; the colours of trips and measures stay.
+GROUND = "#14171c"
+ON_DARK = {BLACK: "#f2f2f2", DARK: "#d0d0d0", GREY: "#a0a0a0", OTHERS: "#6a6f78", PALE: "#343a44", SEAL: "#787878",
+           BLUE: "#4aa3df", "#332288": "#8f80e0", "#882255": "#c4609a", "#ffffff": GROUND}
+COLOURED = ("color", "facecolor", "edgecolor", "markerfacecolor", "markeredgecolor")
+
+
 def check_ending(path):
     """Refuses a picture's name whose ending says nothing."""
     if not path.lower().endswith(ENDINGS):
@@ -42,6 +51,37 @@ def figure(width, height, fine=False, layout="constrained"):
     picture = Figure(figsize=(width, height), layout=layout, dpi=FINE if fine else COARSE)
     FigureCanvasAgg(picture)
     return picture
+
+
+def darker(colours):
+    """Colours as they are on a dark ground, of one or of many."""
+    rows = to_rgba_array(colours)
+    return [(*to_rgb(ON_DARK.get(to_hex(row), to_hex(row))), row[3]) for row in rows]
+
+
+def darken(picture):
+    """Puts a picture on a dark ground: what is black gets light, and what is white gets dark."""
+    picture.set_facecolor(GROUND)
+    for axes in picture.axes:
+        axes.set_facecolor(GROUND)
+    for artist in picture.findobj():
+        if artist is picture.patch or any(artist is axes.patch for axes in picture.axes):
+            continue
+        for name in COLOURED:
+            if hasattr(artist, f"set_{name}") and hasattr(artist, f"get_{name}"):
+                darken_one(artist, name)
+
+
+def darken_one(artist, name):
+    """The same for one colour of what is drawn. What has none, or takes it from elsewhere, stays."""
+    given = getattr(artist, f"get_{name}")()
+    if isinstance(given, str) and given in ("none", "auto") or given is None or len(given) == 0:
+        return
+    if isinstance(artist, Text) and given == "white":
+        return
+    found = darker(given)
+    is_many = not isinstance(given, (str, tuple)) and hasattr(given[0], "__len__")
+    getattr(artist, f"set_{name}")(found if is_many else found[0])
 
 
 def write(picture, path):

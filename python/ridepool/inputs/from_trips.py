@@ -10,13 +10,13 @@ import os
 import random
 from collections import Counter
 from dataclasses import dataclass
-from datetime import datetime, timezone
 
 from ridepool.inputs import tables
+from ridepool.inputs.moments import Moments, zone_of
 from ridepool.words import Fault, need, number, run_tool, split_words
 
 USAGE = ("use: %(prog)s TRIPS.csv nodes.csv OUT/ [time= from_lon= from_lat= to_lon= to_lat= persons=] "
-         "[vehicles= seats= seed= every= from= to= far=]")
+         "[vehicles= seats= seed= every= from= to= zone= far=]")
 COLUMNS = {
     "time": "tpep_pickup_datetime",
     "from_lon": "pickup_longitude",
@@ -25,7 +25,8 @@ COLUMNS = {
     "to_lat": "dropoff_latitude",
     "persons": "passenger_count",
 }
-WORDS = (*COLUMNS, "vehicles", "seats", "seed", "every", "from", "to", "far")
+WORDS = (*COLUMNS, "vehicles", "seats", "seed", "every", "from", "to", "zone", "far")
+TWO_DAYS = 2 * 86_400
 EARTH = 6_371_000.0
 
 NO_TIME = "without a time"
@@ -84,18 +85,6 @@ class Plane:
         return [self.metres((n.lon, n.lat) if self.degrees else (n.x, n.y)) for n in self.nodes]
 
 
-def moment(text):
-    """A date with a time of day, or a number, as whole seconds; None where it is neither."""
-    value = tables.finite(text)
-    if value is not None:
-        return math.floor(value)
-    try:
-        date = datetime.fromisoformat(text.strip())
-    except (AttributeError, ValueError):
-        return None
-    return math.floor((date if date.tzinfo else date.replace(tzinfo=timezone.utc)).timestamp())
-
-
 def point(row, columns, degrees):
     """A trip's end, or None where the row has none. Records write 0, 0 for an unknown place."""
     place = tuple(tables.finite(row[column]) for column in columns)
@@ -112,9 +101,9 @@ def persons_of(row, column):
     return int(value) if value is not None and value >= 1 else None
 
 
-def judge(row, columns, degrees, span):
+def judge(row, columns, degrees, span, moments):
     """The trip of a row, or the reason why it can't be used."""
-    second = moment(row[columns["time"]])
+    second = moments.second(row[columns["time"]])
     if second is None:
         return NO_TIME
     if second < span[0] or second >= span[1]:
@@ -129,6 +118,14 @@ def judge(row, columns, degrees, span):
     return PastTrip(second, start, end, persons) if persons <= tables.MOST_PARTY else MANY_PERSONS
 
 
+def judged(path, count, row, *how):
+    """The same; a Fault names the row."""
+    try:
+        return judge(row, *how)
+    except Fault as fault:
+        raise Fault(f"{path}: row {count}: {fault}") from None
+
+
 def check_columns(path, there, columns):
     """Refuses a file in which a column is missing."""
     for key, column in columns.items():
@@ -136,23 +133,37 @@ def check_columns(path, there, columns):
             raise Fault(f"{path}: no column {column} ({key}=NAME says another); there are: {', '.join(there)}")
 
 
-def read_trips(path, columns, degrees, span):
-    """The trips that can be used so far, the count of rows, and the others counted by reason."""
-    trips, left_out, count = [], Counter(), 0
+@dataclass
+class Read:
+    """What was read of a trips' file: the trips that can be used so far, how many rows it has, the others counted by reason,
+    and what is told beside."""
+
+    trips: list
+    count: int
+    left_out: Counter
+    notes: list
+
+
+def read_trips(path, columns, degrees, span, zone):
+    """The trips of a file. A time of day that can't be taken is a Fault with its row."""
+    trips, left_out, count, moments, rows = [], Counter(), 0, Moments(zone), Counter()
     try:
         with open(path, newline="", encoding="utf-8-sig") as file:
             table = csv.DictReader(file)
             table.fieldnames = [name.strip() for name in table.fieldnames or ()]
             check_columns(path, table.fieldnames, columns)
             for count, row in enumerate(table, 1):
-                trip = judge(row, columns, degrees, span)
+                rows[hash(tuple(map(str, row.values())))] += 1
+                trip = judged(path, count, row, columns, degrees, span, moments)
                 if isinstance(trip, PastTrip):
                     trips.append(trip)
                 else:
                     left_out[trip] += 1
     except (UnicodeDecodeError, csv.Error) as fault:
         raise Fault(f"{path}: not a CSV file: {fault}") from None
-    return trips, count, left_out
+    again = sum(times - 1 for times in rows.values())
+    notes = moments.notes() + ([f"{again} are exact duplicates of another row, and are used like it"] if again else [])
+    return Read(trips, count, left_out, notes)
 
 
 def nearest(plane, trips, far, left_out):
@@ -196,17 +207,27 @@ def fleet_rows(nodes, vehicles, seats, seed):
     return [(vehicle, seats, place.node, 0) for vehicle, place in enumerate(places, 1)]
 
 
-def span_of(values):
+def span_of(values, zone):
     """The span's first second and the second after its last; infinite where no word says it."""
     span = []
     for key, default in (("from", -math.inf), ("to", math.inf)):
-        second = moment(values[key]) if key in values else default
+        try:
+            second = Moments(zone).second(values[key]) if key in values else default
+        except Fault as fault:
+            raise Fault(f"{key}={fault}") from None
         if second is None:
             raise Fault(f"{key}={values[key]} is neither a date (2015-01-15T19:00:00) nor a number of seconds")
         span.append(second)
     if span[0] >= span[1]:
         raise Fault("from= is not before to=")
     return span
+
+
+def check_length(path, span, length):
+    """Refuses trips of more than two days, where the words don't ask for them: mostly a file of a month was given."""
+    if math.inf in (abs(span[0]), abs(span[1])) and length > TWO_DAYS:
+        raise Fault(f"{path}: the trips are of {length / 86_400:.1f} days: say which are to be used by from= and to=, both, even "
+                    "where it is all of them")
 
 
 def from_span_start(requests, span):
@@ -230,11 +251,13 @@ def check_limits(path, riders, rows, last):
         raise Fault(f"{path}: the last seal is at {figure}: {shorter}")
 
 
-def tell(path, count, requests, left_out, seats):
+def tell(path, read, requests, seats):
     """Says how many trips are used, and how many aren't for which reason."""
-    print(f"{path}: {count} trips, {len(requests)} used")
-    for reason, times in sorted(left_out.items()):
+    print(f"{path}: {read.count} trips, {len(requests)} used")
+    for reason, times in sorted(read.left_out.items()):
         print(f"  left out: {times} {reason}")
+    for note in read.notes:
+        print(f"  note: {note}")
     large = sum(1 for request in requests if request.persons > seats)
     if large:
         print(f"  note: {large} of those used have more persons than the {seats} seats of a vehicle")
@@ -252,15 +275,17 @@ def convert(arguments):
     every = number(values, "every", 1, tables.MOST_NUMBER, 60)
     far = number(values, "far", 0, tables.MOST_NUMBER, 500)
     columns = {key: values.get(key, name) for key, name in COLUMNS.items()}
-    span = span_of(values)
+    zone = zone_of(values.get("zone"))
+    span = span_of(values, zone)
     need("scipy")
     plane = Plane.of(tables.read_nodes(nodes_path))
-    trips, count, left_out = read_trips(path, columns, plane.degrees, span)
-    requests = nearest(plane, trips, far, left_out)
-    tell(path, count, requests, left_out, seats)
+    read = read_trips(path, columns, plane.degrees, span, zone)
+    requests = nearest(plane, read.trips, far, read.left_out)
+    tell(path, read, requests, seats)
     if not requests:
-        raise Fault(f"{path}: none of the {count} trips can be used")
+        raise Fault(f"{path}: none of the {read.count} trips can be used")
     requests, length = from_span_start(requests, span)
+    check_length(path, span, length)
     seals = math.ceil(length / every)
     check_limits(path, len(requests), len(requests) + seals, seals * every)
     fleet, script = os.path.join(out, "fleet.csv"), os.path.join(out, "script.csv")

@@ -226,8 +226,47 @@ class Network:
         self._keep(at, found)
         return found
 
+    def seconds_to(self, end: int) -> Numbers:
+        """The least seconds to a node from each node, in the order of `names`; -1 where there is no way. It is exact.
+
+        >>> net = Network.made(side=3, seed=1)
+        >>> int(net.seconds_to(9)[0]) == net.seconds(1, 9)
+        True
+        """
+        at = self.index(end)
+        if -1 - at not in self._kept:
+            self._keep(-1 - at, self._back._search([at])[0])
+        self._kept.move_to_end(-1 - at)
+        return self._kept[-1 - at]
+
+    @cached_property
+    def _back(self) -> "Network":
+        """The same streets the other way round. It has the same nodes in the same order."""
+        columns = dict(zip(limits.NETWORK, (self.ends, self.starts, self.durations)))
+        return Network.from_frame(pd.DataFrame(columns))
+
+    @cached_property
+    def islands(self) -> "list[Numbers]":
+        """The parts of the network in each of which every node reaches every other, as their nodes, the largest first. A
+        rider from one to another may have no way there, or none back. Needs scipy.
+
+        >>> [len(island) for island in Network.made(side=3, seed=1).islands]
+        [9]
+        """
+        from scipy.sparse.csgraph import connected_components
+
+        count, labels = connected_components(self._graph, directed=True, connection="strong")
+        return sorted((self.names[labels == label] for label in range(count)), key=lambda nodes: (-len(nodes), nodes[0]))
+
+    def largest_island(self) -> "Network":
+        """The network of the largest island alone: its nodes with their places, and the streets between them."""
+        inside = np.isin(self.starts, self.islands[0]) & np.isin(self.ends, self.islands[0])
+        arcs = pd.DataFrame(dict(zip(limits.NETWORK, (self.starts[inside], self.ends[inside], self.durations[inside]))))
+        nodes = None if self.nodes is None else self.nodes.loc[self.islands[0]].reset_index()
+        return Network.from_frame(arcs, nodes)
+
     def _keep(self, at: int, found: Numbers) -> None:
-        """Keeps what a search found, and forgets what wasn't asked for longest."""
+        """Keeps what a search found, and forgets what wasn't asked for longest. Searches to a node are below 0."""
         self._kept[at] = found
         if len(self._kept) > max(16, KEPT_NUMBERS // max(1, len(self))):
             self._kept.popitem(last=False)

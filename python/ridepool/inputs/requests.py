@@ -1,6 +1,7 @@
 """The class Requests: who asks for a ride, and when the batches are sealed."""
 
 from dataclasses import replace
+from datetime import datetime, timezone
 from typing import Any, Optional
 
 import numpy as np
@@ -10,7 +11,9 @@ from ridepool.faults import RefusedInput
 from ridepool.inputs import limits
 from ridepool.inputs.checks import Numbers, Path, Table, read_csv
 from ridepool.inputs.fleet import FAR, placed
+from ridepool.inputs.moments import Moments, zone_of
 from ridepool.inputs.network import Network
+from ridepool.words import Fault
 
 TIME_OF_DAY = "([0-9]{1,4}):([0-5][0-9])(?::([0-5][0-9]))?"
 
@@ -51,6 +54,31 @@ def parsed(table: Table, texts: Any) -> Any:
     return found
 
 
+def in_zone(table: Table, zone: str) -> Any:
+    """The column `time`, with dates that say no time zone taken in a zone. What isn't such a date stays as it is."""
+    values = table.frame["time"]
+    if pd.api.types.is_numeric_dtype(values) or hasattr(values.dtype, "tz"):
+        return values
+    try:
+        moments = Moments(zone_of(zone))
+    except Fault:
+        raise RefusedInput("requests", None, "zone", zone, "a time zone, as America/New_York or UTC") from None
+    is_date = ~values.astype(str).str.fullmatch(f"[0-9]+|{TIME_OF_DAY}").to_numpy(dtype=bool)
+    return [placed_text(table, at, str(value), moments) if dated else value
+            for at, (value, dated) in enumerate(zip(values, is_date))]
+
+
+def placed_text(table: Table, at: int, text: str, moments: Moments) -> str:
+    """A date of a row with its zone, as a text of UTC."""
+    try:
+        second = moments.second(text)
+    except Fault:
+        second = None
+    if second is None:
+        raise table.refused(at, "time", KNOWN)
+    return str(datetime.fromtimestamp(second, timezone.utc).isoformat())
+
+
 class Requests:
     """The requests of a day, with the seconds at which batches are sealed.
 
@@ -63,14 +91,17 @@ class Requests:
     (2, [30, 60, 90])
     """
 
-    def __init__(self, table: Table, every: int, start: Any = None, until: Optional[int] = None, far: float = FAR) -> None:
+    def __init__(self, table: Table, every: int, start: Any = None, until: Optional[int] = None, far: float = FAR,
+                 zone: Optional[str] = None) -> None:
         if "time" not in table.frame.columns and "second" in table.frame.columns:
             table = replace(table, frame=table.frame.rename(columns={"second": "time"}))
         table.need(["time"])
         table.at_most(limits.MOST_RIDERS, "riders")
         if isinstance(every, bool) or not isinstance(every, (int, np.integer)) or not 1 <= every <= limits.MOST_NUMBER:
             raise RefusedInput("requests", None, "every", every, f"a whole number from 1 to {limits.MOST_NUMBER}")
-        self.table, self.every, self.far, self.zero = table, int(every), far, None
+        if zone is not None and "time" in table.frame.columns:
+            table = replace(table, frame=table.frame.assign(time=in_zone(table, zone)))
+        self.table, self.every, self.far, self.zone, self.zero = table, int(every), far, zone, None
         self.seconds = self._seconds(start)
         self.riders, self.persons = self._riders(), self._persons()
         self.seals = self._seals(until)
@@ -87,18 +118,19 @@ class Requests:
 
     @classmethod
     def from_csv(cls, path: Path, every: int = 60, start: Any = None, until: Optional[int] = None,
-                 far: float = FAR) -> "Requests":
+                 far: float = FAR, zone: Optional[str] = None) -> "Requests":
         """Reads a CSV file with the columns that `from_frame` takes."""
-        return cls(read_csv(path), every, start, until, far)
+        return cls(read_csv(path), every, start, until, far, zone)
 
     @classmethod
     def from_frame(cls, frame: Any, every: int = 60, start: Any = None, until: Optional[int] = None,
-                   far: float = FAR) -> "Requests":
+                   far: float = FAR, zone: Optional[str] = None) -> "Requests":
         """Takes a frame with a row for each request.
 
         `time` has whole seconds, or times of day as 8:05 or 08:05:30 from the midnight that is second 0 on, or moments with a
         time zone. Of moments second 0 is `start`, or the midnight before the first request: in the zone of the column, of
-        texts in UTC. The column may be called `second`, too. `from` and `to` are nodes, or `from_lat`, `from_lon`, `to_lat`, `to_lon` are
+        texts in `zone`, or else in UTC. Dates that say no time zone are taken in `zone`, as "America/New_York", and refused
+        without one; so are those like 01/31/2015 07:05:39 PM. The column may be called `second`, too. `from` and `to` are nodes, or `from_lat`, `from_lon`, `to_lat`, `to_lon` are
         places (degrees; metres where the network has no degrees), which go to the nearest node, within `far` metres.
         `rider` is a number that no other row has; without it riders count from 1 in the order of rows. `persons` is from
         1 to 6; without it each rider is one person. Every `every` seconds a batch is sealed, with all who asked before;
@@ -111,7 +143,7 @@ class Requests:
         Traceback (most recent call last):
         ridepool.faults.RefusedInput: requests, line 1, time: 'noon' is not seconds, a time of day, or a moment with its time zone
         """
-        return cls(Table(frame, "requests"), every, start, until, far)
+        return cls(Table(frame, "requests"), every, start, until, far, zone)
 
     def _seconds(self, start: Any) -> Numbers:
         """The second of each request."""
@@ -123,6 +155,8 @@ class Requests:
             return self.table.whole("time", 0, limits.MOST_NUMBER)
         if getattr(times.dt, "tz", None) is None:
             raise self.table.refused(0, "time", "a moment with its time zone")
+        if self.zone is not None:
+            times = times.dt.tz_convert(self.zone)
         self.zero = pd.Timestamp(start) if start is not None else times.min().normalize() if len(times) else None
         if self.zero is not None and self.zero.tzinfo is None:
             raise RefusedInput("requests", None, "start", start, "a moment with its time zone")

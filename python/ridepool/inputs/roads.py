@@ -12,6 +12,7 @@ class Places:
     def __init__(self, nodes, far):
         self.degrees = all(it.lon is not None and it.lat is not None for it in nodes)
         self.at = {it.node: (it.lat, it.lon) if self.degrees else (it.y, it.x) for it in nodes}
+        self.names = {it.node: it.name for it in nodes if it.name}
         self.far = far
         middle = sum(lat for lat, _ in self.at.values()) / len(self.at)
         self.scale = self.scales(middle) if self.degrees else (1.0, 1.0)

@@ -1,9 +1,12 @@
 """The CSV files of ridepool, and nodes.csv, which says where the nodes of a network lie."""
 
+import contextlib
 import csv
 import io
 import math
+import os
 import pathlib
+import threading
 from dataclasses import dataclass
 from typing import Dict, Iterable, Iterator, List, Optional, Sequence, Tuple, Union
 
@@ -31,12 +34,29 @@ class Node:
     name: str = ""
 
 
+def whole_file(path: Path, text: str) -> None:
+    """Writes a file whole or not at all: aside, under a name that no other writer has, and then renamed."""
+    place = pathlib.Path(os.path.realpath(path))
+    part = place.with_name(f"{place.name}.{os.getpid()}-{threading.get_ident()}.part")
+    try:
+        with open(part, "w", newline="", encoding="utf-8") as file:
+            file.write(text)
+        os.replace(part, place)
+    except OSError as fault:
+        with contextlib.suppress(OSError):
+            part.unlink()
+        raise type(fault)(fault.errno, fault.strerror, str(path)) from None
+
+
 def write_table(path: Path, header: Sequence[str], rows: Iterable[Sequence[object]]) -> None:
-    """Writes a CSV file, and the folder that it lies in where that isn't there."""
+    """Writes a CSV file, and the folder that it lies in where that isn't there. What lies at a path that is no file, as
+    /dev/stdout, is written through."""
     path = pathlib.Path(path)
     path.parent.mkdir(parents=True, exist_ok=True)
-    with open(path, "w", newline="", encoding="utf-8") as file:
-        file.write(table_text(header, rows))
+    if path.exists() and not path.is_file():
+        path.write_text(table_text(header, rows), encoding="utf-8")
+    else:
+        whole_file(path, table_text(header, rows))
 
 
 def table_text(header: Sequence[str], rows: Iterable[Sequence[object]]) -> str:

@@ -37,16 +37,17 @@ class Policy:
 
 
 class Ridepool(Policy):
-    """Ridepool itself: what happens is told to a running session, and its plans are taken."""
+    """Ridepool itself: what happens is told to a running session, and its plans are taken. Without `moves` idle vehicles
+    stay where they are."""
 
-    def __init__(self, program: Optional[Path] = None) -> None:
-        self.program = program
+    def __init__(self, program: Optional[Path] = None, moves: bool = True) -> None:
+        self.program, self.moves = program, moves
         self.session: Optional[Live] = None
 
     @property
     def name(self) -> str:
         """What the policy is called."""
-        return "ridepool"
+        return "ridepool" if self.moves else "ridepool without moves"
 
     def begin(self, net: Network, fleet: Fleet, settings: Settings) -> None:
         """Starts the session."""
@@ -59,6 +60,8 @@ class Ridepool(Policy):
             rider, origin, destination, second = entry.fields
             answer = self.session.submit(rider=rider, origin=origin, destination=destination, second=second,
                                          persons=entry.party)
+        elif entry.command == "cancel":
+            answer = self.session.cancel(rider=entry.fields[0])
         elif entry.command == "report":
             vehicle, node, second = entry.fields
             answer = self.session.report(vehicle=vehicle, node=node, second=second)
@@ -78,7 +81,7 @@ class Ridepool(Policy):
         if plan.overflow:
             return Decision(is_overflow=True)
         orders = {trip.vehicle: [Visit(stop.kind, stop.rider) for stop in trip.stops] for trip in plan.batch.trips}
-        moves = {move.vehicle: move.rider for move in plan.batch.moves}
+        moves = {move.vehicle: move.rider for move in plan.batch.moves} if self.moves else {}
         return Decision(orders, moves, set(plan.rv["rider"].tolist()), plan.bound, plan.nodes)
 
     def end(self) -> None:

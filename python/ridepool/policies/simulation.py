@@ -101,6 +101,11 @@ class Simulation:
         latest = None if ideal is None else ideal + self.settings.delay
         return Booked(Asking(rider, persons, origin, destination, second, second + self.settings.wait, ideal, latest))
 
+    def cancel(self, rider: int) -> None:
+        """A rider who waits no longer wants the ride. No stop may be planned for the rider."""
+        del self.pool[rider]
+        self.enter("cancel", (rider,), "cancelled")
+
     def arrive(self, vehicle: Vehicle, stop: Stop) -> None:
         """A stop that was made."""
         vehicle.node, vehicle.second = stop.node, stop.second

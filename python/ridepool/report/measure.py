@@ -3,20 +3,24 @@
 Stands on Python and reader.py alone, since it is also sent to other machines.
 """
 
-from collections import defaultdict
+from collections import Counter, defaultdict
 from dataclasses import dataclass, field
-from typing import Any, Dict, List, Mapping, NamedTuple, Optional, Set
+from typing import Any, Counter as Counts, Dict, List, Mapping, NamedTuple, Optional, Set
 
 from ridepool.report.reader import Batch, Entry, Report, Trip
 
+MINUTE = 60
+
 
 class Leg(NamedTuple):
-    """A part of a vehicle's plan, from second to second: persons aboard, and whether it drives or stands at a stop."""
+    """A part of a vehicle's plan, from second to second: persons aboard, whether it drives or stands at a stop, and whether
+    it is a move, towards a rider who was left out."""
 
     start: int
     end: int
     persons: int
     drives: bool
+    moves: bool = False
 
 
 def legs_of(trip: Trip, second: int, persons: int, parties: Mapping[int, int], dwell: int) -> List[Leg]:
@@ -32,13 +36,15 @@ def legs_of(trip: Trip, second: int, persons: int, parties: Mapping[int, int], d
 
 @dataclass
 class Driven:
-    """What vehicles drove so far: seconds in all, those without a person aboard, and seconds of each person aboard up
-    to the last seal."""
+    """What vehicles drove so far: seconds in all, those without a person aboard, and those of moves. Then seconds of each
+    person aboard up to the last seal, in all and by minute of the day."""
 
     last_seal: int
     driven: int = 0
     empty: int = 0
+    moved: int = 0
     aboard: int = 0
+    minutes: Counts[int] = field(default_factory=Counter)
 
     def add(self, legs: List[Leg], start: int, end: Optional[int] = None) -> None:
         """Adds what of these legs lies between two seconds."""
@@ -48,7 +54,16 @@ class Driven:
             if leg.drives:
                 self.driven += took
                 self.empty += took if leg.persons == 0 else 0
-            self.aboard += leg.persons * max(0, min(last, self.last_seal) - first)
+                self.moved += took if leg.moves else 0
+            self.ride(leg.persons, first, min(last, self.last_seal))
+
+    def ride(self, persons: int, first: int, last: int) -> None:
+        """Adds persons who are aboard from one second to another, minute by minute."""
+        while persons and first < last:
+            end = min(last, (first // MINUTE + 1) * MINUTE)
+            self.minutes[first // MINUTE] += persons * (end - first)
+            self.aboard += persons * (end - first)
+            first = end
 
 
 @dataclass
@@ -121,7 +136,7 @@ class Day:
             vehicle.legs, vehicle.on_trip = legs_of(trip, vehicle.second, persons, self.parties, self.dwell), True
         for move in batch.moves:
             vehicle = self.vehicles[move.vehicle]
-            vehicle.legs, vehicle.on_trip = [Leg(vehicle.second, vehicle.second + move.seconds, 0, True)], False
+            vehicle.legs, vehicle.on_trip = [Leg(vehicle.second, vehicle.second + move.seconds, 0, True, True)], False
 
 
 def gap_of(batch: Batch) -> float:
@@ -129,21 +144,53 @@ def gap_of(batch: Batch) -> float:
     return 100 * (batch.cost - batch.bound) / batch.cost if batch.cost and batch.bound is not None else 0.0
 
 
+def refused_of(report: Report) -> Dict[str, int]:
+    """How many requests were refused, by the book's reason."""
+    submits = (entry.reply for entry in report.entries if entry.command == "submit")
+    return dict(Counter(reply.split(" ")[1] for reply in submits if reply.startswith("refused ")))
+
+
+def minutes_of(day: Day, seals: List[int]) -> List[int]:
+    """Seconds of each person aboard a vehicle, for each minute from second 0 to the last seal."""
+    total: Counts[int] = Counter()
+    for driven in day.by_vehicle.values():
+        total.update(driven.minutes)
+    return [total[minute] for minute in range(-(-max(seals, default=0) // MINUTE))]
+
+
+def riders_of(day: Day, direct: Mapping[int, int]) -> Dict[str, Any]:
+    """The facts of the riders: who asked, who was refused, and the seconds of each one who was served."""
+    requests, submits = day.requests, [entry for entry in day.report.entries if entry.command == "submit"]
+    ideal = {rider: requests[rider].second + direct[rider] for rider in day.dropped}
+    return {
+        "requests": len(submits),
+        "persons": sum(entry.party for entry in submits),
+        "persons_served": sum(requests[rider].party for rider in day.picked),
+        "refused": refused_of(day.report),
+        "parties": dict(Counter(str(entry.party) for entry in submits)),
+        "waits": [second - requests[rider].second for rider, second in day.picked.items()],
+        "delays": [max(0, second - ideal[rider]) for rider, second in day.dropped.items()],
+        "rides": [max(0, second - day.picked[rider] - direct[rider]) for rider, second in day.dropped.items()],
+        "shared": len(day.shared),
+    }
+
+
 def measure(report: Report, direct: Mapping[int, int]) -> Dict[str, Any]:
     """The facts of a driven day. `direct` has the least seconds of each rider's ride."""
     day = Day(report).walk()
-    requests, planned = day.requests, [batch for batch in report.batches if not batch.overflow]
+    planned = [batch for batch in report.batches if not batch.overflow]
     seals = [batch.second for batch in report.batches]
-    ideal = {rider: requests[rider].second + direct[rider] for rider in day.dropped}
     gaps = [gap_of(batch) for batch in planned if batch.bound is not None and batch.bound != batch.cost]
+    empty, moved = day.total("empty"), day.total("moved")
     return {
-        "requests": sum(1 for entry in report.entries if entry.command == "submit"),
-        "waits": [second - requests[rider].second for rider, second in day.picked.items()],
-        "delays": [max(0, second - ideal[rider]) for rider, second in day.dropped.items()],
-        "shared": len(day.shared),
+        **riders_of(day, direct),
+        "vehicles": report.vehicles,
         "aboard_seconds": day.total("aboard"),
+        "minutes": minutes_of(day, seals),
         "vehicle_seconds": report.vehicles * (max(seals, default=0) - min(seals, default=0)),
-        "empty_seconds": day.total("empty"),
+        "empty_seconds": empty,
+        "approach_seconds": empty - moved,
+        "rebalancing_seconds": moved,
         "driven_seconds": day.total("driven"),
         "batches": len(report.batches),
         "overflows": len(report.batches) - len(planned),

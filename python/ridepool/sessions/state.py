@@ -6,6 +6,7 @@ from typing import Optional
 from ridepool.report.reader import Reader
 
 ENDED = ("delivered", "cancelled", "expired")
+STATES = ("waiting", "promised", "aboard", *ENDED)
 
 
 @dataclass
@@ -92,6 +93,7 @@ class State:
     def __init__(self, fleet):
         self.lines = Lines()
         self.rides = {}
+        self.asked = []  # the rides' numbers in the order in which they were taken
         self.vehicles = {it.vehicle: it for it in fleet}
         self.pool = set()
         self.batches = {}
@@ -110,6 +112,7 @@ class State:
         return change
 
     def submit(self, change, rider, origin, destination, second):
+        self.asked.append(rider)
         self.rides[rider] = Ride(rider, origin, destination, second, change.entry.party)
         self.pool.add(rider)
         change.rides.add(rider)

@@ -5,9 +5,11 @@ Days that were driven are kept, so the same call goes on where it stopped.
 """
 
 import contextlib
+import errno
 import logging
 import os
 import pathlib
+import signal
 import sys
 import tempfile
 import time
@@ -16,44 +18,83 @@ import zlib
 
 from ridepool import program
 from ridepool.inputs import tables
-from ridepool.days.one_day import NotDriven, Stopped, Task, drive
+from ridepool.days.one_day import Stopped, Task
+from ridepool.study.kept import held
 from ridepool.words import Fault, need, number, run_tool, split_words
 
-USAGE = "use: %(prog)s STUDY.toml OUT/ [cluster=ADDRESS] [processors=] [limit=] [program=]"
-WORDS = ("cluster", "processors", "limit", "program")
+USAGE = "use: %(prog)s STUDY.toml OUT/ [cluster=ADDRESS] [processors=] [limit=] [timed=] [program=]"
+WORDS = ("cluster", "processors", "limit", "timed", "program")
 BAR = 30
+CLOSE_SECONDS = 5
+FULL = (errno.ENOSPC, errno.EDQUOT)
 
 
-def tasks_of(cell, ground, limit):
+def is_city(cell):
+    """Whether the riders of a cell go from fleet to fleet, so that its fleets are planned side by side."""
+    return cell.fleets > 1 and cell.split == "nearest"
+
+
+def tasks_of(cell, ground, limit, timed):
     """The days of a cell as tasks."""
     from ridepool.study.plan import OF_THE_CALL
 
     words = tuple(f"{name}={getattr(cell, name)}" for name in OF_THE_CALL)
-    return [Task(*texts, words, dict(enumerate(direct, 1)), limit) for *texts, direct in ground.days(cell)]
+    if is_city(cell):
+        fleets, script, direct = ground.city(cell)
+        return [Task("", script, words, dict(enumerate(direct, 1)), limit, False, fleets)]
+    return [Task(*texts, words, dict(enumerate(direct, 1)), limit, timed) for *texts, direct in ground.days(cell)]
+
+
+@contextlib.contextmanager
+def without_interrupt():
+    """What is started here doesn't end by Ctrl-C: the study itself ends it, so that one line is said and no other."""
+    handler = signal.signal(signal.SIGINT, signal.SIG_IGN)
+    try:
+        yield
+    finally:
+        signal.signal(signal.SIGINT, handler)
+
+
+def quiet():
+    """What Dask warns of is not shown, nor what it says of its connections to those that died."""
+    os.environ.setdefault("PYTHONWARNINGS", "ignore")
+    warnings.simplefilter("ignore")
+    for name in ("asyncio", "distributed", "tornado"):
+        logging.getLogger(name).setLevel(logging.CRITICAL + 1)
 
 
 @contextlib.contextmanager
 def client_of(values):
-    """A client of the named cluster, or of one of this machine's processors. What Dask warns of is not shown, nor what
-    it says of its connections to a worker that died."""
-    os.environ.setdefault("PYTHONWARNINGS", "ignore")
-    warnings.simplefilter("ignore")
-    logging.getLogger("asyncio").setLevel(logging.CRITICAL)
+    """A client of the named cluster, or of one of this machine's processors."""
     from distributed import Client, LocalCluster
 
+    quiet()
     if "cluster" in values:
         try:
             client = Client(values["cluster"], timeout=10)
         except (OSError, ValueError) as fault:
             raise Fault(f"cluster={values['cluster']}: {fault}") from None
-        with client:
+        with closing(client):
             yield client
         return
     count = number(values, "processors", 1, 1024, len(os.sched_getaffinity(0)))
-    with tempfile.TemporaryDirectory(prefix="ridepool-study-") as folder:
-        with LocalCluster(n_workers=count, threads_per_worker=1, memory_limit=None, dashboard_address=":0",
-                          local_directory=folder, silence_logs=logging.CRITICAL) as cluster, Client(cluster) as client:
+    with tempfile.TemporaryDirectory(prefix="ridepool-study-", ignore_cleanup_errors=True) as folder:
+        with without_interrupt():
+            cluster = LocalCluster(n_workers=count, threads_per_worker=1, memory_limit=None, dashboard_address=None,
+                                   local_directory=folder, silence_logs=logging.CRITICAL)
+        with closing(cluster), closing(Client(cluster)) as client:
             yield client
+
+
+@contextlib.contextmanager
+def closing(it):
+    """Closes a client or a cluster, whatever became of it."""
+    quiet()
+    try:
+        yield it
+    finally:
+        with without_interrupt(), contextlib.suppress(Exception):
+            it.close(timeout=CLOSE_SECONDS)
 
 
 class Progress:
@@ -94,78 +135,125 @@ class Progress:
 
 
 class Study:
-    """The cells of a study, and what is known of their days."""
+    """The cells of a study, and what is known of their days. A cell whose days are all known has a row."""
 
-    def __init__(self, plan, ground, kept, limit):
-        from ridepool.study.plan import SETTINGS
+    def __init__(self, plan, ground, kept, limit, timed=False):
+        from ridepool.study.plan import Cell
 
-        self.kept, self.limit, self.tasks, self.known, self.days = kept, limit, {}, {}, {}
-        self.varied = [name for name in SETTINGS if len({getattr(cell, name) for cell in plan.cells}) > 1]
-        for cell in plan.cells:
-            tasks = tasks_of(cell, ground, limit)
-            self.days[cell] = [kept.key_of(task) for task in tasks]
-            self.tasks.update(zip(self.days[cell], tasks))
-            self.known.update((key, kept.find(key, limit)) for key in self.days[cell])
+        self.kept, self.ground, self.limit, self.timed = kept, ground, limit, timed
+        self.varied = [name for name in Cell._fields if len({getattr(cell, name) for cell in plan.cells}) > 1]
+        self.cells, self.days, self.rows, self.known, self.of = plan.cells, {}, {}, {}, {}
+        for cell in self.cells:
+            self.look(cell)
+
+    def look(self, cell):
+        """Looks which days of a cell are kept."""
+        keys = self.days[cell] = [self.kept.key_of(task) for task in self.tasks(cell)]
+        found = [self.known[key] if key in self.known else self.kept.find(key, self.limit) for key in keys]
+        if None not in found:
+            self.rows[cell] = self.row(cell, found)
+            return
+        self.known.update(zip(keys, found))
+        for at, key in enumerate(keys):
+            self.of.setdefault(key, []).append((cell, at))
+
+    def tasks(self, cell):
+        """The days of a cell as tasks."""
+        return tasks_of(cell, self.ground, self.limit, self.timed)
 
     def open(self):
         """The days that have to be driven."""
-        return {key: task for key, task in self.tasks.items() if self.known[key] is None}
+        return [key for key, known in self.known.items() if known is None]
 
-    def cells(self):
-        """Each cell with what is known of its days."""
-        return [(cell, [self.known[key] for key in keys]) for cell, keys in self.days.items()]
+    def task(self, key):
+        """The task of a day."""
+        cell, at = self.of[key][0]
+        return self.tasks(cell)[at]
 
-    def take(self, key, future):
-        """Takes what became of a day. Gives the cells that are whole by it."""
-        fault = future.exception()
-        if fault is None:
-            self.known[key] = future.result()
-            self.kept.keep(key, self.known[key])
-        elif isinstance(fault, Stopped):
-            self.kept.keep(key, {"stopped": self.limit})
-            self.known[key] = str(fault)
-        else:
-            self.known[key] = str(fault) if isinstance(fault, NotDriven) else f"{type(fault).__name__}: {fault}"
-        return [(cell, days) for cell, days in self.cells() if key in self.days[cell] and None not in days]
-
-    def line(self, cell, days):
-        """What is said of a cell."""
+    def row(self, cell, days):
+        """The row of a cell."""
         from ridepool.study.table import COLUMNS, row_of
 
-        row = dict(zip(COLUMNS, row_of(cell, days, "")))
-        name = " ".join(f"{setting}={row[setting]}" for setting in self.varied) or "the cell"
-        if row["state"] != "done":
+        return dict(zip(COLUMNS, row_of(cell, days, self.kept.program)))
+
+    def take(self, outcome):
+        """Takes what became of a day. Gives the cells that are whole by it."""
+        key, facts, fault = outcome
+        if isinstance(fault, Stopped):
+            self.kept.keep(self.kept.made_of(self.task(key)), {"stopped": self.limit})
+        elif fault is None:
+            self.kept.keep(self.kept.made_of(self.task(key)), facts)
+        self.known[key] = facts if fault is None else str(fault)
+        return [cell for cell in dict.fromkeys(cell for cell, _ in self.of[key]) if self.is_whole(cell)]
+
+    def is_whole(self, cell):
+        """Whether all days of a cell are known. Then it has its row, and days that no other cell has are forgotten."""
+        found = [self.known.get(key) for key in self.days[cell]]
+        if None in found:
+            return False
+        self.rows[cell] = self.row(cell, found)
+        for key in self.days[cell]:
+            self.of[key] = [it for it in self.of[key] if it[0] != cell]
+            if not self.of[key]:
+                del self.known[key]
+        return True
+
+    def line(self, cell):
+        """What is said of a cell."""
+        from ridepool.study.table import DONE, MARKED
+
+        row = self.rows[cell]
+        name = " ".join(f"{setting}={getattr(cell, setting)}" for setting in self.varied) or "the cell"
+        if row["state"] not in (DONE, MARKED):
             return f"{name}: {row['state']}"
-        return f"{name}: {row['served']} of {row['requests']} served"
+        said = f"{name}: {row['served']} of {row['requests']} served"
+        over = [f"{row['over_seats']} of more persons than seats"] if row["over_seats"] else []
+        few = [f"{row['refused']} refused ({row['refusals']})"] if row["refused"] and not row["mark"] else []
+        return f"{said}{', MARKED: ' if row['mark'] else ''}{row['mark']}{''.join(f'; {it}' for it in (*few, *over))}"
+
+    def count(self, *states):
+        """How many cells have one of these states."""
+        return sum(1 for row in self.rows.values() if row["state"] in states)
 
 
-def run(study, values, packed_program, network, write):
-    """Drives the days that aren't known, on the cluster. Writes the table after each cell."""
-    from distributed import as_completed
+def outcomes(study, todo, workers, out, program_path):
+    """What becomes of each day. Those of cities come last, one after the other: each takes a worker for each fleet."""
+    cities = [key for key in todo if is_city(study.of[key][0][0])]
+    yield from workers.drive([key for key in todo if key not in set(cities)], study.task)
+    if cities:
+        from ridepool.study.cities import outcome_of
 
-    from ridepool.study.sent import send
+        for key in cities:
+            yield outcome_of(key, study.task(key), workers, study.ground.network, out, program_path)
+
+
+def run(study, values, program_path, out, table):
+    """Drives the days that aren't known, on the cluster. Each cell's row is appended to the table."""
+    from ridepool.study.workers import Lost, Workers
 
     todo = study.open()
     progress = Progress(len(todo))
     if not todo:
         return
+    packed = [zlib.compress(it) for it in (pathlib.Path(program_path).read_bytes(), study.ground.network.encode())]
     with client_of(values) as client:
-        send(client)
-        if not client.scheduler_info()["workers"]:
-            progress.say("no workers yet: the days wait for one")
         progress.show()
-        futures = {client.submit(drive, packed_program, network, task, key=f"ridepool-{key}"): key
-                   for key, task in todo.items()}
         try:
-            for future in as_completed(futures):
-                for cell, days in study.take(futures[future], future):
-                    progress.say(study.line(cell, days))
-                    write()
+            workers = Workers(client, *packed, progress.say)
+            for outcome in outcomes(study, todo, workers, out, program_path):
+                for cell in study.take(outcome):
+                    progress.say(study.line(cell))
+                    table.append(study.rows[cell])
                 progress.day()
-        except KeyboardInterrupt:
-            raise Fault("interrupted: the same call goes on where it stopped") from None
+        except Lost:
+            raise Fault(f"the scheduler is gone: {go_on(progress)}") from None
         finally:
             progress.hide()
+
+
+def go_on(progress):
+    """What is said where a study ends before its time."""
+    return f"{progress.all - progress.left} of {progress.all} days were driven and are kept; the same call goes on from there"
 
 
 def convert(arguments):
@@ -175,27 +263,45 @@ def convert(arguments):
         raise Fault(USAGE)
     path, out = plain
     limit = number(values, "limit", 1, tables.MOST_NUMBER, None)
+    timed = number(values, "timed", 0, 1, 0) == 1
     need("distributed", "scipy")
-    from ridepool.study.ground import ground_of
-    from ridepool.study.kept import Kept, checksum, write_cells
     from ridepool.study.plan import read_plan
 
-    bytes_of_program = pathlib.Path(values.get("program") or program.path()).read_bytes()
+    program_path = values.get("program") or program.path()
+    pathlib.Path(program_path).read_bytes()
     plan = read_plan(path)
-    ground = ground_of(plan, os.path.dirname(path), out)
-    kept, table = Kept(out, checksum(bytes_of_program), ground.network), os.path.join(out, "cells.csv")
-    study = Study(plan, ground, kept, limit)
-
-    def write():
-        write_cells(table, study.cells(), checksum(bytes_of_program))
-
-    driven = len(study.open())
-    run(study, values, zlib.compress(bytes_of_program), zlib.compress(ground.network.encode()), write)
-    write()
-    failed = sum(1 for _, days in study.cells() if any(isinstance(day, str) for day in days))
-    print(f"{table}: {len(study.days)} cells of {len(study.tasks)} days, {driven} driven now, {failed} cells failed")
+    try:
+        with held(out):
+            failed = studied(plan, os.path.dirname(path), out, values, program_path, limit, timed)
+    except KeyboardInterrupt:
+        raise Fault(f"interrupted: the days that were driven are kept in {out}; the same call goes on from there") from None
+    except OSError as fault:
+        if fault.errno not in FULL:
+            raise
+        raise Fault(f"{fault.filename or out}: {fault.strerror}: the days that were driven are kept in {out}; the same call "
+                    "goes on from there") from None
     if failed:
         sys.exit(1)
+
+
+def studied(plan, here, out, values, program_path, limit, timed):
+    """The study of a plan in a folder that is held. Gives how many cells failed."""
+    from ridepool.study.ground import ground_of
+    from ridepool.study.kept import Kept, checksum
+    from ridepool.study.table import COLUMNS, DONE, MARKED, Table
+
+    ground = ground_of(plan, here, out)
+    of_program = checksum(pathlib.Path(program_path).read_bytes())
+    study = Study(plan, ground, Kept(out, of_program, ground.network), limit, timed)
+    driven, days = len(study.open()), len({key for keys in study.days.values() for key in keys})
+    table = Table(os.path.join(out, "cells.csv"))
+    table.write(study.rows[cell] for cell in study.cells if cell in study.rows)
+    run(study, values, program_path, out, table)
+    table.write(study.rows[cell] for cell in study.cells)
+    failed, marked = len(study.rows) - study.count(DONE, MARKED), study.count(MARKED)
+    print(f"{table.path}: {len(study.rows)} cells of {days} days, {driven} driven now, {failed} cells failed"
+          + (f", {marked} marked: see the column mark" if marked else ""))
+    return failed
 
 
 def main():

@@ -24,12 +24,17 @@ SETTINGS = {
     "pairs": (1, 2_000_000, 200_000),
     "dwell": (0, 600, 0),
     "workers": (1, 64, 1),
+    "fleets": (1, 200, 1),
 }
+# How riders are parted among fleets. The first is what holds where none is named.
+SPLITS = ("nearest", "random", "zones")
+OLD_SETTINGS = tuple(name for name in SETTINGS if name != "fleets")
+NEW_SETTINGS = ("fleets", "split")
 OF_THE_CALL = ("wait", "delay", "trip", "penalty", "budget", "pairs", "dwell", "workers")
 FILES = ("network", "nodes", "trips")
-SPAN = ("from", "to", "far")
+SPAN = ("from", "to", "zone", "far")
 
-Cell = namedtuple("Cell", SETTINGS)
+Cell = namedtuple("Cell", (*SETTINGS, "split"), defaults=SPLITS[:1])
 
 
 @dataclass(frozen=True)
@@ -42,9 +47,14 @@ class Plan:
 
 
 def values_of(path, name, given):
-    """The values of a setting: a whole number, or a list of them."""
-    least, most, _ = SETTINGS[name]
+    """The values of a setting: a whole number or, of `split`, a name; or a list of them."""
     values = given if isinstance(given, list) else [given]
+    if name == "split":
+        for value in values:
+            if value not in SPLITS:
+                raise Fault(f"{path}: split = {value} is none of {', '.join(SPLITS)}")
+        return values
+    least, most, _ = SETTINGS[name]
     for value in values:
         if type(value) is not int or not least <= value <= most:
             raise Fault(f"{path}: {name} = {value} is not a whole number from {least} to {most}")
@@ -66,16 +76,23 @@ def table_of(path, study, name, keys):
 
 def cells_of(path, study):
     """The cells, each once: all combinations of the first [[grid]], then those of the next."""
-    common, cells = table_of(path, study, "all", SETTINGS) or {}, {}
-    default = {name: value for name, (_, _, value) in SETTINGS.items()}
+    common, cells = table_of(path, study, "all", Cell._fields) or {}, {}
+    default = {**{name: value for name, (_, _, value) in SETTINGS.items()}, "split": SPLITS[0]}
     blocks = study.get("grid", [])
     if not isinstance(blocks, list) or not blocks:
         raise Fault(f"{path}: no [[grid]]")
     for block in blocks:
-        given = {**default, **common, **(table_of(path, {"grid": block}, "grid", SETTINGS) or {})}
-        values = (values_of(path, name, given[name]) for name in SETTINGS)
-        cells.update((Cell(*combination), None) for combination in itertools.product(*values))
+        given = {**default, **common, **(table_of(path, {"grid": block}, "grid", Cell._fields) or {})}
+        values = (values_of(path, name, given[name]) for name in Cell._fields)
+        cells.update((whole(path, Cell(*combination)), None) for combination in itertools.product(*values))
     return list(cells)
+
+
+def whole(path, cell):
+    """A cell as it is driven. `zones=N` says `fleets=N split=zones`; one fleet takes all riders."""
+    if cell.zones > 1 and cell.fleets > 1:
+        raise Fault(f"{path}: zones = {cell.zones} and fleets = {cell.fleets}: name one of the two")
+    return cell._replace(split=SPLITS[0]) if cell.fleets == 1 else cell
 
 
 def texts_of(table):

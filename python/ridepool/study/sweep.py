@@ -18,12 +18,13 @@ from ridepool.inputs.checks import Path
 from ridepool.inputs.fleet import Fleet
 from ridepool.inputs.network import Network
 from ridepool.inputs.requests import Requests
+from ridepool.report.marks import marks_of
 from ridepool.settings import RANGES, Settings
 from ridepool.study.kept import Kept, checksum, stopped_text
 from ridepool.words import Fault
 
 Facts = Mapping[str, Any]
-DONE = "done"
+DONE, MARKED = "done", "marked"
 
 
 def combinations(settings: Settings, values: Mapping[str, Any]) -> "list[Settings]":
@@ -55,7 +56,7 @@ class Days:
         except (NotDriven, Fault) as fault:
             return str(fault)
         if self.kept is not None:
-            self.kept.keep(self.kept.key_of(task), facts)
+            self.kept.keep(self.kept.made_of(task), facts)
         return stopped_text(self.limit) if "stopped" in facts else facts
 
 
@@ -91,8 +92,8 @@ def sweep(net: Network, fleet: Fleet, requests: Requests, settings: Optional[Set
     """Drives the same day for each combination of settings. Each of `values` is a setting with a value or a list of them,
     as wait=[120, 300]; the others are those of `settings`.
 
-    Gives a frame with a row for each combination: the settings, `state` ("done", or why there is no day), and the
-    measures of `Day.measures`. `client` is a client of Dask; without it this machine's processors are used. `keep` is a
+    Gives a frame with a row for each combination: the settings, `state` ("done", "marked", or why there is no day), `mark`
+    (why its figures must not be taken as they stand), and the measures of `Day.measures`. `client` is a client of Dask; without it this machine's processors are used. `keep` is a
     folder in which days are kept, so that none is driven twice. `limit` is how many seconds a day may take.
 
     >>> import pandas as pd
@@ -109,14 +110,16 @@ def sweep(net: Network, fleet: Fleet, requests: Requests, settings: Optional[Set
     direct = dict(zip(asked["rider"].tolist(), net.seconds_of(asked["origin"], asked["destination"]).tolist()))
     tasks = [Task(*texts, tuple(cell.words()), direct, limit) for cell in cells]
     found = driven(Days(bytes_of_program, network, kept, limit), tasks, client)
-    return pd.DataFrame([row_of(cell, facts) for cell, facts in zip(cells, found)])
+    seats = int(fleet.seats.max()) if len(fleet) else 0
+    return pd.DataFrame([row_of(cell, facts, seats) for cell, facts in zip(cells, found)])
 
 
-def row_of(cell: Settings, facts: Any) -> "dict[str, Any]":
+def row_of(cell: Settings, facts: Any, seats: int) -> "dict[str, Any]":
     """The row of a combination."""
     named = {name: getattr(cell, name) for name in RANGES}
     if isinstance(facts, str):
-        return {**named, "state": facts}
-    return {**named, "state": DONE, **measures_of(facts)}
+        return {**named, "state": facts, "mark": ""}
+    mark = "; ".join(marks_of(facts["requests"], facts["refused"], facts["batches"], facts["overflows"]))
+    return {**named, "state": MARKED if mark else DONE, "mark": mark, **measures_of(facts, seats)}
 
 

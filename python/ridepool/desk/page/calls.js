@@ -10,7 +10,8 @@ function make(tag, text, ...children) {
 }
 
 // The words for a value's kind, such as `integer 1 to 6`.
-function kindOf(schema) {
+function kindOf(given) {
+  const schema = given.anyOf ? given.anyOf.filter(it => it.type !== "null").pop() : given;
   const low = schema.minimum, high = schema.maximum;
   return (schema.type || "any") + (low === undefined || high === undefined || high > 1000 ? "" : ` ${low} to ${high}`);
 }

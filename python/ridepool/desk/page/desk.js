@@ -3,6 +3,7 @@
 import { DeskMap } from "./map.js";
 import { KeyedList, makeTabs } from "./lists.js";
 import { Alarm } from "./alarm.js";
+import { Events } from "./events.js";
 import { due, isAhead, isOpen, moment, persons, rideWords, span, troubleKey, troubleWords, vehicleWords } from "./words.js";
 
 const LOST_AFTER = 8000, SHOWN_BATCHES = 20, SHOWN_OVER = 100, KEPT_OVER = 200;
@@ -11,6 +12,7 @@ const rides = new Map(), vehicles = new Map();
 let batches = [], network = null, map = null, chosen = null, panel = "rides", dirty = false;
 let clock = { second: 0, speed: 0, at: 0 }, health = { status: "connecting", why: "" }, heard = 0, solvingSince = null;
 let delivered = 0, over = [], troubles = { count: 0, late: 0, expired: 0, lapsed: 0, trouble: [] };
+let stream = null, refused = false, beginning = null;
 const alarm = new Alarm(), title = document.title;
 
 // Seconds of the book now.
@@ -94,22 +96,19 @@ const events = {
 };
 
 function listen() {
-  const source = new EventSource("events");
-  for (const [kind, take] of Object.entries(events)) {
-    source.addEventListener(kind, event => {
-      heard = performance.now();
-      take(JSON.parse(event.data));
-      change();
-    });
-  }
-  source.onerror = () => {
+  const take = (kind, value) => {
+    heard = performance.now();
+    refused = false;
+    if (events[kind]) events[kind](value);
+    change();
+  };
+  const lost = status => {
     heard = -Infinity;
-    if (source.readyState === EventSource.CLOSED) {
-      source.close();
-      setTimeout(listen, 2000);
-    }
+    refused = status === 401 || status === 403;
     drawBar();
   };
+  stream = new Events(take, lost);
+  stream.begin(token());
 }
 
 // --- drawing --------------------------------------------------------------------------------------------------
@@ -131,6 +130,7 @@ function draw() {
 }
 
 function barState() {
+  if (refused) return ["lost", "A token is needed: write it into the field below"];
   const ended = health.status === "ended" ? `The dispatcher has ended: ${health.why}` : "";
   if (performance.now() - heard > LOST_AFTER) return ["lost", ended ? `${ended}. Connection lost` : "Connection lost. Trying again"];
   if (ended) return ["ended", ended];
@@ -322,10 +322,17 @@ function say(text, bad = false) {
   byId("message").classList.toggle("bad", bad);
 }
 
+function token() {
+  return byId("token").value.trim();
+}
+
+function bearer() {
+  return token() ? { authorization: "Bearer " + token() } : {};
+}
+
 async function send(method, path, body, done) {
-  const headers = {}, token = byId("token").value.trim();
+  const headers = bearer();
   if (body) headers["content-type"] = "application/json";
-  if (token) headers.authorization = "Bearer " + token;
   try {
     const response = await fetch(path, { method, headers, body: body ? JSON.stringify(body) : undefined });
     const answer = await response.json();
@@ -410,20 +417,37 @@ const showPanel = makeTabs(document.querySelector("[role=tablist]"), name => {
   if (map) drawList();
 });
 
-async function begin() {
+// Fetches the network; where a token is needed for that, the page asks for one. Gives whether it is there.
+async function fetchNetwork() {
   try {
-    network = await (await fetch("network")).json();
+    const response = await fetch("network", { headers: bearer() });
+    refused = response.status === 401 || response.status === 403;
+    if (response.ok) network = await response.json();
   } catch {
-    byId("bar").className = "lost";
-    write("status-text", "Connection lost. Trying again");
-    setTimeout(begin, 2000);
+    refused = false;
+  }
+  if (network) return true;
+  byId("bar").className = "lost";
+  byId("token-field").hidden = !refused;
+  write("status-text", refused ? barState()[1] : "Connection lost. Trying again");
+  return false;
+}
+
+function takeToken() {
+  sessionStorage.setItem("token", token());
+  if (stream) stream.begin(token());
+  else begin();
+}
+
+async function begin() {
+  clearTimeout(beginning);
+  if (network || !await fetchNetwork()) {
+    if (!network && !refused) beginning = setTimeout(begin, 2000);
     return;
   }
   map = new DeskMap(network, { onNode: picked, onSelect: select });
   Object.assign(map, { vehicles, rides, now });
   byId("token-field").hidden = !network.needs_token;
-  byId("token").value = sessionStorage.getItem("token") || "";
-  byId("token").addEventListener("change", () => sessionStorage.setItem("token", byId("token").value.trim()));
   byId("ask").addEventListener("submit", ask);
   byId("pick").addEventListener("click", startPicking);
   byId("from").addEventListener("input", showEnds);
@@ -437,4 +461,6 @@ async function begin() {
   setInterval(drawBar, 200);
 }
 
+byId("token").value = sessionStorage.getItem("token") || "";
+byId("token").addEventListener("change", takeToken);
 begin();

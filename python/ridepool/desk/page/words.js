@@ -32,8 +32,9 @@ export function persons(count) {
   return count === 1 ? "1 person" : `${count} persons`;
 }
 
-// How long from now something is due, or by how much it is late.
+// How long from now something is due, or by how much it is late. Within a second it is due now.
 export function due(second, now) {
+  if (Math.abs(second - now) < 1) return "now";
   return second < now ? `${span(now - second)} late` : `in ${span(second - now)}`;
 }
 

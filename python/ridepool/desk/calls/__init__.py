@@ -1,0 +1,1 @@
+"""The desk's calls over HTTP, by what they are about. Field names follow GOFS where it has them."""

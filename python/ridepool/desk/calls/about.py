@@ -1,0 +1,74 @@
+"""Calls on the desk itself: whether it works, what goes wrong, the map, the stream of events."""
+
+from __future__ import annotations
+
+import asyncio
+from typing import Any, AsyncIterator
+
+from fastapi import FastAPI, HTTPException, Request
+from fastapi.responses import Response, StreamingResponse
+from starlette.background import BackgroundTask
+
+from ridepool.desk.calls.examples import TROUBLE
+from ridepool.desk.calls.shared import Desk, answered, answers
+from ridepool.desk.metrics import TYPE
+
+QUIET_SECONDS = 3
+
+
+def add_desk(app: FastAPI, desk: Desk) -> None:
+    """Health, trouble, the network and the events."""
+    @app.get("/health", tags=["desk"])
+    async def health() -> Response:
+        """Whether commands are taken; 503 where they aren't, with the reason."""
+        value = desk.dispatcher.health()
+        return answered(200 if value["status"] == "ready" else 503, value)
+
+    @app.get("/trouble", tags=["desk"], responses=answers(TROUBLE))
+    async def trouble() -> Response:
+        """What goes wrong, the most urgent first. `late` counts from `second`, and is negative before it."""
+        desk.dispatcher.look()
+        return answered(200, desk.dispatcher.trouble_view())
+
+    @app.get("/network", tags=["desk"])
+    async def network() -> Response:
+        """Nodes with their places on the map, and streets. The settings that a page needs stand beside them."""
+        return Response(desk.network(), media_type="application/json")
+
+    @app.get("/metrics", tags=["desk"])
+    async def metrics() -> Response:
+        """Figures in Prometheus' text form, where its client is installed."""
+        text = desk.dispatcher.meter.text()
+        if text is None:
+            raise HTTPException(404, "Prometheus' client isn't installed: apt-get install python3-prometheus-client")
+        return Response(text, media_type=TYPE)
+
+    @app.get("/me", tags=["desk"], responses=answers({"role": "driver", "vehicle": 3, "ride": None}))
+    async def me(request: Request) -> Response:
+        """Who calls: the role of the token, and its vehicle or ride."""
+        holder = request.scope["holder"]
+        return answered(200, {"role": holder.role, "vehicle": holder.vehicle, "ride": holder.ride})
+
+    @app.get("/events", tags=["desk"])
+    async def events(request: Request) -> Response:
+        """Server-sent events: first `state`, then `reply`, `plan`, `places`, `status` and `clock` as they come."""
+        queue = desk.dispatcher.listen()
+        return StreamingResponse(stream(desk, request, queue), media_type="text/event-stream",
+                                 headers={"cache-control": "no-store", "x-accel-buffering": "no"},
+                                 background=BackgroundTask(desk.dispatcher.listeners.discard, queue))
+
+
+async def stream(desk: Desk, request: Request, queue: "asyncio.Queue[Any]") -> AsyncIterator[str]:
+    """The events as they come. Something comes every three seconds, so that a lost connection is seen."""
+    while not await request.is_disconnected():
+        try:
+            text = await asyncio.wait_for(queue.get(), QUIET_SECONDS)
+        except asyncio.TimeoutError:
+            queue.put_nowait(desk.dispatcher.clock_event())
+            continue
+        texts = [text]
+        while not queue.empty():
+            texts.append(queue.get_nowait())
+        yield "".join(it for it in texts if it is not None)
+        if None in texts:
+            return
