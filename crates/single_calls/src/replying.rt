@@ -293,10 +293,10 @@ const GIVEN_AWAY: [Ask; 7] = [
     },
 ];
 
-/// Whether the reply says that the rider is aboard of the vehicle of this name.
-fn is_aboard_of(reply: Option<Reply>, name: u32) -> bool {
+/// Whether the reply says that the rider is aboard of this vehicle.
+fn is_aboard_of(reply: &Option<Reply>, named: VehicleId) -> bool {
     match reply {
-        Some(Reply::Refused(BookRefusal::IsAboard { vehicle })) => vehicle.get() == name,
+        Some(Reply::Refused(BookRefusal::IsAboard { vehicle: carrier })) => *carrier == named,
         _ => false,
     }
 }
@@ -312,7 +312,7 @@ fn who_is_aboard_stays_so(rt: HostRuntime) {
     );
     assert!(rt; matches!(reply_of(alloc, TWO, &GIVEN_AWAY, 5), Some(Reply::Picked)));
     assert!(rt; matches!(reply_of(alloc, TWO, &GIVEN_AWAY, 6), Some(Reply::Closed)));
-    assert!(rt; is_aboard_of(reply_of(alloc, TWO, &GIVEN_AWAY, 7), 1));
+    assert!(rt; is_aboard_of(&reply_of(alloc, TWO, &GIVEN_AWAY, 7), vehicle(1)));
 }
 
 /// A notifier with room for two notices of which this call fails.
