@@ -41,6 +41,7 @@ fn source(alloc: Global, text: &[u8]) -> Result<MemorySource, AllocError> {
 }
 
 /// What stands in a report.
+#[derive(Clone, Copy)]
 pub struct Counts {
     /// By its last line.
     pub entries: u64,
