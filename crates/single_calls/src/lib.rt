@@ -11,13 +11,23 @@ mod labelling;
 #[cfg(test)]
 mod line;
 #[cfg(test)]
+mod moving;
+#[cfg(test)]
 mod orders;
 #[cfg(test)]
 mod pieces;
 #[cfg(test)]
 mod plans;
 #[cfg(test)]
+mod replying;
+#[cfg(test)]
+mod solving;
+#[cfg(test)]
 mod streams;
+#[cfg(test)]
+mod tables;
+#[cfg(test)]
+mod trees;
 #[cfg(test)]
 mod turns;
 #[cfg(test)]

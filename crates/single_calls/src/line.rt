@@ -44,15 +44,15 @@ pub fn network_of(alloc: Global, text: &[u8]) -> Option<Network> {
 
 /// The batch in which riders 1 from node 2 to 4 and 2 from 3 to 5 ask for a ride, at second 0.
 pub fn batch_on(alloc: Global, network: &Network) -> Option<Snapshot> {
-    match book_on(alloc, network) {
+    match book_on(alloc, network, FLEET) {
         Some(mut book) => asked(&mut book),
         None => None,
     }
 }
 
-/// The vehicle's book on the network, before its first round.
-fn book_on(alloc: Global, network: &Network) -> Option<Book> {
-    match rows(alloc, FLEET, FLEET_HEADER) {
+/// The book of a fleet on the network, before its first round.
+pub fn book_on(alloc: Global, network: &Network, fleet: &[u8]) -> Option<Book> {
+    match rows(alloc, fleet, FLEET_HEADER) {
         Ok(table) => match read_fleet(alloc, &table, network) {
             Ok(fleet) => Book::new(alloc, network, fleet, 120).ok(),
             Err(_) => None,

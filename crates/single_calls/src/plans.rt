@@ -45,7 +45,7 @@ fn graph_of(
 }
 
 /// The graph of the pairs, in which each vehicle holds nobody.
-fn three_pairs(alloc: Global) -> Result<TripGraph, Fail> {
+pub fn three_pairs(alloc: Global) -> Result<TripGraph, Fail> {
     let held = vec![in alloc; Some(0), Some(2), Some(4)]?;
     Ok(
         graph_of(alloc, pair_rows(alloc)?, held)

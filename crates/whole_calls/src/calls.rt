@@ -1,4 +1,5 @@
 //! Runs on a street of five corners, whose sources and sink lie in memory.
+use pool_base::read_number;
 use pool_io::{MemorySink, MemorySource};
 use request_book::Notifier;
 use ridepool::{RunStatus, ridepool};
@@ -39,19 +40,57 @@ fn source(alloc: Global, text: &[u8]) -> Result<MemorySource, AllocError> {
     Ok(MemorySource::new(bytes, 4096, Vec::new(alloc)))
 }
 
-/// Whether a run of this script by this fleet ends well, and its report ends so.
-pub fn ends_with<G: Gate>(
+/// What stands in a report.
+#[derive(Clone, Copy)]
+pub struct Counts {
+    /// By its last line.
+    pub entries: u64,
+    pub accepted: usize,
+    pub closed: usize,
+}
+
+/// What stands in the report of a run of this script by this fleet; `None` where the run doesn't end well, and for want of
+/// memory.
+pub fn counts_of<G: Gate>(
     rt: &(impl Threads + Wait + Sync),
     alloc: Global,
     fleet: &[u8],
     script: &[u8],
-    end: &[u8],
     notifiers: &mut Vec<Box<dyn Notifier>>,
     gate: &G,
-) -> Result<bool, AllocError> {
-    let mut fakes = fakes_of(alloc, fleet, script)?;
-    let status = status_of(rt, alloc, &mut fakes, notifiers, gate)?;
-    Ok(matches!(status, RunStatus::Done) && fakes.out.written().ends_with(end))
+) -> Option<Counts> {
+    let mut fakes = fakes_of(alloc, fleet, script).ok()?;
+    match status_of(rt, alloc, &mut fakes, notifiers, gate) {
+        Ok(RunStatus::Done) => counts_in(fakes.out.written()),
+        _ => None,
+    }
+}
+
+fn counts_in(report: &[u8]) -> Option<Counts> {
+    Some(Counts {
+        entries: last_number(report)?,
+        accepted: count_in(report, b" accepted\n"),
+        closed: count_in(report, b" closed\n"),
+    })
+}
+
+/// The number of the report's last line.
+fn last_number(report: &[u8]) -> Option<u64> {
+    let line = report.strip_suffix(b"\n")?;
+    let place = line.iter().rposition(|byte| *byte == b'\n')?;
+    let number = line.get(place..)?.strip_prefix(b"\ndone ")?;
+    read_number(number).ok()
+}
+
+/// At how many places of a text this stands.
+fn count_in(text: &[u8], part: &[u8]) -> usize {
+    let mut count = 0usize;
+    for place in 0..text.len() {
+        if text.get(place..).unwrap_or(&[]).starts_with(part) {
+            count = count.saturating_add(1);
+        }
+    }
+    count
 }
 
 fn status_of<G: Gate>(

@@ -1,11 +1,10 @@
 //! What a gate sees of whole runs: lanes that meet, a lane that is answered during growth, and pieces of growth.
-use crate::calls::ends_with;
+use crate::calls::counts_of;
 use request_book::Notifier;
 use shared_work::Gate;
-use std::alloc::{AllocError, Global};
+use std::alloc::Global;
 use std::sync::Wait;
 use std::sync::atomic::{AtomicU64, Ordering};
-use std::test::Fail;
 use std::thread;
 use std::thread::Threads;
 
@@ -88,42 +87,40 @@ impl Gate for DuringGrowth {
     }
 }
 
-// Whether a run of this script ends so, where nobody is told anything.
-fn ran<G: Gate>(
+// How many entries a run of this script has, how many of them accept a rider, and how many close a batch; nobody is told
+// anything.
+fn made<G: Gate>(
     rt: &(impl Threads + Wait + Sync),
     alloc: Global,
     script: &[u8],
-    end: &[u8],
     gate: &G,
-) -> Result<bool, AllocError> {
+) -> Option<(u64, usize, usize)> {
     let mut nobody: Vec<Box<dyn Notifier>> = Vec::new(alloc);
-    ends_with(rt, alloc, FLEET, script, end, &mut nobody, gate)
+    let counts = counts_of(rt, alloc, FLEET, script, &mut nobody, gate)?;
+    Some((counts.entries, counts.accepted, counts.closed))
 }
 
 #[test]
-fn a_lane_is_answered_during_growth(rt: HostRuntime) -> Result<(), Fail> {
+fn a_lane_is_answered_during_growth(rt: HostRuntime) {
     let gate = DuringGrowth::until(2);
-    assert!(rt; ran(&rt, rt.alloc(), SEAL_AND_ASK, b"\ndone 4\n", &gate)?);
+    assert!(rt; matches!(made(&rt, rt.alloc(), SEAL_AND_ASK, &gate), Some((4, 2, 1))));
     assert_eq!(rt; gate.ran_out.load(Ordering::SeqCst), 0);
-    Ok(())
 }
 
 #[test]
-fn sixteen_lanes_meet(rt: HostRuntime) -> Result<(), Fail> {
+fn sixteen_lanes_meet(rt: HostRuntime) {
     let gate = AllLanes {
         answers: AtomicU64::new(0),
         ran_out: AtomicU64::new(0),
     };
-    assert!(rt; ran(&rt, rt.alloc(), SIXTEEN, b"\ndone 16\n", &gate)?);
+    assert!(rt; matches!(made(&rt, rt.alloc(), SIXTEEN, &gate), Some((16, 16, 0))));
     assert_eq!(rt; gate.ran_out.load(Ordering::SeqCst), 0);
-    Ok(())
 }
 
 // In each of the two batches the trips of one rider, of two and of three are a run of their own.
 #[test]
-fn each_size_is_grown_in_runs_of_its_own(rt: HostRuntime) -> Result<(), Fail> {
+fn each_size_is_grown_in_runs_of_its_own(rt: HostRuntime) {
     let gate = DuringGrowth::until(0);
-    assert!(rt; ran(&rt, rt.alloc(), THREE_ROUNDS, b"\ndone 6\n", &gate)?);
+    assert!(rt; matches!(made(&rt, rt.alloc(), THREE_ROUNDS, &gate), Some((6, 2, 2))));
     assert_eq!(rt; gate.begun.load(Ordering::SeqCst), 6);
-    Ok(())
 }

@@ -9,3 +9,5 @@ mod calls;
 mod gating;
 #[cfg(test)]
 mod telling;
+#[cfg(test)]
+mod walking;

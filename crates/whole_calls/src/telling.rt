@@ -1,5 +1,5 @@
 //! Three notifiers of a run, of whom one is left out once it fails.
-use crate::calls::ends_with;
+use crate::calls::{Counts, counts_of};
 use request_book::{MemoryNotifier, Notifier};
 use shared_work::FreeGate;
 use std::alloc::{AllocError, Global};
@@ -31,19 +31,15 @@ fn left(rt: &(impl Threads + Wait + Sync), alloc: Global, fail: u64) -> Result<u
     for call in [6, fail, 6] {
         notifiers.push(boxed(alloc, call)?)?;
     }
-    let end = b"\ndone 7\n";
-    if ends_with(
-        rt,
-        alloc,
-        FLEET,
-        TWO_BATCHES,
-        end,
-        &mut notifiers,
-        &FreeGate,
-    )? {
-        Ok(notifiers.len())
-    } else {
-        Err(AllocError)
+    match counts_of(rt, alloc, FLEET, TWO_BATCHES, &mut notifiers, &FreeGate) {
+        Some(
+            Counts {
+                entries: 7,
+                accepted: 3,
+                closed: 2,
+            },
+        ) => Ok(notifiers.len()),
+        _ => Err(AllocError),
     }
 }
 
