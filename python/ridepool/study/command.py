@@ -59,7 +59,8 @@ def quiet():
     """What Dask warns of is not shown, nor what it says of its connections to those that died."""
     os.environ.setdefault("PYTHONWARNINGS", "ignore")
     warnings.simplefilter("ignore")
-    for name in ("asyncio", "distributed", "tornado"):
+    own = [name for name in logging.root.manager.loggerDict if name.startswith("distributed.")]
+    for name in ("asyncio", "distributed", "tornado", *own):  # Dask gives some of its parts a level of their own
         logging.getLogger(name).setLevel(logging.CRITICAL + 1)
 
 
