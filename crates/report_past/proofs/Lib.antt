@@ -1,0 +1,4 @@
+mod CloseLemmas
+mod CutLemmas
+mod LaterLemmas
+mod LawLemmas

@@ -1,0 +1,2 @@
+-- What only the bodies of this crate need.
+pub mod Walk
