@@ -23,6 +23,7 @@ if TYPE_CHECKING:
     from ridepool.sessions.awaited import Alive, alive
     from ridepool.sessions.blocking import Live, live
     from ridepool.sessions.dialogue import Answer, Plan, RefusedCommand
+    from ridepool.sessions.resumed import Resumed, resume
     from ridepool.settings import Settings
     from ridepool.study.sweep import sweep
 
@@ -46,6 +47,7 @@ PLACES = {
     "RefusedCommand": "sessions.dialogue",
     "RefusedInput": "faults",
     "Requests": "inputs.requests",
+    "Resumed": "sessions.resumed",
     "Ridepool": "policies.known",
     "Settings": "settings",
     "Standing": "policies.state",
@@ -57,6 +59,7 @@ PLACES = {
     "drive": "days.calls",
     "live": "sessions.blocking",
     "load": "days.calls",
+    "resume": "sessions.resumed",
     "run": "days.calls",
     "simulate": "policies.simulation",
     "sweep": "study.sweep",

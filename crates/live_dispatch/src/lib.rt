@@ -19,8 +19,8 @@
 //!     gate,
 //! };
 //! let rows = LiveRows::behind(alloc, lines, version, listener);
-//! let Dispatched { sink, notifiers, rows, ended } = dispatch(
-//!     rt, alloc, book, out, notifiers, rows, &solver,
+//! let Dispatched { outputs, rows, ended } = dispatch(
+//!     rt, alloc, book, Outputs { sink: out, notifiers }, rows, &solver,
 //! );
 //! ```
 //!
@@ -29,20 +29,24 @@
 #![tactic(auto)]
 
 mod batch;
+mod caught;
 mod close;
 mod desk;
 mod fault;
 mod live_run;
 mod logged;
 mod open;
+mod outputs;
 mod read_on;
 mod row;
 mod run;
 mod turns;
 
+pub use caught::{Caught, close_open};
 pub use desk::{Desk, DeskRoot, LaneCommand, Opening};
 pub use fault::LiveFault;
 pub use live_run::Dispatched;
+pub use outputs::Outputs;
 pub use read_on::Halt;
 pub use run::{OpenBatch, Opened, Unopened, run_open};
 pub use turns::dispatch;

@@ -21,7 +21,9 @@ pub enum RunStatus {
     Fleet(Input<FleetFault>),
     /// The script is refused.
     Script(Input<ScriptFault>),
-    /// The input is longer than 67,108,864 bytes, or the report of an audit than 268,435,456.
+    /// The header of a script that is read while it is written is longer than 65,536 bytes.
+    LongHeader,
+    /// The input is longer than 67,108,864 bytes, or the report of an audit or of a restart than 2,147,483,648.
     TooLong(Which),
     /// A read of the input failed.
     ReadFault(Which),
@@ -33,7 +35,7 @@ pub enum RunStatus {
     Day(DayFault),
     /// A second above 1,000,000,000 would be entered into this round of a day.
     TooLate { round: u32 },
-    /// The report of an audit is none of a run of the script.
+    /// The report of an audit is none of a run of the script, or that of a restart none that a run leaves.
     Report(AuditFault),
 }
 
@@ -50,6 +52,7 @@ impl RunStatus {
             RunStatus::Network(_) => 3,
             RunStatus::Fleet(_) => 4,
             RunStatus::Script(_) => 5,
+            RunStatus::LongHeader => 5,
             RunStatus::TooLong(_) => 6,
             RunStatus::ReadFault(_) => 7,
             RunStatus::WriteFault => 8,
