@@ -1,0 +1,2 @@
+pub mod sweeps
+pub mod build
