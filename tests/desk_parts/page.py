@@ -76,6 +76,12 @@ def keep_picture(browser, name):
         browser.save_screenshot(str(pathlib.Path(os.environ["DESK_PICTURES"]) / f"{name}.png"))
 
 
+def clicked(browser, selector):
+    """Clicks the first element of this selector; whether there was one."""
+    return browser.execute_script("const found = document.querySelector(arguments[0]);"
+                                  "if (found) found.click(); return Boolean(found)", selector)
+
+
 def fits(browser):
     """Nothing may stand out to the side."""
     wide, inner = browser.execute_script("return [document.documentElement.scrollWidth, innerWidth]")
@@ -102,7 +108,7 @@ def a_ride_asked_by_two_clicks_is_picked_up_and_delivered():
             assert places == sorted(places), seen
             ride = it.gives("GET", "/rides/1")
             assert [str(ride["from"]), str(ride["to"]), ride["state"]] == [*ends, "delivered"], ride
-            assert text_of(browser, "#count-delivered") == "1"
+            until(lambda: text_of(browser, "#count-delivered") == "1", "one is counted")
 
 
 @test
@@ -134,7 +140,7 @@ def the_page_works_by_the_keyboard():
         press(Keys.ARROW_DOWN, Keys.ARROW_DOWN)
         until(lambda: "Vehicle 2" in text_of(browser, "#chosen h2"), "vehicle 2 is chosen")
         press("3")
-        assert browser.execute_script("return !document.getElementById('batches').hidden")
+        until(lambda: browser.execute_script("return !document.getElementById('batches').hidden"), "the batches")
 
 
 def map_at(browser):
@@ -161,7 +167,7 @@ def the_page_says_when_live_or_the_desk_ends():
             until(lambda: "The dispatcher has ended" in text_of(browser, "#status-text"), "the end is shown")
             fits(browser)
             keep_picture(browser, "ended-390")
-            assert browser.execute_script("return document.getElementById('ask-button').disabled")
+            until(lambda: browser.execute_script("return document.getElementById('ask-button').disabled"), "nobody can ask")
             assert it.child.wait(PATIENCE) == 3
             until(lambda: "Connection lost" in text_of(browser, "#status-text"), "the loss is shown")
             assert "3 times already" in text_of(browser, "#status-text")
@@ -185,19 +191,19 @@ def trouble_stands_first_on_the_page():
 def late_vehicle_is_first(browser):
     """The list, the bar and the title tell of the late vehicle, and the list leads to it."""
     until(lambda: text_of(browser, "#count-late") == "1", "the bar counts the late vehicle")
-    assert browser.title == "(1) Dispatcher's desk", browser.title
+    until(lambda: browser.title == "(1) Dispatcher's desk", "the title counts it")
     row = "#trouble .list li"
     until(lambda: text_of(browser, f"{row} .when").endswith(" late"), "how late it is")
-    assert text_of(browser, f"{row} .what") == "Vehicle 1 picks up rider 1 at 2"
+    until(lambda: text_of(browser, f"{row} .what") == "Vehicle 1 picks up rider 1 at 2", "what is late")
     colour = "return getComputedStyle(document.getElementById('count-late').parentElement).backgroundColor"
     assert browser.execute_script(colour) == "rgb(179, 38, 30)"
     tops = browser.execute_script("return ['trouble', 'panel', 'map-area'].map(it => "
                                   "document.getElementById(it).getBoundingClientRect().top)")
     assert tops[0] < tops[1] and tops[0] <= tops[2], tops
     fits(browser)
-    browser.execute_script("document.querySelector(arguments[0]).click()", row)
+    until(lambda: clicked(browser, row), "the row")
     until(lambda: "Rider 1: promised" in text_of(browser, "#chosen h2"), "its rider is chosen")
-    assert "Vehicle 1 is " in text_of(browser, "#chosen") and " late." in text_of(browser, "#chosen")
+    until(lambda: "Vehicle 1 is " in text_of(browser, "#chosen") and " late." in text_of(browser, "#chosen"), "how late it is")
     assert "in 0:00" not in browser.execute_script("return document.body.textContent")
 
 
@@ -208,7 +214,7 @@ def what_hangs_is_in_the_bar(it, browser):
     until(lambda: "stopped by a signal" in text_of(browser, "#trouble .list li .what"), "what hangs stands first")
     os.kill(it.live(), signal.SIGCONT)
     until(lambda: text_of(browser, "#status-text").startswith("Ready"), "ready again")
-    assert text_of(browser, "#trouble .list li .what").startswith("Vehicle 1 picks up")
+    until(lambda: text_of(browser, "#trouble .list li .what").startswith("Vehicle 1 picks up"), "the late vehicle is first again")
 
 
 @test
@@ -241,7 +247,7 @@ def the_page_fits_both_widths():
                 for tab in ("vehicles", "batches", "rides"):
                     browser.execute_script("document.getElementById(arguments[0]).click()", f"tab-{tab}")
                     fits(browser)
-                browser.execute_script("document.querySelector('#rides li').click()")
+                until(lambda: clicked(browser, "#rides li"), "a ride in the list")
                 until(lambda: text_of(browser, "#chosen h2"), "a rider is chosen")
                 fits(browser)
                 keep_picture(browser, f"chosen-{width}")
