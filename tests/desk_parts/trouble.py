@@ -105,17 +105,21 @@ def an_overdue_pickup_is_late_in_each_call():
         assert [other["kind"] for other in others] == ["silent"] and (told["count"], told["late"]) == (2, 1), told
 
 
+def tells_of_a_stop(it):
+    """Whether `/health` and the first trouble say that the dispatcher was stopped, and how it goes on."""
+    status, health = it.call("GET", "/health")
+    trouble = it.gives("GET", "/trouble")["trouble"]
+    return (status == 503 and health["status"] == "hangs" and f"kill -CONT {it.live()}" in health["why"]
+            and trouble[:1] and (trouble[0]["kind"], trouble[0]["text"]) == ("hangs", health["why"]))
+
+
 @test
 def a_dispatcher_that_does_not_answer_is_told():
     with desk(*inputs(LINE), *LONG) as it, concurrent.futures.ThreadPoolExecutor(1) as pool:
         assert it.gives("GET", "/trouble")["count"] == 0
         os.kill(it.live(), signal.SIGSTOP)
         asked = pool.submit(it.call, "POST", "/rides", {"from": 2, "to": 4})
-        until(lambda: it.call("GET", "/health")[0] == 503, "what hangs")
-        health = it.call("GET", "/health")[1]
-        assert health["status"] == "hangs" and f"kill -CONT {it.live()}" in health["why"], health
-        first = it.gives("GET", "/trouble")["trouble"][0]
-        assert (first["kind"], first["text"]) == ("hangs", health["why"]), first
+        until(lambda: tells_of_a_stop(it), "what hangs, and how it goes on")
         os.kill(it.live(), signal.SIGCONT)
         assert asked.result()[0] == 201
         until(lambda: it.call("GET", "/health")[0] == 200, "ready again")
