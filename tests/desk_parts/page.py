@@ -101,10 +101,12 @@ def a_ride_asked_by_two_clicks_is_picked_up_and_delivered():
             assert all(ends) and ends[0] != ends[1], ends
             browser.find_element(By.ID, "ask-button").click()
             until(lambda: text_of(browser, "#message").startswith("Rider 1 waits"), "the answer")
+            states = ("waiting", "left out", "promised", "aboard", "delivered")
+            until(lambda: any(state in text_of(browser, "#chosen h2") for state in states), "rider 1 is chosen")
             seen = [text_of(browser, "#chosen h2")]
             until(lambda: "delivered" in watched(browser, "#chosen h2", seen), "rider 1 is delivered")
-            states = ("waiting", "left out", "promised", "aboard", "delivered")
-            places = [[state in text for state in states].index(True) for text in seen]
+            told = [text for text in seen if any(state in text for state in states)]
+            places = [[state in text for state in states].index(True) for text in told]
             assert places == sorted(places), seen
             ride = it.gives("GET", "/rides/1")
             assert [str(ride["from"]), str(ride["to"]), ride["state"]] == [*ends, "delivered"], ride
