@@ -7,7 +7,7 @@ use Rattle.std.specs.Prelude.{is_some, false, cond, OnOk}
 use Rattle.std.proofs.lemmas.List.{get_or_push, length-map, length_push, map-append}
 use Rattle.dispatch_engine.specs.lanes.Locked.{log_of, snapshot_before}
 use Rattle.dispatch_engine.proofs.lemmas.lanes.LockedLemmas.{calls-length, applied-call, applied-fits}
-use Rattle.live_dispatch.specs.Desk.{desk_call, desk_log, pass_of, HasEntered, entries_text, text_of, notices_in, DeskView, IsDesk, IsPassedOn, Outputs}
+use Rattle.live_dispatch.specs.Desk.{desk_call, desk_log, pass_of, HasEntered, entries_text, text_of, notices_in, DeskView, IsDesk, IsPassedOn, OutputsView}
 use Rattle.pool_io.specs.Faults.{Rose}
 use Rattle.pool_io.specs.Sink.{AppendsPart}
 use Rattle.request_book.specs.Book.{BookView, next_position, IsApplied, IsBook}
@@ -51,14 +51,14 @@ entries_text-push proof old new lane command reply small applied =
     ∙ ap (λ t. entries_text proof old ++ t) (one-text proof (next_position old.first old.entries) e)
 
 -- a desk with nothing written
-pub desk-opened : (book : BookView) (proof : Bool) (outputs : Outputs) → IsBook book → book.entries ≡ [] → book.first < 2 ^ 64
+pub desk-opened : (book : BookView) (proof : Bool) (outputs : OutputsView) → IsBook book → book.entries ≡ [] → book.first < 2 ^ 64
     → IsDesk (record { book = book; proof = proof; opened = outputs; now = outputs; fault = None })
 unfolding entries_lines lines_text notices_from
 desk-opened book proof outputs kept empty small =
     let P : List Entry → Type 0 = λ es. Appends outputs.sink.written outputs.sink.written (text_of proof book es) × HaveHeard (notices_in book es) outputs.notifiers outputs.notifiers in
     record { book = kept; first = small; told = subst P (sym empty) (Appends-nil outputs.sink.written, all-heard-nothing outputs.notifiers); never_falls = omega arith }
 
-module _ (old : DeskView) (lane : ℕ) (command : Command) (reply : Reply) (book : BookView) (now : Outputs)
+module _ (old : DeskView) (lane : ℕ) (command : Command) (reply : Reply) (book : BookView) (now : OutputsView)
     (desk : IsDesk old) (whole : old.fault ≡ None) (kept : IsBook book) (applied : IsApplied old.book lane command reply book) where
   abbrev e : Entry
   e = record { lane = lane; command = command; reply = reply }

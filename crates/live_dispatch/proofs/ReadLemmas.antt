@@ -3,7 +3,7 @@ use Rattle.std.proofs.Common.{◌≡◌, ℕ, List, [], ◌∷◌, ◌++◌, map
 use Rattle.std.specs.Prelude.{Bool, Result, Ok, Err, IfOk, OnErr, false, true}
 use Rattle.dispatch_report.specs.declared.fault.ReportFault.{ReportFault}
 use Rattle.request_book.specs.Book.{BookView}
-use Rattle.live_dispatch.specs.Desk.{DeskView, Outputs}
+use Rattle.live_dispatch.specs.Desk.{DeskView, OutputsView}
 use Rattle.live_dispatch.specs.Phase.{desk_after, commands_in, row_command, GoesOn, RanRows}
 use Rattle.std.specs.Result.{is_err}
 use Rattle.std.proofs.lemmas.Bool.{false≢true}
@@ -51,7 +51,7 @@ refused_err (Ok x) stopped h = absurd (false≢true stopped)
 refused_err (Err e) stopped h = h
 
 -- a desk whose parts are known
-pub desk-is : (d : DeskView) (start book : BookView) (proof : Bool) (opened from now : Outputs) (fault : Option ReportFault)
+pub desk-is : (d : DeskView) (start book : BookView) (proof : Bool) (opened from now : OutputsView) (fault : Option ReportFault)
     → d ≡ record { book = book; proof = d.proof; opened = opened; now = now; fault = fault } → d.proof ≡ proof → opened ≡ from
     → d ≡ desk_after start proof from book now fault
 desk-is d start book proof opened from now fault parts told is = parts ∙ (λ i. record { book = book; proof = told i; opened = is i; now = now; fault = fault })

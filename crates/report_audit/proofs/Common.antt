@@ -72,13 +72,13 @@ pub use Rattle.input_rows.specs.script.Round.{IsRound, MayStand, NumberedLanes, 
 pub use Rattle.dispatch_engine.specs.lanes.Locked.{sealed_by, snapshot_before}
 pub use Rattle.report_audit.specs.block.Judged.{CanBeTold, HasTrips, NamesRow, at_most, judged_outcome, judged_plan, late_of, node_of, number_among, row_of, trip_of}
 pub use Rattle.report_audit.specs.block.BlockLists.{BlockLists, nothing_told, told_by, with_line}
-pub use Rattle.report_audit.specs.work.block.Judged.{HoldUpTo, stops_of, verdict_place}
+pub use Rattle.report_audit.specs.work.block.Judged.{HoldUpTo, stops_of}
 pub use Rattle.report_audit.specs.work.block.BlockLists.{told_in}
 pub use Rattle.plan_rules.specs.declared.node.Node.{Node}
 pub use Rattle.report_audit.specs.lines.Order.{follow_on, is_between, kind_place, last_place, may_follow_at}
 pub use Rattle.dispatch_report.specs.Block.{block_line_text, block_lines, late_as_line, lines_of, pair_line, row_as_line, stop_text, tree_line, trip_as_line}
 pub use Rattle.dispatch_report.specs.declared.block_line.BlockLine.{BlockLine}
-pub use Rattle.dispatch_report.specs.declared.block_line.BlockLine.TheVariants.{Alone, Bound, Branch, Cost, Dead, End, Expired, Lapsed, Late, Leaf, Move, Nodes, Out, Overflow, Row, Shared, Trip}
+pub use Rattle.dispatch_report.specs.declared.block_line.BlockLine.TheVariants.{Alone, Bound, Branch, Cost, Dead, End, Expired, Lapsed, Late, Leaf, Move, Nodes, Out, Overflow, TripRow, Shared, Trip}
 pub use Rattle.dispatch_report.specs.declared.block_line.LateText.{LateText}
 pub use Rattle.dispatch_report.specs.declared.block_line.TripRowText.{TripRowText}
 pub use Rattle.dispatch_report.specs.declared.block_line.TripText.{TripText}
@@ -123,6 +123,7 @@ pub use Rattle.report_audit.specs.work.points.Moves.{CanPrecede, HaveOwnPlaces, 
 pub use Rattle.report_audit.specs.work.points.Nodes.{HasMultipliers, IsLimit}
 pub use Rattle.report_audit.specs.work.points.Orders.{HasNoOrder, HasOwnIds}
 pub use Rattle.report_audit.specs.work.points.Refusals.{IsRefusal}
+pub use Rattle.report_audit.specs.work.points.Verdict.{verdict_place}
 pub use Rattle.report_audit.specs.work.points.Trips.{GivesTrips, IsLeast, TellsPlan, TellsRow}
 pub use Rattle.plan_rules.proofs.lemmas.GraphLemmas.{between_row, row_between, row_read}
 pub use Rattle.plan_rules.proofs.lemmas.PathLemmas.{coming_entered, coming_start, path_none, path_push}
@@ -137,7 +138,6 @@ pub use Rattle.plan_rules.specs.Plan.{IsLawful, IsPlan, cost_of}
 pub use Rattle.plan_rules.specs.Reading.{IsSoundNode, ReadsTo, coming_after, places_from}
 pub use Rattle.plan_rules.specs.Sums.{count_below}
 pub use Rattle.plan_rules.specs.Tree.{CanBranch, IsTreeOfValue, Place, every_row, rounded_up}
-pub use Rattle.plan_rules.specs.declared.row.TripRow.{TripRow}
 pub use Rattle.plan_rules.specs.lemmas.Graph.{HasNoRow}
 pub use Rattle.plan_rules.specs.lemmas.Tree.{IsWholeTree, places_read}
 pub use Rattle.pool_base.specs.Times.{point_count, travel_time}

@@ -1,11 +1,13 @@
 -- A call of `live`, from its steps.
 use Rattle.std.proofs.Common.{◌≡◌, ℕ, ◌≤◌, List, Option, Some, None, Result, Ok, Err, MatchResult, refl, sym, ap, subst, inl, inr, arith, ◌⊎◌}
-use Rattle.ridepool.proofs.Common.{Appends, IsReady, Change, SinkView, WritesText, ReportFault, lines_in, Which, Rose, Input, BookView, fault_of, Settings, NotifierView, Roads, AreGood, IsWithin, Reads, AnswersLive, AreLimited, AreRowsOf, BeginsLive, EndsLive, ExplainsLive, HasHead, IsFaultlessLive, IsLiveStop, IsSilentCall, LiveCall, LiveInputs, LiveSeen, live_head, opened_book, words_of_run, network_in, vehicles_in, IsUntouched, SourceView, RunStatus, Done, Words, Network, Fleet, Script, TooLong, ReadFault, WriteFault, OutOfMemory, Report, HidesNoMemory, IsUnread, StopsAt, status_of}
+use Rattle.ridepool.proofs.Common.{Appends, IsReady, Change, SinkView, WritesText, ReportFault, lines_in, Which, Rose, Input, BookView, fault_of, Settings, NotifierView, Roads, AreGood, IsWithin, Reads, AnswersLive, AreLimited, AreRowsOf, BeginsLive, EndsLive, ExplainsLive, HasHead, IsFaultlessLive, IsLiveStop, IsSilentCall, IsUnbegun, LiveCall, LiveInputs, LiveSeen, live_head, opened_book, words_of_run, network_in, vehicles_in, IsUntouched, SourceView, RunStatus, Done, Words, Network, Fleet, Script, TooLong, ReadFault, WriteFault, OutOfMemory, Report, HidesNoMemory, IsUnread, StopsAt, status_of}
 use Rattle.std.specs.Result.{IsErrOf}
 use Rattle.live_dispatch.specs.Live.{BeginsRows, RunsRows}
 use Rattle.live_dispatch.specs.declared.fault.LiveFault.{LiveFault}
 use Rattle.input_rows.specs.live.Rows.{rows_to_come}
-use Rattle.input_rows.specs.live.Start.{live_rows, HasOtherStart, HasStarted}
+use Rattle.input_rows.specs.live.Start.{live_rows, HasNoHeader, HasStarted}
+use Rattle.input_rows.specs.declared.live.start.HeaderFault.{HeaderFault}
+use Rattle.input_rows.specs.declared.live.start.HeaderFault.TheVariants as no_header
 use Rattle.input_rows.specs.declared.live.start.StartFault.{StartFault}
 use Rattle.input_rows.specs.declared.script.script_row.ScriptRow.{ScriptRow}
 use Rattle.input_rows.specs.declared.script.version.ScriptVersion.{ScriptVersion}
@@ -29,9 +31,9 @@ ready-live i book is = record { nodes = ap (λ b. b.nodes) is; wait = ap (λ b. 
 
 -- a call that stops at its header
 pub start-stops : (i : LiveInputs) (seen : LiveSeen) (fault : StartFault) (status : RunStatus) → status ≡ status_of_start fault → IsSilentCall seen
-    → ((fields : ℕ) → fault ≡ start.Header fields → HasOtherStart seen.script fields) → (fault ≡ start.ReadFault → Rose seen.reads.before seen.reads.after)
+    → ((why : HeaderFault) → fault ≡ start.Header why → HasNoHeader seen.script why) → (fault ≡ start.ReadFault → Rose seen.reads.before seen.reads.after)
     → EndsLive i seen status
-start-stops i seen (start.Header fields) status is silent other rose = subst (EndsLive i seen) (sym is) (EndsLive.headless fields (other fields refl) silent)
+start-stops i seen (start.Header why) status is silent other rose = subst (EndsLive i seen) (sym is) (EndsLive.headless why (other why refl) silent)
 start-stops i seen start.ReadFault status is silent other rose = subst (EndsLive i seen) (sym is) (EndsLive.unread (inl silent) (rose refl))
 start-stops i seen start.OutOfMemory status is silent other rose = subst (EndsLive i seen) (sym is) (EndsLive.unstored (inl silent))
 
@@ -72,7 +74,7 @@ module _ (i : LiveInputs) (seen : LiveSeen) (version : ScriptVersion) (next : Op
       subst (EndsLive i seen) (sym named) (EndsLive.unstored (inr (begun is started wrote begins)))
 
 -- why a call ended before its rows
-module _ (call : LiveCall) (silent : IsSilentCall call.rest) where
+module _ (call : LiveCall) (silent : IsUnbegun call) where
   pub words-stop : (status : RunStatus) → IsUntouched call.network → IsUntouched call.fleet → RefusesWords (words_of_run call.words) status → ExplainsLive call status
   words-stop (Words fault) network fleet why = ExplainsLive.refused fault why network fleet silent
   words-stop OutOfMemory network fleet why = ExplainsLive.unstored silent
@@ -106,14 +108,14 @@ no-stop call _ f (IsLiveStop.fleet_refused fault why) =
 no-stop call _ f (IsLiveStop.fleet_long why) = not_long file.Fleet call.fleet f.fleet_text f.fleet why.2
 no-stop call _ f (IsLiveStop.fleet_unread why) = f.fleet.faultless why.2.1
 
-has-header : (script : Option (List ℕ)) (text : List ℕ) (rows : List ScriptRow) (fields : ℕ) → script ≡ Some text → live_rows (lines_in text) ≡ Ok rows → HasOtherStart script fields → ⊥
-has-header script text rows fields told header other =
-    let P : Option (List ℕ) → Type 0 = λ s. HasOtherStart s fields in ok_is_no_err (live_rows (lines_in text)) rows fields header (subst P told other)
+has-header : (script : Option (List ℕ)) (text : List ℕ) (rows : List ScriptRow) (why : HeaderFault) → script ≡ Some text → live_rows (lines_in text) ≡ Ok rows → HasNoHeader script why → ⊥
+has-header script text rows why told header other =
+    let P : Option (List ℕ) → Type 0 = λ s. HasNoHeader s why in ok_is_no_err (live_rows (lines_in text)) rows why header (subst P told other)
 
 no-end : (call : LiveCall) (i : LiveInputs) (status : RunStatus) → IsFaultlessLive call → (Rose call.rest.out.before.faults call.rest.out.after.faults → ⊥) → EndsLive i call.rest status
     → (status ≡ Done) ⊎ (status ≡ OutOfMemory)
 no-end call i _ f writes (EndsLive.done runs) = inl refl
-no-end call i _ f writes (EndsLive.headless fields other silent) = absurd (has-header call.rest.script f.text f.rows fields f.told f.header other)
+no-end call i _ f writes (EndsLive.headless why other silent) = absurd (has-header call.rest.script f.text f.rows why f.told f.header other)
 no-end call i _ f writes (EndsLive.unread begun rose) = absurd (f.faultless rose)
 no-end call i _ f writes (EndsLive.failed begun rose) = absurd (writes rose)
 no-end call i _ f writes (EndsLive.unstored begun) = inr refl
@@ -136,7 +138,8 @@ answers-live call status why limited hides =
 
 -- the end of a call behind its inputs hides no want of memory
 pub ends-hide : (i : LiveInputs) (seen : LiveSeen) (status : RunStatus) → EndsLive i seen status → HidesNoMemory status
-ends-hide i seen _ (EndsLive.headless fields other silent) = λ is. absurd cc
+ends-hide i seen _ (EndsLive.headless (no_header.Other fields) other silent) = λ is. absurd cc
+ends-hide i seen _ (EndsLive.headless no_header.TooLong other silent) = tt
 ends-hide i seen _ _ = tt
 
 -- words that are refused hide none

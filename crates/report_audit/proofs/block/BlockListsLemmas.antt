@@ -1,6 +1,6 @@
 -- What the lines of a block tell is what it is made of.
 use Rattle.std.proofs.Common.{◌≡◌, ℕ, true, false, List, [], ◌∷◌, ◌++◌, map, append_assoc, append-nil, refl, sym, ap, ◌∙◌, arith, fold, ◌≤◌, length, IfSome}
-use Rattle.report_audit.proofs.Common.{All-cons, All-head, All-tail, BlockLine, Expired, Overflow, Lapsed, Late, Alone, Shared, Row, Trip, Out, Move, Branch, Leaf, Dead, End, Point, CanBeTold, BlockLists, nothing_told, told_by, with_line}
+use Rattle.report_audit.proofs.Common.{All-cons, All-head, All-tail, BlockLine, Expired, Overflow, Lapsed, Late, Alone, Shared, TripRow, Trip, Out, Move, Branch, Leaf, Dead, End, Point, CanBeTold, BlockLists, nothing_told, told_by, with_line}
 use Rattle.std.specs.List.{All}
 use Rattle.dispatch_report.specs.declared.block_line.BlockLine.TheVariants.{Batch}
 use Rattle.dispatch_engine.specs.declared.outcome.point.Point.TheVariants as point
@@ -51,7 +51,7 @@ plan_is_told t drawn =
     ∙ list_told Late (λ t. t.late) (λ t l. record t { late = l }) (λ t. refl) (λ t x. refl) (λ t l. refl) (λ t l m. refl) _ t.late _
     ∙ list_told Alone (λ t. t.rv) (λ t l. record t { rv = l }) (λ t. refl) (λ t x. refl) (λ t l. refl) (λ t l m. refl) _ t.rv _
     ∙ list_told Shared (λ t. t.rr) (λ t l. record t { rr = l }) (λ t. refl) (λ t x. refl) (λ t l. refl) (λ t l m. refl) _ t.rr _
-    ∙ list_told Row (λ t. t.rows) (λ t l. record t { rows = l }) (λ t. refl) (λ t x. refl) (λ t l. refl) (λ t l m. refl) _ t.rows _
+    ∙ list_told TripRow (λ t. t.rows) (λ t l. record t { rows = l }) (λ t. refl) (λ t x. refl) (λ t l. refl) (λ t l m. refl) _ t.rows _
     ∙ list_told Trip (λ t. t.chosen) (λ t l. record t { chosen = l }) (λ t. refl) (λ t x. refl) (λ t l. refl) (λ t l m. refl) _ t.chosen _
     ∙ list_told Out (λ t. t.left) (λ t l. record t { left = l }) (λ t. refl) (λ t x. refl) (λ t l. refl) (λ t l m. refl) _ t.left _
     ∙ list_told Move (λ t. t.moves) (λ t l. record t { moves = l }) (λ t. refl) (λ t x. refl) (λ t l. refl) (λ t l m. refl) _ t.moves _
@@ -66,7 +66,7 @@ last_of P (y ∷ ys) x all =
 
 -- what a point asks of one line, and of lists of what is told
 abbrev pub IsShort : Point → BlockLine → Type 0
-IsShort point.Graphs (Row row) = length row.riders ≤ 6
+IsShort point.Graphs (TripRow row) = length row.riders ≤ 6
 IsShort point.Late (Late late) = IfSome late.stops (λ stops. length stops ≤ 10)
 IsShort point.Trips (Trip trip) = length trip.stops ≤ 22
 IsShort p line = Unit {0}
@@ -76,7 +76,7 @@ AreShort point.Bound t = Unit {0}
 AreShort p t = CanBeTold p t
 
 short_with : (p : Point) (t : BlockLists) (line : BlockLine) → AreShort p (with_line t line) → AreShort p t × IsShort p line
-short_with point.Graphs t (Row row) all = last_of (λ r. length r.riders ≤ 6) t.rows row all
+short_with point.Graphs t (TripRow row) all = last_of (λ r. length r.riders ≤ 6) t.rows row all
 short_with point.Late t (Late late) all = last_of (λ l. IfSome l.stops (λ stops. length stops ≤ 10)) t.late late all
 short_with point.Trips t (Trip trip) all = last_of (λ r. length r.stops ≤ 22) t.chosen trip all
 short_with p t line all = (all, tt)

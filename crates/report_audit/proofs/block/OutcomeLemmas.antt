@@ -1,7 +1,7 @@
 -- An outcome is judged as itself, and lines that can be told are those of the outcome as which they are judged.
 use Rattle.std.proofs.lemmas.Bool.Decides.{nat_tests}
 use Rattle.std.proofs.Common.{◌≡◌, ℕ, ◌≤◌, Bool, true, false, cond, nat_le, IfSome, List, [], ◌∷◌, ◌++◌, length, get_or, map, option_map, Option, Some, None, append_assoc, refl, sym, ap, ◌∙◌, subst, arith}
-use Rattle.report_audit.proofs.Common.{cond-true, cond_both, length-map, All-head, All-tail, All-map, slice_get-map, Point, Node, follow_on, last_place, row_as_line, trip_as_line, late_as_line, tree_line, lines_of, BlockLine, Expired, Overflow, Lapsed, Late, Alone, Shared, Row, Trip, Out, Move, Cost, Bound, Nodes, Branch, Leaf, Dead, End, LateText, TripRowText, TripText, Answer, Outcome, Planned, TripRowLine, at_most, row_of, trip_of, late_of, node_of, judged_plan, judged_outcome, NamesRow, CanBeTold, HasTrips, stops_of, BlockLists, told_by}
+use Rattle.report_audit.proofs.Common.{cond-true, cond_both, length-map, All-head, All-tail, All-map, slice_get-map, Point, Node, follow_on, last_place, row_as_line, trip_as_line, late_as_line, tree_line, lines_of, BlockLine, Expired, Overflow, Lapsed, Late, Alone, Shared, TripRow, Trip, Out, Move, Cost, Bound, Nodes, Branch, Leaf, Dead, End, LateText, TripRowText, TripText, Answer, Outcome, Planned, TripRowLine, at_most, row_of, trip_of, late_of, node_of, judged_plan, judged_outcome, NamesRow, CanBeTold, HasTrips, stops_of, BlockLists, told_by}
 use Rattle.std.specs.List.{All}
 use Rattle.std.proofs.lemmas.Bool.{le-leb, leb-true}
 use Rattle.dispatch_report.specs.declared.block_line.BlockLine.TheVariants.{Batch}
@@ -59,7 +59,7 @@ overflow_lines batch expired = append_assoc (Batch batch ∷ map Expired expired
 plan_lines : (batch : ℕ) (expired : List ℕ) (plan : Planned) → lines_of true batch (answered_by expired (Plan plan)) ≡ printed false (told_of batch expired plan)
 plan_lines batch expired plan =
     let late = fused Late late_text plan.late in
-    let rows = fused Row row_text plan.rows in
+    let rows = fused TripRow row_text plan.rows in
     let chosen = fused Trip trip_text plan.chosen in
     nest (Batch batch ∷ []) (map Expired expired) (map Lapsed plan.lapsed) (map late_as_line plan.late) (map Alone plan.rv) (map Shared plan.rr) (map row_as_line plan.rows)
     (map trip_as_line plan.chosen) (map Out plan.left) (map Move plan.moves) (Cost plan.cost ∷ Bound plan.bound ∷ Nodes (length plan.tree) ∷ []) (map (tree_line plan.rows) plan.tree) (End ∷ [])

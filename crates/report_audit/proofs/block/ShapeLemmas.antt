@@ -1,6 +1,6 @@
 -- A block in form is what some lists tell, printed.
 use Rattle.std.proofs.Common.{◌≡◌, ℕ, Bool, true, false, if◌then◌else◌, List, [], ◌∷◌, ◌++◌, drop, flat_map, map, append_assoc, refl, ap, arith}
-use Rattle.report_audit.proofs.Common.{All-cons, follow_on, last_place, BlockLine, Expired, Overflow, Lapsed, Late, Alone, Shared, Row, Trip, Out, Move, Cost, Bound, Nodes, Branch, Leaf, Dead, End, BlockLists, nothing_told}
+use Rattle.report_audit.proofs.Common.{All-cons, follow_on, last_place, BlockLine, Expired, Overflow, Lapsed, Late, Alone, Shared, TripRow, Trip, Out, Move, Cost, Bound, Nodes, Branch, Leaf, Dead, End, BlockLists, nothing_told}
 use Rattle.std.specs.List.{All}
 use Rattle.dispatch_report.specs.declared.block_line.BlockLine.TheVariants.{Batch}
 
@@ -13,7 +13,7 @@ IsNodeLine _ = ⊥
 
 -- the lines of what is told, kind by kind, and those behind so many kinds
 abbrev kinds : BlockLists → List (List BlockLine)
-kinds t = map Lapsed t.lapsed ∷ map Late t.late ∷ map Alone t.rv ∷ map Shared t.rr ∷ map Row t.rows ∷ map Trip t.chosen ∷ map Out t.left ∷ map Move t.moves
+kinds t = map Lapsed t.lapsed ∷ map Late t.late ∷ map Alone t.rv ∷ map Shared t.rr ∷ map TripRow t.rows ∷ map Trip t.chosen ∷ map Out t.left ∷ map Move t.moves
     ∷ (Cost t.cost ∷ Bound t.bound ∷ Nodes t.nodes ∷ []) ∷ t.tree ∷ (End ∷ []) ∷ []
 
 abbrev pub from : ℕ → BlockLists → List BlockLine
@@ -77,7 +77,7 @@ chosen (x ∷ l) f e = let b = left (x ∷ l) f e in (record b.0 { chosen = [] }
 
 rows : (l : List BlockLine) → follow_on 7 l ≡ true → last_place 7 l ≡ 16 → Are (from 4) l
 rows [] f e = absurd (omega arith)
-rows (Row row ∷ l) f e = let b = rows l f e in (record b.0 { rows = row ∷ b.0.rows }, b.1, ap (λ r. Row row ∷ r) b.2)
+rows (TripRow row ∷ l) f e = let b = rows l f e in (record b.0 { rows = row ∷ b.0.rows }, b.1, ap (λ r. TripRow row ∷ r) b.2)
 rows (x ∷ l) f e = let b = chosen (x ∷ l) f e in (record b.0 { rows = [] }, b.1, b.2)
 
 rr : (l : List BlockLine) → follow_on 6 l ≡ true → last_place 6 l ≡ 16 → Are (from 3) l

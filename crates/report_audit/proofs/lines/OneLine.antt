@@ -1,6 +1,6 @@
 -- A text is that of one line of a block.
 use Rattle.std.proofs.Common.{◌≡◌, ℕ, ◌+◌, eqb, ◌*◌, ◌<◌, ◌≤◌, ◌^◌, List, ◌++◌, get_or, codes, Option, None, Some, false, refl, sym, ap, arith, rules}
-use Rattle.report_audit.proofs.Common.{eqb-false, append_cancel_left, stop_text, pair_line, numbered, signed, spaced, block_line_text, IsBlockLine, IsId, AreIds, FitsStop, both_texts, BothAre, order_text, IsOrder, PlannedStop, Expired, Overflow, Lapsed, Late, Alone, Shared, Row, Trip, Out, Move, Cost, Bound, Nodes, Branch, Leaf, Dead, End}
+use Rattle.report_audit.proofs.Common.{eqb-false, append_cancel_left, stop_text, pair_line, numbered, signed, spaced, block_line_text, IsBlockLine, IsId, AreIds, FitsStop, both_texts, BothAre, order_text, IsOrder, PlannedStop, Expired, Overflow, Lapsed, Late, Alone, Shared, TripRow, Trip, Out, Move, Cost, Bound, Nodes, Branch, Leaf, Dead, End}
 use Rattle.dispatch_report.specs.declared.block_line.BlockLine.TheVariants.{Batch}
 use Rattle.std.specs.List.{All, flat_map}
 use Rattle.report_audit.proofs.lines.StopLemmas.{order_ends, stop_item}
@@ -23,7 +23,7 @@ ids_of_one words = of_one (both_once spaced_apart (id_once words) (id_once (code
 head_once : (words : List ℕ) (most : ℕ) → most ≤ 2 ^ 64 → EndsOnce (both_texts (numbered words) spaced) (BothAre IsId (λ n. n < most))
 head_once words most small = both_once spaced_apart (id_once words) (numbered_within (codes " ") (λ n is. omega (arith, is)))
 
-row_of_one : TextIsOfOne (λ x. block_line_text (Row x)) (λ x. IsBlockLine (Row x))
+row_of_one : TextIsOfOne (λ x. block_line_text (TripRow x)) (λ x. IsBlockLine (TripRow x))
 row_of_one a b ia ib e =
     let row : (ℕ × ℕ) × List ℕ → TripRowText = λ p. record { vehicle = p.0.0; cost = p.0.1; riders = p.1 } in
     ap row
@@ -81,7 +81,7 @@ block_line_of_one (Lapsed x) (Lapsed y) ix iy e = ap Lapsed (of_one (id_once (co
 block_line_of_one (Late x) (Late y) ix iy e = ap Late (late_of_one x y ix iy e)
 block_line_of_one (Alone x) (Alone y) ix iy e = ap Alone (ids_of_one (codes "rv ") x y ix iy e)
 block_line_of_one (Shared x) (Shared y) ix iy e = ap Shared (ids_of_one (codes "rr ") x y ix iy e)
-block_line_of_one (Row x) (Row y) ix iy e = ap Row (row_of_one x y ix iy e)
+block_line_of_one (TripRow x) (TripRow y) ix iy e = ap TripRow (row_of_one x y ix iy e)
 block_line_of_one (Trip x) (Trip y) ix iy e = ap Trip (trip_of_one x y ix iy e)
 block_line_of_one (Out x) (Out y) ix iy e = ap Out (of_one (id_once (codes "out ")) x y ix iy e)
 block_line_of_one (Move x) (Move y) ix iy e = ap Move (move_of_one x y ix iy e)

@@ -5,7 +5,7 @@ use Rattle.live_dispatch.proofs.turns.dispatch.Goals as goal
 
 pub loop-init : goal.loop-init
 loop-init g c = record {
-  stands = start-stands _ _ _ refl c.entries-entries.ensures.kept c.requires.empty c.requires.small c.requires.ready;
+  stands = start-stands _ _ _ refl c.keeps.ensures c.requires.empty c.requires.small c.requires.ready;
   awaits = c.requires.first;
   proof_is = refl;
 }

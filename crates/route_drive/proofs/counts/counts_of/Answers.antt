@@ -6,7 +6,7 @@ use Rattle.route_drive.proofs.counts.counts_of.Goals as goal
 pub worst_delay-worst-requires : goal.worst_delay-worst-requires
 worst_delay-worst-requires c = record {
   named = subst (λ (nodes : List ℕ). All (λ r. IsNode nodes r.origin × IsNode nodes r.destination) c.args.book.now.state.riders)
-      (c.requires.nodes ∙ sym (ap (λ (roads : Roads). roads.nodes) c.in_ok-arcs.ensures)) c.entries-named.ensures.kept.named.riders;
+      (c.requires.nodes ∙ sym (ap (λ (roads : Roads). roads.nodes) c.in_ok-arcs.ensures)) c.keeps.ensures.named.riders;
 }
 
 pub returns-in-Ok : goal.returns-in-Ok

@@ -19,4 +19,4 @@ returns-then-not-is_done c =
 
 pub returns : goal.returns
 returns c =
-    (λ yes. done_all c.args.round.now c.args.lanes.now c.lane-first.ensures.kept c.requires (λ k h. c.loop-lane.invariant k (omega (arith, h))), λ done. refl)
+    (λ yes. done_all c.args.round.now c.args.lanes.now c.keeps.ensures c.requires (λ k h. c.loop-lane.invariant k (omega (arith, h))), λ done. refl)

@@ -1,9 +1,10 @@
 use Rattle.std.proofs.Common.{◌≡◌, List, sym, ap, ◌∙◌, subst}
-use Rattle.report_audit.proofs.Common.{row_read, vehicle_read, both_ways, TripRow, riders_at, travel_time, SettledVehicle, Stop, ReachesAll, Serves, order_delay}
+use Rattle.report_audit.proofs.Common.{row_read, vehicle_read, both_ways, riders_at, travel_time, SettledVehicle, Stop, ReachesAll, Serves, order_delay}
 use Rattle.std.proofs.lemmas.Bool.{eq-eqb, eqb-true}
 use Rattle.stop_orders.proofs.lemmas.search.PlainLemmas.{ReachesAll-from_serves}
 use Rattle.report_audit.proofs.lemmas.points.LateLemmas.{rightly_no, same_id}
 use Rattle.report_audit.proofs.lemmas.points.TellsLemmas.{tells_serves, tells_delay, tells_told, tells_from}
+use Rattle.plan_rules.specs.declared.row.TripRow.{TripRow}
 use Rattle.report_audit.proofs.points.trips.tells_row.Goals as goal
 
 pub returns-in_default : goal.returns-in_default

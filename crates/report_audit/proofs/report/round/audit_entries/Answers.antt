@@ -11,7 +11,7 @@ returns-in-Err g c = λ vehicles rounds workers before later count between.
 
 pub entries-init : goal.entries-init
 entries-init g c =
-    in_round c.args.round.now c.requires c.lane-lane.ensures.kept c.in_ok-lanes.lanes c.in_ok-lanes.ensures.stands (c.in_ok-lanes.ensures.come c.args.round.now)
+    in_round c.args.round.now c.requires c.keeps.ensures c.in_ok-lanes.lanes c.in_ok-lanes.ensures.stands (c.in_ok-lanes.ensures.come c.args.round.now)
     c.args.text.now c.in-Ok.ensures.0 c.in-Ok.rest.now c.in-Ok.ensures.1 c.number-number.result c.number-number.ensures.value c.in-Ok.ensures.2
 
 pub entries-preserved : goal.entries-preserved
