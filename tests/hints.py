@@ -17,7 +17,7 @@ import tempfile
 from concurrent.futures import ThreadPoolExecutor
 from dataclasses import dataclass, field
 from pathlib import Path
-from typing import Iterator
+from typing import Iterator, Union
 
 TOP = Path(__file__).resolve().parent.parent
 FORMATS = (TOP / "docs" / "reference" / "FORMATS.md").read_text()
@@ -26,19 +26,21 @@ LINE = TOP / "examples" / "line"
 RUN = ("run", "network=network.csv", "fleet=fleet.csv", "script=script.csv")
 DAY, LIVE = ("drive", *RUN[1:]), ("live", *RUN[1:])
 AUDIT = ("audit", *RUN[1:], "report=report")
+RESUME = ("resume", *RUN[1:3], "report=report")
 # The texts whose cause is no input and no word: they have no second line.
 WITHOUT_HINT = ("report: write failed", "out of memory")
-COMMANDS = "run, live, drive, load, audit"
+COMMANDS = "run, live, resume, drive, load, audit"
 
 
 @dataclass
 class Case:
-    """A call, the inputs that aren't those of examples/line, and what must stand on standard error."""
+    """A call, the inputs that aren't those of examples/line, and what must stand on standard error. A number in place of an
+    input stands for so many bytes of nothing."""
 
     words: tuple[str, ...]
     fault: str
     hint: str
-    files: dict[str, bytes] = field(default_factory=dict)
+    files: dict[str, Union[bytes, int]] = field(default_factory=dict)
     given: bytes = b""
 
     def name(self) -> str:
@@ -105,7 +107,7 @@ def files_wrong() -> Iterator[Case]:
             call = tuple(f"{name}={path}" if word.startswith(f"{name}=") else word for word in RUN)
             yield Case(call, f"{name}: read failed", f"{path}: {words}")
     yield Case((*AUDIT[:4], "report=nope"), "report: read failed", "nope: No such file or directory")
-    yield Case(AUDIT, "report: longer than 268435456 bytes", "report: at most 268435456 bytes", {"report": b"\n" * 268_435_457})
+    yield Case(AUDIT, "report: longer than 2147483648 bytes", "report: at most 2147483648 bytes", {"report": 2_147_483_649})
     for name, count, row, thing, hint in [
         ("network", 400_001, "1,2,60", "arcs", "400000 streets"),
         ("fleet", 501, "1,4,1,0", "vehicles", "500 vehicles"),
@@ -180,14 +182,14 @@ def words_wrong() -> Iterator[Case]:
     takes = "audit takes network, fleet, script, report, workers, each as NAME=VALUE"
     yield Case((*AUDIT, "seed=3"), "words: unknown key at word 6", f"seed=3: {takes}")
     yield Case((*RUN, "wait=3", "wait=4"), "words: repeated key at word 6", "wait=4: wait is given before")
-    for call in (RUN, DAY, AUDIT, LIVE[:3]):
+    for call in (RUN, DAY, AUDIT, LIVE[:3], RESUME):
         for word in call[1:]:
             name, rest = word.split("=")[0], tuple(it for it in call if it != word)
             yield Case(rest, f"words: missing {name}", f"{call[0]}: {name}=FILE is missing")
     for name, values in re.findall(r"^\| `(\w+)` \| (.+?) \|", FORMATS.split("## The words")[1].split("### Labels")[0], re.M):
         bad, right = bad_value(values)
         word = f"{name}={bad}"
-        call = ("load", word) if name in ("seed", "side", "vehicles", "riders", "rounds") else (*RUN, word)
+        call = ("load", word) if name in ("seed", "side", "vehicles", "riders", "rounds") else (*(RESUME if name == "judge" else RUN), word)
         yield Case(call, f"words: bad value at word {len(call)}", f"{word}: {right}")
     yield Case((*RUN, "wait=2m"), "words: bad value at word 5", "wait=2m: a whole number from 0 to 7200")
 
@@ -317,11 +319,15 @@ def pages(program: str, folder: Path) -> str:
 OTHERS = [on_terminal, notices_not_made, notices_on_error, pages]
 
 
-def inputs(folder: Path, files: dict[str, bytes]) -> None:
+def inputs(folder: Path, files: dict[str, Union[bytes, int]]) -> None:
     """Writes the inputs of examples/line into a folder, and other files."""
     street = {f"{name}.csv": (LINE / f"{name}.csv").read_bytes() for name in ("network", "fleet")}
     for path, text in {**street, **table("script"), **files}.items():
-        (folder / path).write_bytes(text)
+        if isinstance(text, int):
+            with (folder / path).open("wb") as file:
+                file.truncate(text)
+        else:
+            (folder / path).write_bytes(text)
 
 
 def other_faults(program: str) -> Iterator[str]:

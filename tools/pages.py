@@ -16,6 +16,7 @@ FORMATS = TOP / "docs" / "reference" / "FORMATS.md"
 SECTIONS = {
     "The three files": "INPUT FILES",
     "Live": "LIVE",
+    "A restart": "A RESTART",
     "The report": "REPORT",
     "A driven day": "A DRIVEN DAY",
     "Notices": "NOTICES",

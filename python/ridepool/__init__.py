@@ -25,6 +25,7 @@ if TYPE_CHECKING:
     from ridepool.sessions.awaited import Alive, alive
     from ridepool.sessions.blocking import Live, live
     from ridepool.sessions.dialogue import Answer, Plan, RefusedCommand
+    from ridepool.sessions.resumed import Resumed, resume
     from ridepool.settings import Settings
     from ridepool.study.sweep import sweep
 
@@ -50,6 +51,7 @@ PLACES = {
     "RefusedCommand": "sessions.dialogue",
     "RefusedInput": "faults",
     "Requests": "inputs.requests",
+    "Resumed": "sessions.resumed",
     "Ridepool": "policies.known",
     "Settings": "settings",
     "Standing": "policies.state",
@@ -63,6 +65,7 @@ PLACES = {
     "live": "sessions.blocking",
     "load": "days.calls",
     "parted": "city.day",
+    "resume": "sessions.resumed",
     "run": "days.calls",
     "simulate": "policies.simulation",
     "sweep": "study.sweep",

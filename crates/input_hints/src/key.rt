@@ -4,7 +4,7 @@ use strsim::osa_distance;
 /// The most edits between a word and the one that was meant.
 const MOST_EDITS: usize = 2;
 
-pub(crate) const COMMANDS: [&str; 5] = ["run", "live", "drive", "load", "audit"];
+pub(crate) const COMMANDS: [&str; 6] = ["run", "live", "resume", "drive", "load", "audit"];
 
 const RUN: [&str; 14] = [
     "network", "fleet", "script", "notices", "wait", "delay", "trip", "penalty", "budget", "pairs",
@@ -18,11 +18,16 @@ const LOAD: [&str; 14] = [
 
 const AUDIT: [&str; 5] = ["network", "fleet", "script", "report", "workers"];
 
+const RESUME: [&str; 8] = [
+    "network", "fleet", "report", "script", "workers", "times", "notices", "judge",
+];
+
 /// The keys that a command takes.
 pub(crate) fn keys_of(command: &str) -> &'static [&'static str] {
     match command {
         "load" => &LOAD,
         "audit" => &AUDIT,
+        "resume" => &RESUME,
         _ => &RUN,
     }
 }
@@ -36,7 +41,7 @@ pub(crate) fn range_of(key: &str) -> &'static str {
         "budget" => "a whole number from 1 to 50000",
         "pairs" => "a whole number from 1 to 2000000",
         "workers" => "a whole number from 1 to 64",
-        "proof" => "0 or 1",
+        "proof" | "judge" => "0 or 1",
         "dwell" => "a whole number from 0 to 600",
         "times" => "rows or labels",
         "side" => "a whole number from 2 to 100",

@@ -18,7 +18,7 @@ pub use Rattle.input_rows.specs.declared.script.script_row.ScriptRow.{ScriptRow}
 pub use Rattle.input_rows.specs.declared.script.version.ScriptVersion.{ScriptVersion}
 pub use Rattle.input_rows.specs.lemmas.script.Named.{script_row_at, round_before, rounds_of}
 unfoldable pub use Rattle.input_rows.specs.work.script.Building.{with_script_row}
-pub use Rattle.input_rows.specs.work.script.Building.{commands_of, joins, last_round}
+pub use Rattle.input_rows.specs.work.script.Building.{commands_of, joins, round_of_last}
 pub use Rattle.input_rows.specs.work.script.Words.{is_empty_in}
 pub use Rattle.std.proofs.lemmas.List.Edits.{get_or-insert_above, get_or-insert_at, get_or-insert_below, length-insert}
 pub use Rattle.std.proofs.lemmas.List.Folds.{Any-from_list_any, list_any-append, list_any_at, list_any_none}

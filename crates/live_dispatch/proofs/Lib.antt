@@ -1,4 +1,5 @@
 pub mod BatchLemmas
+pub mod CloseLemmas
 pub mod Common
 pub mod CutLemmas
 pub mod DeskLemmas

@@ -1,3 +1,4 @@
+pub mod Closing
 pub mod Desk
 pub mod Live
 pub mod Phase

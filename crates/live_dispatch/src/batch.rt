@@ -141,7 +141,11 @@ fn after_batch<K: Sink, N: Notifier, L: RowSource, W: Ways, D: Drafter, G: Gate>
 }
 
 /// Gives up the journal of a batch that was closed and written whole.
-fn cut_batch(book: &mut Book, closed: bool, fault: Option<ReportFault>) -> Result<(), LiveFault>
+pub(crate) fn cut_batch(
+    book: &mut Book,
+    closed: bool,
+    fault: Option<ReportFault>,
+) -> Result<(), LiveFault>
     ensures { HasCut book.old book.new closed fault result }
 {
     if let Some(fault) = fault {

@@ -29,6 +29,7 @@
 #![tactic(auto)]
 
 mod batch;
+mod caught;
 mod close;
 mod desk;
 mod fault;
@@ -41,6 +42,7 @@ mod row;
 mod run;
 mod turns;
 
+pub use caught::{Caught, close_open};
 pub use desk::{Desk, DeskRoot, LaneCommand, Opening};
 pub use fault::LiveFault;
 pub use live_run::Dispatched;

@@ -8,6 +8,8 @@
 //! it. It is found where there is one; else it is said what is wrong: where the text is cut or a line out of form, or the
 //! first point that fails.
 //!
+//! `read_outcome` reads the same block, and judges nothing.
+//!
 //! `judge` judges the outcome of a batch, whoever made it: good, or the first point that fails. The batch is settled and its
 //! graphs are grown anew; trips, plan, bound, tree and moves are then judged as they are told, and no plan is searched for.
 //! A batch poses one problem, so the verdict is exact both ways. That it does is said by laws, which are calls without
@@ -44,7 +46,7 @@
 //! ```
 //!
 //! Main clauses: `audit`: `accepted`, `refused`, `fault`, `sound`, `only`; the laws `one_fault` and `no_fault`;
-//! `audit_block`: `good`, `lines`, `only`, `none`, `fault`; the law `a_text_is_refused_in_one_way`; of lines
+//! `audit_block`: `good`, `lines`, `only`, `none`, `fault`; `read_outcome`: `told`, `lines`; the law `a_text_is_refused_in_one_way`; of lines
 //! `read_head`: `read`, `only`, `none`, `fault`; `read_block`; `read_next`; the laws `a_line_says_one_thing`,
 //! `a_text_begins_with_one_block` and `a_text_has_one_block_fault`; of outcomes `judge`: `points`, `good`;
 //! `shows_bound`, `is_close`, `is_fair` and `is_best_near`: of each its one clause; `a_batch_settles_in_one_way`;
@@ -64,11 +66,13 @@ pub use block::laws::{
     long_rows_fail_by_the_graphs, long_trips_fail_by_the_trips, untold_lines_fail_by_the_bound,
 };
 pub use block::refusal::BlockRefusal;
+pub use block::told::read_outcome;
 pub use dispatch_report::{BlockLine, LateText, TripRowText, TripText};
 pub use lines::block_line::{
     read_block_line, read_branch, read_move, read_rider, read_rr, read_rv,
 };
 pub use lines::block_lines::{BlockFault, read_block};
+pub use lines::command::read_command;
 pub use lines::head::{SettingsText, read_head, read_settings, read_sizes};
 pub use lines::head_fault::HeadFault;
 pub use lines::line_laws::{
@@ -93,4 +97,5 @@ pub use points::tight::is_close;
 pub use points::verdict::{Verdict, point_place};
 pub use report::fault::{AuditFault, Audited};
 pub use report::laws::{no_fault, one_fault};
+pub use report::line::is_entry_line;
 pub use report::report::audit;

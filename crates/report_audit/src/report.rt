@@ -6,6 +6,6 @@ mod context;
 mod entry;
 pub(crate) mod fault;
 pub(crate) mod laws;
-mod line;
+pub(crate) mod line;
 pub(crate) mod report;
 mod round;

@@ -23,7 +23,7 @@ use Rattle.pool_base.specs.declared.which.Which.TheVariants as file
 rows-of : (version : ScriptVersion) (script next : Option (List ℕ)) → HasStarted script next version → AreRowsOf script (rows_to_come version 0 next)
 rows-of version None next is = tt
 rows-of version (Some text) None is = absurd is
-rows-of version (Some text) (Some rest) is = is
+rows-of version (Some text) (Some rest) is = is 0
 
 -- the book is ready for its first row
 pub ready-live : (i : LiveInputs) (book : BookView) → book ≡ opened_book i → IsReady i.settings i.roads book

@@ -30,7 +30,7 @@ pub record Inputs : Type 0 where
 
 -- the greatest number of bytes of an input
 abbrev pub most_bytes : Which → ℕ
-most_bytes file.Report = 268435456
+most_bytes file.Report = 2147483648
 most_bytes _ = 67108864
 
 -- no more bytes than an input may have were taken from its source

@@ -8,6 +8,8 @@ pub mod Load
 pub mod Audit
 pub mod Answers
 pub mod Live
+pub mod Resume
+pub mod Stand
 pub mod Status
 pub mod Text
 pub mod work

@@ -7,3 +7,4 @@ pub mod Ended
 pub mod NoticeText
 pub mod Phrase
 pub mod Live
+pub mod Resume

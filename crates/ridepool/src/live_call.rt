@@ -57,14 +57,14 @@ struct LiveInputs {
 
 /// What a call reads, writes and tells while it runs.
 #[derive(Drop)]
-struct Session<S: Source, K: Sink, N: Notifier, L: RefusalListener> {
-    script: S,
-    outputs: Outputs<K, N>,
-    listener: L,
+pub(crate) struct Session<S: Source, K: Sink, N: Notifier, L: RefusalListener> {
+    pub(crate) script: S,
+    pub(crate) outputs: Outputs<K, N>,
+    pub(crate) listener: L,
 }
 
 /// Ends a call.
-fn ended<S: Source, K: Sink, N: Notifier>(
+pub(crate) fn ended<S: Source, K: Sink, N: Notifier>(
     script: S,
     outputs: Outputs<K, N>,
     status: RunStatus,
@@ -288,7 +288,7 @@ fn start_live<S: Source, K: Sink, W: Ways, D: Drafter, G: Gate>(
     }
 }
 
-fn start_status(fault: StartFault) -> RunStatus
+pub(crate) fn start_status(fault: StartFault) -> RunStatus
     ensures { result ≡ status_of_start fault }
 {
     match fault {
@@ -309,7 +309,7 @@ fn headless_status(fault: HeaderFault) -> RunStatus
     }
 }
 
-fn end_status(ended: Result<(), LiveFault>) -> RunStatus
+pub(crate) fn end_status(ended: Result<(), LiveFault>) -> RunStatus
     ensures { result ≡ status_of_end ended }
 {
     match ended {

@@ -26,7 +26,7 @@ pub(crate) fn most_bytes(which: Which) -> u64
 {
     match which {
         Which::Network | Which::Fleet | Which::Script => 67_108_864,
-        Which::Report => 268_435_456,
+        Which::Report => 2_147_483_648,
     }
 }
 

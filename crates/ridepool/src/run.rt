@@ -40,7 +40,7 @@ use std::thread::Threads;
 /// was told exactly the notices of that run. `Words` comes exactly where the
 /// words are refused. For `run` and `drive`, `Network`, `Fleet` and `Script` come exactly where that input is
 /// refused and the earlier ones pass; `TooLong` exactly where 67,108,865 bytes were taken from that source, of a report
-/// 268,435,457;
+/// 2,147,483,649;
 /// `ReadFault` only where that source's count of faults rose. Sources behind the one that is named are
 /// untouched, and those before it were read to their ends. For `drive` alone, `Day` comes exactly where the three
 /// pass and the script is no day, and `TooLate` exactly where a second above 1,000,000,000 would be entered.

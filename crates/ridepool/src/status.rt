@@ -23,7 +23,7 @@ pub enum RunStatus {
     Script(Input<ScriptFault>),
     /// The header of a script that is read while it is written is longer than 65,536 bytes.
     LongHeader,
-    /// The input is longer than 67,108,864 bytes, or the report of an audit than 268,435,456.
+    /// The input is longer than 67,108,864 bytes, or the report of an audit or of a restart than 2,147,483,648.
     TooLong(Which),
     /// A read of the input failed.
     ReadFault(Which),
@@ -35,7 +35,7 @@ pub enum RunStatus {
     Day(DayFault),
     /// A second above 1,000,000,000 would be entered into this round of a day.
     TooLate { round: u32 },
-    /// The report of an audit is none of a run of the script.
+    /// The report of an audit is none of a run of the script, or that of a restart none that a run leaves.
     Report(AuditFault),
 }
 

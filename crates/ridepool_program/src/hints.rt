@@ -24,10 +24,10 @@ use std::alloc::AllocError;
 use std::env;
 use std::io::{self, IsTerminal, Write};
 
-/// The most bytes of an input, and of the report of an audit.
+/// The most bytes of an input, and of a report that is read.
 const MOST_BYTES: u64 = 67_108_864;
 
-const MOST_REPORT_BYTES: u64 = 268_435_456;
+const MOST_REPORT_BYTES: u64 = 2_147_483_648;
 
 /// What an input is called that comes on standard input.
 const STANDARD_INPUT: &str = "standard input";
@@ -48,13 +48,20 @@ pub(crate) fn are_wanted(rt: &HostRuntime) -> bool {
 /// Prints the hint on how a call of these words ended, if there is one, or the warnings.
 pub(crate) fn tell(rt: &HostRuntime, words: &[String], status: &RunStatus) {
     if let RunStatus::Done = status {
-        warn_of_script(rt, words);
-        warn_of_fleet(rt, words);
+        if !goes_on(words) {
+            warn_of_script(rt, words);
+            warn_of_fleet(rt, words);
+        }
         return;
     }
     if let Ok(Some(hint)) = hint_of(rt, words, status) {
         print_hint(rt, hint.as_str());
     }
+}
+
+/// Whether a day goes on, so that the script is a part of it.
+fn goes_on(words: &[String]) -> bool {
+    words.first().is_some_and(|word| word.as_str() == "resume")
 }
 
 /// Prints a line behind the line of a fault.

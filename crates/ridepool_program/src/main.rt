@@ -19,6 +19,7 @@ mod running;
 mod watched_gate;
 mod watched_sink;
 
+use crate::live::restart::run_resume;
 use crate::live::session::run_live;
 use crate::pages::{Page, SHORT, page_of};
 use crate::running::run;
@@ -60,6 +61,7 @@ fn answer(
 ) -> RunStatus {
     match words.first() {
         Some(word) if word.as_str() == "live" => run_live(rt, threads, words),
+        Some(word) if word.as_str() == "resume" => run_resume(rt, threads, words),
         _ => run(rt, threads, words),
     }
 }

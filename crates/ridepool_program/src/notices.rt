@@ -18,6 +18,7 @@ pub(crate) fn notices_path<'a>(rt: &HostRuntime, words: &'a [String]) -> Option<
     let inputs = [
         value_of(words, "network"),
         value_of(words, "fleet"),
+        value_of(words, "report"),
         Some(script),
     ];
     if is_taken(rt, path, &inputs) {

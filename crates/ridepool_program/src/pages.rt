@@ -6,6 +6,9 @@ const RUN_USAGE: &str = "ridepool run network=FILE fleet=FILE script=FILE [KEY=V
 
 const LIVE_USAGE: &str = "ridepool live network=FILE fleet=FILE [script=FILE] [KEY=VALUE ..]\n";
 
+const RESUME_USAGE: &str =
+    "ridepool resume network=FILE fleet=FILE report=FILE [script=FILE] [KEY=VALUE ..]\n";
+
 const DRIVE_USAGE: &str = "ridepool drive network=FILE fleet=FILE script=FILE [KEY=VALUE ..]\n";
 
 const LOAD_USAGE: &str = "ridepool load [KEY=VALUE ..]\n";
@@ -22,6 +25,12 @@ const ABOUT_LIVE: &str = "\
 `live` runs a script while it is written: rows come on standard input, or from `script=FILE`, which may
 be a fifo, and each is answered before the next is waited for. A row that is refused is told on standard
 error and skipped.
+";
+
+const ABOUT_RESUME: &str = "\
+`resume` goes on with a day whose `live` broke off. It takes what the report, maybe torn, keeps of the
+day, prints that part again, closes a batch that was open, and goes on as `live` with rows of later
+rounds. The settings are the report's, which must have proof=1.
 ";
 
 const ABOUT_DRIVE: &str = "\
@@ -41,16 +50,19 @@ the report of a run of that script: every reply, both graphs, the plan, the tree
 const INPUTS: &str = "  \
   network=FILE   streets: from,to,seconds
   fleet=FILE     vehicles: vehicle,seats,node,second
-  script=FILE    commands: round,lane,command,a,b,c,d and, for parties, e (`live`: standard input)
+  script=FILE    commands: round,lane,command,a,b,c,d and, for parties, e (`live`, `resume`: standard input)
 ";
 
-const TOLD: &str = "  \
+const NOTICES: &str = "  \
   notices=FILE   where to write what riders are told: a line for each rider of each batch (none)
+";
+
+const PROOF: &str = "  \
   proof=0|1      print the tree that shows the bound (0)
 ";
 
 const REPORT: &str = "  \
-  report=FILE    the report to judge, with the settings that its second line tells
+  report=FILE    the report to judge or to go on from, with the settings that its second line tells
 ";
 
 const SHAPE: &str = "  \
@@ -69,7 +81,14 @@ const SETTINGS: &str = "  \
   budget=N       most nodes of the search tree, 1 to 50000 (200)
   pairs=N        most vehicle-trip pairs of a batch, 1 to 2000000 (200000)
   dwell=S        what each stop takes, 0 to 600 seconds (0)
+";
+
+const TIMES: &str = "  \
   times=WAY      travel times by `rows`, searches in each batch, or by `labels`, made once (rows)
+";
+
+const JUDGE: &str = "  \
+  judge=0|1      judge what the blocks of the report tell, as `audit` does (0)
 ";
 
 const WORKERS: &str = "  \
@@ -97,15 +116,21 @@ const NEXT: &str = "       ";
 
 const GAP: &str = "\n";
 
-const FOR_INPUTS: &str = "\nFor `run`, `live`, `drive` and `audit`:\n";
+const FOR_INPUTS: &str = "\nFor `run`, `live`, `drive`, `audit` and `resume`:\n";
 
-const FOR_TOLD: &str = "\nFor `run`, `live` and `drive`:\n";
+const FOR_NOTICES: &str = "\nFor `run`, `live`, `drive` and `resume`:\n";
 
-const FOR_AUDIT: &str = "\nFor `audit`:\n";
+const FOR_PROOF: &str = "\nFor `run`, `live` and `drive`:\n";
+
+const FOR_AUDIT: &str = "\nFor `audit` and `resume`:\n";
+
+const FOR_RESUME: &str = "\nFor `resume`:\n";
 
 const FOR_LOAD: &str = "\nFor `load`:\n";
 
 const FOR_SETTINGS: &str = "\nFor `run`, `live`, `drive` and `load`:\n";
+
+const FOR_TIMES: &str = "\nFor `run`, `live`, `drive`, `load` and `resume`:\n";
 
 const FOR_ALL: &str = "\nFor all:\n";
 
@@ -113,11 +138,13 @@ const FILES: &str = "\nFiles:\n";
 
 const ARGUMENTS: &str = "\nSettings, with what holds without them:\n";
 
-const ALL_PAGE: [&str; 31] = [
+const ALL_PAGE: [&str; 40] = [
     USAGE,
     RUN_USAGE,
     NEXT,
     LIVE_USAGE,
+    NEXT,
+    RESUME_USAGE,
     NEXT,
     DRIVE_USAGE,
     NEXT,
@@ -127,19 +154,26 @@ const ALL_PAGE: [&str; 31] = [
     GAP,
     ABOUT_RUN,
     ABOUT_LIVE,
+    ABOUT_RESUME,
     ABOUT_DRIVE,
     ABOUT_LOAD,
     ABOUT_AUDIT,
     FOR_INPUTS,
     INPUTS,
-    FOR_TOLD,
-    TOLD,
+    FOR_NOTICES,
+    NOTICES,
+    FOR_PROOF,
+    PROOF,
     FOR_AUDIT,
     REPORT,
+    FOR_RESUME,
+    JUDGE,
     FOR_LOAD,
     SHAPE,
     FOR_SETTINGS,
     SETTINGS,
+    FOR_TIMES,
+    TIMES,
     FOR_ALL,
     WORKERS,
     GAP,
@@ -147,15 +181,17 @@ const ALL_PAGE: [&str; 31] = [
     END,
 ];
 
-const RUN_PAGE: [&str; 11] = [
-    USAGE, RUN_USAGE, GAP, ABOUT_RUN, FILES, INPUTS, ARGUMENTS, TOLD, SETTINGS, WORKERS, STATUSES,
+const RUN_PAGE: [&str; 13] = [
+    USAGE, RUN_USAGE, GAP, ABOUT_RUN, FILES, INPUTS, ARGUMENTS, NOTICES, PROOF, SETTINGS, TIMES,
+    WORKERS, STATUSES,
 ];
 
-const LIVE_PAGE: [&str; 11] = [
-    USAGE, LIVE_USAGE, GAP, ABOUT_LIVE, FILES, INPUTS, ARGUMENTS, TOLD, SETTINGS, WORKERS, STATUSES,
+const LIVE_PAGE: [&str; 13] = [
+    USAGE, LIVE_USAGE, GAP, ABOUT_LIVE, FILES, INPUTS, ARGUMENTS, NOTICES, PROOF, SETTINGS, TIMES,
+    WORKERS, STATUSES,
 ];
 
-const DRIVE_PAGE: [&str; 11] = [
+const DRIVE_PAGE: [&str; 13] = [
     USAGE,
     DRIVE_USAGE,
     GAP,
@@ -163,14 +199,16 @@ const DRIVE_PAGE: [&str; 11] = [
     FILES,
     INPUTS,
     ARGUMENTS,
-    TOLD,
+    NOTICES,
+    PROOF,
     SETTINGS,
+    TIMES,
     WORKERS,
     STATUSES,
 ];
 
-const LOAD_PAGE: [&str; 9] = [
-    USAGE, LOAD_USAGE, GAP, ABOUT_LOAD, ARGUMENTS, SHAPE, SETTINGS, WORKERS, STATUSES,
+const LOAD_PAGE: [&str; 10] = [
+    USAGE, LOAD_USAGE, GAP, ABOUT_LOAD, ARGUMENTS, SHAPE, SETTINGS, TIMES, WORKERS, STATUSES,
 ];
 
 const AUDIT_PAGE: [&str; 10] = [
@@ -186,11 +224,29 @@ const AUDIT_PAGE: [&str; 10] = [
     STATUSES,
 ];
 
-const SHORT_PAGE: [&str; 12] = [
+const RESUME_PAGE: [&str; 13] = [
+    USAGE,
+    RESUME_USAGE,
+    GAP,
+    ABOUT_RESUME,
+    FILES,
+    INPUTS,
+    REPORT,
+    ARGUMENTS,
+    NOTICES,
+    TIMES,
+    JUDGE,
+    WORKERS,
+    STATUSES,
+];
+
+const SHORT_PAGE: [&str; 14] = [
     USAGE,
     RUN_USAGE,
     NEXT,
     LIVE_USAGE,
+    NEXT,
+    RESUME_USAGE,
     NEXT,
     DRIVE_USAGE,
     NEXT,
@@ -214,6 +270,7 @@ fn command_page(command: &str) -> Option<Page> {
     match command {
         "run" => Some(&RUN_PAGE),
         "live" => Some(&LIVE_PAGE),
+        "resume" => Some(&RESUME_PAGE),
         "drive" => Some(&DRIVE_PAGE),
         "load" => Some(&LOAD_PAGE),
         "audit" => Some(&AUDIT_PAGE),

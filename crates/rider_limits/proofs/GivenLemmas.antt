@@ -1,16 +1,16 @@
 use Rattle.std.proofs.lemmas.Bool.Decides.{nat_tests}
-use Rattle.std.proofs.Common.{rules, ◌≡◌, ℕ, suc, ◌+◌, ◌<◌, ◌≤◌, ◌^◌, Bool, true, false, not, cond, List, [], ◌∷◌, ◌++◌, Option, Some, None, length, get_or, take, nat_eq, refl, ap, ◌∙◌, lit≤, arith}
+use Rattle.std.proofs.Common.{rules, ◌≡◌, ℕ, suc, ◌+◌, ◌<◌, ◌≤◌, ◌^◌, Bool, true, false, not, cond, List, [], ◌∷◌, ◌++◌, Option, Some, None, length, get_or, take, nat_eq, refl, ap, subst, ◌∙◌, lit≤, arith}
 use Rattle.std.specs.List.{list_all, prefix_len}
 use Rattle.std.specs.Option.{option_map, option_or}
 use Rattle.std.proofs.lemmas.List.{append_assoc, length-append, take_at, drop_at, length_push}
-use Rattle.std.proofs.lemmas.Bool.{and_parts, cases_Bool, lt-ltb, leb-true}
+use Rattle.std.proofs.lemmas.Bool.{and_parts, lt-ltb, leb-true}
 use Rattle.pool_base.specs.declared.which.Which.TheVariants.{Network}
 use Rattle.pool_base.specs.Number.{value_of}
 use Rattle.pool_base.specs.Numeral.{is_numeral}
 use Rattle.pool_base.proofs.lemmas.InOrderLemmas.{first_fault-each}
 use Rattle.pool_base.proofs.lemmas.NumeralLemmas.{number_up_to-some}
 use Rattle.rider_limits.specs.declared.subcommand.Subcommand.{Subcommand}
-use Rattle.rider_limits.specs.declared.subcommand.Subcommand.TheVariants.{Run, Load, Drive, Audit}
+use Rattle.rider_limits.specs.declared.subcommand.Subcommand.TheVariants.{Run, Load, Drive, Audit, Resume}
 use Rattle.rider_limits.specs.declared.key.Key.{Key}
 use Rattle.rider_limits.specs.declared.key.Key.TheVariants.{Input, Notices, Times}
 use Rattle.rider_limits.specs.declared.key.Takes.TheVariants.{Number}
@@ -39,6 +39,7 @@ key_of-name Run (Input Network) = refl
 key_of-name Load (Input Network) = refl
 key_of-name Drive (Input Network) = refl
 key_of-name Audit (Input Network) = refl
+key_of-name Resume (Input Network) = refl
 key_of-name _ _ = refl
 
 -- a word of a key's name, `=` and a text gives that key and text, where the command has the key
@@ -46,9 +47,15 @@ option_of-named : (command : Subcommand) (key : Key) (word text : List ℕ) → 
 unfolding option_of
 option_of-named command key word text is = search (rules, prefix_len-front, name_lacks_equals, length-append, lt-ltb, take_at, append_assoc, drop_at, length_push, key_of-name)
 
+-- a key and a text without a fault, where the command has the key
+has-faultless : (key : Key) (earlier : List (List ℕ)) (place : ℕ) (text : List ℕ) (has : Bool) → option_fault earlier place (option_map (λ k. (k, text)) (cond has (Some key) None)) ≡ None → accepts (about key).takes text ≡ true
+has-faultless key earlier place text true none = grind (arith, nat_tests)
+has-faultless key earlier place text false none = absurd cc
+
 -- a word without a fault gives a key of the command a text that the key takes
 faultless : (command : Subcommand) (key : Key) (earlier : List (List ℕ)) (place : ℕ) (word text : List ℕ) → word ≡ (about key).name ++ 61 ∷ text → option_fault earlier place (option_of command word) ≡ None → accepts (about key).takes text ≡ true
-faultless command key earlier place word text is none = grind (arith, nat_tests, (option_of-named command key word text is), cases_Bool)
+faultless command key earlier place word text is none =
+    has-faultless key earlier place text ((about key).has command) (subst (λ o. option_fault earlier place o ≡ None) (option_of-named command key word text is) none)
 
 -- a text that words give stands in the first of them that begins with the key
 text_given-at : (key : List ℕ) (words : List (List ℕ)) (text : List ℕ) → text_given key words ≡ Some text → (i : ℕ) × (i < length words) × (after_key key (get_or words i []) ≡ Some text)

@@ -18,3 +18,7 @@ pub record IsShapeInRange (seed side vehicles riders rounds : ℕ) : Type 0 wher
   pub vehicles_range : (1 ≤ vehicles) × (vehicles ≤ 500)
   pub riders_range : (1 ≤ riders) × (riders ≤ 1000)
   pub rounds_range : (1 ≤ rounds) × (rounds ≤ 100)
+
+-- the threads of a resumed day are within their range
+abbrev pub AreWorkersInRange : ℕ → Type 0
+AreWorkersInRange workers = (1 ≤ workers) × (workers ≤ 64)

@@ -4,9 +4,10 @@ use Rattle.pool_base.specs.Number.{value_of}
 use Rattle.rider_limits.specs.declared.subcommand.Subcommand.{Subcommand}
 use Rattle.rider_limits.specs.declared.subcommand.Subcommand.TheVariants.{Run, Load, Drive, Audit}
 use Rattle.rider_limits.specs.declared.key.Key.{Key}
-use Rattle.rider_limits.specs.declared.key.Key.TheVariants.{Wait, Delay, Trip, Penalty, Budget, Pairs, Workers, Proof, Dwell, Times, Seed, Side, Vehicles, Riders, Rounds}
+use Rattle.rider_limits.specs.declared.key.Key.TheVariants.{Wait, Delay, Trip, Penalty, Budget, Pairs, Workers, Proof, Dwell, Times, Seed, Side, Vehicles, Riders, Rounds, Judge}
 use Rattle.rider_limits.specs.declared.settings.Mode.{Mode}
 use Rattle.rider_limits.specs.declared.settings.Mode.TheVariants.{Run as Running, Load as Loading, Drive as Driving, Audit as Auditing}
+use Rattle.rider_limits.specs.declared.resume_words.ResumeWords.{ResumeWords}
 use Rattle.rider_limits.specs.declared.settings.Settings.{Settings}
 use Rattle.rider_limits.specs.declared.settings.TimesWay.TheVariants.{Labels}
 use Rattle.rider_limits.specs.Key.{command_of, about}
@@ -44,3 +45,14 @@ pub record AreGivenBehind (command : Option Subcommand) (words : List (List ℕ)
 abbrev pub AreGiven : List (List ℕ) → Settings → Type 0
 AreGiven [] s = ⊥
 AreGiven (word ∷ words) s = AreGivenBehind (command_of word) words s
+
+-- the words of `resume` say so, beside the names of its files
+pub record AreResumed (words : List (List ℕ)) (r : ResumeWords) : Type 0 where
+  pub workers : r.workers ≡ number_given Workers words
+  pub times : (r.times ≡ Labels) ↔ (text_given (about Times).name words ≡ Some (codes "labels"))
+  pub judge : IsTrue r.judge ↔ (number_given Judge words ≡ 1)
+
+-- the same, of words of which the first is the command
+abbrev pub AreResumedBy : List (List ℕ) → ResumeWords → Type 0
+AreResumedBy [] r = ⊥
+AreResumedBy (word ∷ words) r = AreResumed words r

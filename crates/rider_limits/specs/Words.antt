@@ -5,10 +5,11 @@ use Rattle.pool_base.specs.InOrder.{first_fault}
 use Rattle.pool_base.specs.Which as file
 use Rattle.pool_base.specs.declared.which.Which.TheVariants.{Network, Fleet, Script, Report}
 use Rattle.rider_limits.specs.declared.subcommand.Subcommand.{Subcommand}
+use Rattle.rider_limits.specs.declared.subcommand.Subcommand.TheVariants.{Resume}
 use Rattle.rider_limits.specs.declared.key.Key.{Key}
 use Rattle.rider_limits.specs.declared.word_fault.WordFault.{WordFault}
 use Rattle.rider_limits.specs.declared.word_fault.WordFault.TheVariants.{NoCommand, UnknownKey, Repeated, BadValue, MissingFile}
-use Rattle.rider_limits.specs.Key.{command_of, key_of, reads, about, accepts}
+use Rattle.rider_limits.specs.Key.{command_of, key_of, needs, about, accepts}
 
 -- what stands behind a key and `=`, where a word begins with them
 unfoldable pub after_key : List ℕ → List ℕ → Option (List ℕ)
@@ -34,13 +35,20 @@ option_fault earlier word (Some (key, text)) =
     if is_some (text_given (about key).name earlier) then Some (Repeated word)
     else (if accepts (about key).takes text then None else Some (BadValue word))
 
--- why words are refused, if they are: the first word is no command, or else by the first fault of a word behind it, or
--- else by the first file that the command reads and no word names; words count from 1
-abbrev pub fault_of : List (List ℕ) → Option WordFault
-fault_of [] = Some NoCommand
-fault_of (word ∷ words) = option_map_or
-    (λ command. option_or
+-- what is wrong with the words behind a command, if anything: the first fault of a word, or else the first file that the
+-- command needs and no word names; words count from 1
+abbrev pub fault_behind : Subcommand → List (List ℕ) → Option WordFault
+fault_behind command words = option_or
     (first_fault (λ place. option_fault (take place words) (place + 2) (option_of command (slice_index_or words place []))) (length words))
     (option_map (λ which. MissingFile which)
-    (find (λ which. reads command which && is_none (text_given (file.file_name which) words)) (Network ∷ Fleet ∷ Script ∷ Report ∷ []))))
-    (command_of word) (Some NoCommand)
+    (find (λ which. needs command which && is_none (text_given (file.file_name which) words)) (Network ∷ Fleet ∷ Script ∷ Report ∷ [])))
+
+-- why words are refused, if they are: the first word is no command, or else by what is wrong behind it
+abbrev pub fault_of : List (List ℕ) → Option WordFault
+fault_of [] = Some NoCommand
+fault_of (word ∷ words) = option_map_or (λ command. fault_behind command words) (command_of word) (Some NoCommand)
+
+-- why the words of `resume` are refused, if they are; the first is its name, and no other is asked for
+abbrev pub resume_fault : List (List ℕ) → Option WordFault
+resume_fault [] = Some NoCommand
+resume_fault (word ∷ words) = fault_behind Resume words

@@ -25,6 +25,7 @@ pub(crate) enum Key {
     Vehicles,
     Riders,
     Rounds,
+    Judge,
 }
 
 /// What may stand behind a key's `=`: a file's name, a number of a range, or a way to come by travel times.
@@ -60,6 +61,7 @@ impl Key {
             Key::Vehicles => "vehicles",
             Key::Riders => "riders",
             Key::Rounds => "rounds",
+            Key::Judge => "judge",
         }
     }
 
@@ -67,13 +69,19 @@ impl Key {
         ensures { result ≡ (about self).has command }
     {
         match self {
-            Key::Input(Which::Report) => command == Subcommand::Audit,
+            Key::Input(Which::Report) => matches!(command, Subcommand::Audit | Subcommand::Resume),
             Key::Input(_) => command != Subcommand::Load,
-            Key::Notices | Key::Proof => matches!(command, Subcommand::Run | Subcommand::Drive),
+            Key::Notices => matches!(
+                command,
+                Subcommand::Run | Subcommand::Drive | Subcommand::Resume
+            ),
+            Key::Proof => matches!(command, Subcommand::Run | Subcommand::Drive),
             Key::Seed | Key::Side | Key::Vehicles | Key::Riders | Key::Rounds => command
                 == Subcommand::Load,
             Key::Workers => true,
-            _ => command != Subcommand::Audit,
+            Key::Times => command != Subcommand::Audit,
+            Key::Judge => command == Subcommand::Resume,
+            _ => !matches!(command, Subcommand::Audit | Subcommand::Resume),
         }
     }
 
@@ -109,6 +117,7 @@ impl Key {
             Key::Vehicles,
             Key::Riders,
             Key::Rounds,
+            Key::Judge,
         ];
         first_named(&keys, command, name)
     }
@@ -132,6 +141,7 @@ impl Key {
             Key::Vehicles => Takes::Number(1, 500),
             Key::Riders => Takes::Number(1, 1_000),
             Key::Rounds => Takes::Number(1, 100),
+            Key::Judge => Takes::Number(0, 1),
         }
     }
 
@@ -140,7 +150,7 @@ impl Key {
         ensures { result ≡ (about self).default_number }
     {
         match self {
-            Key::Input(_) | Key::Notices | Key::Proof | Key::Dwell | Key::Times => 0,
+            Key::Input(_) | Key::Notices | Key::Proof | Key::Dwell | Key::Times | Key::Judge => 0,
             Key::Wait => 120,
             Key::Delay => 180,
             Key::Trip | Key::Workers | Key::Rounds => 4,

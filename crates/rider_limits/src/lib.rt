@@ -21,12 +21,14 @@
 //! }
 //! ```
 //!
-//! Main clauses: `read_words`: `accepted`, `refused`; `value_of`.
+//! Main clauses: `read_words`: `accepted`, `refused`; `read_resume`: `accepted`, `refused`; `value_of`.
 #![tactic(auto)]
 
 mod key;
 mod load_shape;
 mod reading;
+mod resume_words;
+mod resumed;
 mod settings;
 mod subcommand;
 mod word_fault;
@@ -34,6 +36,8 @@ mod words;
 
 pub use load_shape::LoadShape;
 pub use reading::read_words;
+pub use resume_words::ResumeWords;
+pub use resumed::read_resume;
 pub use settings::{Mode, Settings, TimesWay};
 pub use word_fault::WordFault;
 pub use words::value_of;

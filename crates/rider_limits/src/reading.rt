@@ -1,4 +1,4 @@
-ghost use Rattle.std.specs.Prelude.{◌≡◌, ◌↔◌, None, Some, codes, map, IfOk, IfErr};
+ghost use Rattle.std.specs.Prelude.{◌≡◌, ◌≢◌, ◌↔◌, None, Some, codes, map, IfOk, IfErr};
 ghost use Rattle.std.specs.String.{string_bytes};
 ghost use Rattle.rider_limits.specs.Key.{about};
 ghost use Rattle.rider_limits.specs.work.Taken.{IsNumber, IsAccepted};
@@ -18,7 +18,7 @@ use crate::words::{first_fault, missing_file, value_of};
 use pool_base::read_number_up_to;
 
 /// The number that words without a fault give a key.
-fn number(command: Subcommand, options: &[String], key: Key) -> u64
+pub(crate) fn number(command: Subcommand, options: &[String], key: Key) -> u64
     requires faultless { words_fault command (map string_bytes options.now) ≡ None }
     requires number { IsNumber (about key).takes }
     ensures value { result ≡ number_given key (map string_bytes options.now) }
@@ -46,7 +46,8 @@ fn shape(options: &[String]) -> LoadShape
 
 /// The settings that words without a fault give.
 fn settings(command: Subcommand, options: &[String]) -> Settings
-    requires { words_fault command (map string_bytes options.now) ≡ None }
+    requires faultless { words_fault command (map string_bytes options.now) ≡ None }
+    requires first { command ≢ Subcommand.Resume }
     ensures { AreGivenBehind (Some command) (map string_bytes options.now) result }
 {
     Settings {
@@ -55,6 +56,7 @@ fn settings(command: Subcommand, options: &[String]) -> Settings
             Subcommand::Load => Mode::Load(shape(options)),
             Subcommand::Drive => Mode::Drive,
             Subcommand::Audit => Mode::Audit,
+            Subcommand::Resume => unreachable!(),
         },
         wait: number(command, options, Key::Wait) as u32,
         delay: number(command, options, Key::Delay) as u32,
@@ -70,7 +72,7 @@ fn settings(command: Subcommand, options: &[String]) -> Settings
 }
 
 /// The way to come by travel times that words give.
-fn way(options: &[String]) -> TimesWay
+pub(crate) fn way(options: &[String]) -> TimesWay
     ensures { (result ≡ Labels) ↔ (text_given (about Times).name (map string_bytes options.now) ≡ Some (codes "labels")) }
 {
     match value_of(options, Key::Times.name()) {

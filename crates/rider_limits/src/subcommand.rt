@@ -1,13 +1,14 @@
 ghost use Rattle.std.specs.Prelude.{◌≡◌};
 ghost use Rattle.std.specs.Str.{bytes_eq};
 
-/// What the program is told to do: the first word.
+/// What the program is told to do: the first word. `resume` is a call of its own, and no word of the others.
 #[derive(Clone, Copy)]
 pub(crate) enum Subcommand {
     Run,
     Load,
     Drive,
     Audit,
+    Resume,
 }
 
 impl Subcommand {
@@ -21,6 +22,7 @@ impl Subcommand {
             Subcommand::Load => "load",
             Subcommand::Drive => "drive",
             Subcommand::Audit => "audit",
+            Subcommand::Resume => "resume",
         }
     }
 

@@ -97,6 +97,10 @@ pub(crate) fn missing_file(command: Subcommand, options: &[String]) -> Option<Wh
     match command {
         Subcommand::Run | Subcommand::Drive => first_missing(options, &files[..3]),
         Subcommand::Audit => first_missing(options, &files),
+        Subcommand::Resume => first_missing(
+            options,
+            &[Which::Network, Which::Fleet, Which::Report],
+        ),
         Subcommand::Load => None,
     }
 }

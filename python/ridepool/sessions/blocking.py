@@ -24,7 +24,7 @@ class Live:
 
     def __init__(self, net: Network, fleet: Fleet, settings: Optional[Settings], program: Optional[Path]) -> None:
         self.net, self.fleet, self.dialogue, self.lock = net, fleet, Dialogue(), threading.Lock()
-        self.start = Start(net, fleet, settings, program)
+        self.start = self._started(settings, program)
         self.errors: "list[str]" = []
         self.told: "queue.Queue[Tuple[str, Optional[str]]]" = queue.Queue()
         self.open = {TRANSCRIPT, ERRORS}
@@ -37,13 +37,21 @@ class Live:
             raise ProgramFailed(f"the program can't be started: {fault}") from None
         self._read()
 
+    def _started(self, settings: Optional[Settings], program: Optional[Path]) -> Start:
+        """How the program is called."""
+        return Start(self.net, self.fleet, settings, program)
+
+    def _has_begun(self) -> bool:
+        """Whether commands may be sent: the head of the transcript has come."""
+        return self.dialogue.has_begun
+
     def _read(self) -> None:
-        """Begins to read, and waits for the head of the transcript."""
+        """Begins to read, and waits until commands may be sent."""
         for name, stream in ((TRANSCRIPT, self.child.stdout), (ERRORS, self.child.stderr)):
             threading.Thread(target=self._pass_on, args=(name, stream), daemon=True).start()
         try:
             self._send(HEADER + "\n")
-            while not self.dialogue.has_begun:
+            while not self._has_begun():
                 self._next()
         except BaseException:
             self.kill()
@@ -72,10 +80,18 @@ class Live:
         if line is None:
             self.open.discard(name)
         elif name == TRANSCRIPT:
-            self.dialogue.told(line)
+            self._told(line)
         else:
             self.errors.append(line)
-            self.dialogue.complained(line)
+            self._complained(line)
+
+    def _told(self, line: str) -> None:
+        """Takes a line of the transcript."""
+        self.dialogue.told(line)
+
+    def _complained(self, line: str) -> None:
+        """Takes a line of standard error."""
+        self.dialogue.complained(line)
 
     def _ended(self) -> None:
         """Tells that the program has ended."""

@@ -70,9 +70,10 @@ class Asked:
 
 
 class Dialogue:
-    """The rows that were sent, and the transcript so far."""
+    """The rows that were sent, all in one round, and the transcript so far."""
 
     def __init__(self) -> None:
+        self.round = 0
         self.texts: "list[str]" = []
         self.lines: Any = Transcript()
         self.rows = 0
@@ -95,9 +96,14 @@ class Dialogue:
         numbers = [int(it) for it in fields.values()]
         lane = lane_of(command, numbers)
         self.rows += 1
-        asked = Asked(self.rows, lane, command, row_of(lane, command, numbers, int(persons)))
+        asked = Asked(self.rows, lane, command, row_of(lane, command, numbers, int(persons), self.round))
         self.open.setdefault(lane, deque()).append(asked)
         return asked
+
+    def kept(self, line: str) -> None:
+        """Takes a line of the transcript that an earlier session was told."""
+        self.texts.append(line)
+        self.lines.line(line)
 
     def told(self, line: str) -> Optional[Asked]:
         """Takes a line of the transcript. Gives what is answered by it, if anything."""

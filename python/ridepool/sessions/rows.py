@@ -17,11 +17,11 @@ def lane_of(command: str, fields: Sequence[int]) -> int:
     return lanes[fields[0] % len(lanes)]
 
 
-def row_of(lane: int, command: str, fields: Sequence[int], party: int = 1) -> str:
+def row_of(lane: int, command: str, fields: Sequence[int], party: int = 1, round_: int = 0) -> str:
     """The row of a command, with its line feed."""
     numbers = list(map(str, fields)) + [""] * (4 - len(fields))
     last = str(party) if command == "submit" else ""
-    return ",".join(["0", str(lane), command, *numbers, last]) + "\n"
+    return ",".join([str(round_), str(lane), command, *numbers, last]) + "\n"
 
 
 def entrys_row(entry: Entry) -> str:

@@ -1,5 +1,5 @@
 use Rattle.std.proofs.Common.{rules, ◌≡◌, ◌≢◌, ◌⊎◌, ℕ, ◌+◌, ◌-◌, ◌<◌, ◌≤◌, true, false, cond, eqb, List, [], ◌∷◌, ◌++◌, map, length, get_or, set, Result, Ok, Err, refl, sym, ap, subst, ◌∙◌, inl, inr, replicate, ⊎_elim, arith}
-use Rattle.input_rows.proofs.Common.{list_any, cases_order, and_parts, map-append, length_push, set_at, get_or_at, get_or_default, All-nil, All-push, All-weaker, All-same, ◌>>=◌, all_or_first, all_or_first-err, ScriptFault, ScriptRow, ScriptVersion, script_row_in, IsBehind, NumberedLanes, last_round, joins, with_script_row, empty_round, with_command, round_before, round_of, script_of, script_row_at, rounds_of, IsRound, MayStand, Command}
+use Rattle.input_rows.proofs.Common.{list_any, cases_order, and_parts, map-append, length_push, set_at, get_or_at, get_or_default, All-nil, All-push, All-weaker, All-same, ◌>>=◌, all_or_first, all_or_first-err, ScriptFault, ScriptRow, ScriptVersion, script_row_in, IsBehind, NumberedLanes, round_of_last, joins, with_script_row, empty_round, with_command, round_before, round_of, script_of, script_row_at, rounds_of, IsRound, MayStand, Command}
 use Rattle.std.specs.List.{All}
 use Rattle.std.proofs.lemmas.List.{get_or-replicate, get_or-set_other, get_or-set_same, get_or_past, length-set}
 use Rattle.std.proofs.lemmas.List.Elements.{All-get_or, All-set}
@@ -9,14 +9,14 @@ use Rattle.pool_base.proofs.lemmas.DistinctLemmas.{any-more, distinct-push_new, 
 use Rattle.input_rows.proofs.script.GroupLemmas.{map-agree, round_of-push, round_of-push_other, round_of-none}
 
 -- a row that joins the last round
-pub with_script_row-joins : (rounds : List NumberedLanes) (script_row : ScriptRow) → joins rounds script_row.round ≡ true → with_script_row rounds script_row ≡ set rounds (length rounds - 1) (with_command (last_round rounds) script_row.lane script_row.command)
+pub with_script_row-joins : (rounds : List NumberedLanes) (script_row : ScriptRow) → joins rounds script_row.round ≡ true → with_script_row rounds script_row ≡ set rounds (length rounds - 1) (with_command (round_of_last rounds) script_row.lane script_row.command)
 unfolding with_script_row
-with_script_row-joins rounds script_row is = ap (λ b. cond b (set rounds (length rounds - 1) (with_command (last_round rounds) script_row.lane script_row.command)) (rounds ++ with_command (empty_round script_row.round) script_row.lane script_row.command ∷ [])) is
+with_script_row-joins rounds script_row is = ap (λ b. cond b (set rounds (length rounds - 1) (with_command (round_of_last rounds) script_row.lane script_row.command)) (rounds ++ with_command (empty_round script_row.round) script_row.lane script_row.command ∷ [])) is
 
 -- a row that begins a round
 pub with_script_row-begins : (rounds : List NumberedLanes) (script_row : ScriptRow) → joins rounds script_row.round ≡ false → with_script_row rounds script_row ≡ rounds ++ with_command (empty_round script_row.round) script_row.lane script_row.command ∷ []
 unfolding with_script_row
-with_script_row-begins rounds script_row is = ap (λ b. cond b (set rounds (length rounds - 1) (with_command (last_round rounds) script_row.lane script_row.command)) (rounds ++ with_command (empty_round script_row.round) script_row.lane script_row.command ∷ [])) is
+with_script_row-begins rounds script_row is = ap (λ b. cond b (set rounds (length rounds - 1) (with_command (round_of_last rounds) script_row.lane script_row.command)) (rounds ++ with_command (empty_round script_row.round) script_row.lane script_row.command ∷ [])) is
 
 -- a round with one more command is a round
 with_command-kept : (round : NumberedLanes) (lane : ℕ) (command : Command) → IsRound round → lane < 16 → MayStand lane command → IsRound (with_command round lane command)
@@ -47,11 +47,11 @@ with_script_row-kept rounds script_row last kept behind =
     (λ apart. All-push IsRound rounds _ kept (with_command-kept _ script_row.lane script_row.command (empty_round-kept script_row.round behind.number) behind.lane behind.stands))
 
 -- the last round of a list that ends in it
-last_round-push : (rounds : List NumberedLanes) (round : NumberedLanes) → last_round (rounds ++ round ∷ []) ≡ round
-last_round-push rounds round = search (rules, get_or_at, length_push)
+round_of_last-push : (rounds : List NumberedLanes) (round : NumberedLanes) → round_of_last (rounds ++ round ∷ []) ≡ round
+round_of_last-push rounds round = search (rules, get_or_at, length_push)
 
 joins-push : (rounds : List NumberedLanes) (round : NumberedLanes) (number : ℕ) → joins (rounds ++ round ∷ []) number ≡ eqb round.number number
-joins-push rounds round number = search (rules, lt-ltb, length_push, last_round-push)
+joins-push rounds round number = search (rules, lt-ltb, length_push, round_of_last-push)
 
 -- the numbers of rows
 abbrev pub numbers : List ScriptRow → List ℕ
@@ -97,7 +97,7 @@ more_of_last script_rows script_row front within ends before here =
     let end : length (firsts ++ own ∷ []) - 1 ≡ length firsts = omega (arith, length_push firsts own) in
     let new : with_script_row (firsts ++ own ∷ []) script_row ≡ firsts ++ with_command own script_row.lane script_row.command ∷ [] =
     with_script_row-joins (firsts ++ own ∷ []) script_row joined
-    ∙ ap (λ r. set (firsts ++ own ∷ []) (length (firsts ++ own ∷ []) - 1) (with_command r script_row.lane script_row.command)) (last_round-push firsts own)
+    ∙ ap (λ r. set (firsts ++ own ∷ []) (length (firsts ++ own ∷ []) - 1) (with_command r script_row.lane script_row.command)) (round_of_last-push firsts own)
     ∙ set_at firsts own [] (with_command own script_row.lane script_row.command) (length (firsts ++ own ∷ []) - 1) (sym end) in
     let same : map (round_of all) front ≡ firsts =
     map-agree (round_of all) (round_of script_rows) front

@@ -1,5 +1,5 @@
 -- The accepted rows of a script whose lines are judged one by one.
-use Rattle.std.specs.Prelude.{◌≡◌, ℕ, ◌==◌, List, [], ◌∷◌, ◌++◌, Option, None, Some, Result, Ok, Err, length, nat_lt, option_map, if◌then◌else◌, ⊤}
+use Rattle.std.specs.Prelude.{◌≡◌, ℕ, ◌+◌, ◌==◌, Bool, List, [], ◌∷◌, ◌++◌, Option, None, Some, Result, Ok, Err, length, nat_lt, option_map, if◌then◌else◌, ⊤}
 use Rattle.pool_io.specs.Table.{Table, table_of}
 use Rattle.pool_io.specs.declared.records.RowFault.{RowFault}
 use Rattle.input_rows.specs.script.ScriptRow.{script_row_in, IsBehind}
@@ -44,6 +44,15 @@ next_row last _ rest = rest last
 abbrev pub accepted : ScriptVersion → ℕ → List (List ℕ) → List ScriptRow
 accepted version last [] = []
 accepted version last (line ∷ lines) = next_row last (judged version last line) (λ round. accepted version round lines)
+
+-- the round of the row that came last, which no later row's is below; or 0, where none came
+abbrev pub round_of_last : Bool → ℕ → ℕ
+round_of_last came least = if came then least else 0
+
+-- the least round that is later than this one, or of all rounds
+abbrev pub least_behind : Option ℕ → ℕ
+least_behind None = 0
+least_behind (Some round) = round + 1
 
 -- the rows to come, where the bytes to come are told
 abbrev pub rows_to_come : ScriptVersion → ℕ → Option (List ℕ) → Option (List ScriptRow)

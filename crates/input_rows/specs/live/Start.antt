@@ -32,22 +32,27 @@ start_of line =
     else if nat_lt 65536 (length line) then start.NoHeader TooLong
     else table_start (table_of (header_of One) line) (table_of (header_of Two) line)
 
--- what a first line and the lines behind it give
-abbrev pub started : Start → List (List ℕ) → Result (List ScriptRow) HeaderFault → Result (List ScriptRow) HeaderFault
-started start.Empty lines rest = rest
-started (start.Header version) lines rest = Ok (accepted version 0 lines)
-started (start.NoHeader fault) lines rest = Err fault
+-- what a first line and the lines behind it give, of rounds no lower than this one
+abbrev pub started : ℕ → Start → List (List ℕ) → Result (List ScriptRow) HeaderFault → Result (List ScriptRow) HeaderFault
+started least start.Empty lines rest = rest
+started least (start.Header version) lines rest = Ok (accepted version least lines)
+started least (start.NoHeader fault) lines rest = Err fault
 
--- the accepted rows of a script's lines, or why it has no header; lines before the header may be empty
+-- the accepted rows of a script's lines, of rounds no lower than this one, or why it has no header; lines before the header
+-- may be empty
+abbrev pub rows_from : ℕ → List (List ℕ) → Result (List ScriptRow) HeaderFault
+rows_from least [] = Err (Other 0)
+rows_from least (line ∷ lines) = started least (start_of line) lines (rows_from least lines)
+
+-- the accepted rows of a script's lines, or why it has no header
 abbrev pub live_rows : List (List ℕ) → Result (List ScriptRow) HeaderFault
-live_rows [] = Err (Other 0)
-live_rows (line ∷ lines) = started (start_of line) lines (live_rows lines)
+live_rows lines = rows_from 0 lines
 
 -- where the bytes are told, the script starts with the header of this version, and its rows are to come
 abbrev pub HasStarted : Option (List ℕ) → Option (List ℕ) → ScriptVersion → Type 0
 HasStarted None new version = ⊤
 HasStarted (Some text) None version = ⊥
-HasStarted (Some text) (Some rest) version = live_rows (lines_in text) ≡ Ok (accepted version 0 (lines_in rest))
+HasStarted (Some text) (Some rest) version = (least : ℕ) → rows_from least (lines_in text) ≡ Ok (accepted version least (lines_in rest))
 
 -- where the bytes are told, the script has no header, for this reason
 abbrev pub HasNoHeader : Option (List ℕ) → HeaderFault → Type 0

@@ -1,8 +1,8 @@
 //! The accepted rows of a script, one by one.
-ghost use Rattle.std.specs.Prelude.{◌≡◌, ◌≤◌, IfOk, if◌then◌else◌};
+ghost use Rattle.std.specs.Prelude.{◌≡◌, ◌≤◌, IfOk, IfSome, if◌then◌else◌};
 ghost use Rattle.std.specs.Result.{IsErrOf};
 ghost use Rattle.pool_io.specs.Faults.{Rose};
-ghost use Rattle.input_rows.specs.live.Rows.{ComesBehind, GivesRow, rows_to_come};
+ghost use Rattle.input_rows.specs.live.Rows.{ComesBehind, GivesRow, round_of_last, least_behind, rows_to_come};
 ghost use Rattle.input_rows.specs.work.live.Steps.{HasStepped, StepsBehind};
 
 use crate::live::judge::{Judged, RowRefusal, judge_row};
@@ -48,7 +48,10 @@ pub struct LiveRows<S: Source, L: RefusalListener + Drop> {
     line: Vec<u8>,
     text: Vec<u8>,
     version: ScriptVersion,
-    last: u32,
+    /// The least round of a row that may come: that of the row that came last, where one came.
+    least: u32,
+    /// Whether a row came.
+    came: bool,
     row: u64,
     listener: L,
 }
@@ -63,7 +66,26 @@ impl<S: Source, L: RefusalListener + Drop> LiveRows<S, L> {
     ) -> LiveRows<S, L>
         ensures lines { result.lines ≡ lines }
         ensures version { result.version ≡ version }
-        ensures last { result.last ≡ 0 }
+        ensures least { result.least ≡ 0 }
+        ensures last { round_of_last result.came result.least ≡ 0 }
+    {
+        LiveRows::behind_round(alloc, lines, version, None, listener)
+    }
+
+    /// The rows to come of these lines that belong to later rounds than this one. A row of a round that isn't later is
+    /// refused: its round goes back.
+    pub fn behind_round(
+        alloc: Global,
+        lines: LineStream<S>,
+        version: ScriptVersion,
+        round: Option<u32>,
+        listener: L,
+    ) -> LiveRows<S, L>
+        requires round { IfSome round (λ r. r ≤ 1000000000) }
+        ensures lines { result.lines ≡ lines }
+        ensures version { result.version ≡ version }
+        ensures least { result.least ≡ least_behind round }
+        ensures last { round_of_last result.came result.least ≡ 0 }
     {
         LiveRows {
             alloc,
@@ -71,7 +93,8 @@ impl<S: Source, L: RefusalListener + Drop> LiveRows<S, L> {
             line: Vec::new(alloc),
             text: Vec::new(alloc),
             version,
-            last: 0,
+            least: least_behind(round),
+            came: false,
             row: 0,
             listener,
         }
@@ -96,9 +119,9 @@ impl<S: Source, L: RefusalListener + Drop> LiveRows<S, L> {
 
     /// Reads a line, and judges it.
     fn step(&mut self) -> Result<Step, LineFault>
-        ensures step { IfOk result (HasStepped (rows_to_come self.old.version self.old.last self.old.lines.to_come)
-            (rows_to_come self.new.version self.new.last self.new.lines.to_come)) }
-        ensures behind { IfOk result (StepsBehind self.old.last self.new.last) }
+        ensures step { IfOk result (HasStepped (rows_to_come self.old.version self.old.least self.old.lines.to_come)
+            (rows_to_come self.new.version self.new.least self.new.lines.to_come)) }
+        ensures behind { IfOk result (StepsBehind (round_of_last self.old.came self.old.least) (round_of_last self.new.came self.new.least)) }
         ensures fault { IsErrOf result LineFault.ReadFault → Rose self.old.lines.faults self.new.lines.faults }
         ensures never_falls { self.old.lines.faults ≤ self.new.lines.faults }
     {
@@ -108,12 +131,13 @@ impl<S: Source, L: RefusalListener + Drop> LiveRows<S, L> {
             &mut self.text,
             &self.line,
             self.version,
-            self.last,
+            self.least,
         ) {
             Ok(Judged::Empty) => Ok(without_row(ended)),
             Ok(Judged::Accepted(row)) => {
                 self.row = self.row.saturating_add(1);
-                self.last = row.round;
+                self.least = row.round;
+                self.came = true;
                 Ok(Step::Row(row))
             }
             Ok(Judged::Refused(refusal)) => {
@@ -123,6 +147,17 @@ impl<S: Source, L: RefusalListener + Drop> LiveRows<S, L> {
             }
             Err(fault) => Err(fault),
         }
+    }
+}
+
+/// The least round that is later than this one, or of all rounds.
+fn least_behind(round: Option<u32>) -> u32
+    requires { IfSome round (λ r. r ≤ 1000000000) }
+    ensures { result ≡ least_behind round }
+{
+    match round {
+        Some(round) => round + 1,
+        None => 0,
     }
 }
 
@@ -143,9 +178,9 @@ fn without_row(ended: bool) -> Step
 }
 
 impl<S: Source, L: RefusalListener + Drop> RowSource for LiveRows<S, L> {
-    ghost to_come = { λ r. rows_to_come r.version r.last r.lines.to_come };
+    ghost to_come = { λ r. rows_to_come r.version r.least r.lines.to_come };
 
-    ghost last = { λ r. r.last };
+    ghost last = { λ r. round_of_last r.came r.least };
 
     ghost faults = { λ r. r.lines.faults };
 

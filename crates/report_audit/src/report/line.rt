@@ -118,7 +118,7 @@ fn feeds(text: &[u8]) -> u64
 }
 
 /// Whether this is the line of an entry at its position.
-pub(crate) fn is_entry_line(
+pub fn is_entry_line(
     alloc: Global,
     line: &[u8],
     position: u64,

@@ -28,17 +28,26 @@ pub(crate) fn run_live(
         Err(OutOfMemory) => return RunStatus::OutOfMemory,
     };
     let named: &[String] = if passes { words } else { &[] };
+    match rows_given(rt, threads, named) {
+        Ok((script, giving)) => live_from(rt, threads, words, named, script, giving),
+        Err(OutOfMemory) => RunStatus::OutOfMemory,
+    }
+}
+
+/// The rows to come, from standard input or from the file that the words name.
+pub(crate) fn rows_given<R: Threads + Wait + Copy + Send + Sync + 'static>(
+    rt: &HostRuntime,
+    threads: &R,
+    named: &[String],
+) -> Result<(StdSource<Relayed<R>>, GivingUp<R>), OutOfMemory> {
     let script = match value_of(named, "script") {
-        Some(path) => match named_file(rt, path) {
-            Ok(file) => file,
-            Err(OutOfMemory) => return RunStatus::OutOfMemory,
-        },
+        Some(path) => named_file(rt, path)?,
         None => Input::Standard(rt.stdin()),
     };
-    let Ok((script, giving)) = start_relay(rt.alloc(), *threads, script) else {
-        return RunStatus::OutOfMemory;
-    };
-    live_from(rt, threads, words, named, StdSource::over(script), giving)
+    match start_relay(rt.alloc(), *threads, script) {
+        Ok((script, giving)) => Ok((StdSource::over(script), giving)),
+        Err(_) => Err(OutOfMemory),
+    }
 }
 
 /// Runs the rows of this source.
@@ -92,17 +101,17 @@ fn live_from<R: Threads + Wait + Copy + Send + Sync + 'static>(
 
 /// What a call opens before it begins.
 #[derive(Drop)]
-struct Opened {
-    file: SharedFile,
+pub(crate) struct Opened {
+    pub(crate) file: SharedFile,
     /// The same file, to ask whether it could be opened.
-    told: SharedFile,
-    notifiers: Vec<LineNotifier<SharedFile>>,
-    listener: RefusedRows<Stderr>,
+    pub(crate) told: SharedFile,
+    pub(crate) notifiers: Vec<LineNotifier<SharedFile>>,
+    pub(crate) listener: RefusedRows<Stderr>,
 }
 
 impl Opened {
     /// What these words name.
-    fn by(rt: &HostRuntime, named: &[String]) -> Result<Opened, OutOfMemory> {
+    pub(crate) fn by(rt: &HostRuntime, named: &[String]) -> Result<Opened, OutOfMemory> {
         let file = SharedFile::new(rt.alloc())?;
         let told = file.share()?;
         let notifiers = notifiers_to(rt, named, &file)?;

@@ -6,7 +6,7 @@ use Rattle.rider_limits.specs.declared.word_fault.WordFault.{WordFault}
 use Rattle.pool_base.specs.Which as file
 use Rattle.pool_base.specs.declared.which.Which.{Which}
 use Rattle.pool_base.specs.declared.which.Which.TheVariants.{Network, Fleet, Script, Report}
-use Rattle.rider_limits.specs.Key.{reads}
+use Rattle.rider_limits.specs.Key.{needs}
 use Rattle.rider_limits.specs.Words.{text_given, option_of, option_fault}
 
 -- Parts of the words and keys, as proofs call them.
@@ -23,6 +23,6 @@ words_fault command words = first_fault (fault_at command words) (length words)
 abbrev pub is_missing : List (List ℕ) → Which → Bool
 is_missing words which = is_none (text_given (file.file_name which) words)
 
--- the first file that a command reads and these words don't name
+-- the first file that a command needs and these words don't name
 abbrev pub missing_file : Subcommand → List (List ℕ) → Option Which
-missing_file command words = find (λ which. reads command which && is_missing words which) (Network ∷ Fleet ∷ Script ∷ Report ∷ [])
+missing_file command words = find (λ which. needs command which && is_missing words which) (Network ∷ Fleet ∷ Script ∷ Report ∷ [])

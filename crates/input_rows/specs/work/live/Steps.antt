@@ -4,7 +4,7 @@ use Rattle.input_rows.specs.script.ScriptRow.{IsBehind}
 use Rattle.input_rows.specs.declared.script.script_row.ScriptRow.{ScriptRow}
 use Rattle.input_rows.specs.live.Lines.{lines_in}
 use Rattle.input_rows.specs.live.Rows.{NoRows, TakesRows}
-use Rattle.input_rows.specs.live.Start.{live_rows}
+use Rattle.input_rows.specs.live.Start.{rows_from}
 use Rattle.input_rows.specs.declared.live.rows.Step.{Step}
 use Rattle.input_rows.specs.declared.live.rows.Step.TheVariants.{Row, Skipped, Ended}
 
@@ -23,4 +23,4 @@ StepsBehind old new _ = new ≡ old
 abbrev pub IsSameScript : Option (List ℕ) → Option (List ℕ) → Type 0
 IsSameScript None now = ⊤
 IsSameScript (Some text) None = ⊥
-IsSameScript (Some text) (Some rest) = live_rows (lines_in text) ≡ live_rows (lines_in rest)
+IsSameScript (Some text) (Some rest) = (least : ℕ) → rows_from least (lines_in text) ≡ rows_from least (lines_in rest)

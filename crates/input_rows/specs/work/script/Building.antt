@@ -9,16 +9,16 @@ abbrev pub commands_of : List ScriptRow → ℕ → ℕ → List Command
 commands_of script_rows number lane = map (λ l. l.command) (filter (λ l. l.round == number && l.lane == lane) script_rows)
 
 -- the last round, or one without commands
-abbrev pub last_round : List NumberedLanes → NumberedLanes
-last_round rounds = slice_index_or rounds (length rounds - 1) (empty_round 0)
+abbrev pub round_of_last : List NumberedLanes → NumberedLanes
+round_of_last rounds = slice_index_or rounds (length rounds - 1) (empty_round 0)
 
 -- the last round has this number
 abbrev pub joins : List NumberedLanes → ℕ → Bool
-joins rounds number = nat_lt 0 (length rounds) && (last_round rounds).number == number
+joins rounds number = nat_lt 0 (length rounds) && (round_of_last rounds).number == number
 
 -- rounds with one more row: in the last round where it has the row's number, else in a new one
 unfoldable pub with_script_row : List NumberedLanes → ScriptRow → List NumberedLanes
 with_script_row rounds script_row =
     if joins rounds script_row.round
-    then slice_set rounds (length rounds - 1) (with_command (last_round rounds) script_row.lane script_row.command)
+    then slice_set rounds (length rounds - 1) (with_command (round_of_last rounds) script_row.lane script_row.command)
     else rounds ++ with_command (empty_round script_row.round) script_row.lane script_row.command ∷ []

@@ -1,8 +1,8 @@
 use Rattle.std.proofs.Common.{◌≡◌, ◌≤◌, []}
-use Rattle.input_rows.specs.live.Rows.{TakesRows, rows_to_come}
+use Rattle.input_rows.specs.live.Rows.{round_of_last, TakesRows, rows_to_come}
 use Rattle.input_rows.proofs.live.rows.LiveRowsRowSource.next.Given as goal
 
 abbrev pub invariant-lines : goal.invariant-lines
 invariant-lines g l =
-    TakesRows (rows_to_come l.fn.self.version l.fn.self.last l.fn.self.lines.to_come) (rows_to_come l.self.version l.self.last l.self.lines.to_come) []
-    × (l.fn.self.lines.faults ≤ l.self.lines.faults) × (l.self.last ≡ l.fn.self.last)
+    TakesRows (rows_to_come l.fn.self.version l.fn.self.least l.fn.self.lines.to_come) (rows_to_come l.self.version l.self.least l.self.lines.to_come) []
+    × (l.fn.self.lines.faults ≤ l.self.lines.faults) × (round_of_last l.self.came l.self.least ≡ round_of_last l.fn.self.came l.fn.self.least)

@@ -1,0 +1,9 @@
+mod CloseLemmas
+mod CutLemmas
+mod FinishLemmas
+mod ItemLemmas
+mod LaterLemmas
+mod LawLemmas
+mod RoundLemmas
+mod StepLemmas
+mod TakeLemmas

@@ -1,0 +1,4 @@
+-- What only the bodies of this crate need.
+pub mod Reading
+pub mod Taking
+pub mod Walk

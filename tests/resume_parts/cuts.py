@@ -1,0 +1,124 @@
+"""Tests of `resume` on reports that are cut."""
+
+import random
+
+from live_parts.client import need
+from live_parts.drawn_rows import drawn_rows
+from live_parts.given import made_city, street
+from resume_parts.day import Day
+from resume_parts.kept import Kept
+
+EXAMPLE = [
+    "0,0,submit,1,2,4,0",
+    "0,0,submit,2,3,5,0",
+    "0,0,seal,10,,,",
+    "1,0,report,1,1,20,",
+    "1,0,pickup,1,1,80,",
+    "1,0,cancel,3,,,",
+    "1,0,report,1,3,140,",
+]
+
+
+def cut_behind_every_byte(program, folder):
+    """The example of `live`, cut behind each of its bytes. Within the head it is refused at the line where it ends."""
+    street(folder)
+    day = Day(program, folder, EXAMPLE)
+    for count in range(len(day.report) + 1):
+        torn = day.report[:count]
+        if Kept(torn).has_head:
+            day.goes_on(torn)
+        else:
+            day.refuses(torn, f"cut at line {torn.count(10) + 1}")
+
+
+def lanes_of(count, seed):
+    """Drawn rows of fifteen lanes on the street, which are in order and in form."""
+    rows, last = [], 0
+    for row in drawn_rows(count, seed):
+        fields = row.split(",")
+        if len(fields) == 7 and fields[0].isdigit() and int(fields[0]) >= last and int(fields[1]) < 16 and fields[2] != "jump":
+            rows.append(row)
+            last = int(fields[0])
+    return rows
+
+
+def lanes_cut_anywhere(program, folder, cuts, seed):
+    """A day in sixteen lanes, where rows go on beside open batches, cut at drawn bytes."""
+    street(folder)
+    day, rng = Day(program, folder, lanes_of(400, seed)), random.Random(seed)
+    for _ in range(cuts):
+        day.goes_on(day.report[: rng.randrange(head_of(day.report), len(day.report))])
+
+
+def head_of(report):
+    """How many bytes the head has."""
+    return sum(len(line) + 1 for line in report.split(b"\n")[:4])
+
+
+def city_rows(nodes, batches, seed):
+    """Rows of a city, whose batches take a while: requests of a round, its seal, and reports in other lanes beside it."""
+    rng, rows, rider = random.Random(seed), [], 0
+    for batch in range(batches):
+        for _ in range(40):
+            rider += 1
+            rows.append(f"{batch},0,submit,{rider},{rng.randint(1, nodes)},{rng.randint(1, nodes)},{60 * batch}")
+        rows.append(f"{batch},0,seal,{60 * batch + 30},,,")
+        rows += [f"{batch},{lane},report,{rng.randint(1, 60)},{rng.randint(1, nodes)},{60 * batch + 30}," for lane in range(1, 16) for _ in range(3)]
+    return rows
+
+
+def beside_long_batches(program, folder, cuts, seed):
+    """Batches of a city, with rows of fifteen lanes beside them, cut at drawn bytes: half of the cuts lie before a close."""
+    day, rng = Day(program, folder, city_rows(made_city(folder), 3, seed), "wait=300", "delay=400"), random.Random(seed)
+    head, closes = head_of(day.report), [place for place in range(len(day.report)) if day.report.startswith(b" closed\n", place)]
+    for number in range(cuts):
+        if number % 2:
+            near = rng.choice(closes)
+            day.goes_on(day.report[: rng.randint(max(head, near - 400), near)])
+        else:
+            day.goes_on(day.report[: rng.randint(head, len(day.report))])
+
+
+def reports_of_all_kinds(program, folder):
+    """Overflow, lapsed promises, dwell and parties: each report cut behind each of its lines, and within the last of them."""
+    street(folder)
+    parties = ["0,0,submit,1,2,4,0,2", "0,0,submit,2,3,5,0,1", "0,0,seal,10,,,,", "1,0,report,1,5,600,,", "1,0,seal,700,,,,", "2,0,cancel,1,,,,"]
+    for rows, words in [
+        (EXAMPLE, ["pairs=1"]),
+        (EXAMPLE, ["dwell=30"]),
+        (EXAMPLE, ["trip=1", "times=labels"]),
+        (parties, []),
+        (parties, ["dwell=20", "wait=7200", "delay=7200"]),
+    ]:
+        day = Day(program, folder, rows, *words)
+        ends = [place + 1 for place, byte in enumerate(day.report) if byte == 10]
+        for end in ends[3:]:
+            for count in end, end + 2:
+                if count <= len(day.report):
+                    day.goes_on(day.report[:count])
+                    day.goes_on(day.report[:count], "times=labels", "judge=1", "workers=1")
+
+
+def resumed_again_and_again(program, folder):
+    """A day that goes on from each of its reports, one row at a time, is the day of all rows."""
+    street(folder)
+    day = Day(program, folder, EXAMPLE)
+    report = day.report[: head_of(day.report)]
+    given = []
+    for number, row in enumerate(EXAMPLE):
+        given.append(f"{number},{row.split(',', 1)[1]}")
+        ran = day.resume(report, given[-1:])
+        need(ran.returncode == 0, f"status {ran.returncode}, {ran.stderr!r} at row {number}")
+        report = ran.stdout
+    audit = day.audit(report, given)
+    need(audit.returncode == 0, f"`audit` refuses it: {audit.stderr!r}")
+
+
+def ends_without_rows(program, folder):
+    """A whole report goes on to itself where no row is left, and one of `run` goes on as well."""
+    street(folder)
+    day = Day(program, folder, EXAMPLE)
+    need(day.goes_on(day.report) == day.report, "another report of `live`")
+    (day.folder / "script.csv").write_text("\n".join(["round,lane,command,a,b,c,d", *EXAMPLE, ""]))
+    ran = day.call("run", ["proof=1", f"script={day.folder}/script.csv"])
+    need(day.goes_on(ran.stdout) == ran.stdout, "another report of `run`")
