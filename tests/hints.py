@@ -142,7 +142,9 @@ def live_wrong() -> Iterator[Case]:
         ("0,0,cancel," + "1" * 65_536 + ",,,", "row 1 is too long", "a row has at most 65536 bytes"),
     ]:
         yield Case(LIVE[:3], f"script: {fault}", f"standard input, row 1: {hint}", given=f"{HEADERS['script']}\n{row}\n".encode())
-    yield Case(LIVE[:3], "script: wrong header of 0 fields", "standard input: expected round,lane,command,a,b,c,d (or with ,e behind it)")
+    expected = "standard input: expected round,lane,command,a,b,c,d (or with ,e behind it)"
+    yield Case(LIVE[:3], "script: wrong header of 0 fields", expected)
+    yield Case(LIVE[:3], "script: header: longer than 65536 bytes", expected, given=b"x" * 65_537)
 
 
 def reports_wrong(program: str, folder: Path) -> Iterator[Case]:

@@ -8,7 +8,7 @@ from tools_parts.shared import TOOLS, run_tests
 
 sys.path.insert(0, str(TOOLS))
 
-from trail import Trail, faults_of_way  # noqa: E402
+from trail import Trail, faults_of_types, faults_of_way  # noqa: E402
 from trails.chapters import in_order  # noqa: E402
 
 LOWER = {
@@ -151,6 +151,19 @@ def test_one_name_for_two(folder):
     text = UPPER["specs/Run.antt"].replace("thrice 1)", "thrice (Distance 1))")
     upper = {**UPPER, "specs/Run.antt": text + "\n-- another\nabbrev pub Distance : ℕ → ℕ\nDistance n = n\n"}
     assert "Distance stands for several definitions: lower/src/number, upper/specs/Run" in faults_of(trail_of(folder, upper=upper))
+
+
+def test_one_name_for_two_types(folder):
+    """A type that two crates offer, or that is named as a definition, has a name of its own; one that no crate offers is free."""
+    text = UPPER["src/run.rt"]
+    upper = {**UPPER, "src/run.rt": text + "\n/// Another number.\npub struct Number(u64);\n/// How far.\nstruct Distance(u64);\n"}
+    assert faults_of_types(trail_of(folder, upper=upper)) == ["Number is a type of several places: lower/src/number, upper/src/run"]
+
+
+def test_a_type_named_as_a_definition(folder):
+    """A type that is offered isn't named as a definition on a way."""
+    upper = {**UPPER, "src/run.rt": UPPER["src/run.rt"] + "\n/// Another.\npub struct IsEven(u64);\n"}
+    assert faults_of_types(trail_of(folder, upper=upper)) == ["IsEven is a type of several places: lower/specs/Even, upper/src/run"]
 
 
 def test_order_of_reading(folder):

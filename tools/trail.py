@@ -21,8 +21,8 @@ it keeps what contracts see; what they rest on there is only counted.
 A fault is: a definition on a way that lies in specs/lemmas/ or specs/work/; a file of specs/ that imports from these
 or from proofs/, or one of specs/lemmas/ that imports from specs/work/; any file that imports from specs/work/ of another
 crate; a file of proofs/ that imports more than proofs/lemmas/ of another crate; a name that stands for several
-definitions or types on a way; one without a line of comment of its own; lists of docs/proof/DEFINITIONS.md that are not
-the ways'. tools/trails/left.py lists the faults that stand for now; each is printed with its reason.
+definitions or types on a way; a struct or an enum whose name several crates offer, or a crate and a definition on a way;
+one without a line of comment of its own; lists of docs/proof/DEFINITIONS.md that are not the ways'. tools/trails/left.py lists the faults that stand for now; each is printed with its reason.
 """
 import contextlib
 import io
@@ -53,7 +53,7 @@ class Trail:
 
     def __init__(self, crates):
         pieces, passed_on = read_definitions(crates)
-        sources = Sources(crates)
+        sources = self.sources = Sources(crates)
         pieces.update(sources.pieces())
         self.book = Book(pieces, passed_on)
         self.roots, self.kept = read_roots(sources, self.book)
@@ -178,6 +178,18 @@ def faults_of_way(trail):
                             for (place, name), sentence in SENTENCES.items() if said.get((place, name), sentence) == sentence]
 
 
+def faults_of_types(trail):
+    """The types of one name that several crates offer, or that are named as a definition on a way."""
+    by_name = defaultdict(set)
+    for piece in trail.sources.offered_types():
+        by_name[piece.name].add(piece.place())
+    for piece in trail.every:
+        if piece.name in by_name:
+            by_name[piece.name].add(piece.place())
+    return [f"{name} is a type of several places: {', '.join(sorted(places))}"
+            for name, places in sorted(by_name.items()) if len(places) > 1]
+
+
 def with_list(text, name, body):
     begin, end = BEGIN.format(name), END.format(name)
     if begin not in text or end not in text:
@@ -266,7 +278,7 @@ def main():
           f"{', '.join(sorted(name for _, name in trail.kept))}")
     print(f"trail: {len(SENTENCES)} definitions have their sentence in tools/trails/left.py")
     print(f"trail: {len(trail.early())} definitions from the headline name one of a later chapter")
-    faults = faults_of_files(CRATES) + faults_of_way(trail) + hold_lists(trail, "--write" in sys.argv)
+    faults = faults_of_files(CRATES) + faults_of_way(trail) + faults_of_types(trail) + hold_lists(trail, "--write" in sys.argv)
     return bool(say_faults(faults))
 
 

@@ -129,7 +129,7 @@ def wrong_report(reason: str) -> AuditFailed:
 def wrong_file(name: str, reason: str, given: Given) -> RefusedInput:
     """A row of a file that is refused."""
     header = HEADERS[name]
-    if reason.startswith("wrong header"):
+    if reason.startswith(("wrong header", "header: longer")):
         return RefusedInput(given.file, 1, None, given.text.splitlines()[:1], f"the header {','.join(header)}")
     length = OTHER_LENGTH.fullmatch(reason)
     if length is not None:

@@ -91,6 +91,11 @@ def wrong_headers(program, folder):
         client.send(text)
         got = client.end()
         need(got == (5, "", f"ridepool: script: wrong header of {fields} fields\n"), f"{got} at {text!r}")
+    for size, told in [(65_536, "wrong header of 1 fields"), (65_537, "header: longer than 65536 bytes")]:
+        client = Client(program, folder)
+        client.send("x" * size + "\n")
+        got = client.end()
+        need(got == (5, "", f"ridepool: script: {told}\n"), f"{got} at a header of {size} bytes")
 
 
 def second_version(program, folder):

@@ -122,6 +122,12 @@ class Sources:
         """Whether a crate offers a name of a file: by its root file, or by a public module."""
         return file.module == "lib" or {name, file.module.split(".")[0]} & self.offered[file.crate]
 
+    def offered_types(self):
+        """The structs and enums that some crate offers."""
+        for file in self.files:
+            yield from (piece for name, piece in file.pieces.items()
+                        if self.is_offered(file, name) and re.match(r"pub (struct|enum) ", piece.lines[0]))
+
     def typed(self, crate, parts, name):
         """The key of the type that a path of Rust code names, or None."""
         homes = [file for file in self.by_crate.get(crate, ()) if name in file.pieces]

@@ -3,7 +3,7 @@ use Rattle.std.specs.Prelude.{ℕ, List, [], ◌∷◌, ◌++◌, None, Some, co
 use Rattle.std.specs.List.{flat_map}
 use Rattle.dispatch_report.specs.Words.{numbered, signed, spaced}
 use Rattle.dispatch_report.specs.declared.block_line.BlockLine.{BlockLine}
-use Rattle.dispatch_report.specs.declared.block_line.BlockLine.TheVariants.{Batch, Expired, Overflow, Lapsed, Late, Alone, Shared, Row, Trip, Out, Move, Cost, Bound, Nodes, Branch, Leaf, Dead, End}
+use Rattle.dispatch_report.specs.declared.block_line.BlockLine.TheVariants.{Batch, Expired, Overflow, Lapsed, Late, Alone, Shared, TripRow, Trip, Out, Move, Cost, Bound, Nodes, Branch, Leaf, Dead, End}
 use Rattle.plan_rules.specs.declared.node.Node.{Node}
 use Rattle.plan_rules.specs.declared.node.Node.TheVariants as node
 use Rattle.request_book.specs.declared.values.outcome.Answer.{Answer}
@@ -35,7 +35,7 @@ block_line_text (Late late) =
     ++ elim late.stops [ None ↦ codes " none" | Some stops ↦ spaced late.delay ++ flat_map stop_text stops ]
 block_line_text (Alone pair) = pair_line (codes "rv ") pair
 block_line_text (Shared pair) = pair_line (codes "rr ") pair
-block_line_text (Row row) = numbered (codes "row ") row.vehicle ++ spaced row.cost ++ flat_map spaced row.riders
+block_line_text (TripRow row) = numbered (codes "row ") row.vehicle ++ spaced row.cost ++ flat_map spaced row.riders
 block_line_text (Trip trip) = numbered (codes "trip ") trip.vehicle ++ spaced trip.cost ++ flat_map stop_text trip.stops
 block_line_text (Out rider) = numbered (codes "out ") rider
 block_line_text (Move m) = numbered (codes "move ") m.vehicle ++ spaced m.rider ++ spaced m.seconds
@@ -49,7 +49,7 @@ block_line_text End = codes "end"
 
 -- the line of a vehicle-trip pair
 abbrev pub row_as_line : TripRowLine → BlockLine
-row_as_line row = Row (record { vehicle = row.vehicle; cost = row.cost; riders = row.riders.items })
+row_as_line row = TripRow (record { vehicle = row.vehicle; cost = row.cost; riders = row.riders.items })
 
 -- the line of a chosen trip
 abbrev pub trip_as_line : ChosenTrip → BlockLine

@@ -44,7 +44,7 @@ pub enum BlockLine {
     Alone((VehicleId, RiderId)),
     /// Two riders who can share a vehicle.
     Shared((RiderId, RiderId)),
-    Row(TripRowText),
+    TripRow(TripRowText),
     Trip(TripText),
     /// A rider in no chosen trip.
     Out(RiderId),

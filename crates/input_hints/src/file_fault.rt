@@ -1,11 +1,11 @@
 use crate::row::Row;
 use crate::shown::shown;
-use crate::table::Table;
+use crate::table::InputTable;
 use std::alloc::{AllocError, Global};
 
 /// What stands where a header should.
 #[derive(Clone, Copy)]
-pub enum Found<'a> {
+pub enum HeaderFound<'a> {
     Row(&'a Row),
     /// The file is empty.
     Nothing,
@@ -17,9 +17,9 @@ pub enum Found<'a> {
 #[derive(Clone, Copy)]
 pub enum FileWrong<'a> {
     /// The first row isn't the header.
-    Header(Table, Found<'a>),
+    Header(InputTable, HeaderFound<'a>),
     /// There are too many rows.
-    TooManyRows(Table),
+    TooManyRows(InputTable),
     /// It has more bytes than these.
     TooLong(u64),
     /// It can't be read, by these words of the system.
@@ -32,9 +32,9 @@ pub fn file_hint(alloc: Global, path: &str, wrong: &FileWrong<'_>) -> Result<Str
         FileWrong::Header(table, found) => header_hint(alloc, path, *table, *found),
         FileWrong::TooManyRows(table) => {
             let most = match table {
-                Table::Network => "400000 streets",
-                Table::Fleet => "500 vehicles",
-                Table::Script => "200000 rows",
+                InputTable::Network => "400000 streets",
+                InputTable::Fleet => "500 vehicles",
+                InputTable::Script => "200000 rows",
             };
             format!(in alloc; "{path}: at most {most}")
         }
@@ -52,19 +52,19 @@ pub fn file_hint(alloc: Global, path: &str, wrong: &FileWrong<'_>) -> Result<Str
 fn header_hint(
     alloc: Global,
     path: &str,
-    table: Table,
-    found: Found<'_>,
+    table: InputTable,
+    found: HeaderFound<'_>,
 ) -> Result<String, AllocError> {
     let expected = table.header();
-    let more = if table == Table::Script {
+    let more = if table == InputTable::Script {
         " (or with ,e behind it)"
     } else {
         ""
     };
     let found = match found {
-        Found::Unknown => return format!(in alloc; "{path}: expected {expected}{more}"),
-        Found::Nothing => String::from_str(alloc, "nothing")?,
-        Found::Row(row) => match kind_of(&row.text) {
+        HeaderFound::Unknown => return format!(in alloc; "{path}: expected {expected}{more}"),
+        HeaderFound::Nothing => String::from_str(alloc, "nothing")?,
+        HeaderFound::Row(row) => match kind_of(&row.text) {
             Some(kind) => String::from_str(alloc, kind)?,
             None => shown(alloc, &row.text)?,
         },

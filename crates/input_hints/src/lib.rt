@@ -9,7 +9,7 @@
 //! ```
 //! let mut rows = RowReader::of_file(File::open(rt, "fleet.csv")?.bytes());
 //! let row = row_numbered(alloc, &mut rows, 6)?;
-//! let hint = row_hint(alloc, "fleet.csv", Table::Fleet, 6, &Wrong::UnknownNode, row.as_ref())?;
+//! let hint = row_hint(alloc, "fleet.csv", InputTable::Fleet, 6, &Wrong::UnknownNode, row.as_ref())?;
 //! ```
 //!
 //! Main clauses: none, only what safety needs.
@@ -31,10 +31,10 @@ mod wrong;
 pub use argument::{ArgumentWrong, argument_hint};
 pub use audited_line::{AuditWrong, line_hint, line_numbered};
 pub use day::{DayWrong, day_hint, day_row};
-pub use file_fault::{FileWrong, Found, file_hint};
+pub use file_fault::{FileWrong, HeaderFound, file_hint};
 pub use row::Row;
 pub use row_reader::{RowReader, row_numbered};
-pub use table::Table;
+pub use table::InputTable;
 pub use warning::{ScriptWarning, has_no_row, script_warning, warning_text};
 pub use wrong::{Wrong, row_hint};
 

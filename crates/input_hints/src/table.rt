@@ -1,6 +1,6 @@
 /// Which of the three tables a file holds.
 #[derive(Clone, Copy, PartialEq)]
-pub enum Table {
+pub enum InputTable {
     Network,
     Fleet,
     Script,
@@ -12,22 +12,22 @@ const FLEET: [&str; 4] = ["vehicle", "seats", "node", "second"];
 
 const SCRIPT: [&str; 8] = ["round", "lane", "command", "a", "b", "c", "d", "e"];
 
-impl Table {
+impl InputTable {
     /// The header that the file must have.
     pub(crate) fn header(self) -> &'static str {
         match self {
-            Table::Network => "from,to,seconds",
-            Table::Fleet => "vehicle,seats,node,second",
-            Table::Script => "round,lane,command,a,b,c,d",
+            InputTable::Network => "from,to,seconds",
+            InputTable::Fleet => "vehicle,seats,node,second",
+            InputTable::Script => "round,lane,command,a,b,c,d",
         }
     }
 
     /// The name of a column, from 1.
     pub(crate) fn column_name(self, column: u64) -> &'static str {
         let names: &[&'static str] = match self {
-            Table::Network => &NETWORK,
-            Table::Fleet => &FLEET,
-            Table::Script => &SCRIPT,
+            InputTable::Network => &NETWORK,
+            InputTable::Fleet => &FLEET,
+            InputTable::Script => &SCRIPT,
         };
         for (number, name) in names.iter().enumerate() {
             if number as u64 + 1 == column {
@@ -39,7 +39,7 @@ impl Table {
 
     /// The greatest number that a column, from 1, may have.
     pub(crate) fn greatest(self, column: u64) -> u64 {
-        if self == Table::Network && column == 3 {
+        if self == InputTable::Network && column == 3 {
             10_000
         } else {
             1_000_000_000

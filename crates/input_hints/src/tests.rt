@@ -24,7 +24,7 @@ fn hint_of(rt: &HostRuntime, number: u64, wrong: Wrong) -> Result<String, Fail> 
     Ok(row_hint(
         rt.alloc(),
         "fleet.csv",
-        Table::Fleet,
+        InputTable::Fleet,
         number,
         &wrong,
         row.as_ref(),

@@ -1,7 +1,7 @@
 use crate::key::nearest;
 use crate::row::Row;
 use crate::shown::{listed, shown};
-use crate::table::Table;
+use crate::table::InputTable;
 use std::alloc::{AllocError, Global};
 
 /// What is wrong with a row. Columns count from 1.
@@ -32,7 +32,7 @@ const COMMANDS: [&str; 6] = ["submit", "cancel", "report", "pickup", "dropoff", 
 pub fn row_hint(
     alloc: Global,
     path: &str,
-    table: Table,
+    table: InputTable,
     number: u64,
     wrong: &Wrong,
     row: Option<&Row>,
@@ -58,7 +58,7 @@ pub(crate) fn placed(
 }
 
 /// What is wrong with a row that is known.
-fn found(alloc: Global, table: Table, wrong: &Wrong, row: &Row) -> Result<String, AllocError> {
+fn found(alloc: Global, table: InputTable, wrong: &Wrong, row: &Row) -> Result<String, AllocError> {
     match wrong {
         Wrong::FieldCount => {
             let wanted = row.header_fields;
@@ -94,7 +94,12 @@ fn shown_field(alloc: Global, row: &Row, column: u64) -> Result<String, AllocErr
 }
 
 /// What is wrong with the number in a column.
-fn number_found(alloc: Global, table: Table, column: u64, row: &Row) -> Result<String, AllocError> {
+fn number_found(
+    alloc: Global,
+    table: InputTable,
+    column: u64,
+    row: &Row,
+) -> Result<String, AllocError> {
     let field = row.field(alloc, column)?;
     let text = shown(alloc, &field)?;
     let name = table.column_name(column);
@@ -114,7 +119,7 @@ fn command_found(alloc: Global, row: &Row) -> Result<String, AllocError> {
     let text = shown(alloc, &field)?;
     match nearest(alloc, text.as_str(), &COMMANDS)? {
         Some(name) => format!(in alloc; "did you mean {name}?"),
-        None => rule(alloc, Table::Script, &Wrong::UnknownCommand),
+        None => rule(alloc, InputTable::Script, &Wrong::UnknownCommand),
     }
 }
 
@@ -128,7 +133,7 @@ fn used(command: &str) -> &'static str {
 }
 
 /// What would be right.
-fn rule(alloc: Global, table: Table, wrong: &Wrong) -> Result<String, AllocError> {
+fn rule(alloc: Global, table: InputTable, wrong: &Wrong) -> Result<String, AllocError> {
     let text = match wrong {
         Wrong::Number { column } => {
             let name = table.column_name(*column);

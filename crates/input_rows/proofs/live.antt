@@ -1,2 +1,4 @@
 pub mod PieceLemmas
 pub mod RowLemmas
+pub mod LineReadLemmas
+pub mod AsScriptLemmas

@@ -61,8 +61,9 @@
 //! ```
 //!
 //! Main clauses: `read_fleet`: `accepted`, `named`, `refused`; `read_script`: `accepted`, `refused`; `read_row`;
-//! `RowSource::next`: `row`, `behind`, `fault`; `read_start`: `started`, `other`, `fault`; `LineStream::next_line`: `line`;
-//! `make`; `make_inputs`: `read`, `named`; `made_inputs_are_accepted`.
+//! `RowSource::next`: `row`, `behind`, `fault`; `read_start`: `started`, `headless`, `fault`; `LineStream::next_line`: `line`;
+//! `make`; `make_inputs`: `read`, `named`; `made_inputs_are_accepted`; the law
+//! `accepted_rows_are_a_script`.
 #![tactic(auto)]
 
 // Rooms, each names only those above it: script, fleet, live, made.
@@ -76,9 +77,10 @@ mod script;
 pub use fleet::fault::FleetFault;
 pub use fleet::reading::{FLEET_HEADER, read_fleet};
 pub use live::judge::{Judged, RowRefusal};
+pub use live::law::accepted_rows_are_a_script;
 pub use live::lines::{LineFault, LineStream};
 pub use live::rows::{LiveRows, RefusalListener, RowSource};
-pub use live::start::{StartFault, read_start};
+pub use live::start::{HeaderFault, StartFault, read_start};
 pub use made::law::made_inputs_are_accepted;
 pub use made::reading::{MadeInputs, make_inputs};
 pub use made::row::Field;

@@ -2,6 +2,7 @@
 //! of the live session call it. It names the room `script`.
 
 pub(crate) mod judge;
+pub(crate) mod law;
 pub(crate) mod lines;
 pub(crate) mod rows;
 pub(crate) mod start;

@@ -3,7 +3,7 @@ use Rattle.std.proofs.Common.{◌≡◌, ℕ, List, [], ◌∷◌, ◌++◌, map
 use Rattle.std.specs.Prelude.{Bool, Result, Ok, Err, IfOk, OnErr, false, true}
 use Rattle.dispatch_report.specs.declared.fault.ReportFault.{ReportFault}
 use Rattle.request_book.specs.Book.{BookView}
-use Rattle.live_dispatch.specs.Desk.{DeskView, Outputs}
+use Rattle.live_dispatch.specs.Desk.{DeskView, OutputsView}
 use Rattle.live_dispatch.specs.Phase.{desk_after, commands_in, row_command, GoesOn, RanRows}
 use Rattle.std.specs.Result.{is_err}
 use Rattle.std.proofs.lemmas.Bool.{false≢true}
@@ -22,8 +22,10 @@ abbrev pub HasRun : {B : Type 0} → ℕ → Option (List ScriptRow) → Option 
 HasRun round old now p = RanRows round (commands_in p) (TakesRows old now)
 
 -- one more row
-pub run-more : (round : ℕ) (old now next : Option (List ScriptRow)) {B : Type 0} (p q : PassValue B LaneCommand LockedReply) (line : ScriptRow) (call : ℕ × LoggedCall LaneCommand LockedReply)
-    → HasRun round old now p → TakesRows now next (line ∷ []) → GoesOn round line → q.calls ≡ p.calls ++ call ∷ [] → call.1.call ≡ row_command line → HasRun round old next q
+pub run-more : (round : ℕ) (old now next : Option (List ScriptRow)) {B : Type 0} (p q : PassValue B LaneCommand LockedReply) (line : ScriptRow)
+    (call : ℕ × LoggedCall LaneCommand LockedReply)
+    → HasRun round old now p → TakesRows now next (line ∷ []) → GoesOn round line → q.calls ≡ p.calls ++ call ∷ [] → call.1.call ≡ row_command line →
+    HasRun round old next q
 run-more round old now next p q line call so_far taken may calls is = record {
   run = so_far.run ++ line ∷ [];
   going = All-push (GoesOn round) so_far.run line so_far.going may;
@@ -37,7 +39,8 @@ run-more round old now next p q line call so_far taken may calls is = record {
 }
 
 -- the same rows, of which something else holds
-pub ran-so : (round : ℕ) (cs : List LaneCommand) (Are Be : List ScriptRow → Type 0) → ((run : List ScriptRow) → Are run → Be run) → RanRows round cs Are → RanRows round cs Be
+pub ran-so : (round : ℕ) (cs : List LaneCommand) (Are Be : List ScriptRow → Type 0) → ((run : List ScriptRow) → Are run → Be run) → RanRows round cs Are →
+    RanRows round cs Be
 ran-so round cs Are Be so ran = record { run = ran.run; going = ran.going; called = ran.called; taken = so ran.run ran.taken }
 
 -- what holds of a result that is no error
@@ -51,7 +54,7 @@ refused_err (Ok x) stopped h = absurd (false≢true stopped)
 refused_err (Err e) stopped h = h
 
 -- a desk whose parts are known
-pub desk-is : (d : DeskView) (start book : BookView) (proof : Bool) (opened from now : Outputs) (fault : Option ReportFault)
+pub desk-is : (d : DeskView) (start book : BookView) (proof : Bool) (opened from now : OutputsView) (fault : Option ReportFault)
     → d ≡ record { book = book; proof = d.proof; opened = opened; now = now; fault = fault } → d.proof ≡ proof → opened ≡ from
     → d ≡ desk_after start proof from book now fault
 desk-is d start book proof opened from now fault parts told is = parts ∙ (λ i. record { book = book; proof = told i; opened = is i; now = now; fault = fault })

@@ -21,12 +21,12 @@ use Rattle.dispatch_report.specs.declared.fault.ReportFault.{ReportFault}
 use Rattle.dispatch_report.specs.declared.fault.ReportFault.TheVariants.{WriteFault}
 
 -- where a report goes, and its notices
-pub record Outputs : Type 0 where
+pub record OutputsView : Type 0 where
   pub sink : SinkView
   pub notifiers : List NotifierView
 
 -- a sink and notifiers, by what their types tell of them
-abbrev pub outputs_seen : {K N : Type 0} → (K → Option (List ℕ)) → (K → ℕ) → (N → Option (List Notice)) → (N → ℕ) → (N → ℕ) → K → List N → Outputs
+abbrev pub outputs_seen : {K N : Type 0} → (K → Option (List ℕ)) → (K → ℕ) → (N → Option (List Notice)) → (N → ℕ) → (N → ℕ) → K → List N → OutputsView
 outputs_seen written faults told failed steady sink notifiers =
     record { sink = record { written = written sink; faults = faults sink }; notifiers = notifiers_seen told failed steady notifiers }
 
@@ -43,7 +43,7 @@ abbrev pub notices_in : BookView → List Entry → List Notice
 notices_in b entries = notices_from b.nodes b.wait b.base entries
 
 -- the text of all entries but the last was written, and a part of the last's; the notices were told of all but the last
-pub record BreaksOff (proof : Bool) (b : BookView) (opened now : Outputs) (why : ReportFault) : Type 0 where
+pub record BreaksOff (proof : Bool) (b : BookView) (opened now : OutputsView) (why : ReportFault) : Type 0 where
   pub front : List Entry
   pub last : Entry
   pub entries : b.entries ≡ front ++ last ∷ []
@@ -54,7 +54,7 @@ pub record BreaksOff (proof : Bool) (b : BookView) (opened now : Outputs) (why :
   pub fault : why ≡ WriteFault → Rose opened.sink.faults now.sink.faults
 
 -- the text of all entries was written, and their notices were told; or a fault broke it off
-abbrev pub IsPassedOn : Option ReportFault → Bool → BookView → Outputs → Outputs → Type 0
+abbrev pub IsPassedOn : Option ReportFault → Bool → BookView → OutputsView → OutputsView → Type 0
 IsPassedOn None proof b opened now = Appends opened.sink.written now.sink.written (entries_text proof b) × HaveHeard (notices_in b b.entries) opened.notifiers now.notifiers
 IsPassedOn (Some fault) proof b opened now = BreaksOff proof b opened now fault
 
@@ -63,8 +63,8 @@ IsPassedOn (Some fault) proof b opened now = BreaksOff proof b opened now fault
 pub record DeskView : Type 0 where
   pub book : BookView
   pub proof : Bool
-  pub opened : Outputs
-  pub now : Outputs
+  pub opened : OutputsView
+  pub now : OutputsView
   pub fault : Option ReportFault
 
 -- what every desk keeps: what its sink and its notifiers have gained since the journal was begun is the text and the
@@ -108,5 +108,5 @@ pub record HasEntered (old : DeskView) (lane : ℕ) (command : Command) (reply :
   pub opened : new.opened ≡ old.opened
 
 -- a desk with nothing written
-abbrev pub desk_of : BookView → Bool → Outputs → DeskView
+abbrev pub desk_of : BookView → Bool → OutputsView → DeskView
 desk_of book proof outputs = record { book = book; proof = proof; opened = outputs; now = outputs; fault = None }

@@ -1,5 +1,5 @@
 -- What stands of a run whose rows come one by one.
-use Rattle.std.specs.Prelude.{◌≡◌, ℕ, Bool, List, [], ◌∷◌, ◌++◌, map, Option, ◌⊎◌}
+use Rattle.std.specs.Prelude.{◌≡◌, ℕ, ◌<◌, Bool, List, [], ◌∷◌, ◌++◌, length, map, take, Option, ◌⊎◌}
 use Rattle.std.specs.Io.KnownBytes.{Appends}
 use Rattle.std.specs.List.{flat_map}
 use Rattle.pool_base.specs.Distinct.{distinct}
@@ -50,6 +50,11 @@ AreWhole sink text journals whole = (whole ≡ journals) ⊎ (ButLast journals w
 abbrev pub HasAppended : Option (List ℕ) → Option (List ℕ) → List ℕ → Type 0
 HasAppended old new text = (more : List ℕ) × Appends old new (text ++ more)
 
+-- a beginning of two texts was written that isn't the whole; where something of the second was written, this holds
+abbrev pub EndsWithin : Change SinkView → List ℕ → List ℕ → Type 0 → Type 0
+EndsWithin sink first second Beyond =
+    (count : ℕ) × (count < length (first ++ second)) × (length first < count → Beyond) × Appends sink.before.written sink.after.written (take count (first ++ second))
+
 module _ (settings : Settings) (roads : Roads) where
   -- a journal is a beginning of a run of a round: each lane's entries begin a run of its commands
   pub record IsRoundBeginning (round : NumberedLanes) (journal : Journal) : Type 0 where
@@ -80,14 +85,16 @@ module _ (settings : Settings) (roads : Roads) where
     pub text : Appends sink.before.written sink.after.written (rows_text book.first lines journals)
     pub told : HaveHeard (journals_notices settings roads journals) notifiers.before notifiers.after
 
-  -- some first rows were run, the last round maybe in part; what is written begins their report and isn't the whole; and
-  -- the notices told are those of the entries that are written whole: of all, or of all but the last
+  -- some first rows were run, the last round maybe in part; what is written begins their report and isn't the whole, and the
+  -- last line is begun only where all rows were run and no batch is open; and the notices told are those of the entries that
+  -- are written whole: of all, or of all but the last
   pub record BeginsRows (book : BookView) (rows : Option (List ScriptRow)) (sink : Change SinkView) (notifiers : Change (List NotifierView)) : Type 0 where
     pub lines : List ScriptRow
     pub begin : BeginWithRows rows lines
     pub journals : List Journal
     pub run : IsBegunRun book.base book.first (rows_rounds lines) journals
-    pub text : AppendsPart sink.before.written sink.after.written (rows_text book.first lines journals)
+    pub text : EndsWithin sink (journals_text settings.proof (rows_rounds lines) journals) (end_text (position_after_run book.first journals))
+        (AreRows rows lines × IsRun settings roads book.base book.first (rows_rounds lines) journals)
     pub whole : List Journal
     pub are_whole : AreWhole sink (journals_text settings.proof (rows_rounds lines) journals) journals whole
     pub written : HasAppended sink.before.written sink.after.written (journals_text settings.proof (rows_rounds lines) whole)

@@ -1,5 +1,5 @@
 -- What the two threads do while a batch is open.
-use Rattle.live_dispatch.specs.Desk.{desk_root, pass_of, DeskView, IsDesk, Outputs}
+use Rattle.live_dispatch.specs.Desk.{desk_root, pass_of, DeskView, IsDesk, OutputsView}
 use Rattle.std.specs.Prelude.{◌≡◌, ◌≢◌, ℕ, ◌≤◌, ◌==◌, Bool, true, false, filter, List, [], ◌∷◌, ◌++◌, map, Option, None, Some, All, ⊤}
 use Rattle.request_book.specs.values.Batch.{Batch}
 use Rattle.pool_io.specs.Faults.{Rose}
@@ -70,7 +70,7 @@ pub record RanRows (round : ℕ) (commands : List LaneCommand) (Are : List Scrip
   pub taken : Are run
 
 -- a desk after a batch
-abbrev pub desk_after : BookView → Bool → Outputs → BookView → Outputs → Option ReportFault → DeskView
+abbrev pub desk_after : BookView → Bool → OutputsView → BookView → OutputsView → Option ReportFault → DeskView
 desk_after start proof opened book now fault = record { book = book; proof = proof; opened = opened; now = now; fault = fault }
 
 -- an entry's command with its lane

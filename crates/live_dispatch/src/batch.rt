@@ -46,15 +46,14 @@ pub(crate) fn run_batch<
     requires last { L.last run.rows ≡ round }
     requires nodes { All (λ node. Contains solver.now.network.now.nodes node) (named_nodes snapshot.now) }
     ensures awaits { IfOk result (λ r. Awaits (last_of r.0.round) (L.last r.0.rows) r.1 × (r.0.proof ≡ solver.now.settings.now.proof)) }
-    ensures went { let sealed = moment run.book run.round (L.to_come run.rows) (L.faults run.rows) (outputs_seen K.written K.faults N.told N.faults N.steady run.sink run.notifiers.items) in
+    ensures went { let sealed = moment run.book run.round (L.to_come run.rows) (L.faults run.rows) (outputs_seen K.written K.faults N.told N.faults N.steady run.outputs.sink run.outputs.notifiers.items) in
         (start : Moment) (row : ScriptRow) → row.round ≡ round → Opens solver.now.settings.now solver.now.network.now start row snapshot.entry.now sealed → MatchResult result
-        (λ r. let now = moment r.0.book r.0.round (L.to_come r.0.rows) (L.faults r.0.rows) (outputs_seen K.written K.faults N.told N.faults N.steady r.0.sink r.0.notifiers.items) in Stands solver.now.settings.now solver.now.network.now start now (HaveCome start now r.1))
-        (λ d. HasEnded solver.now.settings.now solver.now.network.now start (L.faults d.rows) (outputs_seen K.written K.faults N.told N.faults N.steady d.sink d.notifiers.items) d.ended) }
+        (λ r. let now = moment r.0.book r.0.round (L.to_come r.0.rows) (L.faults r.0.rows) (outputs_seen K.written K.faults N.told N.faults N.steady r.0.outputs.sink r.0.outputs.notifiers.items) in Stands solver.now.settings.now solver.now.network.now start now (HaveCome start now r.1))
+        (λ d. HasEnded solver.now.settings.now solver.now.network.now start (L.faults d.rows) (outputs_seen K.written K.faults N.told N.faults N.steady d.outputs.sink d.outputs.notifiers.items) d.ended) }
 {
     let LiveRun {
         book,
-        sink,
-        notifiers,
+        outputs,
         rows,
         line,
         round: _,
@@ -67,8 +66,7 @@ pub(crate) fn run_batch<
         Err(OutOfMemory) => {
             drop(book);
             return Err(Dispatched {
-                sink,
-                notifiers,
+                outputs,
                 rows,
                 ended: Err(LiveFault::OutOfMemory),
             });
@@ -76,21 +74,13 @@ pub(crate) fn run_batch<
     }
     let batch = OpenBatch {
         book,
-        sink,
-        notifiers,
+        outputs,
         lines: rows,
     };
     match run_open(rt, alloc, batch, round, snapshot, solver) {
         Ok(opened) => after_batch(alloc, opened, round, solver),
-        Err(
-            Unopened {
-                sink,
-                notifiers,
-                lines,
-            },
-        ) => Err(Dispatched {
-            sink,
-            notifiers,
+        Err(Unopened { outputs, lines }) => Err(Dispatched {
+            outputs,
             rows: lines,
             ended: Err(LiveFault::OutOfMemory),
         }),
@@ -106,16 +96,15 @@ fn after_batch<K: Sink, N: Notifier, L: RowSource, W: Ways, D: Drafter, G: Gate>
 ) -> Result<(LiveRun<K, N, L>, Option<ScriptRow>), Dispatched<K, N, L>>
     requires held { IsHeldBack round (L.last opened.lines) opened.stop }
     ensures awaits { IfOk result (λ r. Awaits (last_of r.0.round) (L.last r.0.rows) r.1 × (r.0.proof ≡ solver.now.settings.now.proof)) }
-    ensures went { let outputs = outputs_seen K.written K.faults N.told N.faults N.steady opened.sink opened.notifiers.items in
+    ensures went { let outputs = outputs_seen K.written K.faults N.told N.faults N.steady opened.outputs.sink opened.outputs.notifiers.items in
         (start : Moment) (b : Batch) (reads : ℕ) → FaultsFrom opened.stop reads (L.faults opened.lines)
         → HasRunOn solver.now.settings.now solver.now.network.now start b round opened.book (L.to_come opened.lines) outputs opened.closed opened.stop opened.fault reads → MatchResult result
-        (λ r. let now = moment r.0.book r.0.round (L.to_come r.0.rows) (L.faults r.0.rows) (outputs_seen K.written K.faults N.told N.faults N.steady r.0.sink r.0.notifiers.items) in Stands solver.now.settings.now solver.now.network.now start now (HaveCome start now r.1))
-        (λ d. HasEnded solver.now.settings.now solver.now.network.now start (L.faults d.rows) (outputs_seen K.written K.faults N.told N.faults N.steady d.sink d.notifiers.items) d.ended) }
+        (λ r. let now = moment r.0.book r.0.round (L.to_come r.0.rows) (L.faults r.0.rows) (outputs_seen K.written K.faults N.told N.faults N.steady r.0.outputs.sink r.0.outputs.notifiers.items) in Stands solver.now.settings.now solver.now.network.now start now (HaveCome start now r.1))
+        (λ d. HasEnded solver.now.settings.now solver.now.network.now start (L.faults d.rows) (outputs_seen K.written K.faults N.told N.faults N.steady d.outputs.sink d.outputs.notifiers.items) d.ended) }
 {
     let Opened {
         book,
-        sink,
-        notifiers,
+        outputs,
         lines,
         closed,
         stop: stopped,
@@ -126,8 +115,7 @@ fn after_batch<K: Sink, N: Notifier, L: RowSource, W: Ways, D: Drafter, G: Gate>
         Ok(()) => {
             let run = LiveRun {
                 book,
-                sink,
-                notifiers,
+                outputs,
                 rows: lines,
                 line: Vec::new(alloc),
                 round: Some(round),
@@ -144,8 +132,7 @@ fn after_batch<K: Sink, N: Notifier, L: RowSource, W: Ways, D: Drafter, G: Gate>
             drop(book);
             drop(stopped);
             Err(Dispatched {
-                sink,
-                notifiers,
+                outputs,
                 rows: lines,
                 ended: Err(fault),
             })

@@ -11,6 +11,7 @@ ghost use Rattle.dispatch_report.specs.Written.{WritesText};
 ghost use Rattle.pool_io.specs.Views.{sink_seen};
 ghost use Rattle.live_dispatch.specs.work.Telling.{TellsClose, WroteLast, is_closed};
 
+use crate::outputs::Outputs;
 use dispatch_engine::{LockedReply, sealed_by_command};
 use dispatch_report::{ReportFault, write_step};
 use pool_base::{NodeId, OutOfMemory, Sequence};
@@ -40,9 +41,9 @@ pub struct DeskRoot {
 
 /// What the sink and the notifiers of a desk show when the desk is made. Each desk picks it.
 pub trait Opening {
-    ghost use Rattle.live_dispatch.specs.Desk.{Outputs};
+    ghost use Rattle.live_dispatch.specs.Desk.{OutputsView};
 
-    ghost opened: { Outputs };
+    ghost opened: { OutputsView };
 }
 
 impl Opening for Brand {
@@ -55,8 +56,7 @@ impl Opening for Brand {
 #[derive(Drop)]
 pub struct Desk<K: Sink, N: Notifier, J: Opening> {
     book: Book,
-    sink: K,
-    notifiers: Vec<N>,
+    outputs: Outputs<K, N>,
     line: Vec<u8>,
     proof: bool,
     fault: Option<ReportFault>,
@@ -72,7 +72,7 @@ impl<K: Sink, N: Notifier, J: Opening> Model for Desk<K, N, J> {
       book = d.book;
       proof = d.proof;
       opened = J.opened;
-      now = outputs_seen K.written K.faults N.told N.faults N.steady d.sink d.notifiers.items;
+      now = outputs_seen K.written K.faults N.told N.faults N.steady d.outputs.sink d.outputs.notifiers.items;
       fault = d.fault;
     } };
 
@@ -80,25 +80,24 @@ impl<K: Sink, N: Notifier, J: Opening> Model for Desk<K, N, J> {
       book = d.book;
       proof = d.proof;
       opened = J.opened;
-      now = outputs_seen K.written K.faults N.told N.faults N.steady d.sink d.notifiers.items;
+      now = outputs_seen K.written K.faults N.told N.faults N.steady d.outputs.sink d.outputs.notifiers.items;
       fault = d.fault;
     }) };
 }
 
 impl<K: Sink, N: Notifier, J: Opening> Desk<K, N, J> {
     /// A desk with nothing written.
-    pub fn of(alloc: Global, book: Book, sink: K, notifiers: Vec<N>, proof: bool) -> Desk<K, N, J>
+    pub fn of(alloc: Global, book: Book, outputs: Outputs<K, N>, proof: bool) -> Desk<K, N, J>
         requires empty { book.entries ≡ [] }
         requires first { book.first < 2 ^ 64 }
-        requires opened { J.opened ≡ outputs_seen K.written K.faults N.told N.faults N.steady sink notifiers.items }
-        ensures desk { result ≡ desk_of book proof (outputs_seen K.written K.faults N.told N.faults N.steady sink notifiers.items) }
+        requires opened { J.opened ≡ outputs_seen K.written K.faults N.told N.faults N.steady outputs.sink outputs.notifiers.items }
+        ensures desk { result ≡ desk_of book proof (outputs_seen K.written K.faults N.told N.faults N.steady outputs.sink outputs.notifiers.items) }
         ensures kept { IsDesk result }
     {
-        let _entries = book.entries();
+        book.keeps();
         Desk {
             book,
-            sink,
-            notifiers,
+            outputs,
             line: Vec::new(alloc),
             proof,
             fault: None,
@@ -128,9 +127,9 @@ impl<K: Sink, N: Notifier, J: Opening> Desk<K, N, J> {
             Ok((snapshot, notices)) => match self.book.apply(lane, command) {
                 Ok(reply) => {
                     self.fault = write_last(
-                        &mut self.sink,
+                        &mut self.outputs.sink,
                         &mut self.line,
-                        &mut self.notifiers,
+                        &mut self.outputs.notifiers,
                         Printing {
                             position,
                             proof: self.proof,
@@ -152,22 +151,21 @@ impl<K: Sink, N: Notifier, J: Opening> Desk<K, N, J> {
         }
     }
 
-    /// The book, the sink, the notifiers, and the fault that stopped the desk.
-    pub fn into_parts(self) -> (Book, K, Vec<N>, Option<ReportFault>)
-        ensures parts { self ≡ record { book = result.0; proof = self.proof; opened = J.opened; now = outputs_seen K.written K.faults N.told N.faults N.steady result.1 result.2.items; fault = result.3 } }
+    /// The book, the sink with the notifiers, and the fault that stopped the desk.
+    pub fn into_parts(self) -> (Book, Outputs<K, N>, Option<ReportFault>)
+        ensures parts { self ≡ record { book = result.0; proof = self.proof; opened = J.opened; now = outputs_seen K.written K.faults N.told N.faults N.steady result.1.sink result.1.notifiers.items; fault = result.2 } }
         ensures kept { IsDesk self }
     {
         let Desk {
             book,
-            sink,
-            notifiers,
+            outputs,
             line,
             proof: _,
             fault,
             of: _,
         } = self;
         drop(line);
-        (book, sink, notifiers, fault)
+        (book, outputs, fault)
     }
 }
 

@@ -19,8 +19,8 @@
 //!     gate,
 //! };
 //! let rows = LiveRows::behind(alloc, lines, version, listener);
-//! let Dispatched { sink, notifiers, rows, ended } = dispatch(
-//!     rt, alloc, book, out, notifiers, rows, &solver,
+//! let Dispatched { outputs, rows, ended } = dispatch(
+//!     rt, alloc, book, Outputs { sink: out, notifiers }, rows, &solver,
 //! );
 //! ```
 //!
@@ -35,6 +35,7 @@ mod fault;
 mod live_run;
 mod logged;
 mod open;
+mod outputs;
 mod read_on;
 mod row;
 mod run;
@@ -43,6 +44,7 @@ mod turns;
 pub use desk::{Desk, DeskRoot, LaneCommand, Opening};
 pub use fault::LiveFault;
 pub use live_run::Dispatched;
+pub use outputs::Outputs;
 pub use read_on::Halt;
 pub use run::{OpenBatch, Opened, Unopened, run_open};
 pub use turns::dispatch;

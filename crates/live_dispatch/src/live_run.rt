@@ -8,18 +8,18 @@ ghost use Rattle.request_book.specs.Book.{next_position};
 ghost use Rattle.live_dispatch.specs.work.Standing.{ended_by};
 
 use crate::fault::{LiveFault, fault_of_text};
+use crate::outputs::Outputs;
 use dispatch_report::write_end;
 use input_rows::RowSource;
 use pool_io::Sink;
 use request_book::{Book, Notifier};
 use std::alloc::Global;
 
-/// A run while no batch is open: the book, the sink of its report, its notifiers and its rows to come.
+/// A run while no batch is open: the book, where its report and its notices go, and its rows to come.
 #[derive(Drop)]
 pub(crate) struct LiveRun<K: Sink, N: Notifier, L: RowSource> {
     pub(crate) book: Book,
-    pub(crate) sink: K,
-    pub(crate) notifiers: Vec<N>,
+    pub(crate) outputs: Outputs<K, N>,
     pub(crate) rows: L,
     /// Room for a line.
     pub(crate) line: Vec<u8>,
@@ -32,8 +32,7 @@ pub(crate) struct LiveRun<K: Sink, N: Notifier, L: RowSource> {
 /// What a run gives back, and how it ended.
 #[derive(Drop)]
 pub struct Dispatched<K: Sink, N: Notifier, L: RowSource> {
-    pub sink: K,
-    pub notifiers: Vec<N>,
+    pub outputs: Outputs<K, N>,
     pub rows: L,
     pub ended: Result<(), LiveFault>,
 }
@@ -43,15 +42,14 @@ pub(crate) fn stop<K: Sink, N: Notifier, L: RowSource>(
     run: LiveRun<K, N, L>,
     fault: LiveFault,
 ) -> Dispatched<K, N, L>
-    ensures sink { result.sink ≡ run.sink }
-    ensures notifiers { result.notifiers.items ≡ run.notifiers.items }
+    ensures sink { result.outputs.sink ≡ run.outputs.sink }
+    ensures notifiers { result.outputs.notifiers.items ≡ run.outputs.notifiers.items }
     ensures rows { result.rows ≡ run.rows }
     ensures ended { result.ended ≡ Err fault }
 {
     let LiveRun {
         book,
-        sink,
-        notifiers,
+        outputs,
         rows,
         line,
         ..
@@ -59,8 +57,7 @@ pub(crate) fn stop<K: Sink, N: Notifier, L: RowSource>(
     drop(book);
     drop(line);
     Dispatched {
-        sink,
-        notifiers,
+        outputs,
         rows,
         ended: Err(fault),
     }
@@ -71,15 +68,14 @@ pub(crate) fn end<K: Sink, N: Notifier, L: RowSource>(
     alloc: Global,
     run: LiveRun<K, N, L>,
 ) -> Dispatched<K, N, L>
-    ensures notifiers { result.notifiers.items ≡ run.notifiers.items }
+    ensures notifiers { result.outputs.notifiers.items ≡ run.outputs.notifiers.items }
     ensures rows { result.rows ≡ run.rows }
     ensures wrote { (answer : Result (Unit {0}) ReportFault) × (result.ended ≡ ended_by answer)
-        × WritesText (sink_seen K.written K.faults run.sink result.sink) (end_text (next_position run.book.first run.book.entries)) answer }
+        × WritesText (sink_seen K.written K.faults run.outputs.sink result.outputs.sink) (end_text (next_position run.book.first run.book.entries)) answer }
 {
     let LiveRun {
         book,
-        sink,
-        notifiers,
+        outputs,
         rows,
         line,
         ..
@@ -87,14 +83,13 @@ pub(crate) fn end<K: Sink, N: Notifier, L: RowSource>(
     drop(line);
     let position = book.next_position();
     drop(book);
-    let mut sink = sink;
-    let ended = match write_end(alloc, &mut sink, position) {
+    let mut outputs = outputs;
+    let ended = match write_end(alloc, &mut outputs.sink, position) {
         Ok(()) => Ok(()),
         Err(fault) => Err(fault_of_text(fault)),
     };
     Dispatched {
-        sink,
-        notifiers,
+        outputs,
         rows,
         ended,
     }

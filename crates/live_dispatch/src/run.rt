@@ -7,6 +7,7 @@ ghost use Rattle.live_dispatch.specs.Phase.{FaultsFrom, HasRunOpen, IsHeldBack, 
 
 use crate::desk::{Desk, Opening};
 use crate::open::{Reading, finish, two_of, work_both};
+use crate::outputs::Outputs;
 use crate::read_on::Halt;
 use dispatch_engine::BatchSolver;
 use dispatch_report::ReportFault;
@@ -22,12 +23,11 @@ use std::sync::Wait;
 use std::thread::Threads;
 use travel_times::Ways;
 
-/// What a batch that is open is run on: the book, the sink of the report, the notifiers, and the rows to come.
+/// What a batch that is open is run on: the book, where the report and the notices go, and the rows to come.
 #[derive(Drop)]
 pub struct OpenBatch<K, N: Drop, L> {
     pub book: Book,
-    pub sink: K,
-    pub notifiers: Vec<N>,
+    pub outputs: Outputs<K, N>,
     pub lines: L,
 }
 
@@ -35,8 +35,7 @@ pub struct OpenBatch<K, N: Drop, L> {
 #[derive(Drop)]
 pub struct Opened<K, N: Drop, L> {
     pub book: Book,
-    pub sink: K,
-    pub notifiers: Vec<N>,
+    pub outputs: Outputs<K, N>,
     /// The rows to come.
     pub lines: L,
     /// Whether the batch is closed.
@@ -48,8 +47,7 @@ pub struct Opened<K, N: Drop, L> {
 /// There was no memory to begin with a batch; nothing was read or written, and nobody was told anything.
 #[derive(Drop)]
 pub struct Unopened<K, N: Drop, L> {
-    pub sink: K,
-    pub notifiers: Vec<N>,
+    pub outputs: Outputs<K, N>,
     pub lines: L,
 }
 
@@ -74,14 +72,14 @@ pub fn run_open<
     requires small { batch.book.first < 2 ^ 64 }
     requires last { L.last batch.lines ≡ round }
     requires nodes { All (λ node. Contains solver.now.network.now.nodes node) (named_nodes snapshot.now) }
-    ensures run { let opened = outputs_seen K.written K.faults N.told N.faults N.steady batch.sink batch.notifiers.items in
+    ensures run { let opened = outputs_seen K.written K.faults N.told N.faults N.steady batch.outputs.sink batch.outputs.notifiers.items in
         IfOk result (λ o. HasRunOpen solver.now.settings.now solver.now.network.now snapshot.entry.now round (L.to_come batch.lines) (L.to_come o.lines)
         (desk_of batch.book solver.now.settings.now.proof opened)
-        (desk_after batch.book solver.now.settings.now.proof opened o.book (outputs_seen K.written K.faults N.told N.faults N.steady o.sink o.notifiers.items) o.fault) o.closed o.stop) }
+        (desk_after batch.book solver.now.settings.now.proof opened o.book (outputs_seen K.written K.faults N.told N.faults N.steady o.outputs.sink o.outputs.notifiers.items) o.fault) o.closed o.stop) }
     ensures held { IfOk result (λ o. IsHeldBack round (L.last o.lines) o.stop) }
     ensures faults { IfOk result (λ o. FaultsFrom o.stop (L.faults batch.lines) (L.faults o.lines)) }
-    ensures kept { IfErr result (λ u. (K.written u.sink ≡ K.written batch.sink) × (K.faults u.sink ≡ K.faults batch.sink) × (u.lines ≡ batch.lines)
-        × (notifiers_seen N.told N.faults N.steady u.notifiers.items ≡ notifiers_seen N.told N.faults N.steady batch.notifiers.items)) }
+    ensures kept { IfErr result (λ u. (K.written u.outputs.sink ≡ K.written batch.outputs.sink) × (K.faults u.outputs.sink ≡ K.faults batch.outputs.sink) × (u.lines ≡ batch.lines)
+        × (notifiers_seen N.told N.faults N.steady u.outputs.notifiers.items ≡ notifiers_seen N.told N.faults N.steady batch.outputs.notifiers.items)) }
 {
     run_in::<K, N, Brand, L, W, D, G>(rt, alloc, batch, round, snapshot, solver)
 }
@@ -102,27 +100,26 @@ fn run_in<
     snapshot: &Snapshot,
     solver: &BatchSolver<'_, W, D, G>,
 ) -> Result<Opened<K, N, L>, Unopened<K, N, L>>
-    requires opened { J.opened ≡ outputs_seen K.written K.faults N.told N.faults N.steady batch.sink batch.notifiers.items }
+    requires opened { J.opened ≡ outputs_seen K.written K.faults N.told N.faults N.steady batch.outputs.sink batch.outputs.notifiers.items }
     requires empty { batch.book.entries ≡ [] }
     requires small { batch.book.first < 2 ^ 64 }
     requires last { L.last batch.lines ≡ round }
     requires nodes { All (λ node. Contains solver.now.network.now.nodes node) (named_nodes snapshot.now) }
-    ensures run { let opened = outputs_seen K.written K.faults N.told N.faults N.steady batch.sink batch.notifiers.items in
+    ensures run { let opened = outputs_seen K.written K.faults N.told N.faults N.steady batch.outputs.sink batch.outputs.notifiers.items in
         IfOk result (λ o. HasRunOpen solver.now.settings.now solver.now.network.now snapshot.entry.now round (L.to_come batch.lines) (L.to_come o.lines)
         (desk_of batch.book solver.now.settings.now.proof opened)
-        (desk_after batch.book solver.now.settings.now.proof opened o.book (outputs_seen K.written K.faults N.told N.faults N.steady o.sink o.notifiers.items) o.fault) o.closed o.stop) }
+        (desk_after batch.book solver.now.settings.now.proof opened o.book (outputs_seen K.written K.faults N.told N.faults N.steady o.outputs.sink o.outputs.notifiers.items) o.fault) o.closed o.stop) }
     ensures held { IfOk result (λ o. IsHeldBack round (L.last o.lines) o.stop) }
     ensures faults { IfOk result (λ o. FaultsFrom o.stop (L.faults batch.lines) (L.faults o.lines)) }
-    ensures kept { IfErr result (λ u. (K.written u.sink ≡ K.written batch.sink) × (K.faults u.sink ≡ K.faults batch.sink) × (u.lines ≡ batch.lines)
-        × (notifiers_seen N.told N.faults N.steady u.notifiers.items ≡ notifiers_seen N.told N.faults N.steady batch.notifiers.items)) }
+    ensures kept { IfErr result (λ u. (K.written u.outputs.sink ≡ K.written batch.outputs.sink) × (K.faults u.outputs.sink ≡ K.faults batch.outputs.sink) × (u.lines ≡ batch.lines)
+        × (notifiers_seen N.told N.faults N.steady u.outputs.notifiers.items ≡ notifiers_seen N.told N.faults N.steady batch.outputs.notifiers.items)) }
 {
     let OpenBatch {
         book,
-        sink,
-        notifiers,
+        outputs,
         lines,
     } = batch;
-    let desk: Desk<K, N, J> = Desk::of(alloc, book, sink, notifiers, solver.settings.proof);
+    let desk: Desk<K, N, J> = Desk::of(alloc, book, outputs, solver.settings.proof);
     let Ok(back) = Vec::with_capacity(alloc, 2) else {
         return Err(give_back(desk, lines));
     };
@@ -134,11 +131,10 @@ fn run_in<
                 rt, alloc, &lock, both, round, snapshot, solver,
             );
             let desk = finish(lock, back, first, pass);
-            let (book, sink, notifiers, fault) = desk.into_parts();
+            let (book, outputs, fault) = desk.into_parts();
             Ok(Opened {
                 book,
-                sink,
-                notifiers,
+                outputs,
                 lines,
                 closed,
                 stop,
@@ -155,13 +151,9 @@ fn give_back<K: Sink + Drop, N: Notifier, J: Opening, L>(
     lines: L,
 ) -> Unopened<K, N, L>
     ensures lines { result.lines ≡ lines }
-    ensures outputs { outputs_seen K.written K.faults N.told N.faults N.steady result.sink result.notifiers.items ≡ desk.now }
+    ensures outputs { outputs_seen K.written K.faults N.told N.faults N.steady result.outputs.sink result.outputs.notifiers.items ≡ desk.now }
 {
-    let (book, sink, notifiers, _) = desk.into_parts();
+    let (book, outputs, _) = desk.into_parts();
     drop(book);
-    Unopened {
-        sink,
-        notifiers,
-        lines,
-    }
+    Unopened { outputs, lines }
 }

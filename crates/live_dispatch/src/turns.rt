@@ -16,6 +16,7 @@ ghost use Rattle.live_dispatch.specs.work.Standing.{Awaits, GivesNext, HasEnded,
 use crate::batch::run_batch;
 use crate::fault::{LiveFault, fault_of_line, fault_of_text};
 use crate::live_run::{Dispatched, LiveRun, end, stop};
+use crate::outputs::Outputs;
 use crate::row::run_row;
 use dispatch_engine::BatchSolver;
 use input_rows::{LineFault, RowSource, ScriptRow};
@@ -42,8 +43,7 @@ pub fn dispatch<
     rt: &(impl Threads + Wait + Sync),
     alloc: Global,
     book: Book,
-    sink: K,
-    notifiers: Vec<N>,
+    outputs: Outputs<K, N>,
     rows: L,
     solver: &BatchSolver<'_, W, D, G>,
 ) -> Dispatched<K, N, L>
@@ -51,23 +51,22 @@ pub fn dispatch<
     requires empty { book.entries ≡ [] }
     requires small { book.first < 2 ^ 64 }
     requires first { L.last rows ≡ 0 }
-    ensures run { let sinks = sink_seen K.written K.faults sink result.sink in
+    ensures run { let sinks = sink_seen K.written K.faults outputs.sink result.outputs.sink in
         let told : Change (List NotifierView) = (record {
-          before = notifiers_seen N.told N.faults N.steady notifiers.items;
-          after = notifiers_seen N.told N.faults N.steady result.notifiers.items;
+          before = notifiers_seen N.told N.faults N.steady outputs.notifiers.items;
+          after = notifiers_seen N.told N.faults N.steady result.outputs.notifiers.items;
         }) in
         MatchResult result.ended
         (λ _. RunsRows solver.now.settings.now solver.now.network.now book (L.to_come rows) sinks told)
         (λ _. BeginsRows solver.now.settings.now solver.now.network.now book (L.to_come rows) sinks told) }
-    ensures write_fault { IsErrOf result.ended LiveFault.WriteFault → Rose (K.faults sink) (K.faults result.sink) }
+    ensures write_fault { IsErrOf result.ended LiveFault.WriteFault → Rose (K.faults outputs.sink) (K.faults result.outputs.sink) }
     ensures read_fault { IsErrOf result.ended LiveFault.ReadFault → Rose (L.faults rows) (L.faults result.rows) }
-    ensures never_falls { K.faults sink ≤ K.faults result.sink }
+    ensures never_falls { K.faults outputs.sink ≤ K.faults result.outputs.sink }
 {
-    let _entries = book.entries();
+    book.keeps();
     let mut run = LiveRun {
         book,
-        sink,
-        notifiers,
+        outputs,
         rows,
         line: Vec::new(alloc),
         round: None,
@@ -106,10 +105,10 @@ fn run_next<
     requires ready { IsReady solver.now.settings.now solver.now.network.now run.book }
     requires awaits { Awaits (last_of run.round) (L.last run.rows) held × (run.proof ≡ solver.now.settings.now.proof) }
     ensures awaits { IfOk result (λ r. Awaits (last_of r.0.round) (L.last r.0.rows) r.1 × (r.0.proof ≡ solver.now.settings.now.proof)) }
-    ensures went { let was = moment run.book run.round (L.to_come run.rows) (L.faults run.rows) (outputs_seen K.written K.faults N.told N.faults N.steady run.sink run.notifiers.items) in
+    ensures went { let was = moment run.book run.round (L.to_come run.rows) (L.faults run.rows) (outputs_seen K.written K.faults N.told N.faults N.steady run.outputs.sink run.outputs.notifiers.items) in
         (start : Moment) → Stands solver.now.settings.now solver.now.network.now start was (HaveCome start was held) → MatchResult result
-        (λ r. let now = moment r.0.book r.0.round (L.to_come r.0.rows) (L.faults r.0.rows) (outputs_seen K.written K.faults N.told N.faults N.steady r.0.sink r.0.notifiers.items) in Stands solver.now.settings.now solver.now.network.now start now (HaveCome start now r.1))
-        (λ d. HasEnded solver.now.settings.now solver.now.network.now start (L.faults d.rows) (outputs_seen K.written K.faults N.told N.faults N.steady d.sink d.notifiers.items) d.ended) }
+        (λ r. let now = moment r.0.book r.0.round (L.to_come r.0.rows) (L.faults r.0.rows) (outputs_seen K.written K.faults N.told N.faults N.steady r.0.outputs.sink r.0.outputs.notifiers.items) in Stands solver.now.settings.now solver.now.network.now start now (HaveCome start now r.1))
+        (λ d. HasEnded solver.now.settings.now solver.now.network.now start (L.faults d.rows) (outputs_seen K.written K.faults N.told N.faults N.steady d.outputs.sink d.outputs.notifiers.items) d.ended) }
 {
     let mut run = run;
     match next_row(&mut run.rows, held) {
@@ -153,16 +152,16 @@ fn run_one<
     requires ready { IsReady solver.now.settings.now solver.now.network.now run.book }
     requires behind { IsBehind (last_of run.round) row × (L.last run.rows ≡ row.round) × (run.proof ≡ solver.now.settings.now.proof) }
     ensures awaits { IfOk result (λ r. Awaits (last_of r.0.round) (L.last r.0.rows) r.1 × (r.0.proof ≡ solver.now.settings.now.proof)) }
-    ensures went { let was = moment run.book run.round (L.to_come run.rows) (L.faults run.rows) (outputs_seen K.written K.faults N.told N.faults N.steady run.sink run.notifiers.items) in
+    ensures went { let was = moment run.book run.round (L.to_come run.rows) (L.faults run.rows) (outputs_seen K.written K.faults N.told N.faults N.steady run.outputs.sink run.outputs.notifiers.items) in
         (start : Moment) → Stands solver.now.settings.now solver.now.network.now start was (HaveCome start was (Some row)) → MatchResult result
-        (λ r. let now = moment r.0.book r.0.round (L.to_come r.0.rows) (L.faults r.0.rows) (outputs_seen K.written K.faults N.told N.faults N.steady r.0.sink r.0.notifiers.items) in Stands solver.now.settings.now solver.now.network.now start now (HaveCome start now r.1))
-        (λ d. HasEnded solver.now.settings.now solver.now.network.now start (L.faults d.rows) (outputs_seen K.written K.faults N.told N.faults N.steady d.sink d.notifiers.items) d.ended) }
+        (λ r. let now = moment r.0.book r.0.round (L.to_come r.0.rows) (L.faults r.0.rows) (outputs_seen K.written K.faults N.told N.faults N.steady r.0.outputs.sink r.0.outputs.notifiers.items) in Stands solver.now.settings.now solver.now.network.now start now (HaveCome start now r.1))
+        (λ d. HasEnded solver.now.settings.now solver.now.network.now start (L.faults d.rows) (outputs_seen K.written K.faults N.told N.faults N.steady d.outputs.sink d.outputs.notifiers.items) d.ended) }
 {
     let mut run = run;
     let round = row.round;
     match run_row(
         &mut run.book,
-        &mut run.sink,
+        &mut run.outputs.sink,
         &mut run.line,
         run.round,
         run.proof,

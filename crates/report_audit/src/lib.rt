@@ -90,7 +90,7 @@ pub use points::problem_laws::{
     a_network_has_one_table, a_snapshot_has_one_list_of_points,
 };
 pub use points::tight::is_close;
-pub use points::verdict::Verdict;
+pub use points::verdict::{Verdict, point_place};
 pub use report::fault::{AuditFault, Audited};
 pub use report::laws::{no_fault, one_fault};
 pub use report::report::audit;

@@ -7,7 +7,9 @@ use Rattle.pool_io.specs.Views.{Change, IsUntouched, SinkView, SourceView}
 use Rattle.input_rows.specs.declared.fleet.fault.FleetFault.{FleetFault}
 use Rattle.live_dispatch.specs.Live.{BeginsRows, RunsRows}
 use Rattle.input_rows.specs.live.Lines.{lines_in}
-use Rattle.input_rows.specs.live.Start.{live_rows, HasOtherStart}
+use Rattle.input_rows.specs.live.Start.{live_rows, HasNoHeader}
+use Rattle.input_rows.specs.declared.live.start.HeaderFault.{HeaderFault}
+use Rattle.input_rows.specs.declared.live.start.HeaderFault.TheVariants.{Other, TooLong as TooLongLine}
 use Rattle.pool_base.specs.declared.which.Which.TheVariants as file
 use Rattle.pool_io.specs.Faults.{Rose}
 use Rattle.pool_io.specs.Sink.{AppendsPart}
@@ -26,7 +28,7 @@ use Rattle.ridepool.specs.Inputs.{AreGood, IsSourceTooLong, IsWithin, Reads, Tel
 use Rattle.ridepool.specs.Reading.{network_in, vehicles_in, IsFleetIn}
 use Rattle.ridepool.specs.Status.{HidesNoMemory}
 use Rattle.ridepool.specs.declared.status.RunStatus.{RunStatus}
-use Rattle.ridepool.specs.declared.status.RunStatus.TheVariants.{Done, Words, Network, Fleet, Script, TooLong, ReadFault, WriteFault, OutOfMemory}
+use Rattle.ridepool.specs.declared.status.RunStatus.TheVariants.{Done, Words, Network, Fleet, Script, LongHeader, TooLong, ReadFault, WriteFault, OutOfMemory}
 
 -- the words of `run` for which those of a call of `live` stand: its options, and a name for the script where they give none
 abbrev pub words_of_run : List (List ℕ) → List (List ℕ)
@@ -84,25 +86,37 @@ abbrev pub CutsHead : LiveInputs → LiveSeen → Type 0
 CutsHead i seen =
     (rows : Option (List ScriptRow)) × AreRowsOf seen.script rows × AppendsPart seen.out.before.written seen.out.after.written (live_head i) × IsUntouched seen.notifiers
 
--- some first rows were run, the last round maybe in part; what is written begins their report and isn't the whole; and
--- the notices told are those of the blocks that are written whole
+-- some first rows were run, the last round maybe in part; what is written begins their report and isn't the whole, and the
+-- last line is begun only where all rows were run and no batch is open; and the notices told are those of the blocks that are
+-- written whole
 abbrev pub BeginsLive : LiveInputs → LiveSeen → Type 0
 BeginsLive i seen = CutsHead i seen ⊎ HasHead i seen (λ rows sink. BeginsRows i.settings i.roads (opened_book i) rows sink seen.notifiers)
+
+-- the answer to a script without a header
+abbrev pub headless_status : HeaderFault → RunStatus
+headless_status (Other fields) = Script (Rows (row.Header fields))
+headless_status TooLongLine = LongHeader
 
 -- why a call whose network and fleet pass ended as it did, what is written, and who was told what
 pub data EndsLive (i : LiveInputs) (seen : LiveSeen) : RunStatus → Type 0 where
   done : RunsLive i seen → EndsLive i seen Done
-  headless : (fields : ℕ) → HasOtherStart seen.script fields → IsSilentCall seen → EndsLive i seen (Script (Rows (row.Header fields)))
+  headless : (fault : HeaderFault) → HasNoHeader seen.script fault → IsSilentCall seen → EndsLive i seen (headless_status fault)
   unread : IsSilentCall seen ⊎ BeginsLive i seen → Rose seen.reads.before seen.reads.after → EndsLive i seen (ReadFault file.Script)
   failed : BeginsLive i seen → Rose seen.out.before.faults seen.out.after.faults → EndsLive i seen WriteFault
   unstored : IsSilentCall seen ⊎ BeginsLive i seen → EndsLive i seen OutOfMemory
 
--- a call with its words and the sources of its network and fleet
+-- a call with its words and the sources of its network, its fleet and its script
 pub record LiveCall : Type 0 where
   pub words : List (List ℕ)
   pub network : Change SourceView
   pub fleet : Change SourceView
+  pub script : Change SourceView
   pub rest : LiveSeen
+
+-- nothing of the script was read, nothing is written and nobody was told anything
+pub record IsUnbegun (call : LiveCall) : Type 0 where
+  pub script : IsUntouched call.script
+  pub silent : IsSilentCall call.rest
 
 -- the words are good, and network and fleet were read as these inputs
 pub record AreLiveInputs (call : LiveCall) (i : LiveInputs) : Type 0 where
@@ -125,7 +139,7 @@ pub data IsLiveStop (network fleet : Change SourceView) : RunStatus → Type 0 w
 
 -- the words are good, and network or fleet stopped the call
 abbrev pub StopsLive : LiveCall → RunStatus → Type 0
-StopsLive call status = (fault_of (words_of_run call.words) ≡ None) × IsLiveStop call.network call.fleet status × IsSilentCall call.rest
+StopsLive call status = (fault_of (words_of_run call.words) ≡ None) × IsLiveStop call.network call.fleet status × IsUnbegun call
 
 -- the inputs pass, and the call ended behind them
 abbrev pub EndsBehind : LiveCall → RunStatus → Type 0
@@ -133,9 +147,9 @@ EndsBehind call status = (i : LiveInputs) × AreLiveInputs call i × EndsLive i 
 
 -- why a call ended as it did, what is written, and who was told what
 pub data ExplainsLive (call : LiveCall) : RunStatus → Type 0 where
-  refused : (fault : WordFault) → fault_of (words_of_run call.words) ≡ Some fault → IsUntouched call.network → IsUntouched call.fleet → IsSilentCall call.rest
+  refused : (fault : WordFault) → fault_of (words_of_run call.words) ≡ Some fault → IsUntouched call.network → IsUntouched call.fleet → IsUnbegun call
       → ExplainsLive call (Words fault)
-  unstored : IsSilentCall call.rest → ExplainsLive call OutOfMemory
+  unstored : IsUnbegun call → ExplainsLive call OutOfMemory
   stopped : (status : RunStatus) → StopsLive call status → ExplainsLive call status
   ended : (status : RunStatus) → EndsBehind call status → ExplainsLive call status
 

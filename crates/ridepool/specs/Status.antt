@@ -6,7 +6,7 @@ use Rattle.report_audit.specs.declared.report.fault.AuditFault.TheVariants as au
 use Rattle.road_network.specs.declared.fault.NetworkFault.TheVariants as network
 use Rattle.input_rows.specs.declared.script.fault.ScriptFault.TheVariants as script
 use Rattle.ridepool.specs.declared.status.RunStatus.{RunStatus}
-use Rattle.ridepool.specs.declared.status.RunStatus.TheVariants.{Done, Words, Network, Fleet, Script, TooLong, ReadFault, WriteFault, OutOfMemory, Day, TooLate, Report}
+use Rattle.ridepool.specs.declared.status.RunStatus.TheVariants.{Done, Words, Network, Fleet, Script, LongHeader, TooLong, ReadFault, WriteFault, OutOfMemory, Day, TooLate, Report}
 
 -- the exit status
 abbrev pub code_of : RunStatus → ℕ
@@ -15,6 +15,7 @@ code_of (Words fault) = 2
 code_of (Network fault) = 3
 code_of (Fleet fault) = 4
 code_of (Script fault) = 5
+code_of LongHeader = 5
 code_of (TooLong which) = 6
 code_of (ReadFault which) = 7
 code_of WriteFault = 8

@@ -12,6 +12,7 @@ use Rattle.pool_io.specs.declared.input.Input.TheVariants.{Rows, Own}
 use Rattle.pool_io.specs.declared.records.RowFault.{RowFault}
 use Rattle.pool_io.specs.declared.records.RowFault.TheVariants as row
 use Rattle.report_audit.specs.declared.report.fault.AuditFault.{AuditFault}
+use Rattle.report_audit.specs.points.Verdict.{point_place}
 use Rattle.report_audit.specs.declared.report.fault.AuditFault.TheVariants as audit
 use Rattle.rider_limits.specs.declared.word_fault.WordFault.{WordFault}
 use Rattle.rider_limits.specs.declared.word_fault.WordFault.TheVariants as word
@@ -23,7 +24,7 @@ use Rattle.input_rows.specs.declared.script.fault.ScriptFault.{ScriptFault}
 use Rattle.input_rows.specs.declared.script.fault.ScriptFault.TheVariants as script
 use Rattle.ridepool.specs.Inputs.{most_bytes}
 use Rattle.ridepool.specs.declared.status.RunStatus.{RunStatus}
-use Rattle.ridepool.specs.declared.status.RunStatus.TheVariants.{Done, Words, Network, Fleet, Script, TooLong, ReadFault, WriteFault, OutOfMemory, Day, TooLate, Report}
+use Rattle.ridepool.specs.declared.status.RunStatus.TheVariants.{Done, Words, Network, Fleet, Script, LongHeader, TooLong, ReadFault, WriteFault, OutOfMemory, Day, TooLate, Report}
 
 -- a number that isn't one, by its row and its column
 unfoldable pub at_place : ℕ → ℕ → List ℕ
@@ -110,7 +111,7 @@ audit_text (audit.Cut n) = numbered (codes "cut at line ") n
 audit_text (audit.Form n) = numbered (codes "bad form at line ") n
 audit_text (audit.Head n) = numbered (codes "wrong head at line ") n
 audit_text (audit.Entry n) = numbered (codes "wrong entry at line ") n
-audit_text (audit.Batch n point) = numbered (codes "wrong batch at line ") n ++ numbered (codes " point ") point
+audit_text (audit.Batch n point) = numbered (codes "wrong batch at line ") n ++ numbered (codes " point ") (point_place point)
 audit_text audit.OutOfMemory = codes "out of memory"
 
 -- the fault of an input: of its rows, or of what they say
@@ -125,6 +126,7 @@ status_text (Words fault) = codes "words: " ++ word_text fault
 status_text (Network fault) = codes "network: " ++ input_text network_text fault
 status_text (Fleet fault) = codes "fleet: " ++ input_text fleet_text fault
 status_text (Script fault) = codes "script: " ++ input_text script_text fault
+status_text LongHeader = codes "script: header: " ++ longer_than 65536
 status_text (TooLong w) = too_long_text w
 status_text (ReadFault w) = file_name w ++ codes ": read failed"
 status_text WriteFault = codes "report: write failed"

@@ -2,14 +2,14 @@
 ghost use Rattle.std.specs.Prelude.{◌≡◌, ◌≤◌, List, map, All, MatchResult, IfOk, IfErr};
 ghost use Rattle.std.specs.Io.KnownBytes.{Appends};
 ghost use Rattle.std.specs.String.{string_bytes};
-ghost use Rattle.pool_io.specs.Views.{sink_seen, source_seen};
+ghost use Rattle.pool_io.specs.Views.{Change, SourceView, sink_seen, source_seen};
 ghost use Rattle.input_rows.specs.live.Start.{HasStarted};
 ghost use Rattle.request_book.specs.Consistent.{IsNode};
 ghost use Rattle.request_book.specs.notices.Seen.{notifiers_seen};
 ghost use Rattle.request_book.specs.notices.Told.{NotifierView};
 ghost use Rattle.pool_base.specs.declared.which.Which.TheVariants as file;
 ghost use Rattle.ridepool.specs.Inputs.{IsWithin};
-ghost use Rattle.ridepool.specs.Live.{AnswersLive, AreLimited, AreLiveInputs, EndsLive, ExplainsLive, IsSilentCall, LiveCall, LiveInputs as Inputs, LiveSeen, live_head, opened_book};
+ghost use Rattle.ridepool.specs.Live.{AnswersLive, AreLimited, AreLiveInputs, EndsLive, ExplainsLive, IsUnbegun, LiveCall, LiveInputs as Inputs, LiveSeen, headless_status, live_head, opened_book};
 ghost use Rattle.ridepool.specs.Status.{HidesNoMemory};
 ghost use Rattle.ridepool.specs.work.Live.{live_seen, status_of_end, status_of_start};
 
@@ -20,8 +20,10 @@ use crate::words::live_settings;
 use crate::writing::status_of;
 use dispatch_engine::{BatchSolver, opened_book};
 use dispatch_report::write_head;
-use input_rows::{LineStream, LiveRows, RefusalListener, ScriptVersion, StartFault, read_start};
-use live_dispatch::{Dispatched, LiveFault, dispatch};
+use input_rows::{
+    HeaderFault, LineStream, LiveRows, RefusalListener, ScriptVersion, StartFault, read_start,
+};
+use live_dispatch::{Dispatched, LiveFault, Outputs, dispatch};
 use plan_drafts::RelaxationDrafter;
 use pool_base::Which;
 use pool_io::{Input, RowFault, Sink, Source};
@@ -56,24 +58,25 @@ struct LiveInputs {
 /// What a call reads, writes and tells while it runs.
 #[derive(Drop)]
 struct Session<S: Source, K: Sink, N: Notifier, L: RefusalListener> {
-    lines: LineStream<S>,
-    out: K,
-    notifiers: Vec<N>,
+    script: S,
+    outputs: Outputs<K, N>,
     listener: L,
 }
 
-impl<S: Source, K: Sink, N: Notifier, L: RefusalListener + Drop> Session<S, K, N, L> {
-    /// Ends a call whose rows aren't begun.
-    fn ended(self, status: RunStatus) -> LiveEnd<S, K, N>
-        ensures reads { S.faults result.script ≡ self.lines.faults }
-        ensures kept { (result.out ≡ self.out) × (result.notifiers ≡ self.notifiers) × (result.status ≡ status) }
-    {
-        LiveEnd {
-            script: self.lines.into_source(),
-            out: self.out,
-            notifiers: self.notifiers,
-            status,
-        }
+/// Ends a call.
+fn ended<S: Source, K: Sink, N: Notifier>(
+    script: S,
+    outputs: Outputs<K, N>,
+    status: RunStatus,
+) -> LiveEnd<S, K, N>
+    ensures { (result.script ≡ script) × (result.out ≡ outputs.sink) × (result.notifiers ≡ outputs.notifiers) × (result.status ≡ status) }
+{
+    let Outputs { sink, notifiers } = outputs;
+    LiveEnd {
+        script,
+        out: sink,
+        notifiers,
+        status,
     }
 }
 
@@ -113,6 +116,7 @@ pub fn live<
       words = map string_bytes words.now;
       network = source_seen R.left R.taken R.faults network.old network.new;
       fleet = source_seen F.left F.taken F.faults fleet.old fleet.new;
+      script = source_seen S.left S.taken S.faults script result.script;
       rest = record {
         script = S.left script;
         reads = record { before = S.faults script; after = S.faults result.script };
@@ -124,19 +128,25 @@ pub fn live<
       };
     }) result.status }
 {
-    let session = Session {
-        lines: LineStream::over(script),
-        out,
+    let outputs = Outputs {
+        sink: out,
         notifiers,
-        listener,
     };
     match live_inputs(alloc, words, network, fleet) {
         Ok(inputs) => {
+            let session = Session {
+                script,
+                outputs,
+                listener,
+            };
             let answer = live_in(rt, alloc, &inputs, session, gate);
             drop(inputs);
             answer
         }
-        Err(status) => session.ended(status),
+        Err(status) => {
+            drop(listener);
+            ended(script, outputs, status)
+        }
     }
 }
 
@@ -146,14 +156,15 @@ fn live_inputs<R: Source, F: Source>(
     network: &mut R,
     fleet: &mut F,
 ) -> Result<LiveInputs, RunStatus>
-    ensures got { (rest : LiveSeen) → let call : LiveCall = (record {
+    ensures got { (script : Change SourceView) (rest : LiveSeen) → let call : LiveCall = (record {
       words = map string_bytes words.now;
       network = source_seen R.left R.taken R.faults network.old network.new;
       fleet = source_seen F.left F.taken F.faults fleet.old fleet.new;
+      script = script;
       rest = rest;
     }) in MatchResult result
         (λ got. AreLiveInputs call (record { settings = got.settings; roads = got.network; vehicles = got.fleet }))
-        (λ status. IsSilentCall rest → ExplainsLive call status) }
+        (λ status. IsUnbegun call → ExplainsLive call status) }
     ensures named { IfOk result (λ got. All (λ vehicle. IsNode got.network.nodes vehicle.node) got.fleet) }
     ensures limited { let network_seen = source_seen R.left R.taken R.faults network.old network.new in
         let fleet_seen = source_seen F.left F.taken F.faults fleet.old fleet.new in
@@ -192,21 +203,28 @@ fn live_in<
     rt: &(impl Threads + Wait + Sync),
     alloc: Global,
     inputs: &LiveInputs,
-    mut session: Session<S, K, N, L>,
+    session: Session<S, K, N, L>,
     gate: &G,
 ) -> LiveEnd<S, K, N>
     requires named { All (λ vehicle. IsNode inputs.now.network.nodes vehicle.node) inputs.now.fleet }
     ensures { EndsLive (record { settings = inputs.now.settings; roads = inputs.now.network; vehicles = inputs.now.fleet })
-        (live_seen session.lines.to_come session.lines.faults (S.faults result.script) (sink_seen K.written K.faults session.out result.out)
-        (notifiers_seen N.told N.faults N.steady session.notifiers.items) (notifiers_seen N.told N.faults N.steady result.notifiers.items)) result.status }
+        (live_seen (S.left session.script) (S.faults session.script) (S.faults result.script) (sink_seen K.written K.faults session.outputs.sink result.out)
+        (notifiers_seen N.told N.faults N.steady session.outputs.notifiers.items) (notifiers_seen N.told N.faults N.steady result.notifiers.items)) result.status }
 {
     let LiveInputs {
         settings,
         network,
         fleet,
     } = inputs;
+    let Session {
+        script,
+        outputs,
+        listener,
+    } = session;
+    let mut outputs = outputs;
     let Ok(ways) = ways_by(alloc, network, settings, gate) else {
-        return session.ended(RunStatus::OutOfMemory);
+        drop(listener);
+        return ended(script, outputs, RunStatus::OutOfMemory);
     };
     let solver = BatchSolver {
         network,
@@ -215,34 +233,23 @@ fn live_in<
         settings,
         gate,
     };
-    match start_live(alloc, &mut session.out, fleet, &mut session.lines, &solver) {
+    let mut lines = LineStream::over(script);
+    match start_live(alloc, &mut outputs.sink, fleet, &mut lines, &solver) {
         Ok((book, version)) => {
-            let rows = LiveRows::behind(alloc, session.lines, version, session.listener);
-            let Dispatched {
-                sink,
-                notifiers,
-                rows,
-                ended,
-            } = dispatch(
-                rt,
-                alloc,
-                book,
-                session.out,
-                session.notifiers,
-                rows,
-                &solver,
-            );
+            let rows = LiveRows::behind(alloc, lines, version, listener);
+            let dispatched = dispatch(rt, alloc, book, outputs, rows, &solver);
             drop(ways);
-            LiveEnd {
-                script: rows.into_source(),
-                out: sink,
-                notifiers,
-                status: end_status(ended),
-            }
+            let Dispatched {
+                outputs,
+                rows,
+                ended: how,
+            } = dispatched;
+            ended(rows.into_source(), outputs, end_status(how))
         }
         Err(status) => {
             drop(ways);
-            session.ended(status)
+            drop(listener);
+            ended(lines.into_source(), outputs, status)
         }
     }
 }
@@ -285,11 +292,20 @@ fn start_status(fault: StartFault) -> RunStatus
     ensures { result ≡ status_of_start fault }
 {
     match fault {
-        StartFault::Header { fields } => RunStatus::Script(Input::Rows(RowFault::Header {
-            fields,
-        })),
+        StartFault::Header(fault) => headless_status(fault),
         StartFault::ReadFault => RunStatus::ReadFault(Which::Script),
         StartFault::OutOfMemory => RunStatus::OutOfMemory,
+    }
+}
+
+fn headless_status(fault: HeaderFault) -> RunStatus
+    ensures { result ≡ headless_status fault }
+{
+    match fault {
+        HeaderFault::Other { fields } => RunStatus::Script(Input::Rows(RowFault::Header {
+            fields,
+        })),
+        HeaderFault::TooLong => RunStatus::LongHeader,
     }
 }
 

@@ -21,6 +21,8 @@ pub enum RunStatus {
     Fleet(Input<FleetFault>),
     /// The script is refused.
     Script(Input<ScriptFault>),
+    /// The header of a script that is read while it is written is longer than 65,536 bytes.
+    LongHeader,
     /// The input is longer than 67,108,864 bytes, or the report of an audit than 268,435,456.
     TooLong(Which),
     /// A read of the input failed.
@@ -50,6 +52,7 @@ impl RunStatus {
             RunStatus::Network(_) => 3,
             RunStatus::Fleet(_) => 4,
             RunStatus::Script(_) => 5,
+            RunStatus::LongHeader => 5,
             RunStatus::TooLong(_) => 6,
             RunStatus::ReadFault(_) => 7,
             RunStatus::WriteFault => 8,

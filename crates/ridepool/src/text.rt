@@ -8,7 +8,7 @@ use crate::status::RunStatus;
 use input_rows::{FleetFault, RowRefusal, ScriptFault};
 use pool_base::{OutOfMemory, put_bytes};
 use pool_io::{Input, RowFault};
-use report_audit::AuditFault;
+use report_audit::{AuditFault, point_place};
 use rider_limits::WordFault;
 use road_network::NetworkFault;
 use route_drive::DayFault;
@@ -78,6 +78,10 @@ fn status_phrase(status: &RunStatus) -> (&'static [u8], Phrase)
         RunStatus::Network(fault) => (b"network: ", network_phrase(fault)),
         RunStatus::Fleet(fault) => (b"fleet: ", fleet_phrase(fault)),
         RunStatus::Script(fault) => (b"script: ", script_input_phrase(fault)),
+        RunStatus::LongHeader => {
+            let phrase = Phrase::Within(b"longer than ", 65_536, b" bytes");
+            (b"script: header: ", phrase)
+        }
         RunStatus::TooLong(which) => {
             let phrase = Phrase::Within(b": longer than ", most_bytes(*which), b" bytes");
             (which.name().as_bytes(), phrase)
@@ -115,7 +119,12 @@ fn audit_phrase(fault: AuditFault) -> Phrase
         AuditFault::Head { line } => Phrase::At(b"wrong head at line ", line),
         AuditFault::Entry { line } => Phrase::At(b"wrong entry at line ", line),
         AuditFault::Batch { line, point } => {
-            Phrase::Both(b"wrong batch at line ", line, b" point ", point)
+            Phrase::Both(
+                b"wrong batch at line ",
+                line,
+                b" point ",
+                point_place(point),
+            )
         }
         AuditFault::OutOfMemory => Phrase::Words(b"out of memory"),
     }

@@ -103,7 +103,7 @@ fn write_by<K: Sink, W: Ways, D: Drafter, G: Gate>(
         (IsWritingFault i (K.written out.old) (K.written out.new) all left (K.faults out.old) (K.faults out.new)) }
     ensures never_falls { K.faults out.old ≤ K.faults out.new }
 {
-    let _vehicles = fleet.vehicles();
+    fleet.keeps();
     let Ok(book) = opened_book(alloc, solver.network, fleet, solver.settings.wait) else {
         return Err(RunStatus::OutOfMemory);
     };

@@ -11,8 +11,9 @@ use crate::hints::cause::{
 };
 use crate::print_line;
 use input_hints::{
-    DayWrong, FileWrong, Found, Row, RowReader, Table, argument_hint, day_hint, day_row, file_hint,
-    has_no_row, line_hint, line_numbered, row_hint, row_numbered, script_warning, warning_text,
+    DayWrong, FileWrong, HeaderFound, InputTable, Row, RowReader, argument_hint, day_hint, day_row,
+    file_hint, has_no_row, line_hint, line_numbered, row_hint, row_numbered, script_warning,
+    warning_text,
 };
 pub(crate) use live_rows::LiveHints;
 use pool_base::Which;
@@ -77,15 +78,19 @@ fn hint_of(rt: &HostRuntime, words: &[String], status: &RunStatus) -> Hint {
         }
         RunStatus::Network(fault) => {
             let path = path_of(words, Which::Network);
-            table_hint(rt, path, Table::Network, network_cause(fault))
+            table_hint(rt, path, InputTable::Network, network_cause(fault))
         }
         RunStatus::Fleet(fault) => {
             let path = path_of(words, Which::Fleet);
-            table_hint(rt, path, Table::Fleet, fleet_cause(fault))
+            table_hint(rt, path, InputTable::Fleet, fleet_cause(fault))
         }
         RunStatus::Script(fault) => {
             let path = path_of(words, Which::Script);
-            table_hint(rt, path, Table::Script, script_cause(fault))
+            table_hint(rt, path, InputTable::Script, script_cause(fault))
+        }
+        RunStatus::LongHeader => {
+            let wrong = FileWrong::Header(InputTable::Script, HeaderFound::Unknown);
+            Ok(Some(file_hint(rt.alloc(), path_of(words, Which::Script), &wrong)?))
         }
         RunStatus::TooLong(which) => too_long_hint(rt, words, *which),
         RunStatus::ReadFault(which) => read_hint(rt, path_of(words, *which)),
@@ -110,7 +115,7 @@ fn rows_again(rt: &HostRuntime, path: &str) -> Again<FileRows> {
     }
 }
 
-fn table_hint(rt: &HostRuntime, path: &str, table: Table, cause: Cause) -> Hint {
+fn table_hint(rt: &HostRuntime, path: &str, table: InputTable, cause: Cause) -> Hint {
     match cause {
         Cause::Header => header_hint(rt, path, table),
         Cause::TooManyRows => {
@@ -130,17 +135,17 @@ fn table_hint(rt: &HostRuntime, path: &str, table: Table, cause: Cause) -> Hint 
     }
 }
 
-fn header_hint(rt: &HostRuntime, path: &str, table: Table) -> Hint {
+fn header_hint(rt: &HostRuntime, path: &str, table: InputTable) -> Hint {
     let row;
     let found = match rows_again(rt, path) {
         Again::Read(mut rows) => {
             row = rows.next_row(rt.alloc())?;
             match &row {
-                Some(row) => Found::Row(row),
-                None => Found::Nothing,
+                Some(row) => HeaderFound::Row(row),
+                None => HeaderFound::Nothing,
             }
         }
-        Again::Stream => Found::Unknown,
+        Again::Stream => HeaderFound::Unknown,
         Again::Failed => return Ok(None),
     };
     let wrong = FileWrong::Header(table, found);

@@ -98,7 +98,7 @@ pub(crate) fn counts_of(
     requires nodes { book.now.nodes ≡ network.now.nodes }
     ensures { IfOk result (λ run. (entries : List EntryValue) → AreServed entries served.now → AreCounts network.now book.now.state.riders entries run) }
 {
-    let _named = book.entries();
+    book.keeps();
     let arcs = Arcs::of(alloc, network)?;
     let mut search = Search::new(alloc)?;
     let worst = worst_delay(&mut search, book, &served.dropped, &arcs);

@@ -65,7 +65,7 @@ fn check_lanes(round: &Round) -> Result<(), DayFault>
         (λ _. first_fault (lane_fault round.now) (length round.now.lanes) ≡ None)
         (λ fault. first_fault (lane_fault round.now) (length round.now.lanes) ≡ Some fault) }
 {
-    let _kept = round.lane(0);
+    round.keeps();
     for lane in 0..16u8 {
         if has_foreign(round.lane(lane as usize)) {
             return Err(DayFault::Command {

@@ -47,8 +47,8 @@ pub fn drive_day<W: Ways, D: Drafter, G: Gate, K: RoundKeeper>(
     ensures run { IfOk result (λ run. (made : List DayRound) × K.took keeper.old keeper.new made × IsRunOfDay solver.now.settings.now solver.now.network.now book.state day.now made run) }
     ensures late { IfErr result (IsLateAnswer solver.now.settings.now solver.now.network.now (K.took keeper.old keeper.new) book.state day.now) }
 {
-    let _entries = book.entries();
-    let _rounds = day.rounds();
-    let _nodes = solver.network.node_count();
+    book.keeps();
+    day.keeps();
+    solver.network.keeps();
     driven_day(rt, alloc, book, day, solver, keeper)
 }

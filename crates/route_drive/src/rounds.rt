@@ -63,7 +63,7 @@ fn copy_lanes(driven: &mut Round, round: &Round) -> Result<(), OutOfMemory>
     requires sixteen { length driven.old.lanes ≡ 16 }
     ensures { OnOk result ((k : ℕ) → lane_at driven.new k ≡ lane_at driven.old k ++ lane_at round.now k) }
 {
-    let _kept = round.lane(0);
+    round.keeps();
     for lane in 0..16u8 {
         copy_lane(driven, lane, round.lane(lane as usize))?;
     }

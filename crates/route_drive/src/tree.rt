@@ -118,7 +118,7 @@ fn open(
         × Grows tree.old.seen.items tree.new.seen.items tree.old.found.items tree.new.found.items
         × IsOpened network.now.arcs times.now most tree.new.seen.items (found_at tree.old.found.items next).node) }
 {
-    let _kept = network.node_count();
+    network.keeps();
     let node = tree.found[next].node;
     let here = times[node] as u64;
     for hop in network.arcs_from(node) {

@@ -54,7 +54,7 @@ pub(crate) fn shortest_walk_with(
         (λ steps. IsShortestWalk arcs.now.network.now from to steps.items)) }
 {
     let network = arcs.network;
-    let _kept = network.node_count();
+    network.keeps();
     let start = network.index_of(from).unwrap();
     let goal = network.index_of(to).unwrap();
     search.run(arcs, start, Some(goal))?;
@@ -86,7 +86,7 @@ fn walk_by(
     requires times { AreTimesUpTo network.now.arcs (length network.now.nodes) start (slice_index times.now goal) times.now }
     ensures { IfOk result (λ walk. MatchOption walk (HasNoWalk network.now.arcs start goal) (λ steps. IsWalkBack network.now times.now start goal steps.items)) }
 {
-    let _kept = network.node_count();
+    network.keeps();
     let time = times[goal];
     if time == Times::NEVER {
         return Ok(None);

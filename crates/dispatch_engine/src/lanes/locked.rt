@@ -84,7 +84,7 @@ impl LockedBook {
     pub(crate) fn of(book: Book) -> LockedBook
         ensures { result ≡ book }
     {
-        let _entries = book.entries();
+        book.keeps();
         LockedBook { book }
     }
 

@@ -106,7 +106,7 @@ fn are_done(lanes: &[LaneProgress], round: &Round) -> bool
     requires { length lanes.now ≡ 16 }
     ensures { IsTrue result ↔ AreDone round.now lanes.now }
 {
-    let _first = round.lane(0);
+    round.keeps();
     for lane in 0..16 {
         if !is_done(lanes[lane], round.lane(lane)) {
             return false;

@@ -40,7 +40,7 @@ pub fn run_round<W: Ways, D: Drafter, G: Gate>(
     ensures ready { IfOk result (IsReady solver.now.settings.now solver.now.network.now) }
 {
     let book = with_room(book, round)?;
-    let _entries = book.entries();
+    book.keeps();
     match SharedBook::start(alloc, book, lanes_in_use(round)) {
         Ok((shared, passes)) => run_shared(rt, alloc, shared, passes, round, solver),
         Err(refused) => {
@@ -126,7 +126,7 @@ fn lanes_in_use(round: &Round) -> u8
     ensures rest { (lane : ℕ) → result ≤ lane → lane_at round.now lane ≡ [] }
     ensures kept { IsRound round.now }
 {
-    let _first = round.lane(0);
+    round.keeps();
     let mut lanes = 16u8;
     while lanes > 1 && round.lane(usize::from(lanes - 1)).is_empty() {
         lanes -= 1;

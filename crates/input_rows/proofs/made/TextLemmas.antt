@@ -1,9 +1,51 @@
 use Rattle.std.proofs.lemmas.Bool.Decides.{nat_tests}
-use Rattle.std.proofs.Common.{rules, ◌≡◌, ◌≢◌, ℕ, zero, suc, ◌+◌, ◌<◌, ◌≤◌, true, not, cond, eqb, List, [], ◌∷◌, ◌++◌, Some, None, Ok, map, length, refl, ap, ◌∙◌, add-one, arith}
-use Rattle.input_rows.proofs.Common.{position_from, length-map, next_record, default_config, records_from, strip_bom, table_of, Field, field_text, text_under, csv_line, csv_lines, script_header, fleet_header, network_header}
+use Rattle.std.proofs.Common.{
+  rules,
+  ◌≡◌,
+  ◌≢◌,
+  ℕ,
+  zero,
+  suc,
+  ◌+◌,
+  ◌<◌,
+  ◌≤◌,
+  not,
+  cond,
+  eqb,
+  List,
+  [],
+  ◌∷◌,
+  Some,
+  None,
+  Ok,
+  map,
+  length,
+  refl,
+  ap,
+  ◌∙◌,
+  add-one,
+  arith,
+}
+use Rattle.input_rows.proofs.Common.{
+  position_from,
+  length-map,
+  next_record,
+  default_config,
+  records_from,
+  strip_bom,
+  table_of,
+  Field,
+  field_text,
+  text_under,
+  csv_line,
+  csv_lines,
+  fleet_header,
+  network_header,
+}
 use Rattle.std.proofs.lemmas.Bool.{eq-eqb}
 use Rattle.std.proofs.lemmas.List.{length-append}
-use Rattle.pool_io.specs.lemmas.Records.{header_fields, records_of, is_record}
+use Rattle.pool_io.specs.lemmas.Records.{header_fields, records_of}
+use Rattle.input_rows.proofs.script.HeaderLemmas.{IsHeader}
 use Rattle.input_rows.proofs.made.FieldLemmas.{AllFit, row_read}
 use Rattle.csv.specs.declared.parser.State.TheVariants as st
 
@@ -26,7 +68,8 @@ rows_long k [] two fit = omega arith
 rows_long k (row ∷ rows) two fit = search (rules, some_byte, length-append, (rows_long k rows two fit.2))
 
 -- rows are read as their fields
-rows_read : (k n : ℕ) (rows : List (List Field)) → 2 ≤ k → length rows < n → RowsFit k rows → records_from default_config n st.StartRecord (csv_lines rows) ≡ map fields_of rows
+rows_read : (k n : ℕ) (rows : List (List Field)) → 2 ≤ k → length rows < n → RowsFit k rows →
+    records_from default_config n st.StartRecord (csv_lines rows) ≡ map fields_of rows
 unfolding records_from next_record
 rows_read k zero rows two fuel fit = absurd (omega arith)
 rows_read k (suc n) [] two fuel fit = refl
@@ -42,13 +85,6 @@ even k row (fields ∷ rows) fit =
     ap (λ b. cond (not b) (Some row) (position_from (λ fs. not (eqb (length fs) k)) (row + 1) (map fields_of rows))) (eq-eqb (length (fields_of fields)) k size)
     ∙ even k (row + 1) rows fit.2
 
--- a header line that is read as its fields
-pub record IsHeader (header : List ℕ) (k : ℕ) : Type 0 where
-  pub read : (tail : List ℕ) → next_record default_config st.StartRecord [] [] (header ++ 10 ∷ tail) ≡ Some (header_fields header, st.StartRecord, tail)
-  pub marked : (tail : List ℕ) → strip_bom (header ++ 10 ∷ tail) ≡ header ++ 10 ∷ tail
-  pub same : is_record (header_fields header) (header_fields header) ≡ true
-  pub columns : length (header_fields header) ≡ k
-
 pub IsHeader-network : IsHeader network_header 3
 unfolding next_record strip_bom
 IsHeader-network = record { read = λ tail. refl; marked = λ tail. refl; same = refl; columns = refl }
@@ -57,14 +93,12 @@ pub IsHeader-fleet : IsHeader fleet_header 4
 unfolding next_record strip_bom
 IsHeader-fleet = record { read = λ tail. refl; marked = λ tail. refl; same = refl; columns = refl }
 
-pub IsHeader-script : IsHeader script_header 7
-unfolding next_record strip_bom
-IsHeader-script = record { read = λ tail. refl; marked = λ tail. refl; same = refl; columns = refl }
-
-records_of-under : (header : List ℕ) (k : ℕ) (rows : List (List Field)) → IsHeader header k → 2 ≤ k → RowsFit k rows → records_of (text_under header rows) ≡ header_fields header ∷ map fields_of rows
+records_of-under : (header : List ℕ) (k : ℕ) (rows : List (List Field)) → IsHeader header k → 2 ≤ k → RowsFit k rows →
+    records_of (text_under header rows) ≡ header_fields header ∷ map fields_of rows
 unfolding records_from
 records_of-under header k rows is two fit = search (rules, length-append, rows_long, add-one, rows_read)
 
 -- a made text is read as its rows
-pub table_of-under : (header : List ℕ) (k : ℕ) (rows : List (List Field)) → IsHeader header k → 2 ≤ k → RowsFit k rows → table_of header (text_under header rows) ≡ Ok (record { columns = k; records = map fields_of rows })
+pub table_of-under : (header : List ℕ) (k : ℕ) (rows : List (List Field)) → IsHeader header k → 2 ≤ k → RowsFit k rows →
+    table_of header (text_under header rows) ≡ Ok (record { columns = k; records = map fields_of rows })
 table_of-under header k rows is two fit = grind (arith, nat_tests, (records_of-under header k rows is two fit), (even k 1 rows fit))

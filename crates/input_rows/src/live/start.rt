@@ -1,22 +1,32 @@
 //! The header of a script that is read line by line.
-ghost use Rattle.std.specs.Prelude.{◌≡◌, ℕ, ◌≤◌, IfOk};
+ghost use Rattle.std.specs.Prelude.{◌≡◌, ◌≤◌, IfOk};
 ghost use Rattle.std.specs.Result.{IsErrOf};
 ghost use Rattle.pool_io.specs.Faults.{Rose};
 ghost use Rattle.pool_io.specs.Table.{table_of};
 ghost use Rattle.input_rows.specs.script.Word.{header_of};
 ghost use Rattle.input_rows.specs.declared.script.version.ScriptVersion.TheVariants.{Two};
-ghost use Rattle.input_rows.specs.live.Start.{HasOtherStart, HasStarted, other_start, start_of};
+ghost use Rattle.input_rows.specs.declared.live.start.HeaderFault.{HeaderFault};
+ghost use Rattle.input_rows.specs.live.Start.{HasNoHeader, HasStarted, other_start, start_of};
 
 use crate::live::lines::{LONGEST_ROW, LineFault, LineStream};
 use crate::script::version::ScriptVersion;
 use pool_io::{RowFault, Source, rows};
 use std::alloc::Global;
 
+/// Why the first line of a script that isn't empty is no header.
+#[derive(Clone, Copy)]
+pub enum HeaderFault {
+    /// It is another line, of so many fields; 0 where there is no such line.
+    Other { fields: u64 },
+    /// It has more than 65,536 bytes.
+    TooLong,
+}
+
 /// Why a script doesn't start.
 #[derive(Clone, Copy)]
 pub enum StartFault {
-    /// The first line that isn't empty is no header; it has so many fields, 0 where there is no such line.
-    Header { fields: u64 },
+    /// It has no header.
+    Header(HeaderFault),
     /// A read of the source failed.
     ReadFault,
     /// There was no memory.
@@ -28,7 +38,7 @@ pub enum StartFault {
 pub(crate) enum Start {
     Empty,
     Header(ScriptVersion),
-    Other { fields: u64 },
+    NoHeader(HeaderFault),
 }
 
 /// Reads lines up to the header, and says which it is.
@@ -37,7 +47,7 @@ pub fn read_start<S: Source>(
     lines: &mut LineStream<S>,
 ) -> Result<ScriptVersion, StartFault>
     ensures started { IfOk result (HasStarted lines.old.to_come lines.new.to_come) }
-    ensures other { (fields : ℕ) → IsErrOf result (StartFault.Header fields) → HasOtherStart lines.old.to_come fields }
+    ensures headless { (fault : HeaderFault) → IsErrOf result (StartFault.Header fault) → HasNoHeader lines.old.to_come fault }
     ensures fault { IsErrOf result StartFault.ReadFault → Rose lines.old.faults lines.new.faults }
     ensures never_falls { lines.old.faults ≤ lines.new.faults }
 {
@@ -46,10 +56,10 @@ pub fn read_start<S: Source>(
         match lines.next_line(&mut line) {
             Ok(ended) => match start_of(alloc, &line) {
                 Ok(Start::Header(version)) => return Ok(version),
-                Ok(Start::Other { fields }) => return Err(StartFault::Header { fields }),
+                Ok(Start::NoHeader(fault)) => return Err(StartFault::Header(fault)),
                 Ok(Start::Empty) => {
                     if !ended {
-                        return Err(StartFault::Header { fields: 0 });
+                        return Err(StartFault::Header(HeaderFault::Other { fields: 0 }));
                     }
                 }
                 Err(_) => return Err(StartFault::OutOfMemory),
@@ -68,7 +78,7 @@ fn start_of(alloc: Global, line: &[u8]) -> Result<Start, LineFault>
         return Ok(Start::Empty);
     }
     if line.len() > LONGEST_ROW {
-        return Ok(Start::Other { fields: 0 });
+        return Ok(Start::NoHeader(HeaderFault::TooLong));
     }
     match rows(alloc, line, ScriptVersion::One.header()) {
         Ok(table) => {
@@ -94,9 +104,11 @@ fn other_start_of(alloc: Global, line: &[u8]) -> Result<Start, LineFault>
             if fields == 0 {
                 return Ok(Start::Empty);
             }
-            Ok(Start::Other { fields })
+            Ok(Start::NoHeader(HeaderFault::Other { fields }))
         }
-        Err(RowFault::UnequalLength { .. }) => Ok(Start::Other { fields: 0 }),
+        Err(RowFault::UnequalLength { .. }) => {
+            Ok(Start::NoHeader(HeaderFault::Other { fields: 0 }))
+        }
         Err(RowFault::OutOfMemory) => Err(LineFault::OutOfMemory),
     }
 }

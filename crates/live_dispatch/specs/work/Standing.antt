@@ -10,7 +10,7 @@ use Rattle.dispatch_report.specs.declared.fault.ReportFault.{ReportFault}
 use Rattle.dispatch_report.specs.declared.fault.ReportFault.TheVariants as report
 use Rattle.live_dispatch.specs.Phase.{HasRunOpen, desk_after}
 use Rattle.live_dispatch.specs.declared.read_on.Halt.{Halt}
-use Rattle.live_dispatch.specs.Desk.{desk_of, Outputs}
+use Rattle.live_dispatch.specs.Desk.{desk_of, OutputsView}
 use Rattle.input_rows.specs.live.Rows.{GivesRow, TakesRows}
 use Rattle.input_rows.specs.declared.live.lines.LineFault.{LineFault}
 use Rattle.input_rows.specs.declared.live.lines.LineFault.TheVariants as line
@@ -44,11 +44,11 @@ pub record Moment : Type 0 where
   pub notifiers : List NotifierView
 
 -- by its parts
-abbrev pub moment : BookView → Option ℕ → Option (List ScriptRow) → ℕ → Outputs → Moment
+abbrev pub moment : BookView → Option ℕ → Option (List ScriptRow) → ℕ → OutputsView → Moment
 moment book round rows reads outputs = record { book = book; round = round; rows = rows; reads = reads; sink = outputs.sink; notifiers = outputs.notifiers }
 
 -- where its report and its notices go
-abbrev pub outputs_of : Moment → Outputs
+abbrev pub outputs_of : Moment → OutputsView
 outputs_of m = record { sink = m.sink; notifiers = m.notifiers }
 
 -- the rows were taken from those to come, but for one that is held
@@ -143,7 +143,7 @@ module _ (settings : Settings) (roads : Roads) where
     pub same : (now.rows ≡ before.rows) × (now.reads ≡ before.reads) × (now.notifiers ≡ before.notifiers)
 
   -- and the batch was open, from a new journal on, while rows of other lanes were run
-  pub record HasRunOn (start : Moment) (b : Batch) (round : ℕ) (book : BookView) (rows : Option (List ScriptRow)) (outputs : Outputs) (closed : Bool) (stop : Halt) (fault : Option ReportFault) (reads : ℕ) : Type 0 where
+  pub record HasRunOn (start : Moment) (b : Batch) (round : ℕ) (book : BookView) (rows : Option (List ScriptRow)) (outputs : OutputsView) (closed : Bool) (stop : Halt) (fault : Option ReportFault) (reads : ℕ) : Type 0 where
     pub row : ScriptRow
     pub number : row.round ≡ round
     pub sealed : Moment
@@ -154,7 +154,7 @@ module _ (settings : Settings) (roads : Roads) where
     pub ran : HasRunOpen settings roads b round sealed.rows rows (desk_of fresh settings.proof (outputs_of sealed)) (desk_after fresh settings.proof (outputs_of sealed) book outputs fault) closed stop
 
   -- how a run ended, from its start
-  pub record HasEnded (start : Moment) (failed : ℕ) (outputs : Outputs) (ended : Result (Unit {0}) LiveFault) : Type 0 where
+  pub record HasEnded (start : Moment) (failed : ℕ) (outputs : OutputsView) (ended : Result (Unit {0}) LiveFault) : Type 0 where
     pub run : MatchResult ended
         (λ _. RunsRows settings roads start.book start.rows (record { before = start.sink; after = outputs.sink }) (record { before = start.notifiers; after = outputs.notifiers }))
         (λ _. BeginsRows settings roads start.book start.rows (record { before = start.sink; after = outputs.sink }) (record { before = start.notifiers; after = outputs.notifiers }))

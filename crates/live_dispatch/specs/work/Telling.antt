@@ -9,7 +9,7 @@ use Rattle.request_book.specs.declared.values.reply.Reply.{Reply}
 use Rattle.request_book.specs.declared.values.reply.Reply.TheVariants.{Closed}
 use Rattle.request_book.specs.notices.Told.{HaveHeard, NotifierView}
 use Rattle.request_book.specs.declared.notices.notice.Notice.{Notice}
-use Rattle.live_dispatch.specs.Desk.{Outputs}
+use Rattle.live_dispatch.specs.Desk.{OutputsView}
 
 -- the reply says that a batch is closed
 abbrev pub is_closed : Reply → Bool
@@ -22,7 +22,7 @@ TellsClose notices reply before after = HaveHeard (if is_closed reply then notic
 
 -- a text was written whole, and then these notices were told by the reply; or a fault broke it off, and nobody was told
 -- anything
-abbrev pub WroteLast : Option ReportFault → List ℕ → List Notice → Reply → Outputs → Outputs → Type 0
+abbrev pub WroteLast : Option ReportFault → List ℕ → List Notice → Reply → OutputsView → OutputsView → Type 0
 WroteLast None text notices reply before after =
     Appends before.sink.written after.sink.written text × TellsClose notices reply before.notifiers after.notifiers
 WroteLast (Some fault) text notices reply before after =

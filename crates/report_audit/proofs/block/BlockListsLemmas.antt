@@ -1,6 +1,31 @@
 -- What the lines of a block tell is what it is made of.
 use Rattle.std.proofs.Common.{◌≡◌, ℕ, true, false, List, [], ◌∷◌, ◌++◌, map, append_assoc, append-nil, refl, sym, ap, ◌∙◌, arith, fold, ◌≤◌, length, IfSome}
-use Rattle.report_audit.proofs.Common.{All-cons, All-head, All-tail, BlockLine, Expired, Overflow, Lapsed, Late, Alone, Shared, Row, Trip, Out, Move, Branch, Leaf, Dead, End, Point, CanBeTold, BlockLists, nothing_told, told_by, with_line}
+use Rattle.report_audit.proofs.Common.{
+  All-cons,
+  All-head,
+  All-tail,
+  BlockLine,
+  Expired,
+  Overflow,
+  Lapsed,
+  Late,
+  Alone,
+  Shared,
+  TripRow,
+  Trip,
+  Out,
+  Move,
+  Branch,
+  Leaf,
+  Dead,
+  End,
+  Point,
+  CanBeTold,
+  BlockLists,
+  nothing_told,
+  told_by,
+  with_line,
+}
 use Rattle.std.specs.List.{All}
 use Rattle.dispatch_report.specs.declared.block_line.BlockLine.TheVariants.{Batch}
 use Rattle.dispatch_engine.specs.declared.outcome.point.Point.TheVariants as point
@@ -20,7 +45,8 @@ module _ {X : Type 0} (K : X → BlockLine) (of : BlockLists → List X) (put : 
       ∙ ap (λ u. fold with_line u rest) (again t l (l ++ xs) ∙ ap (put t) (append_assoc (of t) (x ∷ []) xs))
 
 -- a tree's lines add themselves
-tree_told : (t : BlockLists) (tree rest : List BlockLine) → All IsNodeLine tree → fold with_line t (tree ++ rest) ≡ fold with_line (record t { tree = t.tree ++ tree }) rest
+tree_told : (t : BlockLists) (tree rest : List BlockLine) → All IsNodeLine tree → fold with_line t (tree ++ rest) ≡ fold with_line
+    (record t { tree = t.tree ++ tree }) rest
 tree_told t [] rest drawn = ap (λ l. fold with_line (record t { tree = l }) rest) (sym (append-nil t.tree))
 tree_told t (line ∷ lines) rest drawn =
     ap (λ u. fold with_line u (lines ++ rest)) (more line (All-head IsNodeLine line lines drawn))
@@ -33,9 +59,11 @@ tree_told t (line ∷ lines) rest drawn =
     more Dead is = refl
     more _ is = absurd is
 
-expired_told : (t : BlockLists) (rest : List BlockLine) → told_by (Batch t.batch ∷ (map Expired t.expired ++ rest)) ≡ fold with_line (record nothing_told { batch = t.batch; expired = t.expired }) rest
+expired_told : (t : BlockLists) (rest : List BlockLine) → told_by (Batch t.batch ∷ (map Expired t.expired ++ rest)) ≡ fold with_line
+    (record nothing_told { batch = t.batch; expired = t.expired }) rest
 expired_told t rest =
-    list_told Expired (λ t. t.expired) (λ t l. record t { expired = l }) (λ t. refl) (λ t x. refl) (λ t l. refl) (λ t l m. refl) (record nothing_told { batch = t.batch }) t.expired rest
+    list_told Expired (λ t. t.expired) (λ t l. record t { expired = l }) (λ t. refl) (λ t x. refl) (λ t l. refl) (λ t l m. refl)
+    (record nothing_told { batch = t.batch }) t.expired rest
 
 -- what the lines of an overflow tell, and those of a plan
 abbrev pub overflow_told : ℕ → List ℕ → BlockLists
@@ -51,7 +79,7 @@ plan_is_told t drawn =
     ∙ list_told Late (λ t. t.late) (λ t l. record t { late = l }) (λ t. refl) (λ t x. refl) (λ t l. refl) (λ t l m. refl) _ t.late _
     ∙ list_told Alone (λ t. t.rv) (λ t l. record t { rv = l }) (λ t. refl) (λ t x. refl) (λ t l. refl) (λ t l m. refl) _ t.rv _
     ∙ list_told Shared (λ t. t.rr) (λ t l. record t { rr = l }) (λ t. refl) (λ t x. refl) (λ t l. refl) (λ t l m. refl) _ t.rr _
-    ∙ list_told Row (λ t. t.rows) (λ t l. record t { rows = l }) (λ t. refl) (λ t x. refl) (λ t l. refl) (λ t l m. refl) _ t.rows _
+    ∙ list_told TripRow (λ t. t.rows) (λ t l. record t { rows = l }) (λ t. refl) (λ t x. refl) (λ t l. refl) (λ t l m. refl) _ t.rows _
     ∙ list_told Trip (λ t. t.chosen) (λ t l. record t { chosen = l }) (λ t. refl) (λ t x. refl) (λ t l. refl) (λ t l m. refl) _ t.chosen _
     ∙ list_told Out (λ t. t.left) (λ t l. record t { left = l }) (λ t. refl) (λ t x. refl) (λ t l. refl) (λ t l m. refl) _ t.left _
     ∙ list_told Move (λ t. t.moves) (λ t l. record t { moves = l }) (λ t. refl) (λ t x. refl) (λ t l. refl) (λ t l m. refl) _ t.moves _
@@ -66,7 +94,7 @@ last_of P (y ∷ ys) x all =
 
 -- what a point asks of one line, and of lists of what is told
 abbrev pub IsShort : Point → BlockLine → Type 0
-IsShort point.Graphs (Row row) = length row.riders ≤ 6
+IsShort point.Graphs (TripRow row) = length row.riders ≤ 6
 IsShort point.Late (Late late) = IfSome late.stops (λ stops. length stops ≤ 10)
 IsShort point.Trips (Trip trip) = length trip.stops ≤ 22
 IsShort p line = Unit {0}
@@ -76,7 +104,7 @@ AreShort point.Bound t = Unit {0}
 AreShort p t = CanBeTold p t
 
 short_with : (p : Point) (t : BlockLists) (line : BlockLine) → AreShort p (with_line t line) → AreShort p t × IsShort p line
-short_with point.Graphs t (Row row) all = last_of (λ r. length r.riders ≤ 6) t.rows row all
+short_with point.Graphs t (TripRow row) all = last_of (λ r. length r.riders ≤ 6) t.rows row all
 short_with point.Late t (Late late) all = last_of (λ l. IfSome l.stops (λ stops. length stops ≤ 10)) t.late late all
 short_with point.Trips t (Trip trip) all = last_of (λ r. length r.stops ≤ 22) t.chosen trip all
 short_with p t line all = (all, tt)

@@ -1,6 +1,30 @@
 -- A block in form is what some lists tell, printed.
 use Rattle.std.proofs.Common.{◌≡◌, ℕ, Bool, true, false, if◌then◌else◌, List, [], ◌∷◌, ◌++◌, drop, flat_map, map, append_assoc, refl, ap, arith}
-use Rattle.report_audit.proofs.Common.{All-cons, follow_on, last_place, BlockLine, Expired, Overflow, Lapsed, Late, Alone, Shared, Row, Trip, Out, Move, Cost, Bound, Nodes, Branch, Leaf, Dead, End, BlockLists, nothing_told}
+use Rattle.report_audit.proofs.Common.{
+  All-cons,
+  follow_on,
+  last_place,
+  BlockLine,
+  Expired,
+  Overflow,
+  Lapsed,
+  Late,
+  Alone,
+  Shared,
+  TripRow,
+  Trip,
+  Out,
+  Move,
+  Cost,
+  Bound,
+  Nodes,
+  Branch,
+  Leaf,
+  Dead,
+  End,
+  BlockLists,
+  nothing_told,
+}
 use Rattle.std.specs.List.{All}
 use Rattle.dispatch_report.specs.declared.block_line.BlockLine.TheVariants.{Batch}
 
@@ -13,7 +37,7 @@ IsNodeLine _ = ⊥
 
 -- the lines of what is told, kind by kind, and those behind so many kinds
 abbrev kinds : BlockLists → List (List BlockLine)
-kinds t = map Lapsed t.lapsed ∷ map Late t.late ∷ map Alone t.rv ∷ map Shared t.rr ∷ map Row t.rows ∷ map Trip t.chosen ∷ map Out t.left ∷ map Move t.moves
+kinds t = map Lapsed t.lapsed ∷ map Late t.late ∷ map Alone t.rv ∷ map Shared t.rr ∷ map TripRow t.rows ∷ map Trip t.chosen ∷ map Out t.left ∷ map Move t.moves
     ∷ (Cost t.cost ∷ Bound t.bound ∷ Nodes t.nodes ∷ []) ∷ t.tree ∷ (End ∷ []) ∷ []
 
 abbrev pub from : ℕ → BlockLists → List BlockLine
@@ -77,7 +101,7 @@ chosen (x ∷ l) f e = let b = left (x ∷ l) f e in (record b.0 { chosen = [] }
 
 rows : (l : List BlockLine) → follow_on 7 l ≡ true → last_place 7 l ≡ 16 → Are (from 4) l
 rows [] f e = absurd (omega arith)
-rows (Row row ∷ l) f e = let b = rows l f e in (record b.0 { rows = row ∷ b.0.rows }, b.1, ap (λ r. Row row ∷ r) b.2)
+rows (TripRow row ∷ l) f e = let b = rows l f e in (record b.0 { rows = row ∷ b.0.rows }, b.1, ap (λ r. TripRow row ∷ r) b.2)
 rows (x ∷ l) f e = let b = chosen (x ∷ l) f e in (record b.0 { rows = [] }, b.1, b.2)
 
 rr : (l : List BlockLine) → follow_on 6 l ≡ true → last_place 6 l ≡ 16 → Are (from 3) l
@@ -109,7 +133,13 @@ abbrev HasRest : List BlockLine → Type 0
 HasRest lines = (overflow : Bool) × (t : BlockLists) × All IsNodeLine t.tree × (Batch t.batch ∷ lines ≡ printed overflow t)
 
 expired_more : (rider : ℕ) (l : List BlockLine) → HasRest l → HasRest (Expired rider ∷ l)
-expired_more rider l (overflow, t, drawn, whole) = (overflow, record t { expired = rider ∷ t.expired }, drawn, ap (λ r. Batch t.batch ∷ Expired rider ∷ drop 1 r) whole)
+expired_more rider l (overflow, t, drawn, whole) = (
+  overflow,
+  record t { expired = rider ∷ t.expired },
+  drawn,
+  ap
+      (λ r. Batch t.batch ∷ Expired rider ∷ drop 1 r) whole,
+)
 
 expired : (l : List BlockLine) → follow_on 2 l ≡ true → last_place 2 l ≡ 16 → HasRest l
 expired [] f e = absurd (omega arith)
@@ -126,11 +156,13 @@ numbered_as : (n : ℕ) (l : List BlockLine) → HasRest l → (overflow : Bool)
 numbered_as n l (overflow, t, drawn, whole) = (overflow, record t { batch = n }, drawn, ap (λ r. Batch n ∷ drop 1 r) whole)
 
 -- each block in form has these lines of something told
-pub is_printed : (l : List BlockLine) → follow_on 0 l ≡ true → last_place 0 l ≡ 16 → (overflow : Bool) × (t : BlockLists) × All IsNodeLine t.tree × (l ≡ printed overflow t)
+pub is_printed : (l : List BlockLine) → follow_on 0 l ≡ true → last_place 0 l ≡ 16 → (overflow : Bool) × (t : BlockLists) × All IsNodeLine t.tree ×
+    (l ≡ printed overflow t)
 is_printed [] f e = absurd (omega arith)
 is_printed (Batch n ∷ l) f e = numbered_as n l (from_one l f e)
 is_printed (x ∷ l) f e = absurd (cc)
 
 -- lists that are joined from the front, joined from the end
-pub nest : (b x a c d e r f g h n t z : List BlockLine) → b ++ x ++ ((a ++ c ++ d ++ e ++ r) ++ (f ++ g ++ h) ++ n ++ t) ++ z ≡ b ++ (x ++ (a ++ (c ++ (d ++ (e ++ (r ++ (f ++ (g ++ (h ++ (n ++ (t ++ z)))))))))))
+pub nest : (b x a c d e r f g h n t z : List BlockLine) → b ++ x ++ ((a ++ c ++ d ++ e ++ r) ++ (f ++ g ++ h) ++ n ++ t) ++ z ≡ b ++
+    (x ++ (a ++ (c ++ (d ++ (e ++ (r ++ (f ++ (g ++ (h ++ (n ++ (t ++ z)))))))))))
 nest b x a c d e r f g h n t z = simp append_assoc refl

@@ -1,11 +1,57 @@
 -- A text is that of one line of a block.
 use Rattle.std.proofs.Common.{◌≡◌, ℕ, ◌+◌, eqb, ◌*◌, ◌<◌, ◌≤◌, ◌^◌, List, ◌++◌, get_or, codes, Option, None, Some, false, refl, sym, ap, arith, rules}
-use Rattle.report_audit.proofs.Common.{eqb-false, append_cancel_left, stop_text, pair_line, numbered, signed, spaced, block_line_text, IsBlockLine, IsId, AreIds, FitsStop, both_texts, BothAre, order_text, IsOrder, PlannedStop, Expired, Overflow, Lapsed, Late, Alone, Shared, Row, Trip, Out, Move, Cost, Bound, Nodes, Branch, Leaf, Dead, End}
+use Rattle.report_audit.proofs.Common.{
+  eqb-false,
+  append_cancel_left,
+  stop_text,
+  pair_line,
+  numbered,
+  signed,
+  spaced,
+  block_line_text,
+  IsBlockLine,
+  IsId,
+  AreIds,
+  FitsStop,
+  both_texts,
+  BothAre,
+  order_text,
+  IsOrder,
+  PlannedStop,
+  Expired,
+  Overflow,
+  Lapsed,
+  Late,
+  Alone,
+  Shared,
+  TripRow,
+  Trip,
+  Out,
+  Move,
+  Cost,
+  Bound,
+  Nodes,
+  Branch,
+  Leaf,
+  Dead,
+  End,
+}
 use Rattle.dispatch_report.specs.declared.block_line.BlockLine.TheVariants.{Batch}
 use Rattle.std.specs.List.{All, flat_map}
 use Rattle.report_audit.proofs.lines.StopLemmas.{order_ends, stop_item}
 use Rattle.report_audit.proofs.lines.ListLemmas.{many_end, many_of_one, spaced_item}
-use Rattle.report_audit.proofs.lemmas.lines.ReadingLemmas.{EndsOnce, TextIsOfOne, both_of_one, both_once, numbered_below, numbered_once, numbered_within, of_one, spaced_apart, spaced_ends}
+use Rattle.report_audit.proofs.lemmas.lines.ReadingLemmas.{
+  EndsOnce,
+  TextIsOfOne,
+  both_of_one,
+  both_once,
+  numbered_below,
+  numbered_once,
+  numbered_within,
+  of_one,
+  spaced_apart,
+  spaced_ends,
+}
 use Rattle.report_audit.proofs.lines.SignedLemmas.{signed_words_once, long_item}
 use Rattle.report_audit.proofs.lemmas.lines.NumeralLemmas.{no_number}
 use Rattle.dispatch_report.specs.declared.block_line.TripText.{TripText}
@@ -23,7 +69,7 @@ ids_of_one words = of_one (both_once spaced_apart (id_once words) (id_once (code
 head_once : (words : List ℕ) (most : ℕ) → most ≤ 2 ^ 64 → EndsOnce (both_texts (numbered words) spaced) (BothAre IsId (λ n. n < most))
 head_once words most small = both_once spaced_apart (id_once words) (numbered_within (codes " ") (λ n is. omega (arith, is)))
 
-row_of_one : TextIsOfOne (λ x. block_line_text (Row x)) (λ x. IsBlockLine (Row x))
+row_of_one : TextIsOfOne (λ x. block_line_text (TripRow x)) (λ x. IsBlockLine (TripRow x))
 row_of_one a b ia ib e =
     let row : (ℕ × ℕ) × List ℕ → TripRowText = λ p. record { vehicle = p.0.0; cost = p.0.1; riders = p.1 } in
     ap row
@@ -62,7 +108,8 @@ order_of_one (da, Some a) (db, Some b) ia ib e =
 late_of_one : TextIsOfOne (λ x. block_line_text (Late x)) (λ x. IsBlockLine (Late x))
 late_of_one a b ia ib e =
     let late : ℕ × (ℕ × Option (List PlannedStop)) → LateText = λ p. record { vehicle = p.0; delay = p.1.0; stops = p.1.1 } in
-    ap late (both_of_one order_text IsOrder order_ends (id_once (codes "late ")) order_of_one (a.vehicle, (a.delay, a.stops)) (b.vehicle, (b.delay, b.stops)) (ia.0, ia.1) (ib.0, ib.1) e)
+    ap late (both_of_one order_text IsOrder order_ends (id_once (codes "late ")) order_of_one (a.vehicle, (a.delay, a.stops)) (b.vehicle, (b.delay, b.stops))
+    (ia.0, ia.1) (ib.0, ib.1) e)
 
 -- the first three bytes of a line, which tell its kind
 abbrev first_bytes : List ℕ → ℕ
@@ -81,7 +128,7 @@ block_line_of_one (Lapsed x) (Lapsed y) ix iy e = ap Lapsed (of_one (id_once (co
 block_line_of_one (Late x) (Late y) ix iy e = ap Late (late_of_one x y ix iy e)
 block_line_of_one (Alone x) (Alone y) ix iy e = ap Alone (ids_of_one (codes "rv ") x y ix iy e)
 block_line_of_one (Shared x) (Shared y) ix iy e = ap Shared (ids_of_one (codes "rr ") x y ix iy e)
-block_line_of_one (Row x) (Row y) ix iy e = ap Row (row_of_one x y ix iy e)
+block_line_of_one (TripRow x) (TripRow y) ix iy e = ap TripRow (row_of_one x y ix iy e)
 block_line_of_one (Trip x) (Trip y) ix iy e = ap Trip (trip_of_one x y ix iy e)
 block_line_of_one (Out x) (Out y) ix iy e = ap Out (of_one (id_once (codes "out ")) x y ix iy e)
 block_line_of_one (Move x) (Move y) ix iy e = ap Move (move_of_one x y ix iy e)
@@ -89,7 +136,8 @@ block_line_of_one (Cost x) (Cost y) ix iy e = ap Cost (numbered_below (codes "co
 block_line_of_one (Bound x) (Bound y) ix iy e = ap Bound (of_one (signed_words_once (codes "bound ")) x y ix iy e)
 block_line_of_one (Nodes x) (Nodes y) ix iy e = ap Nodes (numbered_below (codes "nodes ") x y ix iy e)
 block_line_of_one (Branch x) (Branch y) ix iy e = ap Branch (of_one (head_once (codes "branch ") (2 ^ 32) (omega arith)) x y ix iy e)
-block_line_of_one (Leaf x) (Leaf y) ix iy e = ap Leaf (many_of_one long_item x y ix iy (append_cancel_left (codes "leaf") (flat_map (signed (codes " ")) x) (flat_map (signed (codes " ")) y) e))
+block_line_of_one (Leaf x) (Leaf y) ix iy e =
+    ap Leaf (many_of_one long_item x y ix iy (append_cancel_left (codes "leaf") (flat_map (signed (codes " ")) x) (flat_map (signed (codes " ")) y) e))
 block_line_of_one Dead Dead ix iy e = refl
 block_line_of_one End End ix iy e = refl
 block_line_of_one _ _ ix iy e = absurd (kinds_differ _ _ e refl)

@@ -3,7 +3,7 @@ use Rattle.request_book.specs.values.Batch.{Batch}
 use Rattle.dispatch_engine.specs.outcome.Outcome.{IsGoodOutcome}
 use Rattle.dispatch_report.specs.Block.{block_lines}
 use Rattle.dispatch_report.specs.Lines.{lines_text}
-use Rattle.report_audit.specs.points.Verdict.{Meets, IsVerdictOf, point_place}
+use Rattle.report_audit.specs.points.Verdict.{Meets, IsVerdictOf}
 use Rattle.dispatch_engine.specs.declared.outcome.point.Point.{Point}
 use Rattle.report_audit.specs.declared.points.verdict.Verdict.TheVariants.{Fails}
 use Rattle.report_audit.specs.lines.BlockLines.{IsBlock, BlockFails}
@@ -30,13 +30,11 @@ pub record BeginsWithGood (settings : Settings) (roads : Roads) (batch : Batch) 
 abbrev pub MeetsAs : Settings → Roads → Batch → BlockLists → Point → Type 0
 MeetsAs settings roads batch told q = (told.batch ≡ batch.number) × Meets settings roads batch (judged_outcome (map (λ v. v.id) batch.vehicles) told) q × CanBeTold q told
 
--- the text begins with a block, and the point of this place is the first that fails of what its lines tell
-pub record BeginsWithWrong (settings : Settings) (roads : Roads) (batch : Batch) (text : List ℕ) (place : ℕ) : Type 0 where
+-- the text begins with a block, and this point is the first that fails of what its lines tell
+pub record BeginsWithWrong (settings : Settings) (roads : Roads) (batch : Batch) (text : List ℕ) (point : Point) : Type 0 where
   pub lines : List BlockLine
   pub rest : List ℕ
   pub block : IsBlock text lines rest
-  pub point : Point
-  pub at : point_place point ≡ place
   pub fails : IsVerdictOf (MeetsAs settings roads batch (told_by lines)) (Fails point)
 
 -- why a text begins with no block of a good outcome
@@ -44,4 +42,4 @@ abbrev pub Refuses : Settings → Roads → Batch → List ℕ → BlockRefusal 
 Refuses settings roads batch text OutOfMemory = Unit {0}
 Refuses settings roads batch text (Cut n) = BlockFails text (fault.Cut n)
 Refuses settings roads batch text (Form n) = BlockFails text (fault.Form n)
-Refuses settings roads batch text (Wrong place) = BeginsWithWrong settings roads batch text place
+Refuses settings roads batch text (Wrong point) = BeginsWithWrong settings roads batch text point

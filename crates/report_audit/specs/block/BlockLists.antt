@@ -1,7 +1,7 @@
 -- What the lines of a block tell, list by list.
 use Rattle.std.specs.Prelude.{ℕ, ℤ, pos, Bool, true, false, List, [], ◌∷◌, ◌++◌, fold}
 use Rattle.dispatch_report.specs.declared.block_line.BlockLine.{BlockLine}
-use Rattle.dispatch_report.specs.declared.block_line.BlockLine.TheVariants.{Batch, Expired, Overflow, Lapsed, Late, Alone, Shared, Row, Trip, Out, Move, Cost, Bound, Nodes, Branch, Leaf, Dead, End}
+use Rattle.dispatch_report.specs.declared.block_line.BlockLine.TheVariants.{Batch, Expired, Overflow, Lapsed, Late, Alone, Shared, TripRow, Trip, Out, Move, Cost, Bound, Nodes, Branch, Leaf, Dead, End}
 use Rattle.dispatch_report.specs.declared.block_line.LateText.{LateText}
 use Rattle.dispatch_report.specs.declared.block_line.TripRowText.{TripRowText}
 use Rattle.dispatch_report.specs.declared.block_line.TripText.{TripText}
@@ -54,7 +54,7 @@ with_line t (Lapsed rider) = record t { lapsed = t.lapsed ++ rider ∷ [] }
 with_line t (Late late) = record t { late = t.late ++ late ∷ [] }
 with_line t (Alone pair) = record t { rv = t.rv ++ pair ∷ [] }
 with_line t (Shared pair) = record t { rr = t.rr ++ pair ∷ [] }
-with_line t (Row row) = record t { rows = t.rows ++ row ∷ [] }
+with_line t (TripRow row) = record t { rows = t.rows ++ row ∷ [] }
 with_line t (Trip trip) = record t { chosen = t.chosen ++ trip ∷ [] }
 with_line t (Out rider) = record t { left = t.left ++ rider ∷ [] }
 with_line t (Move m) = record t { moves = t.moves ++ m ∷ [] }

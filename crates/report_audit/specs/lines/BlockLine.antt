@@ -4,7 +4,7 @@ use Rattle.dispatch_report.specs.Fits.{IsId}
 use Rattle.request_book.specs.declared.values.outcome.PlannedStop.{PlannedStop}
 use Rattle.std.specs.List.{All}
 use Rattle.dispatch_report.specs.declared.block_line.BlockLine.{BlockLine}
-use Rattle.dispatch_report.specs.declared.block_line.BlockLine.TheVariants.{Batch, Expired, Overflow, Lapsed, Late, Alone, Shared, Row, Trip, Out, Move, Cost, Bound, Nodes, Branch, Leaf, Dead, End}
+use Rattle.dispatch_report.specs.declared.block_line.BlockLine.TheVariants.{Batch, Expired, Overflow, Lapsed, Late, Alone, Shared, TripRow, Trip, Out, Move, Cost, Bound, Nodes, Branch, Leaf, Dead, End}
 
 -- two ids
 abbrev pub AreIds : ℕ × ℕ → Type 0
@@ -34,7 +34,7 @@ IsBlockLine (Late late) =
     IsId late.vehicle × MatchOption late.stops (late.delay ≡ 0) (λ stops. (late.delay < 2 ^ 64) × All FitsStop stops)
 IsBlockLine (Alone pair) = AreIds pair
 IsBlockLine (Shared pair) = AreIds pair
-IsBlockLine (Row row) = IsId row.vehicle × (row.cost < 2 ^ 64) × All IsId row.riders
+IsBlockLine (TripRow row) = IsId row.vehicle × (row.cost < 2 ^ 64) × All IsId row.riders
 IsBlockLine (Trip trip) = IsId trip.vehicle × (trip.cost < 2 ^ 64) × All FitsStop trip.stops
 IsBlockLine (Out rider) = IsId rider
 IsBlockLine (Move m) = IsId m.vehicle × IsId m.rider × (m.seconds < 2 ^ 32)

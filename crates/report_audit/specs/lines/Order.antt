@@ -1,7 +1,7 @@
 -- The order of the kinds of lines in a block.
 use Rattle.std.specs.Prelude.{ℕ, ◌==◌, Bool, true, ◌&&◌, List, [], ◌∷◌, nat_le}
 use Rattle.dispatch_report.specs.declared.block_line.BlockLine.{BlockLine}
-use Rattle.dispatch_report.specs.declared.block_line.BlockLine.TheVariants.{Batch, Expired, Overflow, Lapsed, Late, Alone, Shared, Row, Trip, Out, Move, Cost, Bound, Nodes, Branch, Leaf, Dead, End}
+use Rattle.dispatch_report.specs.declared.block_line.BlockLine.TheVariants.{Batch, Expired, Overflow, Lapsed, Late, Alone, Shared, TripRow, Trip, Out, Move, Cost, Bound, Nodes, Branch, Leaf, Dead, End}
 
 -- a number from one to another
 abbrev pub is_between : ℕ → ℕ → ℕ → Bool
@@ -17,7 +17,7 @@ order_of (Lapsed rider) = (is_between 1 3, 3)
 order_of (Late late) = (is_between 1 4, 4)
 order_of (Alone pair) = (is_between 1 5, 5)
 order_of (Shared pair) = (is_between 1 6, 6)
-order_of (Row row) = (is_between 1 7, 7)
+order_of (TripRow row) = (is_between 1 7, 7)
 order_of (Trip trip) = (is_between 1 8, 8)
 order_of (Out rider) = (is_between 1 9, 9)
 order_of (Move m) = (is_between 1 10, 10)

@@ -3,3 +3,4 @@ pub mod Trips
 pub mod Moves
 pub mod Refusals
 pub mod Nodes
+pub mod Verdict

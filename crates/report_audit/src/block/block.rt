@@ -1,5 +1,5 @@
 //! The audit of a block.
-ghost use Rattle.std.specs.Prelude.{◌≡◌, ◌≢◌, ℕ, true, All, Contains, IfOk, IfErr, List, length, min};
+ghost use Rattle.std.specs.Prelude.{◌≡◌, ◌≢◌, ℕ, true, All, Contains, IfOk, IfErr, List, length};
 ghost use Rattle.request_book.specs.Points.{named_nodes};
 ghost use Rattle.dispatch_report.specs.Block.{block_lines};
 ghost use Rattle.request_book.specs.declared.values.outcome.Outcome.{Outcome as OneOutcome};
@@ -8,10 +8,12 @@ ghost use Rattle.report_audit.specs.declared.block.refusal.BlockRefusal.TheVaria
 
 use crate::block::block_lists::told_by;
 use crate::block::judged::outcome_of;
-use crate::block::refusal::{BlockRefusal, place_of, refusal_of};
-use crate::block::telling::untold_place;
+use crate::block::refusal::{BlockRefusal, refusal_of};
+use crate::block::telling::untold_point;
 use crate::lines::block_lines::read_block;
 use crate::points::judging::judge;
+use crate::points::verdict::{Verdict, earlier};
+use dispatch_engine::Point;
 use request_book::{Outcome, Snapshot};
 use rider_limits::Settings;
 use road_network::Network;
@@ -33,10 +35,11 @@ pub struct AuditedBlock<'a> {
 /// The good outcome of this batch with whose block the text begins, what follows it, and how many lines it has.
 ///
 /// `Cut` and `Form` come where the text begins with no block in form, `Wrong` where it does and the block isn't a good
-/// outcome's: point 0 where the batch's number, the riders whose wait ended, or whether there are too many rows is told
-/// wrongly, and points 1 to 8 as `judge` has them. Lines may tell what no outcome can: a row of more than six
-/// riders fails point 1, a late vehicle with more than ten stops point 2, a chosen trip with more than 22 stops point 3,
-/// and point 5 fails where the number in `nodes` isn't that of the tree's lines or a `branch` names no row of its vehicle.
+/// outcome's: the answer fails where the batch's number, the riders whose wait ended, or whether there are too many rows is
+/// told wrongly, and the other points as `judge` has them. Lines may tell what no outcome can: a row of more than six riders
+/// fails the graphs, a late vehicle with more than ten stops the late vehicles, a chosen trip with more than 22 stops the
+/// trips, and the bound fails where the number in `nodes` isn't that of the tree's lines or a `branch` names no row of its
+/// vehicle.
 pub fn audit_block<'a, W: Ways, G: Gate>(
     rt: &(impl Threads + Sync),
     alloc: Global,
@@ -65,32 +68,27 @@ pub fn audit_block<'a, W: Ways, G: Gate>(
     let told = told_by(alloc, lines)?;
     if told.batch != snapshot.batch {
         drop(told);
-        return Err(BlockRefusal::Wrong { point: 0 });
+        return Err(BlockRefusal::Wrong {
+            point: Point::Answer,
+        });
     }
-    let untold = untold_place(&told);
+    let untold = untold_point(&told);
     let outcome = outcome_of(alloc, told, snapshot.vehicles.as_slice())?;
     match judge(rt, alloc, snapshot, network, ways, settings, &outcome, gate) {
-        Ok(verdict) => {
-            let point = least(untold, place_of(verdict));
-            if point < 9 {
-                drop(outcome);
-                return Err(BlockRefusal::Wrong { point });
-            }
-            Ok(AuditedBlock {
+        Ok(verdict) => match earlier(verdict, untold) {
+            Verdict::Good => Ok(AuditedBlock {
                 outcome,
                 rest,
                 lines: count,
-            })
-        }
+            }),
+            Verdict::Fails(point) => {
+                drop(outcome);
+                Err(BlockRefusal::Wrong { point })
+            }
+        },
         Err(fault) => {
             drop(outcome);
             Err(fault.into())
         }
     }
-}
-
-fn least(one: u64, other: u64) -> u64
-    ensures { result ≡ min one other }
-{
-    if one < other { one } else { other }
 }

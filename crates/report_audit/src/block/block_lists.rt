@@ -63,7 +63,7 @@ impl BlockLists {
             BlockLine::Late(late) => return put(&mut self.late, late),
             BlockLine::Alone(pair) => return put(&mut self.rv, pair),
             BlockLine::Shared(pair) => return put(&mut self.rr, pair),
-            BlockLine::Row(row) => return put(&mut self.rows, row),
+            BlockLine::TripRow(row) => return put(&mut self.rows, row),
             BlockLine::Trip(trip) => return put(&mut self.chosen, trip),
             BlockLine::Out(rider) => return put(&mut self.left, rider),
             BlockLine::Move(line) => return put(&mut self.moves, line),

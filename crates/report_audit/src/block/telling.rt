@@ -3,26 +3,32 @@ ghost use Rattle.std.specs.Prelude.{◌≤◌, ◌↔◌, IfSome, IsTrue, length
 ghost use Rattle.std.specs.List.{All};
 ghost use Rattle.dispatch_engine.specs.declared.outcome.point.Point.TheVariants as point;
 ghost use Rattle.report_audit.specs.block.Judged.{CanBeTold, NamesRow};
-ghost use Rattle.report_audit.specs.work.block.Judged.{HoldUpTo};
+ghost use Rattle.report_audit.specs.points.Verdict.{IsVerdictOf};
 ghost use Rattle.report_audit.specs.work.block.BlockLists.{told_in};
 
 use crate::block::block_lists::BlockLists;
+use crate::points::verdict::Verdict;
+use dispatch_engine::Point;
 use dispatch_report::{BlockLine, LateText, TripRowText, TripText};
 
-/// The place of the first point of which the lines tell what none can; 9 where there is none.
-pub(crate) fn untold_place(told: &BlockLists) -> u64
-    ensures { HoldUpTo (λ q. CanBeTold q (told_in told.now)) result }
+/// The first point of which the lines tell what none can, if there is one.
+pub(crate) fn untold_point(told: &BlockLists) -> Verdict
+    ensures { IsVerdictOf (λ q. CanBeTold q (told_in told.now)) result }
 {
     if !are_short_rows(&told.rows) {
-        return 1;
+        return Verdict::Fails(Point::Graphs);
     }
     if !are_short_lates(&told.late) {
-        return 2;
+        return Verdict::Fails(Point::Late);
     }
     if !are_short_trips(&told.chosen) {
-        return 3;
+        return Verdict::Fails(Point::Trips);
     }
-    if is_tree_told(told) { 9 } else { 5 }
+    if is_tree_told(told) {
+        Verdict::Good
+    } else {
+        Verdict::Fails(Point::Bound)
+    }
 }
 
 fn are_short_rows(rows: &[TripRowText]) -> bool

@@ -46,7 +46,7 @@ fn read_long_line(alloc: Global, line: &[u8]) -> Result<Option<BlockLine>, OutOf
         return Ok(Some(BlockLine::Late(late)));
     }
     if let Some(row) = read_row(alloc, line)? {
-        return Ok(Some(BlockLine::Row(row)));
+        return Ok(Some(BlockLine::TripRow(row)));
     }
     if let Some(trip) = read_trip(alloc, line)? {
         return Ok(Some(BlockLine::Trip(trip)));

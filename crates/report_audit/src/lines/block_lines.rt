@@ -108,7 +108,7 @@ fn order_of(line: &BlockLine) -> (u8, u8, u8)
         BlockLine::Late(_) => (1, 4, 4),
         BlockLine::Alone(_) => (1, 5, 5),
         BlockLine::Shared(_) => (1, 6, 6),
-        BlockLine::Row(_) => (1, 7, 7),
+        BlockLine::TripRow(_) => (1, 7, 7),
         BlockLine::Trip(_) => (1, 8, 8),
         BlockLine::Out(_) => (1, 9, 9),
         BlockLine::Move(_) => (1, 10, 10),

@@ -1,7 +1,7 @@
 ghost use Rattle.std.specs.Prelude.{◌≡◌, ◌<◌, MatchOption, IfOk, codes, IfSome, IfNone, true, false};
 ghost use Rattle.report_audit.specs.lines.Reading.{IsReadAs, BeginsWith, BeginsWithNone};
 ghost use Rattle.dispatch_report.specs.Block.{block_line_text, stop_text};
-ghost use Rattle.dispatch_report.specs.declared.block_line.BlockLine.TheVariants.{Row, Trip, Late, Leaf};
+ghost use Rattle.dispatch_report.specs.declared.block_line.BlockLine.TheVariants.{TripRow, Trip, Late, Leaf};
 ghost use Rattle.report_audit.specs.lines.BlockLine.{IsBlockLine, IsLong, IsWide, FitsStop};
 ghost use Rattle.report_audit.specs.work.lines.Lines.{order_text, IsOrder, visit_text, IsVisit};
 ghost use Rattle.std.specs.List.{flat_map, All};
@@ -20,7 +20,7 @@ use std::alloc::Global;
 
 /// A vehicle-trip pair.
 pub fn read_row(alloc: Global, line: &[u8]) -> Result<Option<TripRowText>, OutOfMemory>
-    ensures { IfOk result (λ row. IsReadAs (λ x. block_line_text (Row x)) (λ x. IsBlockLine (Row x)) line.now row) }
+    ensures { IfOk result (λ row. IsReadAs (λ x. block_line_text (TripRow x)) (λ x. IsBlockLine (TripRow x)) line.now row) }
 {
     let Some((head, after)) = pair_first(line, b"row ", ID_MOST, u64::MAX) else {
         return Ok(None);

@@ -9,6 +9,7 @@ ghost use Rattle.input_rows.specs.script.Round.{NumberedLanes};
 
 use crate::block::refusal::BlockRefusal;
 use crate::lines::head_fault::HeadFault;
+use dispatch_engine::Point;
 use pool_base::OutOfMemory;
 
 /// What an audit says of a report that is one of its script.
@@ -33,9 +34,8 @@ pub enum AuditFault {
     Head { line: u64 },
     /// The line is in form, and no run that begins as the report does goes on with it.
     Entry { line: u64 },
-    /// The block that begins with this line is in form, and of its outcome this point, from 0 to 8, is the first that
-    /// fails.
-    Batch { line: u64, point: u64 },
+    /// The block that begins with this line is in form, and of its outcome this point is the first that fails.
+    Batch { line: u64, point: Point },
     OutOfMemory,
 }
 

@@ -78,7 +78,7 @@ fn audit_behind<G: Gate>(
         (HasFault context.entry.now.network.now fleet.entry.now script.entry.now context.entry.now.settings.now.workers context.entry.now.report.now) }
 {
     let mut book = opened_book(context.alloc, context.network, fleet, context.settings.wait)?;
-    let _entries = book.entries();
+    book.keeps();
     let audited = audit_rounds(rt, &mut book, text, fleet, script, context);
     drop(book);
     audited
@@ -98,7 +98,7 @@ fn audit_rounds<G: Gate>(
     ensures { MatchResult result (λ r. IsAudited context.entry.now.network.now fleet.entry.now script.entry.now context.entry.now.settings.now.workers context.entry.now.report.now (record { entries = r.0; batches = r.1 }))
         (HasFault context.entry.now.network.now fleet.entry.now script.entry.now context.entry.now.settings.now.workers context.entry.now.report.now) }
 {
-    let _vehicles = fleet.vehicles();
+    fleet.keeps();
     let mut rest = text;
     let mut batches = 0u64;
     let mut first = true;
@@ -123,6 +123,6 @@ fn fetch_bounds(network: &Network, fleet: &Fleet, script: &Script)
     ensures { IsGiven network.now fleet.now script.now }
 {
     let _sizes = (network.node_count(), network.arc_count());
-    let _vehicles = fleet.vehicles();
-    let _rounds = script.rounds();
+    fleet.keeps();
+    script.keeps();
 }

@@ -63,7 +63,7 @@ fn audit_entries<'a, G: Gate>(
         Ok(rest) => rest,
         Err(fault) => return Err(fault),
     };
-    let _lane = round.lane(0);
+    round.keeps();
     let mut lanes = Progress::at_start(context.alloc)?;
     let mut sealed = None;
     'entries: while !lanes.are_done(round) {

@@ -6,13 +6,11 @@ use Rattle.live_dispatch.specs.declared.fault.LiveFault.TheVariants as live
 use Rattle.input_rows.specs.declared.live.start.StartFault.{StartFault}
 use Rattle.input_rows.specs.declared.live.start.StartFault.TheVariants as start
 use Rattle.pool_base.specs.declared.which.Which.TheVariants as file
-use Rattle.pool_io.specs.declared.input.Input.TheVariants.{Rows}
-use Rattle.pool_io.specs.declared.records.RowFault.TheVariants as row
 use Rattle.rider_limits.specs.Words.{fault_of}
 use Rattle.request_book.specs.notices.Told.{NotifierView}
-use Rattle.ridepool.specs.Live.{LiveSeen}
+use Rattle.ridepool.specs.Live.{LiveSeen, headless_status}
 use Rattle.ridepool.specs.declared.status.RunStatus.{RunStatus}
-use Rattle.ridepool.specs.declared.status.RunStatus.TheVariants.{Done, Words, Script, ReadFault, WriteFault, OutOfMemory}
+use Rattle.ridepool.specs.declared.status.RunStatus.TheVariants.{Done, Words, ReadFault, WriteFault, OutOfMemory}
 
 -- a call behind its inputs, by its parts
 abbrev pub live_seen : Option (List ℕ) → ℕ → ℕ → Change SinkView → List NotifierView → List NotifierView → LiveSeen
@@ -24,9 +22,9 @@ RefusesWords words (Words fault) = fault_of words ≡ Some fault
 RefusesWords words OutOfMemory = Unit {0}
 RefusesWords words _ = ⊥
 
--- the answer to a script without a header
+-- the answer to a script that doesn't start
 abbrev pub status_of_start : StartFault → RunStatus
-status_of_start (start.Header fields) = Script (Rows (row.Header fields))
+status_of_start (start.Header fault) = headless_status fault
 status_of_start start.ReadFault = ReadFault file.Script
 status_of_start start.OutOfMemory = OutOfMemory
 

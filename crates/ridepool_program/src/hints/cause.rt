@@ -3,7 +3,7 @@
 use input_hints::{ArgumentWrong, AuditWrong, DayWrong, Wrong};
 use input_rows::{FleetFault, RowRefusal, ScriptFault};
 use pool_io::{Input, RowFault};
-use report_audit::AuditFault;
+use report_audit::{AuditFault, point_place};
 use rider_limits::WordFault;
 use road_network::NetworkFault;
 use route_drive::DayFault;
@@ -120,7 +120,7 @@ pub(crate) fn audit_cause(fault: AuditFault) -> Option<(u64, AuditWrong)> {
         AuditFault::Form { line } => Some((line, AuditWrong::Form)),
         AuditFault::Head { line } => Some((line, AuditWrong::Head)),
         AuditFault::Entry { line } => Some((line, AuditWrong::Entry)),
-        AuditFault::Batch { line, point } => Some((line, AuditWrong::Batch(point))),
+        AuditFault::Batch { line, point } => Some((line, AuditWrong::Batch(point_place(point)))),
         AuditFault::OutOfMemory => None,
     }
 }

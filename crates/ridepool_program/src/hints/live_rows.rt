@@ -3,7 +3,7 @@
 use crate::hints::again::{Again, FileRows, bytes_again};
 use crate::hints::cause::{Cause, refusal_cause};
 use crate::hints::{STANDARD_INPUT, print_hint};
-use input_hints::{Row, RowReader, Table, row_hint, row_numbered};
+use input_hints::{InputTable, Row, RowReader, row_hint, row_numbered};
 use input_rows::RowRefusal;
 use std::alloc::AllocError;
 
@@ -45,7 +45,14 @@ impl LiveHints {
         let alloc = self.rt.alloc();
         match refusal_cause(number, refusal) {
             Cause::Row(number, wrong) => {
-                row_hint(alloc, path, Table::Script, number, &wrong, row.as_ref())
+                row_hint(
+                    alloc,
+                    path,
+                    InputTable::Script,
+                    number,
+                    &wrong,
+                    row.as_ref(),
+                )
             }
             _ => Err(AllocError),
         }

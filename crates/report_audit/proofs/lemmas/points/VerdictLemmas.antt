@@ -1,5 +1,5 @@
 -- Points, asked one after the other.
-use Rattle.std.proofs.Common.{◌≡◌, ℕ, zero, suc, ◌+◌, ◌<◌, refl, arith, rules}
+use Rattle.std.proofs.Common.{◌≡◌, ℕ, zero, suc, ◌+◌, ◌<◌, refl, sym, ap, ◌∙◌, arith, rules}
 use Rattle.report_audit.proofs.Common.{point_place, IsVerdictOf, Point, Verdict, Good, Fails}
 use Rattle.dispatch_engine.specs.declared.outcome.point.Point.TheVariants as point
 
@@ -21,6 +21,10 @@ point_at (suc (suc (suc (suc (suc (suc (suc (suc k)))))))) = point.Moves
 back : (q : Point) → point_at (point_place q) ≡ q
 back point.Answer = refl
 back _ = refl
+
+-- points of one place are the same
+pub same_place : (p q : Point) → point_place p ≡ point_place q → p ≡ q
+same_place p q at = sym (back p) ∙ ap point_at at ∙ back q
 
 pub last_place : (q : Point) → point_place q < 9
 last_place point.Answer = omega arith

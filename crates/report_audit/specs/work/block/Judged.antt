@@ -3,15 +3,8 @@ use Rattle.std.specs.Prelude.{◌≡◌, ℕ, ◌<◌, List}
 use Rattle.arrayvec.specs.ArrayVec.{ArrayVec}
 use Rattle.report_audit.specs.points.Verdict.{point_place}
 use Rattle.dispatch_engine.specs.declared.outcome.point.Point.{Point}
-use Rattle.report_audit.specs.declared.points.verdict.Verdict.{Verdict}
-use Rattle.report_audit.specs.declared.points.verdict.Verdict.TheVariants.{Good, Fails}
 use Rattle.request_book.specs.declared.values.outcome.PlannedStop.{PlannedStop}
 use Rattle.report_audit.specs.block.Judged.{at_most}
-
--- the place of the point that fails, and one behind all where none does
-abbrev pub verdict_place : Verdict → ℕ
-verdict_place Good = 9
-verdict_place (Fails p) = point_place p
 
 -- the points before this place hold, and where it is a point's, that point doesn't
 pub record HoldUpTo (Holds' : Point → Type 0) (place : ℕ) : Type 0 where

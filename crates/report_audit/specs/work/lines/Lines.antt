@@ -7,7 +7,7 @@ use Rattle.dispatch_report.specs.Block.{stop_text, block_line_text}
 use Rattle.request_book.specs.declared.values.outcome.PlannedStop.{PlannedStop}
 use Rattle.report_audit.specs.lines.BlockLine.{FitsStop, IsBlockLine}
 use Rattle.dispatch_report.specs.declared.block_line.BlockLine.{BlockLine}
-use Rattle.dispatch_report.specs.declared.block_line.BlockLine.TheVariants.{Late, Alone, Shared, Row, Trip, Move, Branch, Leaf}
+use Rattle.dispatch_report.specs.declared.block_line.BlockLine.TheVariants.{Late, Alone, Shared, TripRow, Trip, Move, Branch, Leaf}
 use Rattle.report_audit.specs.lines.Order.{may_follow_at}
 
 -- the beginning of a stop: what happens, and to whom
@@ -33,7 +33,7 @@ abbrev pub IsLongLine : BlockLine → Type 0
 IsLongLine (Late late) = IsBlockLine (Late late)
 IsLongLine (Alone pair) = IsBlockLine (Alone pair)
 IsLongLine (Shared pair) = IsBlockLine (Shared pair)
-IsLongLine (Row row) = IsBlockLine (Row row)
+IsLongLine (TripRow row) = IsBlockLine (TripRow row)
 IsLongLine (Trip trip) = IsBlockLine (Trip trip)
 IsLongLine (Move m) = IsBlockLine (Move m)
 IsLongLine (Branch branch) = IsBlockLine (Branch branch)

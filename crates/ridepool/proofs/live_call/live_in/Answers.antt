@@ -9,30 +9,42 @@ invariant_of-solver g c = search rules
 pub start_live-requires-clause-named : goal.start_live-requires-clause-named
 start_live-requires-clause-named g c κs within = c.requires.named
 
-pub dispatch-sink-requires-clause-ready : goal.dispatch-sink-requires-clause-ready
-dispatch-sink-requires-clause-ready g c κs within =
-    ready-live (record { settings = c.args.inputs.now.settings; roads = c.args.inputs.now.network; vehicles = c.args.inputs.now.fleet }) c.in-Ok-start_live.book c.in-Ok-start_live.ensures.started.0
+pub dispatch-dispatched-requires-clause-ready : goal.dispatch-dispatched-requires-clause-ready
+dispatch-dispatched-requires-clause-ready g c κs within =
+    ready-live (record { settings = c.args.inputs.now.settings; roads = c.args.inputs.now.network; vehicles = c.args.inputs.now.fleet }) c.in-Ok-start_live.book
+    c.in-Ok-start_live.ensures.started.0
 
-pub dispatch-sink-requires-clause-empty : goal.dispatch-sink-requires-clause-empty
-dispatch-sink-requires-clause-empty g c κs within = ap (λ (b : BookView). b.entries) c.in-Ok-start_live.ensures.started.0
+pub dispatch-dispatched-requires-clause-empty : goal.dispatch-dispatched-requires-clause-empty
+dispatch-dispatched-requires-clause-empty g c κs within = ap (λ (b : BookView). b.entries) c.in-Ok-start_live.ensures.started.0
 
-pub dispatch-sink-requires-clause-small : goal.dispatch-sink-requires-clause-small
-dispatch-sink-requires-clause-small g c κs within = let first : c.in-Ok-start_live.book.first ≡ 0 = ap (λ (b : BookView). b.first) c.in-Ok-start_live.ensures.started.0 in omega (arith, first)
+pub dispatch-dispatched-requires-clause-small : goal.dispatch-dispatched-requires-clause-small
+dispatch-dispatched-requires-clause-small g c κs within = let first : c.in-Ok-start_live.book.first ≡ 0 =
+    ap (λ (b : BookView). b.first) c.in-Ok-start_live.ensures.started.0 in omega (arith, first)
 
-pub dispatch-sink-requires-clause-first : goal.dispatch-sink-requires-clause-first
-dispatch-sink-requires-clause-first g c κs within = c.behind-rows.ensures.last
+pub dispatch-dispatched-requires-clause-first : goal.dispatch-dispatched-requires-clause-first
+dispatch-dispatched-requires-clause-first g c κs within = c.behind-rows.ensures.last
 
 pub returns-in_default : goal.returns-in_default
-returns-in_default g c = let kept = c.ended.ensures.kept in rw (kept.0, kept.1, kept.2) (EndsLive.unstored (inl (record { out = refl; notifiers = refl })))
+returns-in_default g c = let kept = c.ended.ensures in rw (kept.0, kept.1, kept.2, kept.3) (EndsLive.unstored (inl (record { out = refl; notifiers = refl })))
 
 pub returns-in-Ok-start_live : goal.returns-in-Ok-start_live
 returns-in-Ok-start_live g c =
+    let kept = c.ended-in-Ok-start_live.ensures in
     let behind : SinkView = record { written = g.K.Sink.written c.start_live.new.out; faults = g.K.Sink.faults c.start_live.new.out } in
-    rows-ended _ c.args.session.lines.to_come c.start_live.new.lines.to_come c.behind-rows.result.lines.to_come c.in-Ok-start_live.version c.behind-rows.result.version c.behind-rows.result.last
-    c.in-Ok-start_live.book _ behind _ c.args.session.lines.faults c.start_live.new.lines.faults c.behind-rows.result.lines.faults (g.S.Source.faults c.into_source.result) _ _ c.dispatch-sink.result.ended
-    c.end_status.result c.end_status.ensures c.in-Ok-start_live.ensures.started.0 c.in-Ok-start_live.ensures.started.1 (ap (λ (s : Streamed). s.to_come) c.behind-rows.ensures.lines)
-    c.behind-rows.ensures.version c.behind-rows.ensures.last c.in-Ok-start_live.ensures.started.2 c.start_live.ensures.never_falls c.start_live.ensures.reads_never_fall
-    c.dispatch-sink.ensures.run c.dispatch-sink.ensures.write_fault (λ is. omega (arith, c.dispatch-sink.ensures.read_fault is, c.into_source.ensures)) (ap (λ (s : Streamed). s.faults) c.behind-rows.ensures.lines)
+    rw (kept.0, kept.1, kept.2, kept.3)
+    (rows-ended _ (g.S.Source.left c.args.session.script) c.start_live.new.lines.to_come c.behind-rows.result.lines.to_come c.in-Ok-start_live.version
+    c.behind-rows.result.version c.behind-rows.result.last
+    c.in-Ok-start_live.book _ behind _ (g.S.Source.faults c.args.session.script) c.start_live.new.lines.faults c.behind-rows.result.lines.faults
+    (g.S.Source.faults c.into_source.result) _ _ c.dispatch-dispatched.result.ended
+    c.end_status.result c.end_status.ensures c.in-Ok-start_live.ensures.started.0 (rw c.over-lines.ensures.to_come at c.in-Ok-start_live.ensures.started.1)
+    (ap (λ (s : Streamed). s.to_come) c.behind-rows.ensures.lines)
+    c.behind-rows.ensures.version c.behind-rows.ensures.last c.in-Ok-start_live.ensures.started.2 c.start_live.ensures.never_falls
+    (rw c.over-lines.ensures.faults at c.start_live.ensures.reads_never_fall)
+    c.dispatch-dispatched.ensures.run c.dispatch-dispatched.ensures.write_fault (λ is. omega
+    (arith, c.dispatch-dispatched.ensures.read_fault is, c.into_source.ensures)) (ap (λ (s : Streamed). s.faults) c.behind-rows.ensures.lines))
 
 pub returns-in-Err : goal.returns-in-Err
-returns-in-Err g c = let kept = c.ended-in-Err.ensures.kept in rw (c.ended-in-Err.ensures.reads, kept.0, kept.1, kept.2) (c.in-Err.ensures.stopped _)
+returns-in-Err g c =
+    let kept = c.ended-in-Err.ensures in
+    let stopped = rw (c.over-lines.ensures.to_come, c.over-lines.ensures.faults) at (c.in-Err.ensures.stopped _) in
+    rw (kept.0, kept.1, kept.2, kept.3, c.into_source-in-Err.ensures) stopped

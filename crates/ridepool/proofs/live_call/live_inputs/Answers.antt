@@ -9,22 +9,28 @@ use Rattle.pool_base.specs.declared.which.Which.TheVariants as file
 use Rattle.ridepool.proofs.live_call.live_inputs.Goals as goal
 
 pub returns-in-Err-clause-got : goal.returns-in-Err-clause-got
-returns-in-Err-clause-got g c rest silent =
+returns-in-Err-clause-got g c script rest silent =
     words-stop _ silent c.in-Err.status refl refl c.in-Err.ensures
 
 pub returns-in-Err-network_from-clause-got : goal.returns-in-Err-network_from-clause-got
-returns-in-Err-network_from-clause-got g c rest silent =
+returns-in-Err-network_from-clause-got g c script rest silent =
     network-stops _ silent c.in-Ok.settings c.in-Err-network_from.status c.in-Ok.ensures refl c.in-Err-network_from.ensures
 
 pub returns-in-Ok-fleet_from-clause-got : goal.returns-in-Ok-fleet_from-clause-got
-returns-in-Ok-fleet_from-clause-got g c rest = record { words = c.in-Ok.ensures; network = c.in-Ok-network_from.ensures; fleet = c.in-Ok-fleet_from.ensures.read }
+returns-in-Ok-fleet_from-clause-got g c script rest = record {
+  words = c.in-Ok.ensures;
+  network = c.in-Ok-network_from.ensures;
+  fleet =
+      c.in-Ok-fleet_from.ensures.read;
+}
 
 pub returns-in-Ok-fleet_from-clause-named : goal.returns-in-Ok-fleet_from-clause-named
 returns-in-Ok-fleet_from-clause-named g c = c.in-Ok-fleet_from.ensures.named
 
 pub returns-in-Err-fleet_from-clause-got : goal.returns-in-Err-fleet_from-clause-got
-returns-in-Err-fleet_from-clause-got g c rest silent =
-    fleet-stops _ silent c.in-Ok.settings c.in-Ok-network_from.network c.in-Err-fleet_from.status c.in-Ok.ensures c.in-Ok-network_from.ensures c.in-Err-fleet_from.ensures.read
+returns-in-Err-fleet_from-clause-got g c script rest silent =
+    fleet-stops _ silent c.in-Ok.settings c.in-Ok-network_from.network c.in-Err-fleet_from.status c.in-Ok.ensures c.in-Ok-network_from.ensures
+    c.in-Err-fleet_from.ensures.read
 
 pub returns-in-Err-clause-limited : goal.returns-in-Err-clause-limited
 returns-in-Err-clause-limited g c = (
@@ -36,8 +42,11 @@ pub returns-in-Err-clause-no_memory : goal.returns-in-Err-clause-no_memory
 returns-in-Err-clause-no_memory g c = words-hide (words_of_run (map string_bytes c.args.words.now)) c.in-Err.status c.in-Err.ensures
 
 pub returns-in-Err-network_from-clause-limited : goal.returns-in-Err-network_from-clause-limited
-returns-in-Err-network_from-clause-limited g c =
-    (stop-limited _ file.Network _ _ c.in-Err-network_from.status c.in-Err-network_from.ensures, inl (untouched_within file.Fleet (source_seen g.F.Source.left g.F.Source.taken g.F.Source.faults c.args.fleet.now c.args.fleet.now) refl))
+returns-in-Err-network_from-clause-limited g c = (
+  stop-limited _ file.Network _ _ c.in-Err-network_from.status c.in-Err-network_from.ensures,
+  inl
+      (untouched_within file.Fleet (source_seen g.F.Source.left g.F.Source.taken g.F.Source.faults c.args.fleet.now c.args.fleet.now) refl),
+)
 
 pub returns-in-Err-network_from-clause-no_memory : goal.returns-in-Err-network_from-clause-no_memory
 returns-in-Err-network_from-clause-no_memory g c = stop_hides _ file.Network _ _ c.in-Err-network_from.status c.in-Err-network_from.ensures

@@ -6,7 +6,7 @@ use Rattle.ridepool.proofs.live_call.start_live.Goals as goal
 pub returns-in-Err-clause-stopped : goal.returns-in-Err-clause-stopped
 returns-in-Err-clause-stopped g c told =
     start-stops _ _ c.in-Err.fault c.start_status.result c.start_status.ensures (record { out = refl; notifiers = refl })
-    (λ fields is. c.in-Err.ensures.other fields (ap (λ f. Err f) is)) (λ is. c.in-Err.ensures.fault (ap (λ f. Err f) is))
+    (λ why is. c.in-Err.ensures.headless why (ap (λ f. Err f) is)) (λ is. c.in-Err.ensures.fault (ap (λ f. Err f) is))
 
 pub opened_book-opened-requires : goal.opened_book-opened-requires
 opened_book-opened-requires g c = c.requires.named
@@ -20,4 +20,5 @@ returns-in-Ok-write_head-clause-started g c =
 
 pub returns-in-Err-write_head-clause-stopped : goal.returns-in-Err-write_head-clause-stopped
 returns-in-Err-write_head-clause-stopped g c told =
-    head-stops _ _ c.in-Ok.version c.read_start.new.lines.to_come c.in-Err-write_head.fault c.status_of.result c.status_of.ensures c.in-Ok.ensures.started refl c.in-Err-write_head.ensures
+    head-stops _ _ c.in-Ok.version c.read_start.new.lines.to_come c.in-Err-write_head.fault c.status_of.result c.status_of.ensures c.in-Ok.ensures.started refl
+    c.in-Err-write_head.ensures

@@ -11,7 +11,7 @@ run_shared-requires-clause-empty g c κs within =
 pub run_shared-requires-clause-kept : goal.run_shared-requires-clause-kept
 run_shared-requires-clause-kept g c κs within =
     let is : c.in-Ok.shared.start ≡ c.in_ok-book.book = (let a = c.in-Ok.ensures.book.0 in let b = c.in-Ok.shared-is in cc) in
-    subst IsBook (sym is) c.entries-entries.ensures.kept
+    subst IsBook (sym is) c.keeps.ensures
 
 pub run_shared-requires-clause-ready : goal.run_shared-requires-clause-ready
 run_shared-requires-clause-ready g c κs within =
