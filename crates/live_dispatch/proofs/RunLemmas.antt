@@ -313,7 +313,8 @@ module _ (settings : Settings) (roads : Roads) where
           → RepliesAreSteps roads.nodes settings.wait (after s journals) es → ClosesAreGood settings roads (after s journals) es
           → HasGrown s p round lines rows number journals es
       has-grown journals run (RoundsGrow.joins front starts was rounds) replies closes =
-          grown-joins front journals (run-last s p front (round_of lines number) journals (subst (λ rs. IsRun settings roads s p rs journals) was run)) starts was
+          grown-joins front journals (run-last s p front (round_of lines number) journals
+          (subst (λ rs. IsRun settings roads s p rs journals) was run)) starts was
           rounds replies closes
       has-grown journals run (RoundsGrow.begins starts rounds none) replies closes = grown-new journals run starts rounds none replies closes
 

@@ -514,7 +514,8 @@ module _ {B C R Root : Type 0} (root : B → Root) (log : B → List (LoggedCall
               lies = h.lies;
               sound = h.sound;
               nobody =
-                  λ j u e. ⊎_elim (h.nobody j u) (λ (t : right ≡ u). subst (λ (y : V). ¬ IsInTurn y.stage) t (idle_out v.stage idle)) (at_snoc views right u j e);
+                  λ j u e. ⊎_elim (h.nobody j u) (λ (t : right ≡ u). subst (λ (y : V). ¬ IsInTurn y.stage) t (idle_out v.stage idle))
+                  (at_snoc views right u j e);
             })
             (λ (h : IsOut s.homes views). inr record {
               lies = h.lies;

@@ -306,7 +306,13 @@ module _ {settings : Settings} {roads : Roads} (round : NumberedLanes) {old : Bo
                   ∙ ap (λ (t : List ℕ). head_text settings roads (length vehicles) ++ t) (sym (text_push settings roads s 0 before made round j run));
             };
             start = record {
-              book = record { nodes = of.nodes; wait = of.wait; kept = round-book b (next_position b.first b.entries) of.kept; low = next-low b.first b.entries };
+              book = record {
+                nodes = of.nodes;
+                wait = of.wait;
+                kept = round-book b (next_position b.first b.entries) of.kept;
+                low =
+                    next-low b.first b.entries;
+              };
               empty = refl;
               closed = closed;
             };

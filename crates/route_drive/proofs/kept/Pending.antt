@@ -172,18 +172,21 @@ module _ (settings : Settings) (roads : Roads) (net : IsNetwork roads) (now : �
   entered_next v target command commands left at (IsPending.waits free (stop ∷ stops) there early serves reported told left_is) =
       elim (cases_lt now stop.second) [
         | inl late ↦ report_next v free target (stop ∷ stops) there command commands left at early serves
-            (late, all_later roads settings.dwell now stop.node (stop.second + settings.dwell) stops (omega (arith, late)) serves.reached.1) reported told left_is
+            (late, all_later roads settings.dwell now stop.node (stop.second + settings.dwell) stops (omega (arith, late)) serves.reached.1) reported
+            told left_is
         | inr le ↦
             let first : (due now (stop ∷ stops) ≡ stop ∷ due now stops) × (to_come now (stop ∷ stops) ≡ to_come now stops) = grind (arith, nat_tests, le) in
             let one : stop_command v.id stop ≡ command = cc (told, first.0) in
             let rest : commands ≡ map (stop_command v.id) (due now stops) ++ Report v.id there.node there.second ∷ [] = cc (told, first.0) in
-            let is : IsReported roads now (standing_after settings.dwell (record { node = stop.node; second = stop.second; free = stop.second + settings.dwell })
+            let is : IsReported roads now (standing_after settings.dwell
+            (record { node = stop.node; second = stop.second; free = stop.second + settings.dwell })
             (due now stops)) (goal_of target (to_come now stops)) there =
             subst (λ ss. IsReported roads now (standing_after settings.dwell
             (record { node = stop.node; second = stop.second; free = stop.second + settings.dwell }) (due now stops)) (goal_of target ss) there) first.1
             (subst (λ ds. IsReported roads now (standing_after settings.dwell (record { node = v.node; second = v.time; free = free }) ds)
             (goal_of target (to_come now (stop ∷ stops))) there) first.0 reported) in
-            stop_next settings roads s day v free stop stops command (λ riders u. IsPending settings roads now riders u target commands left) at early serves one
+            stop_next settings roads s day v free stop stops command (λ riders u. IsPending settings roads now riders u target commands left) at early
+            serves one
             (λ riders u id node time on.
             IsPending.waits (stop.second + settings.dwell) stops there (omega (arith, time)) on
             (subst (λ n. IsReported roads now (standing_after settings.dwell (record { node = n; second = u.time; free = stop.second + settings.dwell })

@@ -46,7 +46,8 @@ loop-j-preserved c =
     let leg = leg_read c.args.task.now.aboard.items c.deref-in-loop-j.result.now c.loop-j.j c.index-deref-j.result c.deref-in-loop-j.ensures.0
     c.index-deref-j.is within in
     let late = c.in_ok-delay-2.ensures in (
-      passenger_more (travel_time c.args.times.now) c.args.task.now c.args.label.now c.loop-j.j c.index-deref-j.result _ c.loop-j.delay c.in_ok-delay-2.field-0 _
+      passenger_more (travel_time c.args.times.now) c.args.task.now c.args.label.now c.loop-j.j c.index-deref-j.result _ c.loop-j.delay
+          c.in_ok-delay-2.field-0 _
           leg c.is_out-out.ensures late.1 c.loop-j.invariant.0,
       omega (arith, late.2, c.loop-j.invariant.1),
     )
